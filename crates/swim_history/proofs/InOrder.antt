@@ -1,0 +1,29 @@
+-- A walk through the entries in order: each entry follows those before it.
+use Rattle.std.proofs.Common.{◌≡◌, ℕ, ◌+◌, ◌^◌, ◌<◌, true, List, [], ◌∷◌, ◌++◌, length, get_or, take, drop, reverse, refl, sym, ap, subst, ◌∙◌, arith, cond}
+use Rattle.std.proofs.lemmas.List.{take_more, reverse-append, take-append-drop}
+use Rattle.swim_history.specs.declared.entries.Entry.{Entry}
+use Rattle.swim_history.specs.Setting.{Setting, IsSetting}
+use Rattle.swim_history.specs.Events.{is_start}
+use Rattle.swim_history.specs.Clock.{period_number}
+use Rattle.swim_history.specs.Run.{Continues, IsRun}
+use Rattle.swim_history.specs.RunLaws.{IsRun-older, begins, number_then}
+
+-- one more entry of a list that is seen newest first
+pub past_more : {X : Type 0} (xs : List X) (i : ℕ) (d : X) → i < length xs → reverse (take (i + 1) xs) ≡ get_or xs i d ∷ reverse (take i xs)
+past_more xs i d lt = ap reverse (take_more xs i d lt) ∙ reverse-append (take i xs) (get_or xs i d ∷ [])
+
+-- the first entries of a run are a run
+pub run_so_far : (o : Setting) (entries : List Entry) (i : ℕ) → IsRun o (reverse entries) → IsRun o (reverse (take i entries))
+run_so_far o entries i run =
+    let whole : reverse entries ≡ reverse (drop i entries) ++ reverse (take i entries) =
+      ap reverse (sym (take-append-drop i entries)) ∙ reverse-append (take i entries) (drop i entries) in
+    IsRun-older o (reverse (drop i entries)) (reverse (take i entries)) (subst (λ (h : List Entry). IsRun o h) whole run)
+
+-- each entry of a run follows those before it
+pub next_continues : (o : Setting) (entries : List Entry) (i : ℕ) (e : Entry) → i < length entries → e ≡ get_or entries i e → IsRun o (reverse entries) → Continues o (reverse (take i entries)) e
+next_continues o entries i e lt is run =
+    (subst (λ (h : List Entry). IsRun o h) (past_more entries i e lt ∙ ap (λ (x : Entry). x ∷ reverse (take i entries)) (sym is)) (run_so_far o entries (i + 1) run)).0
+
+-- a period begins only while numbers are left
+pub unspent_at : (o : Setting) (h : List Entry) (e : Entry) → Continues o h e → is_start e ≡ true → period_number o h + 1 < 2 ^ 64
+unspent_at o h e c starts = let b = begins o h e.call e.reply e.choice c.answer starts in omega (arith, b.fits.unspent)

@@ -1,0 +1,44 @@
+-- Gaps between successive probes of a member that is listed all the time between.
+use Rattle.std.specs.Prelude.{◌≡◌, ◌+◌, ℕ, Bool, ◌||◌, false, nat_eq, ◌==◌, List, [], ◌∷◌, ◌++◌, length, filter, Option, Some, None}
+use Rattle.std.specs.List.{list_any}
+use Rattle.swim_history.specs.declared.replies.Probe.{Probe}
+use Rattle.swim_history.specs.declared.entries.Entry.{Entry}
+use Rattle.swim_history.specs.Setting.{Setting}
+use Rattle.swim_history.specs.Events.{probe_in, judged_in, removes, joins}
+use Rattle.swim_history.specs.Round.{listed}
+
+-- whether it is this member
+abbrev pub is_member : ℕ → Option ℕ → Bool
+is_member m None = false
+is_member m (Some id) = id == m
+
+abbrev pub is_probe_of : ℕ → Option Probe → Bool
+is_probe_of m None = false
+is_probe_of m (Some probe) = probe.target == m
+
+-- the entry is a start that probes the member
+abbrev pub probes_member : ℕ → Entry → Bool
+probes_member m e = is_probe_of m (probe_in e.reply)
+
+-- the member is no longer listed after the entry: it is removed or judged
+abbrev pub unlists : ℕ → Entry → Bool
+unlists m e = removes m e || is_member m (judged_in e.reply)
+
+-- two probes of the member, in the periods a and b, with none between, and the member listed all the time
+-- between; n is how many were listed just after the first, and how many joined between
+pub record IsGap (o : Setting) (h : List Entry) (m a b n : ℕ) : Type 0 where
+  pub newer : List Entry
+  pub second : Entry
+  pub between : List Entry
+  pub first : Entry
+  pub before : List Entry
+  pub split : h ≡ newer ++ second ∷ (between ++ first ∷ before)
+  pub from : Probe
+  pub to : Probe
+  pub probed : probe_in first.reply ≡ Some from
+  pub again : probe_in second.reply ≡ Some to
+  pub members : (from.target ≡ m) × (to.target ≡ m)
+  pub numbers : (from.number ≡ a) × (to.number ≡ b)
+  pub none_between : list_any (probes_member m) between ≡ false
+  pub stays : list_any (unlists m) between ≡ false
+  pub count : n ≡ length (listed o (first ∷ before)) + length (filter joins between)

@@ -1,0 +1,203 @@
+-- Worked runs: the definitions, evaluated on histories that were written down by hand.
+use Rattle.std.specs.Prelude.{◌≡◌, ℕ, ◌+◌, ◌-◌, ◌^◌, ◌<◌, true, false, List, [], ◌∷◌, length, map, Option, Some, None, refl}
+use Rattle.std.proofs.Common.{◌++◌, lit<}
+use Rattle.std.proofs.lemmas.List.Sorted.{IsPermutation-refl}
+use Rattle.swim_wire.specs.Address.{Address}
+use Rattle.swim_wire.specs.Requests.{Request}
+use Rattle.swim_wire.specs.Round.{Lists}
+use Rattle.swim_wire.specs.declared.messages.Kind.{Kind}
+use Rattle.swim_wire.specs.declared.messages.Kind.TheVariants.{Ping, PingReq, Ack}
+use Rattle.swim_wire.specs.declared.messages.Message.{Message}
+use Rattle.swim_history.specs.declared.rows.Row.{Row}
+use Rattle.swim_history.specs.declared.rows.RowState.TheVariants.{Up, Failed}
+use Rattle.swim_history.specs.declared.calls.Call.{Call}
+use Rattle.swim_history.specs.declared.calls.Call.TheVariants.{Tick, Hear, Join, Remove}
+use Rattle.swim_history.specs.declared.replies.Reply.{Reply}
+use Rattle.swim_history.specs.declared.replies.Reply.TheVariants.{Quiet, Started, Asked, Heard, Send, Dropped, Joined, Removed, Refused}
+use Rattle.swim_history.specs.declared.replies.Probe.{Probe}
+use Rattle.swim_history.specs.declared.replies.Relay.{Relay}
+use Rattle.swim_history.specs.declared.replies.DropReason.TheVariants.{NotForMe, Stray, NoRequest}
+use Rattle.swim_history.specs.declared.replies.Refusal.TheVariants.{Spent}
+use Rattle.swim_history.specs.declared.entries.Choice.{Choice}
+use Rattle.swim_history.specs.declared.entries.Choice.TheVariants.{Nothing, Round}
+use Rattle.swim_history.specs.declared.entries.Entry.{Entry}
+use Rattle.swim_history.specs.declared.journals.Judged.{Judged}
+use Rattle.swim_history.specs.Setting.{Setting}
+use Rattle.swim_history.specs.Clock.{period_number, phase}
+use Rattle.swim_history.specs.Aim.{aim, was_heard, unheard}
+use Rattle.swim_history.specs.Rows.{row_of, up}
+use Rattle.swim_history.specs.Changes.{table}
+use Rattle.swim_history.specs.Round.{lists}
+use Rattle.swim_history.specs.Waiting.{waiting}
+use Rattle.swim_history.specs.Run.{Continues, IsRun}
+use Rattle.swim_history.specs.Judgement.{judgements}
+use Rattle.swim_history.specs.Probes.{probes}
+use Rattle.swim_history.specs.Gap.{IsGap}
+
+-- member n listens at 10.0.0.n:7000
+abbrev at : ℕ → Address
+at n = record { ip = 10 ∷ 0 ∷ 0 ∷ n ∷ []; port = 7000 }
+
+abbrev row : ℕ → Row
+row n = up n (at n)
+
+-- a detector of member 1 with a timeout of one tick and a period of three
+abbrev of_members : ℕ → ℕ → List Row → Setting
+of_members k last rows = record { me = 1; k = k; rtt = 1; period = 3; rows = rows; last = last }
+
+-- an entry of the one caller
+abbrev entry : ℕ → Call → Reply → Choice → Entry
+entry number call reply choice = record { seat = 0; number = number; call = call; choice = choice; reply = reply }
+
+abbrev round : List ℕ → Choice
+round order = Round (record { items = order })
+
+abbrev starting : ℕ → Option ℕ → ℕ → ℕ → Choice → Entry
+starting place judged target number choice = entry place Tick (Started judged (Some (record { target = target; peer = at target; number = number }))) choice
+
+abbrev asking : ℕ → ℕ → ℕ → List Relay → Entry
+asking place target number relays = entry place Tick (Asked target number (record { items = relays })) Nothing
+
+-- one member and no relays: the probe, the empty ask, a quiet tick and the judgement
+abbrev silent_member : Setting
+silent_member = of_members 0 0 (row 2 ∷ [])
+
+abbrev silence : List Entry
+silence =
+    entry 3 Tick (Started (Some 2) None) Nothing
+    ∷ entry 2 Tick Quiet Nothing
+    ∷ asking 1 2 1 []
+    ∷ starting 0 None 2 1 (round (2 ∷ []))
+    ∷ []
+
+silence_judges : judgements silent_member silence ≡ record { member = 2; number = 1 } ∷ []
+silence_judges = refl
+
+silence_probes : probes silence ≡ record { target = 2; peer = at 2; number = 1 } ∷ []
+silence_probes = refl
+
+silence_fails : table silent_member silence ≡ record { id = 2; peer = at 2; state = Failed 1 } ∷ []
+silence_fails = refl
+
+silence_is_run : IsRun silent_member silence
+silence_is_run =
+    (record { seat = lit< tt; number = refl; answer = record { begins = refl; unspent = lit< tt; judges = refl; draws = λ e. refl; probes = refl } },
+    (record { seat = lit< tt; number = refl; answer = (λ e. absurd cc, λ e. absurd cc) },
+    (record { seat = lit< tt; number = refl; answer = (refl, refl, refl, record { count = refl; once = refl; each = tt }) },
+    (record { seat = lit< tt; number = refl; answer = record { begins = refl; unspent = lit< tt; judges = refl; draws = (refl, λ e. absurd cc, IsPermutation-refl _); probes = (at 2, refl, refl) } },
+    tt))))
+
+-- two members and one relay: the aim of the first period is judged, and the other member is probed next
+abbrev two_members : Setting
+two_members = of_members 1 0 (row 2 ∷ row 3 ∷ [])
+
+abbrev first_start : Entry
+first_start = starting 0 None 2 1 (round (2 ∷ 3 ∷ []))
+
+abbrev two_periods : List Entry
+two_periods =
+    starting 3 (Some 2) 3 2 Nothing
+    ∷ entry 2 Tick Quiet Nothing
+    ∷ asking 1 2 1 (record { id = 3; peer = at 3 } ∷ [])
+    ∷ first_start
+    ∷ []
+
+two_periods_judge : judgements two_members two_periods ≡ record { member = 2; number = 1 } ∷ []
+two_periods_judge = refl
+
+two_periods_show : table two_members two_periods ≡ record { id = 2; peer = at 2; state = Failed 1 } ∷ row 3 ∷ []
+two_periods_show = refl
+
+two_periods_list : lists two_members two_periods ≡ record { probed = 3 ∷ []; rest = [] }
+two_periods_list = refl
+
+-- acks of member 2, of this member's period with that number, from the relay
+abbrev ack : ℕ → Call
+ack number = Hear (record { kind = Ack; sender = 3; initiator = 1; target = 2; number = number }) (at 3)
+
+-- an ack counts that comes in its period, whoever sent it, and no other
+ack_counts : unheard two_members (entry 1 (ack 1) Heard Nothing ∷ first_start ∷ []) ≡ None
+ack_counts = refl
+
+ack_of_another_period : unheard two_members (entry 1 (ack 2) (Dropped Stray) Nothing ∷ first_start ∷ []) ≡ Some 2
+ack_of_another_period = refl
+
+ack_before_the_start : unheard two_members (first_start ∷ entry 0 (ack 1) (Dropped Stray) Nothing ∷ []) ≡ Some 2
+ack_before_the_start = refl
+
+-- an aim that is removed is no aim, also if it joins again
+removed_aim : aim (entry 2 (Join 2 (at 2)) (Joined 1) Nothing ∷ entry 1 (Remove 2) Removed Nothing ∷ first_start ∷ []) ≡ None
+removed_aim = refl
+
+rejoined_is_up : row_of two_members (entry 2 (Join 2 (at 9)) (Joined 1) Nothing ∷ entry 1 (Remove 2) Removed Nothing ∷ first_start ∷ []) 2 ≡ Some (up 2 (at 9))
+rejoined_is_up = refl
+
+-- a joiner before the members that are still to be probed is probed next, one among those probed waits
+joins_next : lists two_members (entry 1 (Join 4 (at 4)) (Joined 1) Nothing ∷ first_start ∷ []) ≡ record { probed = 2 ∷ []; rest = 4 ∷ 3 ∷ [] }
+joins_next = refl
+
+joins_later : lists two_members (entry 1 (Join 4 (at 4)) (Joined 0) Nothing ∷ first_start ∷ []) ≡ record { probed = 4 ∷ 2 ∷ []; rest = 3 ∷ [] }
+joins_later = refl
+
+-- a request of member 2 for a ping of member 3, which waits for a period of ticks and no longer
+abbrev request : ℕ → Entry
+request place =
+    entry place (Hear (record { kind = PingReq; sender = 2; initiator = 2; target = 3; number = 9 }) (at 2))
+      (Send (at 3) (record { kind = Ping; sender = 1; initiator = 2; target = 3; number = 9 })) Nothing
+
+abbrev forwarded : ℕ → Entry
+forwarded place =
+    entry place (Hear (record { kind = Ack; sender = 3; initiator = 2; target = 3; number = 9 }) (at 3))
+      (Send (at 2) (record { kind = Ack; sender = 1; initiator = 2; target = 3; number = 9 })) Nothing
+
+waits : waiting two_members (asking 2 2 1 [] ∷ first_start ∷ request 0 ∷ []) ≡ record { key = record { initiator = 2; target = 3; number = 9 }; peer = at 2; left = 1 } ∷ []
+waits = refl
+
+expires : waiting two_members (entry 3 Tick Quiet Nothing ∷ asking 2 2 1 [] ∷ first_start ∷ request 0 ∷ []) ≡ []
+expires = refl
+
+answered_once : waiting two_members (forwarded 1 ∷ request 0 ∷ []) ≡ []
+answered_once = refl
+
+asked_again : length (waiting two_members (request 1 ∷ request 0 ∷ [])) ≡ 1
+asked_again = refl
+
+-- the last number is used, and no period begins after it
+last_period : period_number (of_members 1 18446744073709551614 (row 2 ∷ [])) (starting 0 None 2 18446744073709551615 (round (2 ∷ [])) ∷ []) ≡ 18446744073709551615
+last_period = refl
+
+refused_when_spent : Continues (of_members 1 18446744073709551615 (row 2 ∷ [])) [] (entry 0 Tick (Refused Spent) Nothing)
+refused_when_spent = record { seat = lit< tt; number = refl; answer = (refl, refl) }
+
+-- four periods without relays whose aims answer: the first member's probes are three periods apart, with two listed
+abbrev acked : ℕ → ℕ → ℕ → List Entry → List Entry
+acked place target number before =
+    entry (place + 2) Tick Quiet Nothing
+    ∷ entry (place + 1) Tick Quiet Nothing
+    ∷ entry place (Hear (record { kind = Ack; sender = target; initiator = 1; target = target; number = number }) (at target)) Heard Nothing
+    ∷ before
+
+abbrev no_relays : Setting
+no_relays = of_members 0 0 (row 2 ∷ row 3 ∷ [])
+
+abbrev between_probes : List Entry
+between_probes = acked 9 3 3 (starting 8 None 3 3 (round (3 ∷ 2 ∷ [])) ∷ acked 5 3 2 (starting 4 None 3 2 Nothing ∷ acked 1 2 1 []))
+
+four_probes : IsGap no_relays (starting 12 None 2 4 Nothing ∷ (between_probes ++ first_start ∷ [])) 2 1 4 2
+four_probes = record {
+  newer = [];
+  second = starting 12 None 2 4 Nothing;
+  between = between_probes;
+  first = first_start;
+  before = [];
+  split = refl;
+  from = record { target = 2; peer = at 2; number = 1 };
+  to = record { target = 2; peer = at 2; number = 4 };
+  probed = refl;
+  again = refl;
+  members = (refl, refl);
+  numbers = (refl, refl);
+  none_between = refl;
+  stays = refl;
+  count = refl;
+}

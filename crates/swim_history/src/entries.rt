@@ -1,0 +1,29 @@
+//! Entries of a journal.
+
+use crate::calls::Call;
+use crate::replies::Reply;
+use arrayvec::ArrayVec;
+use swim_wire::Id;
+
+/// The members in the order of a new round.
+pub type Order = ArrayVec<Id, 128>;
+
+/// What was drawn for an entry, beside what its reply says.
+#[derive(Debug, Drop)]
+pub enum Choice {
+    Nothing,
+    /// A round began in this order.
+    Round(Order),
+}
+
+/// One call and its reply.
+#[derive(Debug, Drop)]
+pub struct Entry {
+    /// Whose call it was: 0 to 3.
+    pub seat: u8,
+    /// How many calls of that seat stand before it.
+    pub number: u32,
+    pub call: Call,
+    pub choice: Choice,
+    pub reply: Reply,
+}

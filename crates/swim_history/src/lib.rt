@@ -1,0 +1,23 @@
+//! What a detector was called with and what it answered: openings, calls, replies, and the journal, which
+//! is a run of the sequential detector.
+#![tactic(auto)]
+
+mod calls;
+mod entries;
+mod journals;
+pub mod laws;
+mod openings;
+mod replies;
+mod rows;
+mod sending;
+
+pub use calls::Call;
+pub use entries::{Choice, Entry, Order};
+pub use journals::{Journal, Judged};
+pub use openings::{LONGEST_PERIOD, MOST_RELAYS, Opening, OpeningFault};
+pub use replies::{DropReason, Probe, Refusal, Relay, Reply};
+pub use rows::{Change, KNOWN_MEMBERS, Row, RowState, Table};
+pub use sending::sends;
+
+#[cfg(test)]
+mod tests;

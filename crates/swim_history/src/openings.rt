@@ -1,0 +1,206 @@
+//! What a detector starts from.
+
+ghost use Rattle.std.specs.Prelude.{◌≡◌, ℕ, ◌↔◌, ◌≤◌, Some, None, length, MatchResult, IsOk};
+ghost use Rattle.swim_wire.specs.Ids.{has, has_twice as stands_twice};
+ghost use Rattle.swim_history.specs.Setting.{IsSetting, ids_of};
+ghost use Rattle.swim_history.specs.Check.{first_fault, fault_number, setting_of, rows_up};
+
+use crate::rows::{KNOWN_MEMBERS, Row, RowState};
+use arrayvec::ArrayVec;
+use std::marker::Model;
+use swim_wire::{Id, Peer};
+
+/// The most members that are asked for an indirect probe.
+pub const MOST_RELAYS: u32 = 8;
+
+/// The longest period, in ticks.
+pub const LONGEST_PERIOD: u32 = 65535;
+
+/// Why a detector can't start so. The first that applies is told.
+#[derive(Clone, Copy, Debug, PartialEq, Eq)]
+pub enum OpeningFault {
+    /// More than 8 relays.
+    Relays,
+    /// A timeout of 0 ticks, a period of less than three timeouts, or one of more than 65535 ticks.
+    Timing,
+    /// More than 128 members.
+    TooManyRows,
+    /// This member is among the others.
+    Myself,
+    /// A member stands twice.
+    Twice,
+}
+
+impl OpeningFault {
+    /// The number that texts tell, from 1 on in the order of the faults.
+    pub fn number(self) -> u8
+        ensures { result ≡ fault_number self }
+    {
+        match self {
+            OpeningFault::Relays => 1,
+            OpeningFault::Timing => 2,
+            OpeningFault::TooManyRows => 3,
+            OpeningFault::Myself => 4,
+            OpeningFault::Twice => 5,
+        }
+    }
+}
+
+/// What a detector starts from: this member, how many relays it asks, the timeout (`rtt`) and the period
+/// in ticks, the other members that it knows, and the last period number that was used before (sections
+/// 3.1 and 4.3 of the SWIM paper). It is within the limits that `check` tests. A contract sees it as a
+/// `Setting`.
+#[derive(Debug, Drop)]
+pub struct Opening {
+    me: Id,
+    k: u32,
+    rtt: u32,
+    period: u32,
+    rows: ArrayVec<Row, 128>,
+    last: u64,
+}
+
+impl Model for Opening {
+    ghost use Rattle.swim_history.specs.Setting.{Setting, IsSetting};
+
+    ghost Value = { Setting };
+
+    ghost view = { λ o. record { me = o.me; k = o.k; rtt = o.rtt; period = o.period; rows = o.rows.items; last = o.last } };
+
+    ghost invariant = { λ o. IsSetting (record { me = o.me; k = o.k; rtt = o.rtt; period = o.period; rows = o.rows.items; last = o.last }) };
+}
+
+impl Opening {
+    /// The opening of these parameters, with all members up in the order given, or the first fault.
+    pub fn check(
+        me: Id,
+        k: u32,
+        rtt: u32,
+        period: u32,
+        rows: &[(Id, Peer)],
+        last: u64,
+    ) -> Result<Opening, OpeningFault>
+        ensures exact { let setting = setting_of me k rtt period rows.now last in MatchResult result
+            (λ opening. (first_fault setting ≡ None) × (opening ≡ setting))
+            (λ fault. first_fault setting ≡ Some fault) }
+        ensures accepts { IsOk result ↔ IsSetting (setting_of me k rtt period rows.now last) }
+    {
+        match fault_of(me, k, rtt, period, rows) {
+            Some(fault) => Err(fault),
+            None => Ok(Opening {
+                me,
+                k,
+                rtt,
+                period,
+                rows: rows_of(rows),
+                last,
+            }),
+        }
+    }
+
+    /// This member.
+    pub fn me(&self) -> Id
+        ensures { result ≡ self.now.me }
+    {
+        self.me
+    }
+
+    /// How many members are asked for an indirect probe.
+    pub fn k(&self) -> u32
+        ensures value { result ≡ self.now.k }
+        ensures limits { IsSetting self.now }
+    {
+        self.k
+    }
+
+    /// The timeout, in ticks.
+    pub fn rtt(&self) -> u32
+        ensures value { result ≡ self.now.rtt }
+        ensures limits { IsSetting self.now }
+    {
+        self.rtt
+    }
+
+    /// The period, in ticks.
+    pub fn period(&self) -> u32
+        ensures value { result ≡ self.now.period }
+        ensures limits { IsSetting self.now }
+    {
+        self.period
+    }
+
+    /// The members known at the start, in the order given.
+    pub fn rows(&self) -> &[Row]
+        ensures value { result.now ≡ self.now.rows }
+        ensures limits { IsSetting self.now }
+    {
+        self.rows.as_slice()
+    }
+
+    /// The last period number that was used before.
+    pub fn last(&self) -> u64
+        ensures value { result ≡ self.now.last }
+        ensures limits { IsSetting self.now }
+    {
+        self.last
+    }
+}
+
+/// The first fault of these parameters. The last number has none.
+fn fault_of(me: Id, k: u32, rtt: u32, period: u32, rows: &[(Id, Peer)]) -> Option<OpeningFault>
+    ensures first { (last : ℕ) → result ≡ first_fault (setting_of me k rtt period rows.now last) }
+    ensures room { result ≡ None → length rows.now ≤ 128 }
+{
+    if k > MOST_RELAYS {
+        return Some(OpeningFault::Relays);
+    }
+    if rtt == 0 || u64::from(period) < 3 * u64::from(rtt) || period > LONGEST_PERIOD {
+        return Some(OpeningFault::Timing);
+    }
+    if rows.len() > KNOWN_MEMBERS {
+        return Some(OpeningFault::TooManyRows);
+    }
+    if names_member(rows, me) {
+        return Some(OpeningFault::Myself);
+    }
+    if has_twice(rows) {
+        return Some(OpeningFault::Twice);
+    }
+    None
+}
+
+/// Whether a member is among the rows.
+fn names_member(rows: &[(Id, Peer)], id: Id) -> bool
+    ensures { result ≡ has (ids_of (rows_up rows.now)) id }
+{
+    match rows {
+        [] => false,
+        [first, others @ ..] => id == first.0 || names_member(others, id),
+    }
+}
+
+/// Whether some member stands twice.
+fn has_twice(rows: &[(Id, Peer)]) -> bool
+    ensures { result ≡ stands_twice (ids_of (rows_up rows.now)) }
+{
+    match rows {
+        [] => false,
+        [first, others @ ..] => names_member(others, first.0) || has_twice(others),
+    }
+}
+
+/// The rows of members that are up.
+fn rows_of(members: &[(Id, Peer)]) -> ArrayVec<Row, 128>
+    requires { length members.now ≤ 128 }
+    ensures { result.items ≡ rows_up members.now }
+{
+    let mut rows = ArrayVec::new();
+    for member in members {
+        rows.push(Row {
+            id: member.0,
+            peer: member.1,
+            state: RowState::Up,
+        });
+    }
+    rows
+}

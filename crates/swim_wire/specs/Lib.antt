@@ -1,0 +1,16 @@
+pub mod Address
+pub mod AddressLaws
+pub mod Buffers
+pub mod Cutting
+pub mod First
+pub mod Ids
+pub mod Layout
+pub mod Lines
+pub mod Memory
+pub mod Numbers
+pub mod Parts
+pub mod Probe
+pub mod Requests
+pub mod Round
+pub mod Streams
+pub mod Words

@@ -1,0 +1,43 @@
+-- A text cut in two at a byte.
+use Rattle.std.specs.Prelude.{◌≡◌, ℕ, Bool, true, false, ◌==◌, List, [], ◌∷◌, ◌++◌, Option, Some, None, if◌then◌else◌}
+use Rattle.std.specs.List.{list_any}
+use Rattle.std.specs.Option.{option_map}
+use Rattle.std.proofs.Common.{cond, eqb, refl, ap}
+use Rattle.std.proofs.lemmas.Bool.{or_parts, eq-eqb, eqb-true}
+
+-- the byte is in the text
+abbrev pub has : ℕ → List ℕ → Bool
+has byte text = list_any (λ b. b == byte) text
+
+-- what stands before the first such byte, and what stands after it
+abbrev pub cut : ℕ → List ℕ → Option (List ℕ × List ℕ)
+cut byte [] = None
+cut byte (b ∷ text) = if b == byte then Some ([], text) else option_map (λ parts. (b ∷ parts.0, parts.1)) (cut byte text)
+
+-- the first such byte is the one that no other stands before
+pub cut_at : (byte : ℕ) (before after : List ℕ) → has byte before ≡ false → cut byte (before ++ byte ∷ after) ≡ Some (before, after)
+cut_at byte [] after none = rw (eq-eqb byte byte refl) refl
+cut_at byte (b ∷ before) after none =
+    let parts = or_parts (eqb b byte) (has byte before) none in
+    rw (parts.0, cut_at byte before after parts.1) refl
+
+-- a text without the byte isn't cut
+pub cut_none : (byte : ℕ) (text : List ℕ) → has byte text ≡ false → cut byte text ≡ None
+cut_none byte [] none = refl
+cut_none byte (b ∷ text) none =
+    let parts = or_parts (eqb b byte) (has byte text) none in
+    rw (parts.0, cut_none byte text parts.1) refl
+
+-- the two parts with the byte between them are the text
+pub cut_joined : (byte : ℕ) (text : List ℕ) (parts : List ℕ × List ℕ) → cut byte text ≡ Some parts → text ≡ parts.0 ++ byte ∷ parts.1
+cut_joined byte [] parts e = absurd cc
+cut_joined byte (b ∷ text) parts e = by (eqb b byte) (cut byte text) refl refl (cut_joined byte text) e where
+  by : (here : Bool) (later : Option (List ℕ × List ℕ)) → eqb b byte ≡ here → cut byte text ≡ later → ((p : List ℕ × List ℕ) → cut byte text ≡ Some p → text ≡ p.0 ++ byte ∷ p.1)
+      → cond here (Some ([], text)) (option_map (λ p. (b ∷ p.0, p.1)) later) ≡ Some parts → b ∷ text ≡ parts.0 ++ byte ∷ parts.1
+  by true later h g again given =
+      let is : ([], text) ≡ parts = cc in
+      rw (← is) (ap (λ x. x ∷ text) (eqb-true b byte h))
+  by false None h g again given = absurd cc
+  by false (Some p) h g again given =
+      let is : (b ∷ p.0, p.1) ≡ parts = cc in
+      rw (← is) (ap (λ (rest : List ℕ). b ∷ rest) (again p g))

@@ -1,0 +1,20 @@
+-- The requests of other members that wait for an ack of their target (section 3.1 of the SWIM paper).
+use Rattle.std.specs.Prelude.{ℕ, ◌-◌, not, nat_lt, List, [], ◌∷◌, ◌++◌, filter, map, Option, find}
+use Rattle.std.specs.Option.{option_map}
+use Rattle.swim_wire.specs.declared.messages.Key.{Key}
+use Rattle.swim_wire.specs.Address.{Address}
+use Rattle.swim_wire.specs.Probe.{same_key}
+
+-- a probe that was asked for, who is to get the ack, and for how many more ticks it waits
+pub record Request : Type 0 where
+  pub key : Key
+  pub peer : Address
+  pub left : ℕ
+
+-- the requests but for those of that probe
+abbrev pub forget : Key → List Request → List Request
+forget key requests = filter (λ request. not (same_key request.key key)) requests
+
+-- who is to get the ack of that probe
+abbrev pub peer_for : Key → List Request → Option Address
+peer_for key requests = option_map (λ request. request.peer) (find (λ request. same_key request.key key) requests)

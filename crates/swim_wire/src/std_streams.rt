@@ -1,0 +1,152 @@
+//! Sources and sinks over std's readers and writers, each with a buffer of its own, so that a byte is no system call.
+
+ghost use Rattle.std.specs.Prelude.{◌≡◌, ℕ, ◌<◌, ◌≤◌, ◌==◌, true, not, List, [], ◌∷◌, length};
+ghost use Rattle.std.specs.Bool.{MatchBool};
+ghost use Rattle.std.specs.Io.KnownBytes.{Keeps, Appends};
+ghost use Rattle.swim_wire.specs.Streams.{Gives, Puts, failures_then, failures_if};
+ghost use Rattle.swim_wire.specs.Buffers.{left_of, written_of, with_text};
+
+use crate::buffers::{Buffer, flush};
+use crate::streams::{Byte, Sink, Source};
+use std::io::{Read, Write};
+use std::marker::Model;
+
+/// A source over a reader. It reads up to 4096 bytes at a time. A read that is interrupted is tried again; the 16th
+/// interruption in a row is a fault, and so is any other failure.
+#[derive(Drop)]
+pub struct ReadSource<R: Read> {
+    reader: R,
+    buffer: Buffer,
+    failures: u64,
+}
+
+impl<R: Read> Model for ReadSource<R> {
+    ghost use Rattle.swim_wire.specs.Buffers.{Reading};
+
+    ghost Value = { Reading R };
+
+    ghost view = { λ s. record { reader = s.reader; buffered = s.buffer.held; failures = s.failures } };
+}
+
+impl<R: Read> ReadSource<R> {
+    /// A source over the reader, of which nothing was read yet.
+    pub fn new(reader: R) -> ReadSource<R>
+        ensures { result ≡ record { reader = reader; buffered = []; failures = 0 } }
+    {
+        ReadSource {
+            reader,
+            buffer: Buffer::new(),
+            failures: 0,
+        }
+    }
+}
+
+impl<R: Read> Source for ReadSource<R> {
+    ghost left = { λ s. left_of R.remaining s };
+
+    ghost failures = { λ s. s.failures };
+
+    fn byte(&mut self) -> Byte
+        ensures bytes { Gives (left_of R.remaining self.old) (left_of R.remaining self.new) result }
+        ensures failures { self.new.failures ≡ failures_then self.old.failures result }
+
+        // A byte that was read before is given, and the reader is let be.
+        ensures buffered { (b : ℕ) (rest : List ℕ) → self.old.buffered ≡ b ∷ rest
+            → (result ≡ Byte.One b) × (self.new ≡ record self.old { buffered = rest }) }
+    {
+        if self.buffer.is_empty() && !self.buffer.fill(&mut self.reader) {
+            self.failures = self.failures.saturating_add(1);
+            return Byte::Fault;
+        }
+        match self.buffer.pop() {
+            Some(byte) => Byte::One(byte),
+            None => Byte::End,
+        }
+    }
+
+    fn is_ready(&self) -> bool
+        ensures { result ≡ not (length self.now.buffered == 0) }
+    {
+        !self.buffer.is_empty()
+    }
+}
+
+/// A sink over a writer. It holds back up to 4096 bytes, and writes them where it is full or flushed. A write that is
+/// interrupted is tried again; the 16th interruption in a row is a failure, and so is any other, and a write of no byte. The
+/// bytes that were not written then are still held back.
+#[derive(Drop)]
+pub struct WriteSink<W: Write> {
+    writer: W,
+    buffer: Buffer,
+    failures: u64,
+}
+
+impl<W: Write> Model for WriteSink<W> {
+    ghost use Rattle.swim_wire.specs.Buffers.{Writing};
+
+    ghost Value = { Writing W };
+
+    ghost view = { λ s. record { writer = s.writer; buffered = s.buffer.held; room = s.buffer.room; failures = s.failures } };
+}
+
+impl<W: Write> WriteSink<W> {
+    /// A sink over the writer, that holds nothing back.
+    pub fn new(writer: W) -> WriteSink<W>
+        ensures { result ≡ record { writer = writer; buffered = []; room = 4096; failures = 0 } }
+    {
+        WriteSink {
+            writer,
+            buffer: Buffer::new(),
+            failures: 0,
+        }
+    }
+
+    /// Takes one byte; where there is no room, it first writes what it holds back.
+    fn put_byte(&mut self, byte: u8) -> bool
+        ensures bytes { MatchBool result
+            (Appends (written_of W.contents self.old) (written_of W.contents self.new) (byte ∷ []))
+            (Keeps (written_of W.contents self.old) (written_of W.contents self.new)) }
+        ensures failures { self.new.failures ≡ self.old.failures }
+        ensures fits { 0 < self.old.room → (result ≡ true) × (self.new ≡ with_text self.old (byte ∷ [])) }
+    {
+        if self.buffer.is_full() && !self.buffer.send(&mut self.writer) {
+            return false;
+        }
+        self.buffer.push(byte);
+        true
+    }
+}
+
+impl<W: Write> Sink for WriteSink<W> {
+    ghost written = { λ s. written_of W.contents s };
+
+    ghost failures = { λ s. s.failures };
+
+    fn put(&mut self, text: &[u8]) -> bool
+        ensures bytes { Puts (written_of W.contents self.old) (written_of W.contents self.new) text.now result }
+        ensures failures { self.new.failures ≡ failures_if self.old.failures result }
+
+        // A text for which there is room is held back.
+        ensures fits { length text.now ≤ self.old.room → (result ≡ true) × (self.new ≡ with_text self.old text.now) }
+    {
+        for byte in text {
+            if !self.put_byte(*byte) {
+                self.failures = self.failures.saturating_add(1);
+                return false;
+            }
+        }
+        true
+    }
+
+    fn flush(&mut self) -> bool
+        ensures bytes { Keeps (written_of W.contents self.old) (written_of W.contents self.new) }
+        ensures failures { self.new.failures ≡ failures_if self.old.failures result }
+        ensures sent { result ≡ true → (self.new.buffered ≡ []) × (self.new.room ≡ 4096) }
+    {
+        if self.buffer.send(&mut self.writer) && flush(&mut self.writer) {
+            return true;
+        }
+        self.failures = self.failures.saturating_add(1);
+        false
+    }
+}

@@ -1,0 +1,4 @@
+mod addresses;
+mod datagrams;
+mod decimals;
+mod streams;

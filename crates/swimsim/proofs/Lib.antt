@@ -1,0 +1,5 @@
+pub mod Digits
+pub mod Served
+pub mod ServedLines
+pub mod Steps
+pub mod TwoPuts

@@ -1,0 +1,14 @@
+use Rattle.std.proofs.Common.{refl, ap, ◌∙◌}
+use Rattle.swim_history.specs.declared.replies.Reply.TheVariants.{Quiet}
+use Rattle.swimsim.proofs.Steps.{turned, passed}
+use Rattle.swimsim.proofs.detector.Detector.rest.Goals as goal
+
+pub invariant_of-self : goal.invariant_of-self
+invariant_of-self c =
+    let s = c.self.inside in
+    let o = s.journal.opening in
+    let room = rw (← c.self.view_is) at c.requires.room in
+    let period = c.period.ensures.value ∙ ap (λ x. x.period) (c.opening.ensures.value ∙ c.add.ensures.opening) in
+    let turns = turned o c.period.result s.phase c.phase_after-self-inside.result period c.phase_after-self-inside.ensures in
+    let inside = rw (← c.self.view_is) at c.requires.inside in
+    rw (c.add.ensures.opening, c.add.ensures.past) (passed o s.journal.past s.member s.aim s.heard s.phase s.number s.limit c.len.result _ Quiet c.self.invariant refl refl inside room.1 turns)

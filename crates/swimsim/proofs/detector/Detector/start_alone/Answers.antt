@@ -1,0 +1,15 @@
+use Rattle.std.proofs.Common.{refl, ap, ◌∙◌, ◌+◌}
+use Rattle.swim_history.specs.declared.replies.Reply.TheVariants.{Started}
+use Rattle.swimsim.proofs.Steps.{turned, started_alone}
+use Rattle.swimsim.proofs.detector.Detector.start_alone.Goals as goal
+
+pub invariant_of-self : goal.invariant_of-self
+invariant_of-self c =
+    let s = c.self.inside in
+    let o = s.journal.opening in
+    let room = rw (← c.self.view_is) at c.requires.room in
+    let period = c.period.ensures.value ∙ ap (λ x. x.period) (c.opening.ensures.value ∙ c.add.ensures.opening) in
+    let turns = turned o c.period.result s.phase c.phase_after-self-inside.result period c.phase_after-self-inside.ensures in
+    let begins = rw (← c.self.view_is) at c.requires.begins in
+    let nobody = rw (← c.self.view_is) at c.requires.nobody in
+    rw (c.add.ensures.opening, c.add.ensures.past) (started_alone o s.journal.past s.member s.heard s.phase s.number s.limit c.len.result _ s.aim c.self.invariant nobody begins room.1 turns)

@@ -1,0 +1,13 @@
+use Rattle.std.proofs.Common.{◌≡◌, ◌+◌, ◌≤◌}
+use Rattle.swimsim.proofs.simulator.run.Given as goal
+
+-- no read and no write has failed, and each line took a byte of the budget at least
+abbrev pub invariant-loop-session : goal.invariant-loop-session
+invariant-loop-session g l = record {
+  reads : g.R.Source.failures l.reader ≡ g.R.Source.failures l.initial.reader;
+  writes : g.W.Sink.failures l.writer ≡ g.W.Sink.failures l.initial.writer;
+  lines : l.session.lines + l.budget ≤ 16777216;
+}
+
+abbrev pub decreases-loop-session : goal.decreases-loop-session
+decreases-loop-session g l = l.budget

@@ -1,0 +1,5 @@
+pub mod Commands
+pub mod Holds
+pub mod Mirrors
+pub mod Script
+pub mod Texts

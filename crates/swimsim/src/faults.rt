@@ -1,0 +1,51 @@
+//! What is wrong with a script.
+
+use crate::commands::LineFault;
+use std::fmt;
+use swim_history::OpeningFault;
+use thiserror::Error;
+
+/// The most bytes of a script.
+pub const SCRIPT_BYTES: u32 = 16_777_216;
+
+/// The kinds of faults of a script.
+#[derive(Clone, Copy, Debug, PartialEq, Eq)]
+pub enum FaultKind {
+    /// The script is longer than 16,777,216 bytes.
+    Size,
+    /// The line has more than 2,048 bytes.
+    Long,
+    /// The words of the line.
+    Words(LineFault),
+    /// The opening is refused.
+    Opening(OpeningFault),
+    /// The reader failed.
+    Read,
+    /// The writer failed.
+    Write,
+}
+
+/// What is wrong with a script, and in which line, counted from 1. The line is 0 for a script with no line
+/// that isn't skipped. Where the writer failed it is the line that was being answered or waited for.
+#[derive(Clone, Copy, Debug, PartialEq, Eq, Error)]
+#[error("line {line}: {kind}")]
+pub struct ScriptFault {
+    pub line: u32,
+    pub kind: FaultKind,
+}
+
+impl fmt::Display for FaultKind {
+    fn fmt<W: fmt::Write>(&self, f: &mut fmt::Formatter<W>) -> fmt::Result {
+        match self {
+            FaultKind::Size => f.write_str("size"),
+            FaultKind::Long => f.write_str("long"),
+            FaultKind::Words(fault) => f.write_str(fault.name()),
+            FaultKind::Opening(fault) => {
+                let number = fault.number();
+                write!(f, "opening {number}")
+            }
+            FaultKind::Read => f.write_str("read"),
+            FaultKind::Write => f.write_str("write"),
+        }
+    }
+}

@@ -1,0 +1,37 @@
+//! The simulator: a script in, replies out.
+
+ghost use Rattle.std.specs.Prelude.{◌≡◌, if◌then◌else◌};
+ghost use Rattle.swim_wire.specs.Streams.{one_more};
+ghost use Rattle.swimsim.specs.Script.{is_read, is_write};
+
+use crate::commands::LINE_BYTES;
+use crate::faults::{FaultKind, SCRIPT_BYTES, ScriptFault};
+use crate::session::Session;
+use arrayvec::ArrayVec;
+use std::alloc::Global;
+use swim_wire::{Sink, Source, Taken, next_line};
+
+/// Plays the script that the reader gives, and writes its answers. Each answer is written as soon as its
+/// line was read, and handed on before the reader is waited for.
+pub fn run<R: Source, W: Sink>(
+    alloc: Global,
+    reader: &mut R,
+    writer: &mut W,
+) -> Result<(), ScriptFault>
+    ensures reads { R.failures reader.new ≡ (if is_read result then one_more (R.failures reader.old) else R.failures reader.old) }
+    ensures writes { W.failures writer.new ≡ (if is_write result then one_more (W.failures writer.old) else W.failures writer.old) }
+{
+    let mut session = Session::new(alloc);
+    let mut line = ArrayVec::<u8, LINE_BYTES>::new();
+    let mut budget = SCRIPT_BYTES;
+    loop {
+        match next_line(reader, writer, &mut line, &mut budget) {
+            Taken::Line => session.turn(line.as_slice(), writer)?,
+            Taken::Over => return session.end(),
+            Taken::Long => return Err(session.fault(FaultKind::Long)),
+            Taken::Size => return Err(session.fault(FaultKind::Size)),
+            Taken::Failed => return Err(session.fault(FaultKind::Read)),
+            Taken::Unsent => return Err(session.fault(FaultKind::Write)),
+        }
+    }
+}
