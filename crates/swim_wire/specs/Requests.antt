@@ -1,5 +1,5 @@
 -- The requests of other members that wait for an ack of their target (section 3.1 of the SWIM paper).
-use Rattle.std.specs.Prelude.{ℕ, ◌-◌, not, nat_lt, List, [], ◌∷◌, ◌++◌, filter, map, Option, find}
+use Rattle.std.specs.Prelude.{ℕ, not, List, filter, Option, find}
 use Rattle.std.specs.Option.{option_map}
 use Rattle.swim_wire.specs.declared.messages.Key.{Key}
 use Rattle.swim_wire.specs.Address.{Address}

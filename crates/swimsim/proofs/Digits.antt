@@ -1,12 +1,12 @@
 -- What digits spell, by how many they are.
-use Rattle.std.proofs.Common.{◌≡◌, ◌≢◌, ℕ, ◌*◌, ◌%◌, true, false, List, length, Option, Some, None, Result, Ok, Err, refl, sym, ap, ◌∙◌, arith, eqb}
+use Rattle.std.proofs.Common.{◌≡◌, ◌≢◌, ℕ, ◌%◌, List, length, Option, Some, None, Result, Ok, Err, refl, sym, ap, ◌∙◌, arith}
 use Rattle.std.specs.List.{AllPass}
 use Rattle.std.specs.Prelude.{MatchResult}
 use Rattle.std.proofs.lemmas.Bool.{ne_eqb}
 use Rattle.hex.specs.Hex.{decode_of, decode_sized, is_hex_digit}
 use Rattle.hex.specs.declared.error.FromHexError.{FromHexError}
 use Rattle.hex.proofs.HexLemmas.{decode_of-odd, decode_of-ok, decode_of-digits, decode_sized-twice}
-use Rattle.swim_wire.specs.Layout.{first_fault, decoded}
+use Rattle.swim_wire.specs.Layout.{decoded}
 use Rattle.swim_wire.specs.declared.messages.Message.{Message}
 use Rattle.swim_wire.specs.declared.codec.WireFault.{WireFault}
 use Rattle.swim_wire.specs.declared.codec.WireFault.TheVariants.{Length}
@@ -23,9 +23,9 @@ odd_spells_nothing text odd = rw (decode_of-odd text odd) refl
 pub others_spell_nothing : (text : List ℕ) → (AllPass is_hex_digit text → ⊥) → datagram_of text ≡ None
 others_spell_nothing text others = by (decode_of text) refl
   where
-  by : (read : Result (List ℕ) FromHexError) → decode_of text ≡ read → datagram_of text ≡ None
-  by (Ok bytes) is = absurd (others (decode_of-ok text bytes is).1)
-  by (Err fault) is = rw is refl
+    by : (read : Result (List ℕ) FromHexError) → decode_of text ≡ read → datagram_of text ≡ None
+    by (Ok bytes) is = absurd (others (decode_of-ok text bytes is).1)
+    by (Err fault) is = rw is refl
 
 -- bytes of another number than a datagram's are told as that
 another_length : (bytes : List ℕ) → length bytes ≢ 24 → decoded bytes ≡ Err Length
@@ -47,6 +47,6 @@ pub decoded_digits : (text out : List ℕ) (result : Result (Unit {0}) FromHexEr
     MatchResult (decode_sized text 24) (λ bytes. (result ≡ Ok tt) × (out ≡ bytes)) (λ fault. result ≡ Err fault) → result ≡ Ok tt → datagram_of text ≡ served (decoded out)
 decoded_digits text out result long given ok = by (decode_sized text 24) refl given
   where
-  by : (read : Result (List ℕ) FromHexError) → decode_sized text 24 ≡ read → MatchResult read (λ bytes. (result ≡ Ok tt) × (out ≡ bytes)) (λ fault. result ≡ Err fault) → datagram_of text ≡ served (decoded out)
-  by (Ok bytes) is given = digits_of_a_datagram text bytes long is ∙ ap (λ (bytes : List ℕ). served (decoded bytes)) (sym given.1)
-  by (Err fault) is given = absurd cc
+    by : (read : Result (List ℕ) FromHexError) → decode_sized text 24 ≡ read → MatchResult read (λ bytes. (result ≡ Ok tt) × (out ≡ bytes)) (λ fault. result ≡ Err fault) → datagram_of text ≡ served (decoded out)
+    by (Ok bytes) is given = digits_of_a_datagram text bytes long is ∙ ap (λ (bytes : List ℕ). served (decoded bytes)) (sym given.1)
+    by (Err fault) is given = absurd cc

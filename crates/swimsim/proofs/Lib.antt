@@ -1,5 +1,9 @@
+pub mod Answered
+pub mod Courses
 pub mod Digits
+pub mod Known
 pub mod Served
 pub mod ServedLines
 pub mod Steps
+pub mod Turns
 pub mod TwoPuts

@@ -1,17 +1,17 @@
 -- Openings that are served: no relays, and at most one member.
-use Rattle.std.proofs.Common.{◌≡◌, ℕ, suc, ◌≤◌, Bool, true, false, List, [], ◌∷◌, ◌++◌, length, take, Option, Some, None, refl, sym, ap, subst, ◌∙◌, arith, inl, inr, ◌<◌, ◌*◌, ◌==◌, ◌||◌, nat_lt, cond}
+use Rattle.std.proofs.Common.{◌≡◌, ℕ, suc, ◌≤◌, Bool, true, false, List, [], ◌∷◌, ◌++◌, length, take, Option, Some, None, refl, sym, ap, ◌∙◌, arith, inl, inr, ◌<◌, ◌*◌, ◌==◌, ◌||◌, nat_lt, cond}
 use Rattle.std.specs.List.{list_all}
 use Rattle.std.proofs.lemmas.Bool.{eq-eqb, le-ltb, lt-ltb, cases_lt}
 use Rattle.std.proofs.lemmas.List.{take_all, take_at, length-take, length-append}
 use Rattle.swim_wire.specs.Address.{Address}
-use Rattle.swim_history.specs.Setting.{Setting, is_state_up}
-use Rattle.swim_history.specs.Check.{setting_of, rows_up, first_fault, has_fault}
+use Rattle.swim_history.specs.Setting.{is_state_up}
+use Rattle.swim_history.specs.Check.{rows_up, first_fault}
 use Rattle.swimsim.specs.declared.commands.Opened.{Opened}
 use Rattle.swim_history.specs.declared.openings.OpeningFault.{OpeningFault}
 use Rattle.swim_history.specs.declared.openings.OpeningFault.TheVariants.{Relays, Timing, TooManyRows}
 use Rattle.swimsim.specs.declared.faults.FaultKind.TheVariants.{Opening}
 use Rattle.swimsim.specs.Mirrors.{IsSmall}
-use Rattle.swimsim.specs.Script.{at_line, opening_at, opening_fault, setting_with, fault_of_opening}
+use Rattle.swimsim.specs.Script.{at_line, setting_with, fault_of_opening}
 use Rattle.swimsim.specs.Holds.{first_rows}
 
 -- rows that a check makes are up

@@ -1,5 +1,5 @@
 -- What one more entry does to what the detector's fields mean.
-use Rattle.std.proofs.Common.{◌≡◌, ◌≢◌, ℕ, suc, ◌+◌, ◌%◌, ◌<◌, ◌≤◌, Bool, true, false, ◌&&◌, ◌||◌, cond, eqb, List, [], ◌∷◌, ◌++◌, length, Option, Some, None, refl, sym, ap, subst, ◌∙◌, arith, add-one}
+use Rattle.std.proofs.Common.{◌≡◌, ◌≢◌, ℕ, suc, ◌+◌, ◌%◌, ◌<◌, Bool, true, false, ◌&&◌, ◌||◌, List, [], ◌∷◌, ◌++◌, length, Option, Some, None, refl, sym, ap, subst, ◌∙◌, arith, add-one}
 use Rattle.std.specs.Prelude.{◌==◌, is_some}
 use Rattle.std.specs.List.{list_any}
 use Rattle.std.proofs.lemmas.Bool.{eq-eqb, ne_eqb, eqb-true, or_parts, or_from}
@@ -10,16 +10,15 @@ use Rattle.swim_wire.specs.declared.messages.Message.{Message}
 use Rattle.swim_history.specs.declared.calls.Call.{Call}
 use Rattle.swim_history.specs.declared.calls.Call.TheVariants.{Tick, Hear}
 use Rattle.swim_history.specs.declared.replies.Reply.{Reply}
-use Rattle.swim_history.specs.declared.replies.Reply.TheVariants.{Quiet, Started, Asked, Heard, Send, Dropped, Joined, Removed, Refused}
-use Rattle.swim_history.specs.declared.replies.Probe.{Probe}
+use Rattle.swim_history.specs.declared.replies.Reply.TheVariants.{Started, Heard, Send, Dropped, Refused}
 use Rattle.swim_history.specs.declared.entries.Choice.{Choice}
 use Rattle.swim_history.specs.declared.entries.Choice.TheVariants.{Nothing, Round}
 use Rattle.swim_history.specs.declared.entries.Entry.{Entry}
 use Rattle.swim_history.specs.Setting.{Setting}
-use Rattle.swim_history.specs.Events.{is_ticking, is_tick, is_starting, is_start, acks, is_acking}
+use Rattle.swim_history.specs.Events.{is_ticking, is_starting, is_start, acks, is_acking}
 use Rattle.swim_history.specs.Clock.{phase, ticks, period_number}
 use Rattle.swim_history.specs.RunLaws.{period_number-within, period_number-start}
-use Rattle.swim_history.specs.Aim.{since, aim, unheard, was_heard, unless}
+use Rattle.swim_history.specs.Aim.{since, aim}
 use Rattle.swim_history.specs.Waiting.{asked_in, asking, waiting_since}
 use Rattle.swim_history.specs.RunLaws.{hears_no_start}
 use Rattle.swim_history.specs.Run.{Hears}
@@ -153,18 +152,18 @@ none_wait period newer (e ∷ h) none =
     let parts = or_parts (is_request e) (list_any is_request h) none in
     rw (none_wait period (e ∷ newer) h parts.1, nothing_asked (asked_in e.call e.reply) parts.0) refl
   where
-  nothing_asked : {A : Type 0} (o : Option A) → is_some o ≡ false → o ≡ None
-  nothing_asked None e = refl
-  nothing_asked (Some a) e = absurd cc
+    nothing_asked : {A : Type 0} (o : Option A) → is_some o ≡ false → o ≡ None
+    nothing_asked None e = refl
+    nothing_asked (Some a) e = absurd cc
 
 -- a message that is no request leaves none waiting
 unasked_by : (m : Message) (source : Address) (reply : Reply) → m.kind ≢ PingReq → is_some (asked_in (Hear m source) reply) ≡ false
 unasked_by m source (Send peer message) other = by m.kind refl
   where
-  by : (kind : Kind) → m.kind ≡ kind → is_some (asking kind m source) ≡ false
-  by Ping is = refl
-  by Ack is = refl
-  by PingReq is = absurd (other is)
+    by : (kind : Kind) → m.kind ≡ kind → is_some (asking kind m source) ≡ false
+    by Ping is = refl
+    by Ack is = refl
+    by PingReq is = absurd (other is)
 unasked_by m source reply other = refl
 
 -- an ack of the aim for this period is heard, and nothing else is
@@ -179,9 +178,9 @@ heard_exactly o h m source Ack Heard target is other aims a =
 heard_exactly o h m source Ack (Dropped Stray) target is other aims a =
     rw (is, eq-eqb m.initiator o.me a.0) (by (m.target == target) refl)
   where
-  by : (b : Bool) → (m.target == target) ≡ b → false ≡ ((m.target == target) && m.number == period_number o h)
-  by true same = rw (same, ne_eqb m.number (period_number o h) (a.1 (aims ∙ ap Some (sym (eqb-true m.target target same))))) refl
-  by false different = rw different refl
+    by : (b : Bool) → (m.target == target) ≡ b → false ≡ ((m.target == target) && m.number == period_number o h)
+    by true same = rw (same, ne_eqb m.number (period_number o h) (a.1 (aims ∙ ap Some (sym (eqb-true m.target target same))))) refl
+    by false different = rw different refl
 heard_exactly o h m source Ack (Send peer ack) target is other aims a = rw (is, ne_eqb m.initiator o.me a.0) refl
 heard_exactly o h m source Ack (Dropped NoRequest) target is other aims a = rw (is, ne_eqb m.initiator o.me a.0) refl
 heard_exactly o h m source kind reply target is other aims a = absurd a
@@ -208,8 +207,8 @@ answered o h member aimed heard past used limit number m source reply mirrors ot
       aim_is = mirrors.aim_is ∙ sym same_aim;
       aims_at = mirrors.aims_at;
       heard_is = λ target is.
-        let aims = sym same_aim ∙ is in
-        or_swap heard (is_heard reply) ∙ rw (idle, heard_exactly o h m source m.kind reply target refl other aims a, mirrors.heard_is target aims) refl;
+          let aims = sym same_aim ∙ is in
+          or_swap heard (is_heard reply) ∙ rw (idle, heard_exactly o h m source m.kind reply target refl other aims a, mirrors.heard_is target aims) refl;
       phase_is = mirrors.phase_is;
       number_is = mirrors.number_is;
       count_is = ap suc mirrors.count_is;

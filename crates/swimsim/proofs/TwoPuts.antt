@@ -1,5 +1,5 @@
 -- A text that is written in two parts.
-use Rattle.std.proofs.Common.{◌≡◌, ℕ, ◌≤◌, Bool, true, false, List, [], ◌∷◌, ◌++◌, length, get_or, take, drop, ◌-◌, Option, refl, sym, ap, subst, arith}
+use Rattle.std.proofs.Common.{◌≡◌, ℕ, ◌≤◌, Bool, true, false, List, [], ◌∷◌, ◌++◌, length, get_or, take, drop, ◌-◌, Option, refl, subst, arith}
 use Rattle.std.proofs.lemmas.List.{take_all}
 use Rattle.swim_wire.specs.Streams.{Puts, puts_then, puts_less}
 

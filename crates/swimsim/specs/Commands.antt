@@ -142,10 +142,11 @@ said_by (Err fault) = Err fault
 abbrev pub line_read : Stage → List ℕ → Result (Option Command) LineFault
 line_read stage line = if is_skipped line then Ok None else said_by (words_read stage (words_of line))
 
--- what a line says is served where it stands: a call after an opening, and no request for an indirect probe
+-- what a line says is served where it stands: the opening first, a row behind it, a call after it, and no
+-- request for an indirect probe
 abbrev pub IsServed : Stage → Command → Type 0
-IsServed stage (Open arguments) = Unit {0}
-IsServed stage (Row id peer) = Unit {0}
+IsServed stage (Open arguments) = stage ≡ Blank
+IsServed stage (Row id peer) = stage ≡ Header
 IsServed stage Tick = stage ≢ Blank
 IsServed stage (Hear peer (Err fault)) = stage ≢ Blank
 IsServed stage (Hear peer (Ok message)) = (stage ≢ Blank) × (message.kind ≢ PingReq)

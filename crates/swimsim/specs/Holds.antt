@@ -1,5 +1,5 @@
 -- What the fields of a session mean, by the definitions over the lines of its script.
-use Rattle.std.specs.Prelude.{◌≡◌, ◌≢◌, ◌⊎◌, ℕ, ◌+◌, ◌==◌, ◌≤◌, Bool, true, false, List, [], ◌∷◌, ◌++◌, length, map, take, drop, reverse, Option, Some, None, Result, Ok, Err}
+use Rattle.std.specs.Prelude.{◌≡◌, ◌⊎◌, ℕ, ◌+◌, ◌==◌, ◌≤◌, Bool, true, List, [], ◌∷◌, ◌++◌, length, map, take, drop, reverse, Option, Some, None, Result, Ok, Err}
 use Rattle.std.specs.List.{list_all}
 use Rattle.std.specs.Io.KnownBytes.{Keeps, Appends}
 use Rattle.swim_wire.specs.Address.{Address}
@@ -9,17 +9,22 @@ use Rattle.swim_history.specs.declared.calls.Call.{Call}
 use Rattle.swim_history.specs.declared.entries.Entry.{Entry}
 use Rattle.swim_history.specs.Setting.{Setting}
 use Rattle.swim_history.specs.Run.{IsRun}
+use Rattle.swim_wire.specs.declared.codec.WireFault.{WireFault}
+use Rattle.swim_wire.specs.declared.messages.Message.{Message}
+use Rattle.swim_history.specs.declared.calls.Call.TheVariants as calls
+use Rattle.swimsim.specs.declared.commands.Command.{Command}
+use Rattle.swimsim.specs.declared.commands.Command.TheVariants.{Open, Row, Tick, Hear}
 use Rattle.swimsim.specs.declared.commands.Opened.{Opened}
 use Rattle.swimsim.specs.declared.commands.Stage.{Stage}
 use Rattle.swimsim.specs.declared.commands.Stage.TheVariants.{Blank, Header, Events}
 use Rattle.swimsim.specs.declared.commands.LineFault.TheVariants.{Word}
 use Rattle.swimsim.specs.declared.faults.FaultKind.{FaultKind}
-use Rattle.swimsim.specs.declared.faults.FaultKind.TheVariants.{Size, Long, Words, Opening, Read, Write}
+use Rattle.swimsim.specs.declared.faults.FaultKind.TheVariants.{Words, Write}
 use Rattle.swimsim.specs.declared.faults.ScriptFault.{ScriptFault}
 use Rattle.swimsim.specs.Commands.{line_read}
 use Rattle.swimsim.specs.Mirrors.{Simulated, AddsThis, IsUnchanged}
-use Rattle.swimsim.specs.Texts.{answer_text, full_text, no_memory_text}
-use Rattle.swimsim.specs.Script.{Head, head_of, setting_in, limit_with, Turn, lines_of, calls_in, output_of, fault_of, fault_from, fault_of_read, fault_of_opening, at_line, setting_with, bytes_of}
+use Rattle.swimsim.specs.Texts.{answer_text, wire_text, full_text, no_memory_text}
+use Rattle.swimsim.specs.Script.{head_of, setting_in, limit_with, Turn, lines_of, calls_in, output_of, fault_of, fault_from, fault_of_read, fault_of_opening, at_line, setting_with, bytes_of}
 
 -- what contracts see of a session: how many lines it was given, its `open` line, the first rows, and the
 -- detector, once a call was made
@@ -55,7 +60,7 @@ pub record IsWaiting (turns : List Turn) (run : List Entry) (text : List ℕ) (o
   pub none : run ≡ []
   pub nothing : text ≡ []
   pub silent : IsSilent turns
-  pub within : line_of opened ≤ length turns
+  pub within : line_of opened ≤ length (lines_of turns)
 
 -- the detector made the run of the calls
 pub record IsPlaying (turns : List Turn) (run : List Entry) (text : List ℕ) (simulated : Simulated) : Type 0 where
@@ -73,7 +78,7 @@ Plays turns run text opened (Some simulated) = IsPlaying turns run text simulate
 
 -- the session is where these lines lead: their calls made this run, and this text was written
 pub record Holds (turns : List Turn) (run : List Entry) (text : List ℕ) (s : Played) : Type 0 where
-  pub count : s.lines ≡ length turns
+  pub count : s.lines ≡ length (lines_of turns)
   pub opened_is : s.opened ≡ (head_of (lines_of turns)).opened
   pub rows_are : s.rows ≡ first_rows (head_of (lines_of turns)).rows
   pub stage_is : (head_of (lines_of turns)).stage ≡ stage_of s.opened s.simulated
@@ -115,24 +120,63 @@ ending_with opened rows (Some simulated) = None
 abbrev pub ending : Played → Option ScriptFault
 ending s = ending_with s.opened s.rows s.simulated
 
--- what one line did: it has no fault, and its answer was written; or the writer failed; or it has a fault, and
--- nothing was written
+-- the session was started, if it was not, and called
+abbrev pub IsPlayed : Played → Played → Call → Option (List ℕ) → Option (List ℕ) → Bool → Type 0
+IsPlayed old new call before after done =
+    (a : Simulated) × Starts old.opened old.rows old.simulated (Some a) × (b : Simulated) × (new.simulated ≡ Some b) × Answers a b call before after done
+    × (new.lines ≡ old.lines + 1) × (new.opened ≡ old.opened) × (new.rows ≡ old.rows)
+
+-- the session was started, if it was not, and told that a datagram is none
+abbrev pub IsUnread : Played → Played → WireFault → Option (List ℕ) → Option (List ℕ) → Bool → Type 0
+IsUnread old new fault before after done =
+    (a : Simulated) × Starts old.opened old.rows old.simulated (Some a) × (new.simulated ≡ Some a) × Puts before after (wire_text fault) done
+    × (new.lines ≡ old.lines + 1) × (new.opened ≡ old.opened) × (new.rows ≡ old.rows)
+
+-- the opening is refused and nothing written, or the writer failed in this line
+abbrev pub IsStopped : Played → ScriptFault → Option (List ℕ) → Option (List ℕ) → Type 0
+IsStopped old fault before after =
+    ((old.simulated ≡ None) × (fault_of_opening old.opened old.rows ≡ Some fault) × Keeps before after)
+    ⊎ ((fault ≡ at_line (old.lines + 1) Write) × (part : List ℕ) × Appends before after part)
+
+abbrev pub PlaysLine : Played → Played → Call → Option (List ℕ) → Option (List ℕ) → Result (Unit {0}) ScriptFault → Type 0
+PlaysLine old new call before after (Ok done) = IsPlayed old new call before after true
+PlaysLine old new call before after (Err fault) = IsStopped old fault before after
+
+abbrev pub ReadsLine : Played → Played → WireFault → Option (List ℕ) → Option (List ℕ) → Result (Unit {0}) ScriptFault → Type 0
+ReadsLine old new wire before after (Ok done) = IsUnread old new wire before after true
+ReadsLine old new wire before after (Err fault) = IsStopped old fault before after
+
+-- what a command did
+abbrev pub Heard : Played → Played → Address → Result Message WireFault → Option (List ℕ) → Option (List ℕ) → Result (Unit {0}) ScriptFault → Type 0
+Heard old new source (Ok message) before after result = PlaysLine old new (calls.Hear message source) before after result
+Heard old new source (Err wire) before after result = ReadsLine old new wire before after result
+
+abbrev pub Done : Played → Played → Command → Option (List ℕ) → Option (List ℕ) → Result (Unit {0}) ScriptFault → Type 0
+Done old new (Open arguments) before after result =
+    (result ≡ Ok tt) × (new ≡ record { lines = old.lines + 1; opened = Some (record { line = old.lines + 1; arguments = arguments }); rows = old.rows; simulated = old.simulated }) × Keeps before after
+Done old new (Row id peer) before after result =
+    (result ≡ Ok tt) × (new ≡ record { lines = old.lines + 1; opened = old.opened; rows = first_rows (old.rows ++ (id, peer) ∷ []); simulated = old.simulated }) × Keeps before after
+Done old new Tick before after result = PlaysLine old new calls.Tick before after result
+Done old new (Hear source read) before after result = Heard old new source read before after result
+
+-- what one line did: it has no fault, and its answer was written
 pub record TurnDone (turns : List Turn) (text piece : List ℕ) (new : Played) (before after : Option (List ℕ)) : Type 0 where
-  pub none : fault_of_read (length turns + 1) (head_of (lines_of turns)) (line_read (head_of (lines_of turns)).stage (bare piece)) ≡ None
+  pub none : fault_of_read (length (lines_of turns) + 1) (head_of (lines_of turns)) (line_read (head_of (lines_of turns)).stage (bare piece)) ≡ None
   pub refused : Bool
   pub run : List Entry
   pub more : List ℕ
   pub holds : Holds (record { line = piece; refused = refused } ∷ turns) run (text ++ more) new
   pub written : Appends before after more
 
-abbrev pub TurnFails : List Turn → List ℕ → ScriptFault → FaultKind → Option (List ℕ) → Option (List ℕ) → Type 0
-TurnFails turns piece fault Write before after = (fault.line ≡ length turns + 1) × (part : List ℕ) × Appends before after part
-TurnFails turns piece fault kind before after =
-    (fault_of_read (length turns + 1) (head_of (lines_of turns)) (line_read (head_of (lines_of turns)).stage (bare piece)) ≡ Some fault) × Keeps before after
+-- it has a fault and nothing was written, or the writer failed
+abbrev pub TurnFails : List Turn → List ℕ → ScriptFault → Option (List ℕ) → Option (List ℕ) → Type 0
+TurnFails turns piece fault before after =
+    ((fault_of_read (length (lines_of turns) + 1) (head_of (lines_of turns)) (line_read (head_of (lines_of turns)).stage (bare piece)) ≡ Some fault) × Keeps before after)
+    ⊎ ((fault ≡ at_line (length (lines_of turns) + 1) Write) × (part : List ℕ) × Appends before after part)
 
 abbrev pub Turned : List Turn → List ℕ → List ℕ → Played → Option (List ℕ) → Option (List ℕ) → Result (Unit {0}) ScriptFault → Type 0
 Turned turns text piece new before after (Ok done) = TurnDone turns text piece new before after
-Turned turns text piece new before after (Err fault) = TurnFails turns piece fault fault.kind before after
+Turned turns text piece new before after (Err fault) = TurnFails turns piece fault before after
 
 -- where the lines lead that were read of a script
 pub record Course (script rest : List ℕ) (old new : Option (List ℕ)) (budget : ℕ) (s : Played) : Type 0 where

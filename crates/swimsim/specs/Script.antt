@@ -1,6 +1,6 @@
 -- A script: what its header says, its first fault, its calls, and what is written for it. Lines are lists of
 -- bytes with their line feeds; a list of lines is newest first, so that each line stands before the earlier ones.
-use Rattle.std.specs.Prelude.{◌≡◌, ℕ, ◌+◌, ◌-◌, ◌==◌, Bool, true, false, not, ◌||◌, nat_lt, List, [], ◌∷◌, ◌++◌, length, map, take, reverse, sum_by, Option, Some, None, Result, Ok, Err, if◌then◌else◌}
+use Rattle.std.specs.Prelude.{◌≡◌, ℕ, ◌+◌, ◌-◌, ◌==◌, Bool, true, false, not, ◌||◌, nat_lt, List, [], ◌∷◌, ◌++◌, length, map, take, reverse, Option, Some, None, Result, Ok, Err, if◌then◌else◌}
 use Rattle.std.specs.List.{list_all}
 use Rattle.std.specs.Io.KnownBytes.{Appends}
 use Rattle.swim_wire.specs.Address.{Address}
@@ -18,7 +18,6 @@ use Rattle.swimsim.specs.declared.commands.LineFault.{LineFault}
 use Rattle.swimsim.specs.declared.commands.LineFault.TheVariants.{Word}
 use Rattle.swimsim.specs.declared.commands.Stage.{Stage}
 use Rattle.swimsim.specs.declared.commands.Stage.TheVariants.{Blank, Header, Events}
-use Rattle.swimsim.specs.declared.commands.OpenArguments.{OpenArguments}
 use Rattle.swimsim.specs.declared.commands.Opened.{Opened}
 use Rattle.swimsim.specs.declared.commands.Command.{Command}
 use Rattle.swimsim.specs.declared.commands.Command.TheVariants.{Open, Row, Tick, Hear}
@@ -201,7 +200,7 @@ abbrev pub output_of : Setting → List Turn → List Entry → List ℕ
 output_of o [] run = []
 output_of o (turn ∷ before) run =
     output_then o (is_full (limit_with (head_of (lines_of before)).opened) (length (calls_in before))) turn.refused
-      (asked_in (lines_of before) turn.line) (output_of o before) run
+    (asked_in (lines_of before) turn.line) (output_of o before) run
 
 -- ---- the whole
 

@@ -1,6 +1,5 @@
 -- The texts of answers.
-use Rattle.std.specs.Prelude.{ℕ, List, [], ◌∷◌, ◌++◌, Option, Some, None, codes, decimal, map}
-use Rattle.std.specs.List.{join_with_byte, flat_map}
+use Rattle.std.specs.Prelude.{ℕ, List, [], ◌∷◌, ◌++◌, Option, Some, None, codes, decimal}
 use Rattle.hex.specs.Hex.{encode_lower}
 use Rattle.swim_wire.specs.Address.{Address, address_text}
 use Rattle.swim_wire.specs.Layout.{text_of, fault_number}

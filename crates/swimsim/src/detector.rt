@@ -15,7 +15,9 @@ ghost use Rattle.swimsim.specs.Mirrors.{IsSmall, AddsEntry, IsUnchanged, is_hear
 use arrayvec::ArrayVec;
 use std::alloc::{AllocError, Global};
 use std::marker::Model;
-use swim_history::{Call, Choice, DropReason, Entry, Journal, Opening, Order, Probe, Refusal, Reply};
+use swim_history::{
+    Call, Choice, DropReason, Entry, Journal, Opening, Order, Probe, Refusal, Reply,
+};
 use swim_wire::{Id, Kind, Message, Peer};
 
 /// Why a call got no reply. The detector is as before.

@@ -1,6 +1,6 @@
 //! A script as it is played, line by line.
 
-ghost use Rattle.std.specs.Prelude.{◌≡◌, ◌≢◌, ◌+◌, ◌<◌, ◌≤◌, ◌∷◌, ◌++◌, [], List, ℕ, Some, None, Ok, Err, MatchResult, IfOk, OnOk, not, if◌then◌else◌};
+ghost use Rattle.std.specs.Prelude.{◌≡◌, ◌≢◌, ◌+◌, ◌<◌, ◌≤◌, ◌∷◌, ◌++◌, [], List, ℕ, Some, None, Ok, Err, MatchResult, OnOk, not, if◌then◌else◌};
 ghost use Rattle.swim_wire.specs.Lines.{bare};
 ghost use Rattle.swim_wire.specs.Streams.{Puts, failures_if};
 ghost use Rattle.swim_history.specs.declared.entries.Entry.{Entry};
@@ -10,7 +10,7 @@ ghost use Rattle.swimsim.specs.Commands.{IsServed};
 ghost use Rattle.swimsim.specs.Mirrors.{IsSmall};
 ghost use Rattle.swimsim.specs.Texts.{wire_text};
 ghost use Rattle.swimsim.specs.Script.{Turn, fault_of_opening, setting_with, fault_at_end, is_write, result_kind};
-ghost use Rattle.swimsim.specs.Holds.{Holds, Turned, Started, Starts, Called, ending, first_rows, stage_of};
+ghost use Rattle.swimsim.specs.Holds.{Done, Holds, Turned, Started, Starts, Called, ending, first_rows, stage_of};
 
 use crate::answers::put_wire_fault;
 use crate::commands::{Command, LineFault, OpenArguments, Opened, Stage, read_line};
@@ -37,7 +37,7 @@ pub struct Session {
 }
 
 impl Model for Session {
-    ghost use Rattle.swimsim.specs.Holds.{Played};
+    ghost use Rattle.swimsim.specs.Holds.{Done, Played};
 
     ghost Value = { Played };
 
@@ -72,6 +72,8 @@ impl Session {
     /// Plays the next line of the script, and writes its answer.
     pub fn turn<W: Sink>(&mut self, line: &[u8], writer: &mut W) -> Result<(), ScriptFault>
         requires { self.old.lines < 4294967295 }
+        ensures turned { (turns : List Turn) (run : List Entry) (text piece : List ℕ) → Holds turns run text self.old → bare piece ≡ line.now →
+            Turned turns text piece self.new (W.written writer.old) (W.written writer.new) result }
         ensures failures { W.failures writer.new ≡ failures_if (W.failures writer.old) (not (is_write result)) }
         ensures count { OnOk result (self.new.lines ≡ self.old.lines + 1) }
         ensures words { result_kind result ≢ Some FaultKind.Read }
@@ -106,13 +108,10 @@ impl Session {
     }
 
     /// Does what a line says.
-    fn carry_out<W: Sink>(
-        &mut self,
-        command: &Command,
-        writer: &mut W,
-    ) -> Result<(), ScriptFault>
+    fn carry_out<W: Sink>(&mut self, command: &Command, writer: &mut W) -> Result<(), ScriptFault>
         requires count { self.old.lines < 4294967295 }
         requires served { IsServed (stage_of self.old.opened self.old.simulated) command.now }
+        ensures done { Done self.old self.new command.now (W.written writer.old) (W.written writer.new) result }
         ensures count { OnOk result (self.new.lines ≡ self.old.lines + 1) }
         ensures unread { result_kind result ≢ Some FaultKind.Read }
         ensures failures { W.failures writer.new ≡ failures_if (W.failures writer.old) (not (is_write result)) }
@@ -131,11 +130,18 @@ impl Session {
                 let done = self.tick(writer);
                 self.told(done)
             }
-            Command::Hear(source, read) => {
-                self.start()?;
-                let done = self.hear(*read, *source, writer);
-                self.told(done)
-            }
+            Command::Hear(source, read) => match read {
+                Ok(message) => {
+                    self.start()?;
+                    let done = self.hear(*message, *source, writer);
+                    self.told(done)
+                }
+                Err(fault) => {
+                    self.start()?;
+                    let done = self.unread(*fault, writer);
+                    self.told(done)
+                }
+            },
         }
     }
 
@@ -207,28 +213,29 @@ impl Session {
         }
     }
 
-    fn hear<W: Sink>(
-        &mut self,
-        read: Result<Message, WireFault>,
-        source: Peer,
-        writer: &mut W,
-    ) -> bool
+    fn hear<W: Sink>(&mut self, message: Message, source: Peer, writer: &mut W) -> bool
         requires count { self.old.lines < 4294967295 }
-        requires kind { IfOk read (λ message. message.kind ≢ PingReq) }
-        ensures called { MatchResult read
-            (λ message. Called self.old.simulated self.new.simulated (calls.Hear message source) (W.written writer.old) (W.written writer.new) result)
-            (λ fault. (self.new.simulated ≡ self.old.simulated) × Puts (W.written writer.old) (W.written writer.new) (wire_text fault) result) }
+        requires kind { message.kind ≢ PingReq }
+        ensures called { Called self.old.simulated self.new.simulated (calls.Hear message source) (W.written writer.old) (W.written writer.new) result }
         ensures same { (self.new.lines ≡ self.old.lines + 1) × (self.new.opened ≡ self.old.opened) × (self.new.rows ≡ self.old.rows) }
         ensures failures { W.failures writer.new ≡ failures_if (W.failures writer.old) result }
     {
         self.lines += 1;
-        match read {
-            Err(fault) => put_wire_fault(writer, fault),
-            Ok(message) => match &mut self.detector {
-                Some(detector) => play_message(detector, message, source, writer),
-                None => true,
-            },
+        match &mut self.detector {
+            Some(detector) => play_message(detector, message, source, writer),
+            None => true,
         }
+    }
+
+    /// A datagram that is none.
+    fn unread<W: Sink>(&mut self, fault: WireFault, writer: &mut W) -> bool
+        requires { self.old.lines < 4294967295 }
+        ensures told { Puts (W.written writer.old) (W.written writer.new) (wire_text fault) result }
+        ensures same { self.new ≡ record self.old { lines = self.old.lines + 1 } }
+        ensures failures { W.failures writer.new ≡ failures_if (W.failures writer.old) result }
+    {
+        self.lines += 1;
+        put_wire_fault(writer, fault)
     }
 
     /// Whether the answer of the newest line was written.

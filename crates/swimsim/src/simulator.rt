@@ -2,7 +2,7 @@
 
 ghost use Rattle.std.specs.Prelude.{◌≡◌, if◌then◌else◌};
 ghost use Rattle.swim_wire.specs.Streams.{one_more};
-ghost use Rattle.swimsim.specs.Script.{is_read, is_write};
+ghost use Rattle.swimsim.specs.Script.{RunsKnown, is_read, is_write};
 
 use crate::commands::LINE_BYTES;
 use crate::faults::{FaultKind, SCRIPT_BYTES, ScriptFault};
@@ -18,6 +18,7 @@ pub fn run<R: Source, W: Sink>(
     reader: &mut R,
     writer: &mut W,
 ) -> Result<(), ScriptFault>
+    ensures told { RunsKnown (R.left reader.old) (W.written writer.old) (W.written writer.new) result }
     ensures reads { R.failures reader.new ≡ (if is_read result then one_more (R.failures reader.old) else R.failures reader.old) }
     ensures writes { W.failures writer.new ≡ (if is_write result then one_more (W.failures writer.old) else W.failures writer.old) }
 {

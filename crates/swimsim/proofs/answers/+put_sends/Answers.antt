@@ -1,9 +1,5 @@
-use Rattle.std.proofs.Common.{ℕ, List, drop, refl, sym, ap, ◌∙◌, ◌++◌, ◌∷◌, [], decimal, codes}
-use Rattle.hex.specs.Hex.{encode_lower}
-use Rattle.swim_wire.specs.Address.{address_text}
-use Rattle.swim_wire.specs.Layout.{text_of}
-use Rattle.swim_history.specs.Sends.{sends_of}
-use Rattle.swimsim.specs.Texts.{feed, id_text, probe_text, reply_text, answer_text, relays_text, more_relays_text, send_text, sends_text, wire_text}
+use Rattle.std.proofs.Common.{sym, ap}
+use Rattle.swimsim.specs.Texts.{send_text, sends_text}
 use Rattle.swimsim.proofs.TwoPuts.{first_failed, both_put, first_and_others, others_of}
 use Rattle.swimsim.proofs.answers.+put_sends.Goals as goal
 

@@ -1,10 +1,6 @@
-use Rattle.std.proofs.Common.{ℕ, List, drop, refl, sym, ap, ◌∙◌, ◌++◌, ◌∷◌, [], decimal, codes}
-use Rattle.hex.specs.Hex.{encode_lower}
-use Rattle.swim_wire.specs.Address.{address_text}
-use Rattle.swim_wire.specs.Layout.{text_of}
-use Rattle.swim_history.specs.Sends.{sends_of}
-use Rattle.swimsim.specs.Texts.{feed, id_text, probe_text, reply_text, answer_text, relays_text, more_relays_text, send_text, sends_text, wire_text}
-use Rattle.swimsim.proofs.TwoPuts.{first_failed, both_put, first_and_others, others_of}
+use Rattle.std.proofs.Common.{refl, ◌++◌, decimal, codes}
+use Rattle.swimsim.specs.Texts.{feed, wire_text}
+use Rattle.swimsim.proofs.TwoPuts.{first_failed, both_put}
 use Rattle.swimsim.proofs.answers.put_wire_fault.Goals as goal
 
 pub returns-then-not-put_numbered-clause-bytes : goal.returns-then-not-put_numbered-clause-bytes

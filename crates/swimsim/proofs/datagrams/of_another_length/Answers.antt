@@ -1,4 +1,4 @@
-use Rattle.std.proofs.Common.{◌≡◌, true, sym, ◌∙◌, arith}
+use Rattle.std.proofs.Common.{sym, ◌∙◌, arith}
 use Rattle.std.proofs.lemmas.Bool.{false≢true}
 use Rattle.swimsim.proofs.Digits.{digits_of_another_length, others_spell_nothing}
 use Rattle.swimsim.proofs.datagrams.of_another_length.Goals as goal

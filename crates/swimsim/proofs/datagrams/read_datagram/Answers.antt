@@ -1,4 +1,4 @@
-use Rattle.std.proofs.Common.{◌≡◌, Ok, Err, sym, ◌∙◌, ap, arith}
+use Rattle.std.proofs.Common.{sym, ◌∙◌, ap}
 use Rattle.swimsim.specs.Commands.{served}
 use Rattle.swimsim.proofs.Digits.{decoded_digits}
 use Rattle.swimsim.proofs.datagrams.read_datagram.Goals as goal

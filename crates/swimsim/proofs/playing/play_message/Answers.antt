@@ -1,5 +1,4 @@
-use Rattle.std.proofs.Common.{◌≡◌, ◌≢◌, ◌+◌, ◌≤◌, length, Ok, Err, inl, inr, ap, sym, subst, ◌∙◌, arith}
-use Rattle.std.specs.Prelude.{Some}
+use Rattle.std.proofs.Common.{◌≢◌, ◌+◌, ◌≤◌, length, inr, ap, subst, arith}
 use Rattle.swim_wire.specs.Streams.{Puts}
 use Rattle.swim_history.specs.Setting.{Setting}
 use Rattle.swimsim.specs.Mirrors.{newest_of}

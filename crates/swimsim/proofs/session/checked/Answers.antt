@@ -1,4 +1,4 @@
-use Rattle.std.proofs.Common.{subst, sym, arith}
+use Rattle.std.proofs.Common.{subst, sym}
 use Rattle.swim_history.specs.Setting.{Setting}
 use Rattle.swimsim.specs.Mirrors.{IsSmall}
 use Rattle.swimsim.proofs.Served.{passes, is_small}

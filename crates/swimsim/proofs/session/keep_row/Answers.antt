@@ -1,4 +1,4 @@
-use Rattle.std.proofs.Common.{◌≡◌, ◌<◌, length, arith, ◌∙◌}
+use Rattle.std.proofs.Common.{arith, ◌∙◌}
 use Rattle.swimsim.proofs.Served.{row_kept, row_left_out}
 use Rattle.swimsim.proofs.session.keep_row.Goals as goal
 

@@ -1,4 +1,4 @@
-use Rattle.std.proofs.Common.{◌≡◌, refl, sym, ap, ◌∙◌, []}
+use Rattle.std.proofs.Common.{refl, sym, ap, ◌∙◌, []}
 use Rattle.std.proofs.lemmas.Bool.{eqb-false}
 use Rattle.swimsim.proofs.Steps.{none_wait}
 use Rattle.swimsim.proofs.detector.Detector.answer_ack.Goals as goal

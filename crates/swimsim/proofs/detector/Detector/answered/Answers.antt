@@ -10,4 +10,4 @@ invariant_of-self c =
     let fits = subst (λ (v : Simulated). Hears v.opening v.past c.args.message c.args.source c.args.message.kind c.args.reply) (sym c.self.view_is) c.requires.fits in
     let room = rw (← c.self.view_is) at c.requires.room in
     rw (c.add.ensures.opening, c.add.ensures.past, c.is_heard-heard.ensures)
-      (answered s.journal.opening s.journal.past s.member s.aim s.heard s.phase s.number s.limit c.len.result c.args.message c.args.source c.args.reply c.self.invariant c.requires.kind fits room.1)
+    (answered s.journal.opening s.journal.past s.member s.aim s.heard s.phase s.number s.limit c.len.result c.args.message c.args.source c.args.reply c.self.invariant c.requires.kind fits room.1)

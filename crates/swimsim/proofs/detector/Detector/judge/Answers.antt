@@ -1,5 +1,4 @@
-use Rattle.std.proofs.Common.{refl, ap, ◌∙◌, ◌+◌}
-use Rattle.swim_history.specs.declared.replies.Reply.TheVariants.{Started}
+use Rattle.std.proofs.Common.{ap, ◌∙◌}
 use Rattle.swimsim.proofs.Steps.{turned, judged_alone}
 use Rattle.swimsim.proofs.detector.Detector.judge.Goals as goal
 
