@@ -1,12 +1,12 @@
 -- A walk through the entries in order: each entry follows those before it.
-use Rattle.std.proofs.Common.{◌≡◌, ℕ, ◌+◌, ◌^◌, ◌<◌, true, List, [], ◌∷◌, ◌++◌, length, get_or, take, drop, reverse, refl, sym, ap, subst, ◌∙◌, arith, cond}
+use Rattle.std.proofs.Common.{◌≡◌, ℕ, ◌+◌, ◌^◌, ◌<◌, true, List, [], ◌∷◌, ◌++◌, length, get_or, take, drop, reverse, sym, ap, subst, ◌∙◌, arith}
 use Rattle.std.proofs.lemmas.List.{take_more, reverse-append, take-append-drop}
 use Rattle.swim_history.specs.declared.entries.Entry.{Entry}
-use Rattle.swim_history.specs.Setting.{Setting, IsSetting}
+use Rattle.swim_history.specs.Setting.{Setting}
 use Rattle.swim_history.specs.Events.{is_start}
 use Rattle.swim_history.specs.Clock.{period_number}
 use Rattle.swim_history.specs.Run.{Continues, IsRun}
-use Rattle.swim_history.specs.RunLaws.{IsRun-older, begins, number_then}
+use Rattle.swim_history.specs.RunLaws.{IsRun-older, begins}
 
 -- one more entry of a list that is seen newest first
 pub past_more : {X : Type 0} (xs : List X) (i : ℕ) (d : X) → i < length xs → reverse (take (i + 1) xs) ≡ get_or xs i d ∷ reverse (take i xs)
@@ -16,7 +16,7 @@ past_more xs i d lt = ap reverse (take_more xs i d lt) ∙ reverse-append (take 
 pub run_so_far : (o : Setting) (entries : List Entry) (i : ℕ) → IsRun o (reverse entries) → IsRun o (reverse (take i entries))
 run_so_far o entries i run =
     let whole : reverse entries ≡ reverse (drop i entries) ++ reverse (take i entries) =
-      ap reverse (sym (take-append-drop i entries)) ∙ reverse-append (take i entries) (drop i entries) in
+    ap reverse (sym (take-append-drop i entries)) ∙ reverse-append (take i entries) (drop i entries) in
     IsRun-older o (reverse (drop i entries)) (reverse (take i entries)) (subst (λ (h : List Entry). IsRun o h) whole run)
 
 -- each entry of a run follows those before it

@@ -1,11 +1,10 @@
 -- What passes the check is within the limits, and what is within the limits passes.
-use Rattle.std.proofs.Common.{◌≡◌, ℕ, ◌*◌, ◌<◌, ◌^◌, Bool, true, false, ◌||◌, nat_lt, nat_eq, List, [], ◌∷◌, length, Option, Some, None, refl, sym, ap, ◌∙◌, arith}
-use Rattle.std.proofs.lemmas.Bool.{ltb-false, le-ltb, eqb-false, ne_eqb, or_parts, or_from}
+use Rattle.std.proofs.Common.{◌≡◌, ℕ, ◌*◌, ◌<◌, ◌^◌, true, ◌||◌, nat_lt, nat_eq, List, [], ◌∷◌, length, None, refl, arith}
+use Rattle.std.proofs.lemmas.Bool.{ltb-false, le-ltb, eqb-false, ne_eqb, or_parts}
 use Rattle.std.specs.List.{list_all}
 use Rattle.swim_wire.specs.Address.{Address}
 use Rattle.swim_wire.specs.First.{find_none}
-use Rattle.swim_wire.specs.Ids.{has, has_twice}
-use Rattle.swim_history.specs.Setting.{Setting, IsSetting, ids_of, is_state_past}
+use Rattle.swim_history.specs.Setting.{Setting, IsSetting, is_state_past}
 use Rattle.swim_history.specs.Check.{setting_of, rows_up, has_fault, first_fault}
 use Rattle.swim_history.specs.declared.openings.OpeningFault.TheVariants.{Relays, Timing, TooManyRows, Myself, Twice}
 
@@ -44,5 +43,5 @@ no_fault o s =
       le-ltb 65535 o.period s.timing.2,
       le-ltb 128 (length o.rows) s.rows,
       s.others,
-      s.once
+      s.once,
     ) refl

@@ -1,5 +1,5 @@
 -- Laws of the clock: how one tick changes the period's number and its phase.
-use Rattle.std.proofs.Common.{◌≡◌, ◌≢◌, ◌⊎◌, ℕ, zero, suc, ◌+◌, ◌*◌, ◌/◌, ◌%◌, ◌<◌, refl, sym, ap, ◌∙◌, inl, inr, arith}
+use Rattle.std.proofs.Common.{◌≡◌, ◌≢◌, ◌⊎◌, ℕ, zero, suc, ◌+◌, ◌*◌, ◌/◌, ◌%◌, ◌<◌, ap, ◌∙◌, inl, inr, arith}
 use Rattle.std.proofs.Math.Nat.{mod-lt, zero-div, zero-mod}
 use Rattle.std.proofs.lemmas.Nat.{div-mul-add, mod-mul-add, div-add-mod'}
 use Rattle.std.proofs.lemmas.Bool.{cases_lt}
@@ -26,21 +26,21 @@ one_more s p positive =
     let below : s % p < p = mod-lt s positive in
     elim (cases_lt (s % p + 1) p) [
       | inl lt ↦
-        let same : suc s ≡ s / p * p + (s % p + 1) = omega arith in
-        inl (record {
-          below = lt;
-          quotient = ap (λ n. n / p) same ∙ div-mul-add (s / p) p (s % p + 1) lt;
-          remainder = ap (λ n. n % p) same ∙ mod-mul-add (s / p) p (s % p + 1) lt;
-        })
+          let same : suc s ≡ s / p * p + (s % p + 1) = omega arith in
+          inl (record {
+            below = lt;
+            quotient = ap (λ n. n / p) same ∙ div-mul-add (s / p) p (s % p + 1) lt;
+            remainder = ap (λ n. n % p) same ∙ mod-mul-add (s / p) p (s % p + 1) lt;
+          })
       | inr le ↦
-        let last : s % p + 1 ≡ p = omega arith in
-        let next : (s / p + 1) * p ≡ s / p * p + p = next_multiple (s / p) p in
-        let same : suc s ≡ (s / p + 1) * p + 0 = omega arith in
-        inr (record {
-          last = last;
-          quotient = ap (λ n. n / p) same ∙ div-mul-add (s / p + 1) p 0 positive;
-          remainder = ap (λ n. n % p) same ∙ mod-mul-add (s / p + 1) p 0 positive;
-        })
+          let last : s % p + 1 ≡ p = omega arith in
+          let next : (s / p + 1) * p ≡ s / p * p + p = next_multiple (s / p) p in
+          let same : suc s ≡ (s / p + 1) * p + 0 = omega arith in
+          inr (record {
+            last = last;
+            quotient = ap (λ n. n / p) same ∙ div-mul-add (s / p + 1) p 0 positive;
+            remainder = ap (λ n. n % p) same ∙ mod-mul-add (s / p + 1) p 0 positive;
+          })
     ]
 
 -- at phase 0 the next tick begins the period with the next number

@@ -1,5 +1,5 @@
 -- The reply to a call, but for what is free: the order of a round, and with it who is probed, the relays, and a joiner's place.
-use Rattle.std.specs.Prelude.{◌≡◌, ◌≢◌, ◌⊎◌, ℕ, ◌==◌, Bool, true, false, ◌&&◌, ◌||◌, not, nat_le, List, [], ◌∷◌, length, Option, Some, None, if◌then◌else◌, is_none, refl}
+use Rattle.std.specs.Prelude.{◌≡◌, ◌≢◌, ℕ, ◌==◌, Bool, true, false, ◌&&◌, ◌||◌, not, nat_le, List, [], length, Option, Some, None, if◌then◌else◌, is_none, refl}
 use Rattle.std.proofs.Common.{◌<◌, ◌+◌, sym, ap, subst, ◌∙◌, inl, inr, arith}
 use Rattle.std.proofs.lemmas.Bool.{ne_eqb, eq-eqb, eqb-true, lt-leb, le-leb, or_right}
 use Rattle.std.proofs.lemmas.Option.{same_Some}
@@ -17,7 +17,7 @@ use Rattle.swim_history.specs.declared.replies.Reply.TheVariants.{Quiet, Started
 use Rattle.swim_history.specs.declared.replies.DropReason.TheVariants.{NotForMe, Borrowed, AboutMe, Unlisted, TableFull, Stray, NoRequest}
 use Rattle.swim_history.specs.declared.replies.Refusal.TheVariants.{Myself, Listed, Full, Unknown, Spent}
 use Rattle.swim_history.specs.declared.entries.Choice.{Choice}
-use Rattle.swim_history.specs.declared.entries.Choice.TheVariants.{Nothing, Round}
+use Rattle.swim_history.specs.declared.entries.Choice.TheVariants.{Nothing}
 use Rattle.swim_history.specs.declared.entries.Entry.{Entry}
 use Rattle.swim_history.specs.declared.rows.Row.{Row}
 use Rattle.swim_history.specs.declared.replies.Probe.{Probe}
@@ -27,10 +27,10 @@ use Rattle.swim_history.specs.Setting.{Setting, IsSetting}
 use Rattle.swim_history.specs.Clock.{period_number, phase}
 use Rattle.swim_history.specs.Aim.{aim, unheard}
 use Rattle.swim_history.specs.Gap.{is_member}
-use Rattle.swim_history.specs.Rows.{up, row_of, is_listed, is_up}
+use Rattle.swim_history.specs.Rows.{up, row_of, is_listed}
 use Rattle.swim_history.specs.Changes.{known_count}
 use Rattle.swim_history.specs.Waiting.{waiting}
-use Rattle.swim_history.specs.Run.{Answers, Hears, IsProbe, IsStart, last_number, most_waiting, is_waiting}
+use Rattle.swim_history.specs.Run.{Answers, Hears, IsProbe, last_number, most_waiting, is_waiting}
 
 -- a reply without what is free
 abbrev pub settled : Reply → Reply
@@ -87,9 +87,9 @@ not_aim : (aimed : Option ℕ) (target : ℕ) (number now : ℕ) → (aimed ≡ 
 not_aim None target number now other = refl
 not_aim (Some m) target number now other = by (m == target) refl
   where
-  by : (b : Bool) → (m == target) ≡ b → ((m == target) && number == now) ≡ false
-  by true is = rw is (ne_eqb number now (other (ap Some (eqb-true m target is))))
-  by false is = rw is refl
+    by : (b : Bool) → (m == target) ≡ b → ((m == target) && number == now) ≡ false
+    by true is = rw is (ne_eqb number now (other (ap Some (eqb-true m target is))))
+    by false is = rw is refl
 
 -- a request that still finds room
 has_room : (waits : Bool) (count : ℕ) → (waits ≡ false → count < most_waiting) → (not waits && nat_le most_waiting count) ≡ false
@@ -174,6 +174,8 @@ StartsOnce o =
 
 pub starts_once : (o : Setting) → StartsOnce o
 starts_once o h judged judged' probe probe' choice a b =
-    let same : judged ≡ judged' = a.judges ∙ sym b.judges in
-    (same, probe_once o h (period_number o h + 1) (front (redraw (drawn choice) (leave_judged judged (lists o h))).rest) probe probe' a.probes
-      (subst (λ (j : Option ℕ). IsProbe o h (period_number o h + 1) (front (redraw (drawn choice) (leave_judged j (lists o h))).rest) probe') (sym same) b.probes))
+    let same : judged ≡ judged' = a.judges ∙ sym b.judges in (
+      same,
+      probe_once o h (period_number o h + 1) (front (redraw (drawn choice) (leave_judged judged (lists o h))).rest) probe probe' a.probes
+          (subst (λ (j : Option ℕ). IsProbe o h (period_number o h + 1) (front (redraw (drawn choice) (leave_judged j (lists o h))).rest) probe') (sym same) b.probes),
+    )

@@ -1,11 +1,11 @@
 -- Tests on one entry. Each goes by cases on the call and the reply, so that it computes where those are known.
-use Rattle.std.specs.Prelude.{ℕ, Bool, true, false, ◌&&◌, ◌==◌, Option, Some, None}
+use Rattle.std.specs.Prelude.{ℕ, Bool, true, false, ◌&&◌, ◌==◌, Option, None}
 use Rattle.swim_wire.specs.declared.messages.Kind.{Kind}
 use Rattle.swim_wire.specs.declared.messages.Kind.TheVariants.{Ping, PingReq, Ack}
 use Rattle.swim_history.specs.declared.calls.Call.{Call}
 use Rattle.swim_history.specs.declared.calls.Call.TheVariants.{Tick, Hear, Join, Remove}
 use Rattle.swim_history.specs.declared.replies.Reply.{Reply}
-use Rattle.swim_history.specs.declared.replies.Reply.TheVariants.{Quiet, Started, Asked, Heard, Send, Dropped, Joined, Removed, Refused}
+use Rattle.swim_history.specs.declared.replies.Reply.TheVariants.{Started, Joined, Removed, Refused}
 use Rattle.swim_history.specs.declared.replies.Probe.{Probe}
 use Rattle.swim_history.specs.declared.entries.Entry.{Entry}
 

@@ -1,5 +1,5 @@
 -- Gaps between successive probes of a member that is listed all the time between.
-use Rattle.std.specs.Prelude.{◌≡◌, ◌+◌, ℕ, Bool, ◌||◌, false, nat_eq, ◌==◌, List, [], ◌∷◌, ◌++◌, length, filter, Option, Some, None}
+use Rattle.std.specs.Prelude.{◌≡◌, ◌+◌, ℕ, Bool, ◌||◌, false, ◌==◌, List, ◌∷◌, ◌++◌, length, filter, Option, Some, None}
 use Rattle.std.specs.List.{list_any}
 use Rattle.swim_history.specs.declared.replies.Probe.{Probe}
 use Rattle.swim_history.specs.declared.entries.Entry.{Entry}

@@ -1,6 +1,6 @@
 -- The judgement rule: a member is judged exactly at the end of a period aimed at it without an ack for
 -- that period (section 3.1 of the SWIM paper).
-use Rattle.std.specs.Prelude.{◌≡◌, ◌↔◌, ℕ, false, List, [], ◌∷◌, ◌++◌, length, Option, Some, None, true}
+use Rattle.std.specs.Prelude.{◌≡◌, ◌↔◌, ℕ, false, List, [], ◌∷◌, ◌++◌, Option, Some, true}
 use Rattle.std.specs.List.{list_any}
 use Rattle.std.specs.Option.{option_to_list, option_map}
 use Rattle.swim_history.specs.declared.replies.Probe.{Probe}

@@ -1,12 +1,11 @@
 -- The judgement rule, both ways: what a run judges by its aim and what was heard is what the rule judges.
-use Rattle.std.proofs.Common.{◌≡◌, ◌↔◌, ℕ, ◌+◌, Bool, true, false, cond, List, [], ◌∷◌, ◌++◌, Option, Some, None, refl, sym, ap, subst, ◌∙◌, inl, inr, arith}
-use Rattle.std.proofs.lemmas.Bool.{false≢true, or_parts}
-use Rattle.std.proofs.lemmas.Option.{option_and_then_some, same_Some}
+use Rattle.std.proofs.Common.{◌≡◌, ℕ, ◌+◌, Bool, true, false, List, [], ◌∷◌, ◌++◌, Option, Some, None, refl, sym, ap, subst, ◌∙◌}
+use Rattle.std.proofs.lemmas.Bool.{or_parts}
+use Rattle.std.proofs.lemmas.Option.{same_Some}
 use Rattle.std.specs.Prelude.{find, option_and_then}
 use Rattle.std.specs.Option.{option_map}
 use Rattle.std.specs.List.{list_any}
 use Rattle.swim_history.specs.declared.replies.Probe.{Probe}
-use Rattle.swim_history.specs.declared.replies.Reply.{Reply}
 use Rattle.swim_history.specs.declared.entries.Entry.{Entry}
 use Rattle.swim_history.specs.Setting.{Setting, IsSetting}
 use Rattle.swim_history.specs.Events.{is_start, probe_in, judged_in, removes, acks}
@@ -84,7 +83,7 @@ unheard-by_rule o h m s run judged =
     let period = since is_start h in
     let target : aimed.0 ≡ m = stays.1 ∙ quiet.1 in
     let number : probed.0.number ≡ period_number o h =
-      rw (← split.whole) at (period_of_start o period start.0 split.before probed.0 s (subst (λ (h : List Entry). IsRun o h) split.whole run) split.none split.passes start.2) in
+    rw (← split.whole) at (period_of_start o period start.0 split.before probed.0 s (subst (λ (h : List Entry). IsRun o h) {y = period ++ start.0 ∷ split.before} split.whole run) split.none split.passes start.2) in
     record {
       period = period;
       start = start.0;
@@ -106,7 +105,7 @@ unheard_from_rule o h m s run r =
     let found : find is_start h ≡ Some r.start = ap (find is_start) r.split ∙ at.0 in
     let period : since is_start h ≡ r.period = ap (since is_start) r.split ∙ at.1 in
     let number : r.probe.number ≡ period_number o h =
-      period_of_start o r.period r.start r.before r.probe s (subst (λ (h : List Entry). IsRun o h) r.split run) r.last r.starts r.probes ∙ ap (period_number o) (sym r.split) in
+    period_of_start o r.period r.start r.before r.probe s (subst (λ (h : List Entry). IsRun o h) r.split run) r.last r.starts r.probes ∙ ap (period_number o) (sym r.split) in
     let probed : last_probed h ≡ Some m = rw (found, r.probes, r.aimed) refl in
     let stays : list_any (removes m) (since is_start h) ≡ false = rw period r.stays in
     let aimed : aim h ≡ Some m = rw (probed, stays) refl in

@@ -8,9 +8,6 @@ use Rattle.swim_history.specs.declared.replies.Reply.TheVariants.{Started, Joine
 use Rattle.swim_history.specs.declared.entries.Choice.{Choice}
 use Rattle.swim_history.specs.declared.entries.Choice.TheVariants.{Nothing, Round}
 use Rattle.swim_history.specs.declared.entries.Entry.{Entry}
-use Rattle.swim_history.specs.declared.rows.Row.{Row}
-use Rattle.swim_history.specs.declared.rows.RowState.{RowState}
-use Rattle.swim_history.specs.declared.rows.RowState.TheVariants.{Up, Failed}
 use Rattle.swim_history.specs.Setting.{Setting, ids_of, is_state_up}
 
 -- the order that was drawn, if any

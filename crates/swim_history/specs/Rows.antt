@@ -1,5 +1,5 @@
 -- The row of a member: the newest entry that names the member decides.
-use Rattle.std.specs.Prelude.{ℕ, Bool, true, false, ◌==◌, List, [], ◌∷◌, Option, Some, None, if◌then◌else◌, find}
+use Rattle.std.specs.Prelude.{ℕ, Bool, false, ◌==◌, List, [], ◌∷◌, Option, Some, None, if◌then◌else◌, find}
 use Rattle.std.specs.Option.{option_map}
 use Rattle.swim_wire.specs.Address.{Address}
 use Rattle.swim_history.specs.declared.rows.Row.{Row}

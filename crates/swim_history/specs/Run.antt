@@ -1,6 +1,6 @@
 -- The sequential detector: which entries may follow a history (sections 3.1 and 4.3 of the SWIM paper).
 -- A history is a list of entries, newest first. Nothing here but the entries themselves is remembered.
-use Rattle.std.specs.Prelude.{◌≡◌, ◌≢◌, ◌⊎◌, ℕ, ◌+◌, ◌-◌, ◌^◌, ◌<◌, ◌≤◌, ◌==◌, Bool, true, false, nat_eq, List, [], ◌∷◌, length, min, map, filter, Option, Some, None, IsPermutation, is_some}
+use Rattle.std.specs.Prelude.{◌≡◌, ◌≢◌, ◌⊎◌, ℕ, ◌+◌, ◌-◌, ◌^◌, ◌<◌, ◌≤◌, ◌==◌, Bool, true, false, List, [], ◌∷◌, length, min, map, filter, Option, Some, None, IsPermutation, is_some}
 use Rattle.std.specs.List.{AllByRecursion}
 use Rattle.swim_wire.specs.Address.{Address}
 use Rattle.swim_wire.specs.Ids.{has, has_twice, without, front}

@@ -1,5 +1,5 @@
 -- Laws of runs: what a start is, and what each entry does to the clock.
-use Rattle.std.proofs.Common.{◌≡◌, ◌≢◌, ◌⊎◌, ◌↔◌, ℕ, zero, suc, ◌+◌, ◌%◌, ◌<◌, ◌≤◌, Bool, true, false, cond, List, [], ◌∷◌, ◌++◌, Option, Some, None, refl, sym, ap, subst, ◌∙◌, inl, inr, arith}
+use Rattle.std.proofs.Common.{◌≡◌, ◌≢◌, ◌⊎◌, ◌↔◌, ℕ, ◌+◌, true, false, cond, List, [], ◌∷◌, ◌++◌, Option, Some, None, refl, sym, ap, ◌∙◌, inl, inr, arith}
 use Rattle.std.proofs.lemmas.Bool.{false≢true, or_parts}
 use Rattle.std.specs.List.{list_any}
 use Rattle.swim_wire.specs.Address.{Address}
@@ -9,17 +9,16 @@ use Rattle.swim_wire.specs.declared.messages.Message.{Message}
 use Rattle.swim_history.specs.declared.calls.Call.{Call}
 use Rattle.swim_history.specs.declared.calls.Call.TheVariants.{Tick, Hear, Join, Remove}
 use Rattle.swim_history.specs.declared.replies.Reply.{Reply}
-use Rattle.swim_history.specs.declared.replies.Reply.TheVariants.{Quiet, Started, Asked, Heard, Send, Dropped, Joined, Removed, Refused}
+use Rattle.swim_history.specs.declared.replies.Reply.TheVariants.{Quiet, Started, Asked, Joined, Removed, Refused}
 use Rattle.swim_history.specs.declared.replies.Probe.{Probe}
-use Rattle.swim_history.specs.declared.replies.Refusal.TheVariants.{Myself, Listed, Full, Unknown, Spent}
+use Rattle.swim_history.specs.declared.replies.Refusal.TheVariants.{Spent}
 use Rattle.swim_history.specs.declared.entries.Choice.{Choice}
 use Rattle.swim_history.specs.declared.entries.Choice.TheVariants.{Nothing, Round}
 use Rattle.swim_history.specs.declared.entries.Entry.{Entry}
 use Rattle.swim_history.specs.Setting.{Setting, IsSetting}
-use Rattle.swim_history.specs.Events.{is_ticking, is_tick, is_starting, is_start, probe_in, judged_in}
-use Rattle.swim_history.specs.Clock.{number_at, period_number, phase, ticks}
+use Rattle.swim_history.specs.Events.{is_ticking, is_tick, is_starting, is_start}
+use Rattle.swim_history.specs.Clock.{period_number, phase, ticks}
 use Rattle.swim_history.specs.ClockLaws.{number_at-start, number_at-within}
-use Rattle.swim_history.specs.Aim.{unheard}
 use Rattle.swim_history.specs.Run.{Answers, Hears, IsStart, IsProbe, Continues, IsRun}
 
 -- no message begins a period
@@ -122,6 +121,6 @@ pub probe_number : (o : Setting) (h : List Entry) (number : ℕ) (next : Option 
 probe_number o h number None probe p = absurd cc
 probe_number o h number (Some m) probe p = ap (λ (o : Option Probe). number_or number o) p.2
   where
-  number_or : ℕ → Option Probe → ℕ
-  number_or n None = n
-  number_or n (Some probe) = probe.number
+    number_or : ℕ → Option Probe → ℕ
+    number_or n None = n
+    number_or n (Some probe) = probe.number

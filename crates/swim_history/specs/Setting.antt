@@ -1,5 +1,5 @@
 -- What a detector starts from, as contracts see an `Opening`.
-use Rattle.std.specs.Prelude.{◌≡◌, ℕ, ◌*◌, ◌<◌, ◌≤◌, ◌^◌, Bool, true, false, ◌||◌, ◌&&◌, ◌==◌, nat_lt, nat_le, not, List, [], ◌∷◌, length, map, Option, find}
+use Rattle.std.specs.Prelude.{◌≡◌, ℕ, ◌*◌, ◌<◌, ◌≤◌, ◌^◌, Bool, true, false, ◌&&◌, nat_lt, nat_le, List, length, map}
 use Rattle.std.specs.List.{list_all}
 use Rattle.swim_wire.specs.Ids.{has, has_twice}
 use Rattle.swim_history.specs.declared.rows.Row.{Row}

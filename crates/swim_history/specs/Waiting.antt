@@ -1,7 +1,7 @@
 -- The requests that wait: pings that other members asked for, whose acks are to be forwarded
 -- (section 3.1 of the SWIM paper). A request waits with the address that it came from until an ack of its
 -- probe is forwarded, the probe is asked for again, or a whole period of ticks has passed.
-use Rattle.std.specs.Prelude.{ℕ, ◌-◌, Bool, false, ◌||◌, List, [], ◌∷◌, ◌++◌, length, filter, Option, Some, None, if◌then◌else◌, nat_lt, option_and_then, is_some}
+use Rattle.std.specs.Prelude.{ℕ, ◌-◌, Bool, false, List, [], ◌∷◌, ◌++◌, Option, Some, None, if◌then◌else◌, nat_lt, option_and_then}
 use Rattle.std.specs.List.{list_any}
 use Rattle.std.specs.Option.{option_to_list}
 use Rattle.swim_wire.specs.Address.{Address}
@@ -10,7 +10,7 @@ use Rattle.swim_wire.specs.Requests.{Request}
 use Rattle.swim_wire.specs.declared.messages.Key.{Key}
 use Rattle.swim_wire.specs.declared.messages.Message.{Message}
 use Rattle.swim_wire.specs.declared.messages.Kind.{Kind}
-use Rattle.swim_wire.specs.declared.messages.Kind.TheVariants.{Ping, PingReq, Ack}
+use Rattle.swim_wire.specs.declared.messages.Kind.TheVariants.{Ping, PingReq}
 use Rattle.swim_history.specs.declared.calls.Call.{Call}
 use Rattle.swim_history.specs.declared.calls.Call.TheVariants.{Hear}
 use Rattle.swim_history.specs.declared.replies.Reply.{Reply}

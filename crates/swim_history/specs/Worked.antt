@@ -1,30 +1,24 @@
 -- Worked runs: the definitions, evaluated on histories that were written down by hand.
-use Rattle.std.specs.Prelude.{◌≡◌, ℕ, ◌+◌, ◌-◌, ◌^◌, ◌<◌, true, false, List, [], ◌∷◌, length, map, Option, Some, None, refl}
+use Rattle.std.specs.Prelude.{◌≡◌, ℕ, ◌+◌, List, [], ◌∷◌, length, Option, Some, None, refl}
 use Rattle.std.proofs.Common.{◌++◌, lit<}
 use Rattle.std.proofs.lemmas.List.Sorted.{IsPermutation-refl}
 use Rattle.swim_wire.specs.Address.{Address}
-use Rattle.swim_wire.specs.Requests.{Request}
-use Rattle.swim_wire.specs.Round.{Lists}
-use Rattle.swim_wire.specs.declared.messages.Kind.{Kind}
 use Rattle.swim_wire.specs.declared.messages.Kind.TheVariants.{Ping, PingReq, Ack}
-use Rattle.swim_wire.specs.declared.messages.Message.{Message}
 use Rattle.swim_history.specs.declared.rows.Row.{Row}
-use Rattle.swim_history.specs.declared.rows.RowState.TheVariants.{Up, Failed}
+use Rattle.swim_history.specs.declared.rows.RowState.TheVariants.{Failed}
 use Rattle.swim_history.specs.declared.calls.Call.{Call}
 use Rattle.swim_history.specs.declared.calls.Call.TheVariants.{Tick, Hear, Join, Remove}
 use Rattle.swim_history.specs.declared.replies.Reply.{Reply}
 use Rattle.swim_history.specs.declared.replies.Reply.TheVariants.{Quiet, Started, Asked, Heard, Send, Dropped, Joined, Removed, Refused}
-use Rattle.swim_history.specs.declared.replies.Probe.{Probe}
 use Rattle.swim_history.specs.declared.replies.Relay.{Relay}
-use Rattle.swim_history.specs.declared.replies.DropReason.TheVariants.{NotForMe, Stray, NoRequest}
+use Rattle.swim_history.specs.declared.replies.DropReason.TheVariants.{Stray}
 use Rattle.swim_history.specs.declared.replies.Refusal.TheVariants.{Spent}
 use Rattle.swim_history.specs.declared.entries.Choice.{Choice}
 use Rattle.swim_history.specs.declared.entries.Choice.TheVariants.{Nothing, Round}
 use Rattle.swim_history.specs.declared.entries.Entry.{Entry}
-use Rattle.swim_history.specs.declared.journals.Judged.{Judged}
 use Rattle.swim_history.specs.Setting.{Setting}
-use Rattle.swim_history.specs.Clock.{period_number, phase}
-use Rattle.swim_history.specs.Aim.{aim, was_heard, unheard}
+use Rattle.swim_history.specs.Clock.{period_number}
+use Rattle.swim_history.specs.Aim.{aim, unheard}
 use Rattle.swim_history.specs.Rows.{row_of, up}
 use Rattle.swim_history.specs.Changes.{table}
 use Rattle.swim_history.specs.Round.{lists}
@@ -80,12 +74,19 @@ silence_fails : table silent_member silence ≡ record { id = 2; peer = at 2; st
 silence_fails = refl
 
 silence_is_run : IsRun silent_member silence
-silence_is_run =
-    (record { seat = lit< tt; number = refl; answer = record { begins = refl; unspent = lit< tt; judges = refl; draws = λ e. refl; probes = refl } },
-    (record { seat = lit< tt; number = refl; answer = (λ e. absurd cc, λ e. absurd cc) },
-    (record { seat = lit< tt; number = refl; answer = (refl, refl, refl, record { count = refl; once = refl; each = tt }) },
-    (record { seat = lit< tt; number = refl; answer = record { begins = refl; unspent = lit< tt; judges = refl; draws = (refl, λ e. absurd cc, IsPermutation-refl _); probes = (at 2, refl, refl) } },
-    tt))))
+silence_is_run = (
+  record { seat = lit< tt; number = refl; answer = record { begins = refl; unspent = lit< tt; judges = refl; draws = λ e. refl; probes = refl } },
+  (
+    record { seat = lit< tt; number = refl; answer = (λ e. absurd cc, λ e. absurd cc) },
+    (
+      record { seat = lit< tt; number = refl; answer = (refl, refl, refl, record { count = refl; once = refl; each = tt }) },
+      (
+        record { seat = lit< tt; number = refl; answer = record { begins = refl; unspent = lit< tt; judges = refl; draws = (refl, λ e. absurd cc, IsPermutation-refl _); probes = (at 2, refl, refl) } },
+        tt,
+      ),
+    ),
+  ),
+)
 
 -- two members and one relay: the aim of the first period is judged, and the other member is probed next
 abbrev two_members : Setting
@@ -143,12 +144,12 @@ joins_later = refl
 abbrev request : ℕ → Entry
 request place =
     entry place (Hear (record { kind = PingReq; sender = 2; initiator = 2; target = 3; number = 9 }) (at 2))
-      (Send (at 3) (record { kind = Ping; sender = 1; initiator = 2; target = 3; number = 9 })) Nothing
+    (Send (at 3) (record { kind = Ping; sender = 1; initiator = 2; target = 3; number = 9 })) Nothing
 
 abbrev forwarded : ℕ → Entry
 forwarded place =
     entry place (Hear (record { kind = Ack; sender = 3; initiator = 2; target = 3; number = 9 }) (at 3))
-      (Send (at 2) (record { kind = Ack; sender = 1; initiator = 2; target = 3; number = 9 })) Nothing
+    (Send (at 2) (record { kind = Ack; sender = 1; initiator = 2; target = 3; number = 9 })) Nothing
 
 waits : waiting two_members (asking 2 2 1 [] ∷ first_start ∷ request 0 ∷ []) ≡ record { key = record { initiator = 2; target = 3; number = 9 }; peer = at 2; left = 1 } ∷ []
 waits = refl

@@ -33,9 +33,7 @@ pub struct Journal {
 
 impl Model for Journal {
     ghost use Rattle.std.specs.Prelude.{◌-◌, ◌^◌, ◌<◌, reverse, vec_len, vec_capacity};
-
     ghost use Rattle.swim_history.specs.Run.{IsRun};
-
     ghost use Rattle.swim_history.specs.Written.{Written};
 
     ghost Value = { Written };
@@ -120,7 +118,11 @@ impl Journal {
         ensures exact { IfOk result (λ judged. judged.items ≡ judgements self.now.opening self.now.past) }
         ensures rule { JudgesByRule self.now.opening self.now.past }
     {
-        collect_judged(*self.entries.allocator(), &self.opening, self.entries.as_slice())
+        collect_judged(
+            *self.entries.allocator(),
+            &self.opening,
+            self.entries.as_slice(),
+        )
     }
 }
 
@@ -175,11 +177,7 @@ fn collect_judged(
 }
 
 /// Adds the judgement of a start, if it makes one.
-fn note_judged(
-    judged: &mut Vec<Judged>,
-    member: Option<Id>,
-    number: u64,
-) -> Result<(), AllocError>
+fn note_judged(judged: &mut Vec<Judged>, member: Option<Id>, number: u64) -> Result<(), AllocError>
     ensures { OnOk result (judged.new.items ≡ judged.old.items ++ option_to_list (judgement number member)) }
 {
     match member {

@@ -13,26 +13,22 @@ ghost use Rattle.swim_history.specs.Determined.{FitsOnce, StartsOnce};
 pub fn starts_are_by_the_clock()
     ensures { (o : Setting) (h : List Entry) (e : Entry) → IsSetting o → Continues o h e →
         ((is_start e ≡ true) ↔ ((is_tick e ≡ true) × (phase o h ≡ 0))) }
-{
-}
+{}
 
 /// The last number used rises by one at each start of a run, and at no other entry.
 pub fn numbers_rise_at_starts()
     ensures { (o : Setting) (h : List Entry) (e : Entry) → IsSetting o → Continues o h e →
         period_number o (e ∷ h) ≡ (if is_start e then period_number o h + 1 else period_number o h) }
-{
-}
+{}
 
 /// The older part of a run is a run.
 pub fn older_part_is_a_run()
     ensures { (o : Setting) (newer before : List Entry) → IsRun o (newer ++ before) → IsRun o before }
-{
-}
+{}
 
 /// At most one reply fits a call, but for what is free: the order of a round, and with it who is probed,
 /// the relays that are asked, and a joiner's place.
 pub fn one_reply_fits()
     ensures settled { (o : Setting) → IsSetting o → FitsOnce o }
     ensures started { (o : Setting) → StartsOnce o }
-{
-}
+{}

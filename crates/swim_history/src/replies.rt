@@ -109,11 +109,16 @@ pub enum Reply {
     /// An ack of the aim for this period.
     Heard,
     /// This message is to be sent to this address.
-    Send { peer: Peer, message: Message },
+    Send {
+        peer: Peer,
+        message: Message,
+    },
     /// The message is ignored.
     Dropped(DropReason),
     /// The member is listed, at this place among those probed and those to be probed.
-    Joined { place: u32 },
+    Joined {
+        place: u32,
+    },
     /// The member is forgotten.
     Removed,
     /// The call is refused.

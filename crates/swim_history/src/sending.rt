@@ -17,7 +17,8 @@ pub fn sends(reply: &Reply, opening: &Opening) -> ArrayVec<(Peer, Message), 8>
     let me = opening.me();
     match reply {
         Reply::Started {
-            probe: Some(probe), ..
+            probe: Some(probe),
+            ..
         } => to_each(Kind::Ping, me, probe.target, probe.number, &[probe.peer]),
         Reply::Asked {
             target,

@@ -124,7 +124,7 @@ plays_entry : (turns : List Turn) (turn : Turn) (run : List Entry) (text : List 
 plays_entry turns turn run text a b e call head p seat called adds calls output =
     let setting : setting_in (head_of (lines_of (turn ∷ turns))) ≡ setting_in (head_of (lines_of turns)) = ap setting_in head in
     let follows : Continues (setting_in (head_of (lines_of turns))) run e =
-      subst (λ (h : List Entry). Continues (setting_in (head_of (lines_of turns))) h e) p.past (subst (λ (o : Setting). Continues o a.past e) p.opening adds.0) in
+    subst (λ (h : List Entry). Continues (setting_in (head_of (lines_of turns))) h e) p.past (subst (λ (o : Setting). Continues o a.past e) p.opening adds.0) in
     record {
       past = adds.1 ∙ ap (λ h. e ∷ h) p.past;
       opening = adds.2 ∙ p.opening ∙ sym setting;
@@ -133,7 +133,7 @@ plays_entry turns turn run text a b e call head p seat called adds calls output 
       one_seat = rw (eq-eqb e.seat 0 seat, p.one_seat) refl;
       legal = subst (λ (o : Setting). IsRun o (e ∷ run)) (sym setting) (follows, p.legal);
       text_is = ap (λ (o : Setting). text ++ answer_text o e.reply) p.opening ∙ ap (λ t. t ++ answer_text (setting_in (head_of (lines_of turns))) e.reply) p.text_is
-        ∙ sym (output (setting_in (head_of (lines_of turns)))) ∙ ap (λ (o : Setting). output_of o (turn ∷ turns) (e ∷ run)) (sym setting);
+          ∙ sym (output (setting_in (head_of (lines_of turns)))) ∙ ap (λ (o : Setting). output_of o (turn ∷ turns) (e ∷ run)) (sym setting);
     }
 
 -- a line that makes a call
@@ -148,49 +148,49 @@ played turns run text piece s new command call before after read asks heads faul
     let is_ready = ready turns run text s a h done.1 in
     let p = is_ready.playing in
     let none : fault_of_read (length (lines_of turns) + 1) (head_of (lines_of turns)) (line_read (head_of (lines_of turns)).stage (bare piece)) ≡ None =
-      rw read (faults ∙ is_ready.none) in
+    rw read (faults ∙ is_ready.none) in
     let head : (refused : Bool) → head_of (piece ∷ lines_of turns) ≡ after_call (head_of (lines_of turns)) =
-      λ refused. head_after turns (record { line = piece; refused = refused }) (Some command) read ∙ heads in
+    λ refused. head_after turns (record { line = piece; refused = refused }) (Some command) read ∙ heads in
     let asked : (refused : Bool) → asked_in (lines_of turns) piece ≡ Calls call =
-      λ refused. asked_after turns (record { line = piece; refused = refused }) (Some command) read ∙ asks in
+    λ refused. asked_after turns (record { line = piece; refused = refused }) (Some command) read ∙ asks in
     elim done.4 [
       | inl full ↦
-        let turn : Turn = record { line = piece; refused = false } in
-        let is = full_now turns run text a p full.0 in
-        record {
-          none = none;
-          refused = false;
-          run = run;
-          more = full_text;
-          holds = next_holds turns turn run run text (text ++ full_text) s new b (head false) h done.3 done.5 done.6 done.7
-            (still_playing turns turn run text full_text a b (head false) p full.1 (rw (asked false, is) refl) (λ o. rw (asked false, is) refl));
-          written = full.2;
-        }
+          let turn : Turn = record { line = piece; refused = false } in
+          let is = full_now turns run text a p full.0 in
+          record {
+            none = none;
+            refused = false;
+            run = run;
+            more = full_text;
+            holds = next_holds turns turn run run text (text ++ full_text) s new b (head false) h done.3 done.5 done.6 done.7
+                (still_playing turns turn run text full_text a b (head false) p full.1 (rw (asked false, is) refl) (λ o. rw (asked false, is) refl));
+            written = full.2;
+          }
       | inr (inl short) ↦
-        let turn : Turn = record { line = piece; refused = true } in
-        let is = room_now turns run text a p short.0 in
-        record {
-          none = none;
-          refused = true;
-          run = run;
-          more = no_memory_text;
-          holds = next_holds turns turn run run text (text ++ no_memory_text) s new b (head true) h done.3 done.5 done.6 done.7
-            (still_playing turns turn run text no_memory_text a b (head true) p short.1 (rw (asked true, is) refl) (λ o. rw (asked true, is) refl));
-          written = short.2;
-        }
+          let turn : Turn = record { line = piece; refused = true } in
+          let is = room_now turns run text a p short.0 in
+          record {
+            none = none;
+            refused = true;
+            run = run;
+            more = no_memory_text;
+            holds = next_holds turns turn run run text (text ++ no_memory_text) s new b (head true) h done.3 done.5 done.6 done.7
+                (still_playing turns turn run text no_memory_text a b (head true) p short.1 (rw (asked true, is) refl) (λ o. rw (asked true, is) refl));
+            written = short.2;
+          }
       | inr (inr made) ↦
-        let turn : Turn = record { line = piece; refused = false } in
-        let e = made.0 in
-        let is = room_now turns run text a p made.3 in
-        record {
-          none = none;
-          refused = false;
-          run = e ∷ run;
-          more = answer_text a.opening e.reply;
-          holds = next_holds turns turn run (e ∷ run) text (text ++ answer_text a.opening e.reply) s new b (head false) h done.3 done.5 done.6 done.7
-            (plays_entry turns turn run text a b e call (head false) p made.1 made.2 made.4 (rw (asked false, is) refl) (λ o. rw (asked false, is) refl));
-          written = made.5;
-        }
+          let turn : Turn = record { line = piece; refused = false } in
+          let e = made.0 in
+          let is = room_now turns run text a p made.3 in
+          record {
+            none = none;
+            refused = false;
+            run = e ∷ run;
+            more = answer_text a.opening e.reply;
+            holds = next_holds turns turn run (e ∷ run) text (text ++ answer_text a.opening e.reply) s new b (head false) h done.3 done.5 done.6 done.7
+                (plays_entry turns turn run text a b e call (head false) p made.1 made.2 made.4 (rw (asked false, is) refl) (λ o. rw (asked false, is) refl));
+            written = made.5;
+          }
     ]
 
 -- a line whose bytes are no datagram
@@ -211,7 +211,7 @@ unread turns run text piece s new command wire before after read asks heads faul
       run = run;
       more = wire_text wire;
       holds = next_holds turns turn run run text (text ++ wire_text wire) s new a head h done.2 done.4 done.5 done.6
-        (still_playing turns turn run text (wire_text wire) a a head is_ready.playing (refl, refl, refl) (rw asked refl) (λ o. rw asked refl));
+          (still_playing turns turn run text (wire_text wire) a a head is_ready.playing (refl, refl, refl) (rw asked refl) (λ o. rw asked refl));
       written = done.3;
     }
 
@@ -230,9 +230,9 @@ pub stopped : (turns : List Turn) (run : List Entry) (text piece : List ℕ) (s 
 stopped turns run text piece s command fault before after read faults begun h done =
     elim done [
       | inl refused ↦
-        let stage = h.stage_is ∙ ap (stage_of s.opened) refused.0 in
-        let none_open : stage_of s.opened None ≢ Blank = λ e. begun (ap (stage_of s.opened) refused.0 ∙ e) in
-        inl (rw read (faults ∙ refused_at_call (head_of (lines_of turns)) s.opened s.rows fault stage none_open h.opened_is h.rows_are refused.1), refused.2)
+          let stage = h.stage_is ∙ ap (stage_of s.opened) refused.0 in
+          let none_open : stage_of s.opened None ≢ Blank = λ e. begun (ap (stage_of s.opened) refused.0 ∙ e) in
+          inl (rw read (faults ∙ refused_at_call (head_of (lines_of turns)) s.opened s.rows fault stage none_open h.opened_is h.rows_are refused.1), refused.2)
       | inr failed ↦ inr (failed.0 ∙ ap (λ n. record { line = n + 1; kind = Write }) h.count, failed.1, failed.2)
     ]
 

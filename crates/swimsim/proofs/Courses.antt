@@ -48,7 +48,7 @@ before_earlier n script turns more earlier cut =
     let parts : lines_of turns ≡ newer ++ older = ap lines_of (sym (take-append-drop j turns)) ∙ map-append (λ (turn : Turn). turn.line) (take j turns) (drop j turns) in
     let count : length older ≡ length turns - j = length-map (drop j turns) (λ (turn : Turn). turn.line) ∙ length-drop j turns in
     before_next n script older (reverse newer ++ more) (omega (arith, count, earlier))
-      (cut ∙ (ap (λ (lines : List (List ℕ)). reverse lines ++ more) parts ∙ (ap (λ (lines : List (List ℕ)). lines ++ more) (reverse-append newer older) ∙ append_assoc (reverse older) (reverse newer) more)))
+    (cut ∙ (ap (λ (lines : List (List ℕ)). reverse lines ++ more) parts ∙ (ap (λ (lines : List (List ℕ)). lines ++ more) (reverse-append newer older) ∙ append_assoc (reverse older) (reverse newer) more)))
 
 -- ---- what was told
 
@@ -87,7 +87,7 @@ told_earlier : (n : ℕ) (script : List ℕ) (turns : List Turn) (run : List Ent
     pieces script ≡ reverse (lines_of turns) ++ more → Plays turns run text opened None → IsTold (lines_before n script) text
 told_earlier n script turns run text more opened earlier cut p =
     subst (λ (lines : List (List ℕ)). IsTold lines text) (sym (before_earlier n script turns more earlier cut))
-      (subst (IsTold (lines_of (drop (length turns - (n - 1)) turns))) (sym p.nothing) (silent_told turns p.silent (length turns - (n - 1))))
+    (subst (IsTold (lines_of (drop (length turns - (n - 1)) turns))) (sym p.nothing) (silent_told turns p.silent (length turns - (n - 1))))
 
 -- ---- faults
 
@@ -180,12 +180,12 @@ ends_in_line script rest left line old mid mid' new budget after s fault c i kep
     let before = lines_of c.turns in
     elim fails [
       | inl found ↦
-        let within = fault_within before i.piece (omega (arith, c.spent, i.spent)) (rw (i.bytes) i.fits) in
-        let stands = read_stands script c.turns c.run c.text (pieces rest) s (line_read (head_of before).stage (bare i.piece)) fault c.cut c.holds found.0 in
-        ends_with script old new fault fault.kind stands.1 stands.2
+          let within = fault_within before i.piece (omega (arith, c.spent, i.spent)) (rw (i.bytes) i.fits) in
+          let stands = read_stands script c.turns c.run c.text (pieces rest) s (line_read (head_of before).stage (bare i.piece)) fault c.cut c.holds found.0 in
+          ends_with script old new fault fault.kind stands.1 stands.2
           (first_fault_is script rest i.piece (pieces left) before fault c.fault i.first (within ∙ found.0), c.text, stands.0, appends_kept old mid' new c.text (appends_kept old mid mid' c.text c.written kept) found.1)
       | inr failed ↦
-        subst (λ (f : ScriptFault). RunsTo script old new f f.kind) (sym failed.0)
+          subst (λ (f : ScriptFault). RunsTo script old new f f.kind) (sym failed.0)
           (c.text, failed.1, told_so_far (length before + 1) script c.turns c.run c.text (pieces rest) s refl c.cut c.holds, appends_both old mid new c.text failed.1 c.written (kept_appends mid mid' new failed.1 kept failed.2))
     ]
 
@@ -194,18 +194,24 @@ pub ends_long : (script rest left : List ℕ) (old mid new : Option (List ℕ)) 
     RunsTo script old new (at_line (s.lines + 1) Long) Long
 ends_long script rest left old mid new budget after s c i kept =
     let before = lines_of c.turns in
-    subst (λ n. RunsTo script old new (at_line (n + 1) Long) Long) (sym c.holds.count)
-      (first_fault_is script rest i.piece (pieces left) before (at_line (length before + 1) Long) c.fault i.first (fault_long before i.piece (omega (arith, c.spent, i.spent)) i.long),
-        c.text, told_so_far (length before + 1) script c.turns c.run c.text (pieces rest) s refl c.cut c.holds, appends_kept old mid new c.text c.written kept)
+    subst (λ n. RunsTo script old new (at_line (n + 1) Long) Long) (sym c.holds.count) (
+      first_fault_is script rest i.piece (pieces left) before (at_line (length before + 1) Long) c.fault i.first (fault_long before i.piece (omega (arith, c.spent, i.spent)) i.long),
+      c.text,
+      told_so_far (length before + 1) script c.turns c.run c.text (pieces rest) s refl c.cut c.holds,
+      appends_kept old mid new c.text c.written kept,
+    )
 
 -- at one that goes past the size of a script
 pub ends_oversize : (script rest : List ℕ) (old mid new : Option (List ℕ)) (budget : ℕ) (s : Played) (c : Course script rest old mid budget s) → IsOversize rest budget → Keeps mid new →
     RunsTo script old new (at_line (s.lines + 1) Size) Size
 ends_oversize script rest old mid new budget s c i kept =
     let before = lines_of c.turns in
-    subst (λ n. RunsTo script old new (at_line (n + 1) Size) Size) (sym c.holds.count)
-      (first_fault_is script rest i.piece i.more before (at_line (length before + 1) Size) c.fault i.first (fault_size before i.piece (omega (arith, c.spent, i.over))),
-        c.text, told_so_far (length before + 1) script c.turns c.run c.text (pieces rest) s refl c.cut c.holds, appends_kept old mid new c.text c.written kept)
+    subst (λ n. RunsTo script old new (at_line (n + 1) Size) Size) (sym c.holds.count) (
+      first_fault_is script rest i.piece i.more before (at_line (length before + 1) Size) c.fault i.first (fault_size before i.piece (omega (arith, c.spent, i.over))),
+      c.text,
+      told_so_far (length before + 1) script c.turns c.run c.text (pieces rest) s refl c.cut c.holds,
+      appends_kept old mid new c.text c.written kept,
+    )
 
 -- where the reader fails
 pub ends_unread : (script rest : List ℕ) (old mid new : Option (List ℕ)) (budget : ℕ) (s : Played) (c : Course script rest old mid budget s) → Keeps mid new → RunsTo script old new (at_line (s.lines + 1) Read) Read
@@ -244,7 +250,7 @@ pub ends_well : (script rest : List ℕ) (old mid new : Option (List ℕ)) (budg
     (fault_of script ≡ None) × (text : List ℕ) × IsTold (reverse (pieces script)) text × Appends old new text
 ends_well script rest old mid new budget s c over kept none =
     let lines : reverse (pieces script) ≡ lines_of c.turns =
-      ap reverse (c.cut ∙ ap (λ (text : List ℕ). reverse (lines_of c.turns) ++ pieces text) over ∙ append-nil (reverse (lines_of c.turns))) ∙ reverse-reverse (lines_of c.turns) in
+    ap reverse (c.cut ∙ ap (λ (text : List ℕ). reverse (lines_of c.turns) ++ pieces text) over ∙ append-nil (reverse (lines_of c.turns))) ∙ reverse-reverse (lines_of c.turns) in
     (fault_of_whole script rest old mid budget s c over ∙ none, c.text, subst (λ (l : List (List ℕ)). IsTold l c.text) (sym lines) (told_by c.turns c.run c.text s.opened s.simulated c.holds.plays), appends_kept old mid new c.text c.written kept)
 
 -- one that has a fault at its end

@@ -96,7 +96,7 @@ skipped turns run text piece s read h =
       rows_are = h.rows_are ∙ sym (ap (λ (x : Head). first_rows x.rows) head);
       stage_is = ap (λ (x : Head). x.stage) head ∙ h.stage_is;
       plays = plays_on turns (taken piece) run text s.opened s.opened s.simulated nothing (λ is. let b = opened_before turns run text s.opened s.simulated is h.plays in omega (arith, b))
-        (λ a is. (ap setting_in head, ap (λ (x : Head). limit_with x.opened) head)) h.plays;
+          (λ a is. (ap setting_in head, ap (λ (x : Head). limit_with x.opened) head)) h.plays;
     }
 
 -- before the first call no detector is open
@@ -118,7 +118,7 @@ opened_in turns run text piece s arguments read blank h =
       rows_are = h.rows_are ∙ sym (ap (λ (x : Head). first_rows x.rows) head);
       stage_is = ap (λ (x : Head). x.stage) head ∙ rw none refl;
       plays = plays_on turns (taken piece) run text s.opened (Some (record { line = s.lines + 1; arguments = arguments })) s.simulated nothing (λ is. omega (arith, h.count))
-        (λ a is. absurd (cc (none, is))) h.plays;
+          (λ a is. absurd (cc (none, is))) h.plays;
     }
 
 -- a row more of the first rows
@@ -126,7 +126,7 @@ first_rows_more : {A : Type 0} (rows : List A) (row : A) → take 129 (take 129 
 first_rows_more rows row =
     elim (cases_lt 129 (length rows)) [
       | inl many ↦
-        take_at (take 129 rows) (row ∷ []) 129 (omega (arith, length-take 129 rows)) ∙ sym (take-append-le 129 rows (row ∷ []) (omega arith))
+          take_at (take 129 rows) (row ∷ []) 129 (omega (arith, length-take 129 rows)) ∙ sym (take-append-le 129 rows (row ∷ []) (omega arith))
       | inr few ↦ ap (λ xs. take 129 (xs ++ row ∷ [])) (take_all 129 rows few)
     ]
 
@@ -144,5 +144,5 @@ row_in turns run text piece s id peer read header h =
       rows_are = ap (λ (rows : List (ℕ × Address)). first_rows (rows ++ (id, peer) ∷ [])) h.rows_are ∙ (first_rows_more (head_of (lines_of turns)).rows (id, peer) ∙ sym (ap (λ (x : Head). first_rows x.rows) head));
       stage_is = ap (λ (x : Head). x.stage) head ∙ h.stage_is;
       plays = plays_on turns (taken piece) run text s.opened s.opened s.simulated nothing (λ is. let b = opened_before turns run text s.opened s.simulated is h.plays in omega (arith, b))
-        (λ a is. absurd (cc (none, is))) h.plays;
+          (λ a is. absurd (cc (none, is))) h.plays;
     }

@@ -12,11 +12,12 @@ ghost use Rattle.swim_history.specs.Rows.{up, row_of};
 ghost use Rattle.swim_history.specs.Round.{lists, listed};
 ghost use Rattle.swimsim.specs.Mirrors.{IsSmall, AddsEntry, IsUnchanged, is_heard, newest_of};
 
+use crate::fields::{first_member, is_heard, order_of, phase_after, silent};
 use arrayvec::ArrayVec;
 use std::alloc::{AllocError, Global};
 use std::marker::Model;
 use swim_history::{
-    Call, Choice, DropReason, Entry, Journal, Opening, Order, Probe, Refusal, Reply,
+    Call, Choice, DropReason, Entry, Journal, Opening, Probe, Refusal, Reply,
 };
 use swim_wire::{Id, Kind, Message, Peer};
 
@@ -388,53 +389,5 @@ impl Detector {
         };
         self.journal.add(entry);
         self.phase = phase_after(self.phase, self.journal.opening().period());
-    }
-}
-
-/// Whether an ack of the aim was heard.
-fn is_heard(reply: &Reply) -> bool
-    ensures { result ≡ is_heard reply.now }
-{
-    matches!(reply, Reply::Heard)
-}
-
-/// The aim, unless an ack of it was heard.
-fn silent(heard: bool, aim: Option<Id>) -> Option<Id>
-    ensures { result ≡ option_and_then (λ m. unless heard m) aim }
-{
-    match aim {
-        Some(target) if !heard => Some(target),
-        _ => None,
-    }
-}
-
-/// The phase after one more tick.
-fn phase_after(phase: u32, period: u32) -> u32
-    requires { phase < period }
-    ensures { (ticks : ℕ) → phase ≡ ticks % period → result ≡ (ticks + 1) % period }
-{
-    if phase + 1 == period { 0 } else { phase + 1 }
-}
-
-/// The order of a round of one member.
-fn order_of(id: Id) -> Order
-    ensures { result.items ≡ id ∷ [] }
-{
-    let mut order = Order::new();
-    order.push(id);
-    order
-}
-
-/// The member that an opening lists, if any.
-fn first_member(opening: &Opening) -> Option<Listed>
-    requires { IsSmall opening.now }
-    ensures { option_to_list (option_map (λ m. up m.id m.peer) result) ≡ opening.now.rows }
-{
-    match opening.rows() {
-        [] => None,
-        [row, ..] => Some(Listed {
-            id: row.id,
-            peer: row.peer,
-        }),
     }
 }

@@ -6,6 +6,7 @@ mod commands;
 mod datagrams;
 mod detector;
 mod faults;
+mod fields;
 mod playing;
 mod session;
 mod simulator;

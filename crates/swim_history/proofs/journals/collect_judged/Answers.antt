@@ -1,8 +1,4 @@
-use Rattle.std.proofs.Common.{◌≡◌, ◌∷◌, ◌++◌, [], ◌+◌, cond, take, reverse, refl, sym, ap, ◌∙◌, Some, None}
-use Rattle.std.specs.Option.{option_to_list}
-use Rattle.swim_history.specs.Clock.{period_number}
-use Rattle.swim_history.specs.Events.{judged_in, is_starting}
-use Rattle.swim_history.specs.Judgement.{judgements, judgement}
+use Rattle.std.proofs.Common.{◌≡◌, ◌∷◌, ◌+◌, take, reverse, refl, sym, ap, ◌∙◌}
 use Rattle.swim_history.specs.RunLaws.{number_then}
 use Rattle.swim_history.specs.JudgementLaws.{judges_by_rule}
 use Rattle.swim_history.proofs.InOrder.{past_more, next_continues, unspent_at}
@@ -21,7 +17,7 @@ loop-entry-preserved c =
     let h = reverse (take c.loop-entry.entry-index c.args.entries.now) in
     let follows = next_continues o c.args.entries.now c.loop-entry.entry-index e c.loop-entry-test.true c.entry-item.is c.requires in
     let more : reverse (take (c.loop-entry.entry-index + 1) c.args.entries.now) ≡ e ∷ h =
-      past_more c.args.entries.now c.loop-entry.entry-index e c.loop-entry-test.true ∙ ap (λ x. x ∷ h) (sym c.entry-item.is) in
+    past_more c.args.entries.now c.loop-entry.entry-index e c.loop-entry-test.true ∙ ap (λ x. x ∷ h) (sym c.entry-item.is) in
     record {
       told = rw more (rw (c.in_ok-note_judged.ensures, c.judged_member.ensures, c.loop-entry.invariant.told, c.loop-entry.invariant.now) refl);
       now = rw more (rw (c.number_after-number.ensures, c.loop-entry.invariant.now) (sym (number_then o h e c.last-number.ensures.limits follows)));

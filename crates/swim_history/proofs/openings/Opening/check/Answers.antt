@@ -1,6 +1,6 @@
-use Rattle.std.proofs.Common.{◌≡◌, Some, None, refl, sym, ap, ◌∙◌}
+use Rattle.std.proofs.Common.{refl, sym, ◌∙◌}
 use Rattle.std.proofs.lemmas.Option.{none-some}
-use Rattle.swim_history.specs.Check.{first_fault, setting_of}
+use Rattle.swim_history.specs.Check.{setting_of}
 use Rattle.swim_history.specs.CheckLaws.{is_setting, no_fault}
 use Rattle.swim_history.proofs.openings.Opening.check.Goals as goal
 
