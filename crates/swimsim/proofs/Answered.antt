@@ -1,8 +1,8 @@
 -- What a line that makes a call does to what a session's fields mean.
-use Rattle.std.proofs.Common.{◌≡◌, ◌≢◌, ℕ, ◌+◌, ◌<◌, ◌≤◌, Bool, true, false, List, [], ◌∷◌, ◌++◌, length, map, take, Option, Some, None, Result, Ok, Err, refl, sym, ap, subst, ◌∙◌, inl, inr, arith, append-nil}
-use Rattle.std.specs.Prelude.{not, ◌==◌}
+use Rattle.std.proofs.Common.{◌≡◌, ◌≢◌, ℕ, ◌+◌, ◌≤◌, Bool, true, false, List, [], ◌∷◌, ◌++◌, length, map, take, Option, Some, None, Result, Ok, Err, refl, sym, ap, subst, ◌∙◌, inl, inr, arith, append-nil}
+use Rattle.std.specs.Prelude.{◌==◌}
 use Rattle.std.specs.List.{list_all}
-use Rattle.std.specs.Io.KnownBytes.{Appends, Keeps}
+use Rattle.std.specs.Io.KnownBytes.{Keeps}
 use Rattle.std.proofs.lemmas.Bool.{lt-ltb, le-ltb, eq-eqb}
 use Rattle.std.proofs.lemmas.List.{take_all, length-take, length-map}
 use Rattle.std.proofs.lemmas.Option.{same_Some}
@@ -18,16 +18,15 @@ use Rattle.swim_wire.specs.Streams.{appends_none}
 use Rattle.swimsim.specs.declared.commands.Command.{Command}
 use Rattle.swimsim.specs.declared.commands.Command.TheVariants.{Open, Row, Tick, Hear}
 use Rattle.swimsim.specs.declared.commands.Opened.{Opened}
-use Rattle.swimsim.specs.declared.commands.Stage.{Stage}
-use Rattle.swimsim.specs.declared.commands.Stage.TheVariants.{Blank, Header, Events}
+use Rattle.swimsim.specs.declared.commands.Stage.TheVariants.{Blank, Events}
 use Rattle.swimsim.specs.declared.faults.ScriptFault.{ScriptFault}
 use Rattle.swimsim.specs.declared.faults.FaultKind.TheVariants.{Write}
 use Rattle.swimsim.specs.Commands.{line_read, IsServed}
 use Rattle.swimsim.specs.Mirrors.{Simulated, AddsThis, IsUnchanged}
 use Rattle.swimsim.specs.Texts.{answer_text, wire_text, full_text, no_memory_text}
 use Rattle.swimsim.specs.Script.{Head, head_then, head_of, setting_with, setting_in, limit_with, Turn, lines_of, asked_by, asked_in, is_full, calls_in, output_of, fault_of_read, fault_of_opening, fault_of_command, fault_at_call}
-use Rattle.swimsim.specs.Script.Asked.{Nothing, Unread, Calls}
-use Rattle.swimsim.specs.Holds.{Played, stage_of, first_rows, IsPlaying, Plays, Holds, Answers, Starts, IsPlayed, IsUnread, IsStopped, Done, TurnDone, TurnFails, Turned}
+use Rattle.swimsim.specs.Script.Asked.{Unread, Calls}
+use Rattle.swimsim.specs.Holds.{Played, stage_of, first_rows, IsPlaying, Plays, Holds, Starts, IsPlayed, IsUnread, IsStopped, Done, TurnDone, TurnFails, Turned}
 use Rattle.swimsim.proofs.Served.{fault_of_first_rows}
 use Rattle.swimsim.proofs.Turns.{head_after, asked_after, opened_in, row_in, taken}
 

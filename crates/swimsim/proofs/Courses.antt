@@ -1,5 +1,5 @@
 -- Where the lines lead that were read of a script: at the start, after one more line, and at its end.
-use Rattle.std.proofs.Common.{◌≡◌, ◌≢◌, ℕ, zero, suc, ◌+◌, ◌-◌, ◌<◌, ◌≤◌, Bool, true, false, cond, List, [], ◌∷◌, ◌++◌, length, map, take, drop, reverse, Option, Some, None, Result, Ok, Err, refl, sym, ap, subst, ◌∙◌, inl, inr, arith, append-nil}
+use Rattle.std.proofs.Common.{◌≡◌, ◌≢◌, ℕ, zero, suc, ◌+◌, ◌-◌, ◌<◌, ◌≤◌, List, [], ◌∷◌, ◌++◌, length, take, drop, reverse, Option, Some, None, Result, Ok, Err, refl, sym, ap, subst, ◌∙◌, inl, inr, arith, append-nil}
 use Rattle.std.specs.Io.KnownBytes.{Keeps, Appends}
 use Rattle.std.proofs.lemmas.Bool.{lt-ltb, le-ltb}
 use Rattle.std.proofs.lemmas.Grind.{reverse_onto}
@@ -16,14 +16,12 @@ use Rattle.swimsim.specs.declared.commands.Command.TheVariants.{Open, Row, Tick,
 use Rattle.swimsim.specs.declared.commands.LineFault.{LineFault}
 use Rattle.swimsim.specs.declared.commands.LineFault.TheVariants.{Word}
 use Rattle.swimsim.specs.declared.commands.Opened.{Opened}
-use Rattle.swimsim.specs.declared.commands.Stage.{Stage}
-use Rattle.swimsim.specs.declared.commands.Stage.TheVariants.{Blank, Header, Events}
 use Rattle.swimsim.specs.declared.faults.FaultKind.{FaultKind}
 use Rattle.swimsim.specs.declared.faults.FaultKind.TheVariants.{Size, Long, Words, Opening, Read, Write}
 use Rattle.swimsim.specs.declared.faults.ScriptFault.{ScriptFault}
 use Rattle.swimsim.specs.Commands.{line_read}
 use Rattle.swimsim.specs.Mirrors.{Simulated}
-use Rattle.swimsim.specs.Script.{Head, head_of, setting_in, Turn, lines_of, at_line, bytes_of, fault_at, first_of, fault_from, fault_of, fault_of_read, fault_of_command, fault_at_call, opening_fault, opening_at, setting_with, fault_of_opening, fault_at_end, IsTold, lines_before, RunsTo}
+use Rattle.swimsim.specs.Script.{Head, head_of, setting_in, Turn, lines_of, at_line, bytes_of, fault_at, first_of, fault_from, fault_of, fault_of_read, fault_at_call, opening_fault, opening_at, setting_with, fault_of_opening, fault_at_end, IsTold, lines_before, RunsTo}
 use Rattle.swimsim.specs.Holds.{Played, stage_of, first_rows, IsSilent, line_of, Plays, Holds, ending, ending_with, TurnDone, TurnFails, Course}
 use Rattle.swimsim.proofs.Served.{fault_of_first_rows}
 

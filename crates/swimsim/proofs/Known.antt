@@ -1,10 +1,10 @@
 -- The course of a script whose bytes are known, or are not.
-use Rattle.std.proofs.Common.{◌≡◌, ℕ, ◌+◌, ◌≤◌, List, [], ◌∷◌, Option, Some, None, Result, Ok, Err, refl, sym, ap, subst, ◌∙◌}
+use Rattle.std.proofs.Common.{◌≡◌, ℕ, ◌+◌, List, [], Option, Some, None, Result, Ok, Err, sym, subst}
 use Rattle.std.specs.Prelude.{MatchResult}
 use Rattle.std.specs.Result.{IsErrAnd}
-use Rattle.std.specs.Io.KnownBytes.{Keeps, Appends}
+use Rattle.std.specs.Io.KnownBytes.{Keeps}
 use Rattle.swim_wire.specs.Lines.{bare, TakesKnown}
-use Rattle.swim_wire.specs.declared.lines.Taken.TheVariants.{Line, Long, Size, Over, Failed, Unsent}
+use Rattle.swim_wire.specs.declared.lines.Taken.TheVariants.{Line, Long, Size, Over}
 use Rattle.swim_history.specs.declared.entries.Entry.{Entry}
 use Rattle.swimsim.specs.declared.faults.FaultKind.TheVariants as kinds
 use Rattle.swimsim.specs.declared.faults.ScriptFault.{ScriptFault}

@@ -1,35 +1,22 @@
 -- What one more line does to what a session's fields mean.
-use Rattle.std.proofs.Common.{◌≡◌, ◌≢◌, ◌⊎◌, ℕ, zero, suc, ◌+◌, ◌<◌, ◌≤◌, Bool, true, false, cond, ◌||◌, nat_lt, List, [], ◌∷◌, ◌++◌, length, map, take, drop, Option, Some, None, Result, Ok, Err, refl, sym, ap, subst, ◌∙◌, inl, inr, arith, append-nil}
-use Rattle.std.specs.Prelude.{not, ◌==◌}
-use Rattle.std.specs.List.{list_all}
-use Rattle.std.specs.Io.KnownBytes.{Keeps, Appends}
-use Rattle.std.proofs.lemmas.Bool.{lt-ltb, le-ltb, cases_lt}
-use Rattle.std.proofs.lemmas.List.{take_all, take_at, length-take, length-map, take-append-le}
+use Rattle.std.proofs.Common.{◌≡◌, ◌≢◌, ℕ, zero, suc, ◌+◌, ◌≤◌, false, List, [], ◌∷◌, ◌++◌, length, take, Option, Some, None, Ok, refl, sym, ap, subst, ◌∙◌, inl, inr, arith}
+use Rattle.std.proofs.lemmas.Bool.{cases_lt}
+use Rattle.std.proofs.lemmas.List.{take_all, take_at, length-take, take-append-le}
 use Rattle.swim_wire.specs.Address.{Address}
 use Rattle.swim_wire.specs.Lines.{bare}
-use Rattle.swim_wire.specs.Streams.{Puts, appends_none, keeps_self}
-use Rattle.swim_wire.specs.declared.codec.WireFault.{WireFault}
-use Rattle.swim_wire.specs.declared.messages.Message.{Message}
-use Rattle.swim_history.specs.declared.calls.Call.{Call}
-use Rattle.swim_history.specs.declared.calls.Call.TheVariants as calls
 use Rattle.swim_history.specs.declared.entries.Entry.{Entry}
 use Rattle.swim_history.specs.Setting.{Setting}
-use Rattle.swim_history.specs.Run.{IsRun, Continues}
+use Rattle.swim_history.specs.Run.{IsRun}
 use Rattle.swimsim.specs.declared.commands.Command.{Command}
-use Rattle.swimsim.specs.declared.commands.Command.TheVariants.{Open, Row, Tick, Hear}
-use Rattle.swimsim.specs.declared.commands.LineFault.{LineFault}
+use Rattle.swimsim.specs.declared.commands.Command.TheVariants.{Open, Row}
 use Rattle.swimsim.specs.declared.commands.Opened.{Opened}
 use Rattle.swimsim.specs.declared.commands.OpenArguments.{OpenArguments}
-use Rattle.swimsim.specs.declared.commands.Stage.{Stage}
 use Rattle.swimsim.specs.declared.commands.Stage.TheVariants.{Blank, Header, Events}
-use Rattle.swimsim.specs.declared.faults.ScriptFault.{ScriptFault}
 use Rattle.swimsim.specs.Commands.{line_read}
-use Rattle.swimsim.specs.Mirrors.{Simulated, AddsThis, IsUnchanged}
-use Rattle.swimsim.specs.Texts.{answer_text, wire_text, full_text, no_memory_text}
-use Rattle.swimsim.specs.Script.{Head, head_then, head_of, said, setting_with, setting_in, limit_with, Turn, lines_of, Asked, asked_by, asked_in, is_full, calls_then, calls_in, with_answer, output_then, output_of, fault_of_read, fault_of_opening, fault_of_command, fault_at_call}
-use Rattle.swimsim.specs.Script.Asked.{Nothing, Unread, Calls}
-use Rattle.swimsim.specs.Holds.{Played, stage_of, stage_before_calls, first_rows, IsSilent, line_of, IsWaiting, IsPlaying, Plays, Holds, Answers, Starts, Called, IsPlayed, IsUnread, TurnDone}
-use Rattle.swimsim.proofs.Served.{fault_of_first_rows}
+use Rattle.swimsim.specs.Mirrors.{Simulated}
+use Rattle.swimsim.specs.Script.{Head, head_then, head_of, setting_in, limit_with, Turn, lines_of, asked_by, asked_in, calls_in, output_of}
+use Rattle.swimsim.specs.Script.Asked.{Nothing}
+use Rattle.swimsim.specs.Holds.{Played, stage_of, first_rows, IsSilent, line_of, Plays, Holds}
 
 -- a line of a script that was not refused for want of memory
 abbrev pub taken : List ℕ → Turn

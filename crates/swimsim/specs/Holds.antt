@@ -18,7 +18,6 @@ use Rattle.swimsim.specs.declared.commands.Opened.{Opened}
 use Rattle.swimsim.specs.declared.commands.Stage.{Stage}
 use Rattle.swimsim.specs.declared.commands.Stage.TheVariants.{Blank, Header, Events}
 use Rattle.swimsim.specs.declared.commands.LineFault.TheVariants.{Word}
-use Rattle.swimsim.specs.declared.faults.FaultKind.{FaultKind}
 use Rattle.swimsim.specs.declared.faults.FaultKind.TheVariants.{Words, Write}
 use Rattle.swimsim.specs.declared.faults.ScriptFault.{ScriptFault}
 use Rattle.swimsim.specs.Commands.{line_read}

@@ -16,9 +16,7 @@ use crate::fields::{first_member, is_heard, order_of, phase_after, silent};
 use arrayvec::ArrayVec;
 use std::alloc::{AllocError, Global};
 use std::marker::Model;
-use swim_history::{
-    Call, Choice, DropReason, Entry, Journal, Opening, Probe, Refusal, Reply,
-};
+use swim_history::{Call, Choice, DropReason, Entry, Journal, Opening, Probe, Refusal, Reply};
 use swim_wire::{Id, Kind, Message, Peer};
 
 /// Why a call got no reply. The detector is as before.

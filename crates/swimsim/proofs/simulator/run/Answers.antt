@@ -1,7 +1,6 @@
-use Rattle.std.proofs.Common.{◌≡◌, ◌+◌, ◌≤◌, ℕ, List, Ok, Err, refl, sym, ap, subst, ◌∙◌, arith}
+use Rattle.std.proofs.Common.{ℕ, List, Err, refl, sym, ap, subst, ◌∙◌, arith}
 use Rattle.swim_wire.specs.Lines.{TakesKnown}
 use Rattle.swim_wire.specs.declared.lines.Taken.TheVariants.{Line}
-use Rattle.swimsim.specs.declared.faults.FaultKind.TheVariants as kinds
 use Rattle.swimsim.specs.declared.faults.ScriptFault.{ScriptFault}
 use Rattle.swimsim.specs.Script.{RunsKnown}
 use Rattle.swimsim.specs.Holds.{Played, CourseKnown}

@@ -3,7 +3,7 @@ use Rattle.swim_wire.specs.Lines.{bare}
 use Rattle.swim_wire.specs.Streams.{keeps_self}
 use Rattle.swimsim.specs.Commands.{line_read, IsServed, ServesLine}
 use Rattle.swimsim.specs.Script.{head_of, lines_of}
-use Rattle.swimsim.specs.Holds.{Holds, stage_of}
+use Rattle.swimsim.specs.Holds.{Holds}
 use Rattle.swimsim.proofs.Turns.{skipped, taken}
 use Rattle.swimsim.proofs.Answered.{silent_turn, turned_by}
 use Rattle.swimsim.proofs.session.Session.turn.Goals as goal
