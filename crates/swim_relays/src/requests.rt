@@ -1,0 +1,115 @@
+//! What is kept for other members' probes.
+
+ghost use Rattle.std.specs.Prelude.{◌≡◌, ◌==◌, ◌||◌, nat_lt, ◌↔◌, ◌≤◌, [], ◌∷◌, ◌++◌, length, false, IsErr, OnOk, OnErr};
+ghost use Rattle.swim_wire.specs.Requests.{forget, peer_for};
+ghost use Rattle.swim_relays.specs.Waiting.{waits, aged, AreWaiting};
+
+use crate::waiting::{Entries, Entry, aged, place_of, take};
+use std::marker::Model;
+use swim_wire::{Key, Peer};
+
+/// 64 requests wait, and none of them is of this probe.
+#[derive(Clone, Copy, Debug, PartialEq, Eq)]
+pub struct TableFull;
+
+/// The requests that wait for an ack of their target, at most 64, and each probe's at most once (section
+/// 3.1 of the SWIM paper). A request waits for as many ticks as a period has.
+#[derive(Drop)]
+pub struct Relays {
+    period: u32,
+    entries: Entries,
+}
+
+impl Model for Relays {
+    ghost use Rattle.swim_relays.specs.Waiting.{Waiting, AreWaiting};
+
+    ghost Value = { Waiting };
+
+    ghost view = { λ relays. record { period = relays.period; waiting = relays.entries.items } };
+
+    ghost invariant = { λ relays. AreWaiting (record { period = relays.period; waiting = relays.entries.items }) };
+}
+
+impl Relays {
+    /// No requests. A period has 1 to 65535 ticks.
+    pub fn new(period: u32) -> Relays
+        requires least { 1 ≤ period }
+        requires most { period ≤ 65535 }
+        ensures { result ≡ record { period = period; waiting = [] } }
+    {
+        Relays {
+            period,
+            entries: Entries::new(),
+        }
+    }
+
+    /// A member asks for an ack of that probe. Its request is the last, with a whole period left, and
+    /// takes the place of one of the same probe. An `Err` changes nothing.
+    pub fn ask(&mut self, key: Key, peer: Peer) -> Result<(), TableFull>
+        ensures ok { OnOk result (self.new ≡ record self.old {
+          waiting = forget key self.old.waiting ++ record { key = key; peer = peer; left = self.old.period } ∷ [];
+        }) }
+        ensures full { IsErr result ↔ ((waits key self.old.waiting ≡ false) × (length self.old.waiting ≡ 64)) }
+        ensures err { OnErr result (self.new ≡ self.old) }
+        ensures kept { AreWaiting self.new }
+    {
+        if !self.has_room(&key) {
+            return Err(TableFull);
+        }
+        take(&mut self.entries, &key);
+        self.entries.push(Entry {
+            key,
+            peer,
+            left: self.period,
+        });
+        Ok(())
+    }
+
+    // Whether a request of that probe waits, or there is room for one more.
+    fn has_room(&self, key: &Key) -> bool
+        ensures { result ≡ (waits key.now self.now.waiting || nat_lt (length self.now.waiting) 64) }
+    {
+        self.waits(key) || !self.entries.is_full()
+    }
+
+    /// An ack of that probe came: who is to get it, if anyone asked. The request waits no more.
+    pub fn answer(&mut self, key: &Key) -> Option<Peer>
+        ensures peer { result ≡ peer_for key.now self.old.waiting }
+        ensures waiting { self.new ≡ record self.old { waiting = forget key.now self.old.waiting } }
+        ensures kept { AreWaiting self.new }
+    {
+        take(&mut self.entries, key)
+    }
+
+    /// A tick passes: each request has one tick less, and one that has none left is forgotten.
+    pub fn tick(&mut self)
+        ensures waiting { self.new ≡ record self.old { waiting = aged self.old.waiting } }
+        ensures kept { AreWaiting self.new }
+    {
+        self.entries = aged(self.entries.as_slice());
+    }
+
+    /// Whether a request of that probe waits.
+    pub fn waits(&self, key: &Key) -> bool
+        ensures value { result ≡ waits key.now self.now.waiting }
+        ensures kept { AreWaiting self.now }
+    {
+        place_of(self.entries.as_slice(), key).is_some()
+    }
+
+    /// How many requests wait, at most 64.
+    pub fn len(&self) -> usize
+        ensures value { result ≡ length self.now.waiting }
+        ensures kept { AreWaiting self.now }
+    {
+        self.entries.len()
+    }
+
+    /// Whether no request waits.
+    pub fn is_empty(&self) -> bool
+        ensures value { result ≡ (length self.now.waiting == 0) }
+        ensures kept { AreWaiting self.now }
+    {
+        self.entries.is_empty()
+    }
+}
