@@ -8,6 +8,7 @@ pub mod Changes
 pub mod Round
 pub mod Waiting
 pub mod Run
+pub mod Drawn
 pub mod Judgement
 pub mod Probes
 pub mod Gap

@@ -1,12 +1,12 @@
 -- The sequential detector: which entries may follow a history (sections 3.1 and 4.3 of the SWIM paper).
 -- A history is a list of entries, newest first. Nothing here but the entries themselves is remembered.
-use Rattle.std.specs.Prelude.{◌≡◌, ◌≢◌, ◌⊎◌, ℕ, ◌+◌, ◌-◌, ◌^◌, ◌<◌, ◌≤◌, ◌==◌, Bool, true, false, List, [], ◌∷◌, length, min, map, filter, Option, Some, None, IsPermutation, is_some}
+use Rattle.std.specs.Prelude.{◌≡◌, ◌≢◌, ◌⊎◌, ℕ, ◌+◌, ◌-◌, ◌^◌, ◌<◌, ◌≤◌, ◌==◌, Bool, true, false, List, [], ◌∷◌, length, min, map, filter, Option, Some, None}
 use Rattle.std.specs.List.{AllByRecursion}
 use Rattle.swim_wire.specs.Address.{Address}
 use Rattle.swim_wire.specs.Ids.{has, has_twice, without, front}
 use Rattle.swim_wire.specs.Probe.{key_of, passed_on}
-use Rattle.swim_wire.specs.Requests.{peer_for}
-use Rattle.swim_wire.specs.Round.{Lists, leave_judged, redraw}
+use Rattle.swim_wire.specs.Requests.{waits, peer_for}
+use Rattle.swim_wire.specs.Round.{leave_judged, MayDraw, redraw}
 use Rattle.swim_wire.specs.declared.messages.Kind.{Kind}
 use Rattle.swim_wire.specs.declared.messages.Kind.TheVariants.{Ping, PingReq, Ack}
 use Rattle.swim_wire.specs.declared.messages.Message.{Message}
@@ -19,7 +19,7 @@ use Rattle.swim_history.specs.declared.replies.Relay.{Relay}
 use Rattle.swim_history.specs.declared.replies.DropReason.TheVariants.{NotForMe, Borrowed, AboutMe, Unlisted, TableFull, Stray, NoRequest}
 use Rattle.swim_history.specs.declared.replies.Refusal.TheVariants.{Myself, Listed, Full, Unknown, Spent}
 use Rattle.swim_history.specs.declared.entries.Choice.{Choice}
-use Rattle.swim_history.specs.declared.entries.Choice.TheVariants.{Nothing, Round}
+use Rattle.swim_history.specs.declared.entries.Choice.TheVariants.{Nothing}
 use Rattle.swim_history.specs.declared.entries.Entry.{Entry}
 use Rattle.swim_history.specs.Setting.{Setting}
 use Rattle.swim_history.specs.Clock.{period_number, phase}
@@ -33,11 +33,6 @@ use Rattle.swim_history.specs.Waiting.{waiting}
 abbrev pub last_number : ℕ
 last_number = 2 ^ 64 - 1
 
--- an order is drawn exactly where nobody is left to be probed and somebody was, and it is one of those probed
-abbrev pub MayDraw : Choice → Lists → Type 0
-MayDraw Nothing r = r.rest ≡ [] → r.probed ≡ []
-MayDraw (Round order) r = (r.rest ≡ []) × (r.probed ≢ []) × IsPermutation r.probed order.items
-
 -- the probe of a new period: of the next member at its address, if there is a next
 abbrev pub IsProbe : Setting → List Entry → ℕ → Option ℕ → Option Probe → Type 0
 IsProbe o h number None probe = probe ≡ None
@@ -49,7 +44,7 @@ pub record IsStart (o : Setting) (h : List Entry) (judged : Option ℕ) (probe :
   pub begins : phase o h ≡ 0
   pub unspent : period_number o h < last_number
   pub judges : judged ≡ unheard o h
-  pub draws : MayDraw choice (leave_judged judged (lists o h))
+  pub draws : MayDraw (drawn choice) (leave_judged judged (lists o h))
   pub probes : IsProbe o h (period_number o h + 1) (front (redraw (drawn choice) (leave_judged judged (lists o h))).rest) probe
 
 -- the listed members that may be asked to ping the aim
@@ -72,7 +67,7 @@ most_waiting = 64
 
 -- whether a probe is among those that wait
 abbrev pub is_waiting : Setting → List Entry → Message → Bool
-is_waiting o h m = is_some (peer_for (key_of m) (waiting o h))
+is_waiting o h m = waits (key_of m) (waiting o h)
 
 -- the replies to a message, by its kind
 abbrev pub Hears : Setting → List Entry → Message → Address → Kind → Reply → Type 0

@@ -9,8 +9,8 @@ use Rattle.std.proofs.lemmas.List.Folds.{list_any-append}
 use Rattle.swim_wire.specs.declared.messages.Key.{Key}
 use Rattle.swim_wire.specs.Address.{Address}
 use Rattle.swim_wire.specs.Probe.{same_key}
-use Rattle.swim_wire.specs.Requests.{Request, forget, peer_for}
-use Rattle.swim_relays.specs.Waiting.{waits, waits_twice, one_less, aged, AreWaiting, IsFirstOf}
+use Rattle.swim_wire.specs.Requests.{Request, waits, forget, peer_for, one_less, aged}
+use Rattle.swim_relays.specs.Waiting.{waits_twice, AreWaiting, IsFirstOf}
 
 -- ---- keys
 

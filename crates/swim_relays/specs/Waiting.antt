@@ -1,31 +1,18 @@
 -- The requests that wait for an ack of their target.
-use Rattle.std.specs.Prelude.{◌≡◌, ℕ, ◌-◌, ◌<◌, ◌≤◌, nat_lt, Bool, true, false, ◌||◌, List, [], ◌∷◌, length, take, drop, filter, map}
-use Rattle.std.specs.List.{list_any, AllByRecursion}
+use Rattle.std.specs.Prelude.{◌≡◌, ℕ, ◌<◌, ◌≤◌, Bool, true, false, ◌||◌, List, [], ◌∷◌, length, take, drop}
+use Rattle.std.specs.List.{AllByRecursion}
 use Rattle.swim_wire.specs.declared.messages.Key.{Key}
-use Rattle.swim_wire.specs.Probe.{same_key}
-use Rattle.swim_wire.specs.Requests.{Request}
+use Rattle.swim_wire.specs.Requests.{Request, waits}
 
 -- the ticks of a period, for which a request waits, and the requests, the oldest first
 pub record Waiting : Type 0 where
   pub period : ℕ
   pub waiting : List Request
 
--- a request of that probe waits
-abbrev pub waits : Key → List Request → Bool
-waits key requests = list_any (λ request. same_key request.key key) requests
-
 -- requests of one probe wait twice
 abbrev pub waits_twice : List Request → Bool
 waits_twice [] = false
 waits_twice (request ∷ requests) = waits request.key requests || waits_twice requests
-
--- the request with one tick less
-abbrev pub one_less : Request → Request
-one_less request = record request { left = request.left - 1 }
-
--- after a tick: each has one tick less, and one that has none left is forgotten
-abbrev pub aged : List Request → List Request
-aged requests = filter (λ request. nat_lt 0 request.left) (map one_less requests)
 
 -- no probe's requests wait twice, at most 64 wait, and each has 1 tick to a period left
 pub record AreWaiting (w : Waiting) : Type 0 where

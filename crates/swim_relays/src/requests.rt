@@ -1,8 +1,8 @@
 //! What is kept for other members' probes.
 
 ghost use Rattle.std.specs.Prelude.{◌≡◌, ◌==◌, ◌||◌, nat_lt, ◌↔◌, ◌≤◌, [], ◌∷◌, ◌++◌, length, false, IsErr, OnOk, OnErr};
-ghost use Rattle.swim_wire.specs.Requests.{forget, peer_for};
-ghost use Rattle.swim_relays.specs.Waiting.{waits, aged, AreWaiting};
+ghost use Rattle.swim_wire.specs.Requests.{waits, forget, peer_for, aged};
+ghost use Rattle.swim_relays.specs.Waiting.{AreWaiting};
 
 use crate::waiting::{Entries, Entry, aged, place_of, take};
 use std::marker::Model;

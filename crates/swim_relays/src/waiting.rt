@@ -1,8 +1,8 @@
 //! The requests as a list.
 
 ghost use Rattle.std.specs.Prelude.{◌≡◌, ◌≤◌, false, length, MatchOption};
-ghost use Rattle.swim_wire.specs.Requests.{forget, peer_for};
-ghost use Rattle.swim_relays.specs.Waiting.{IsFirstOf, waits, waits_twice, aged};
+ghost use Rattle.swim_wire.specs.Requests.{waits, forget, peer_for, aged};
+ghost use Rattle.swim_relays.specs.Waiting.{IsFirstOf, waits_twice};
 
 use arrayvec::ArrayVec;
 use std::marker::Model;

@@ -1,5 +1,5 @@
 -- Words on the lists of a round.
-use Rattle.std.specs.Prelude.{◌≡◌, ◌≢◌, ℕ, ◌≤◌, false, List, [], length, Option, Some, None, IsPermutation}
+use Rattle.std.specs.Prelude.{◌≡◌, ℕ, ◌≤◌, false, List, length, Option}
 use Rattle.std.specs.Option.{option_map}
 use Rattle.arrayvec.specs.ArrayVec.{ArrayVec}
 use Rattle.swim_wire.specs.Ids.{has_twice}
@@ -8,11 +8,6 @@ use Rattle.swim_wire.specs.Round.{Lists, all_of}
 -- the ids of the order that was drawn, if any was
 abbrev pub drawn_of : Option (ArrayVec ℕ) → Option (List ℕ)
 drawn_of drawn = option_map (λ order. order.items) drawn
-
--- an order is drawn exactly where all were probed and somebody is listed, and it is one of those probed
-abbrev pub MayDraw : Option (List ℕ) → Lists → Type 0
-MayDraw None lists = lists.rest ≡ [] → lists.probed ≡ []
-MayDraw (Some order) lists = (lists.rest ≡ []) × (lists.probed ≢ []) × IsPermutation lists.probed order
 
 -- no member is listed twice, and at most 128 are listed
 pub record IsListing (lists : Lists) : Type 0 where

@@ -2,8 +2,8 @@
 
 ghost use Rattle.std.specs.Prelude.{◌≡◌, ◌==◌, ◌↔◌, ◌≤◌, ◌<◌, [], length, true, false, IsOk, IfOk, OnErr, IfSome, IfNone};
 ghost use Rattle.swim_wire.specs.Ids.{has, has_twice, without, front};
-ghost use Rattle.swim_wire.specs.Round.{Lists, all_of, leave, redraw, advance, join_at};
-ghost use Rattle.swim_targets.specs.Rounds.{drawn_of, MayDraw, IsListing};
+ghost use Rattle.swim_wire.specs.Round.{Lists, all_of, leave, MayDraw, redraw, advance, join_at};
+ghost use Rattle.swim_targets.specs.Rounds.{drawn_of, IsListing};
 
 use crate::places::{has, has_twice, place_of};
 use crate::{Chooser, Order};

@@ -1,5 +1,5 @@
 -- The two lists of a round (section 4.3 of the SWIM paper), and what changes them.
-use Rattle.std.specs.Prelude.{ℕ, ◌-◌, List, [], ◌∷◌, ◌++◌, length, insert, if◌then◌else◌, nat_lt, Option, Some, None}
+use Rattle.std.specs.Prelude.{◌≡◌, ◌≢◌, ℕ, ◌-◌, List, [], ◌∷◌, ◌++◌, length, insert, if◌then◌else◌, nat_lt, Option, Some, None, IsPermutation}
 use Rattle.swim_wire.specs.Ids.{without}
 
 -- who was probed in this round, in order, and who is to be
@@ -19,6 +19,11 @@ leave id r = record { probed = without id r.probed; rest = without id r.rest }
 abbrev pub leave_judged : Option ℕ → Lists → Lists
 leave_judged None r = r
 leave_judged (Some id) r = leave id r
+
+-- an order is drawn exactly where nobody is left to be probed and somebody was, and it is one of those probed
+abbrev pub MayDraw : Option (List ℕ) → Lists → Type 0
+MayDraw None r = r.rest ≡ [] → r.probed ≡ []
+MayDraw (Some order) r = (r.rest ≡ []) × (r.probed ≢ []) × IsPermutation r.probed order
 
 -- where an order was drawn, a new round begins in that order
 abbrev pub redraw : Option (List ℕ) → Lists → Lists

@@ -1,5 +1,5 @@
 use Rattle.std.proofs.Common.{◌≡◌, ◌≤◌, length, take}
-use Rattle.swim_relays.specs.Waiting.{aged}
+use Rattle.swim_wire.specs.Requests.{aged}
 use Rattle.swim_relays.proofs.waiting.aged.Given as goal
 
 abbrev pub invariant-loop-entry : goal.invariant-loop-entry

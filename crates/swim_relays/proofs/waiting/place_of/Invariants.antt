@@ -1,5 +1,5 @@
 use Rattle.std.proofs.Common.{◌≡◌, false, take}
-use Rattle.swim_relays.specs.Waiting.{waits}
+use Rattle.swim_wire.specs.Requests.{waits}
 use Rattle.swim_relays.proofs.waiting.place_of.Given as goal
 
 abbrev pub invariant-loop-i : goal.invariant-loop-i
