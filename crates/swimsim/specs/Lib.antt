@@ -1,3 +1,4 @@
+pub mod Choosers
 pub mod Commands
 pub mod Holds
 pub mod Mirrors

@@ -2,6 +2,7 @@
 #![tactic(auto)]
 
 mod answers;
+mod choosers;
 mod commands;
 mod datagrams;
 mod detector;
