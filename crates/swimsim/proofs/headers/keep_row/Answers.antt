@@ -1,6 +1,6 @@
 use Rattle.std.proofs.Common.{arith, ◌∙◌}
-use Rattle.swimsim.proofs.Served.{row_kept, row_left_out}
-use Rattle.swimsim.proofs.session.keep_row.Goals as goal
+use Rattle.swimsim.proofs.KeptRows.{row_kept, row_left_out}
+use Rattle.swimsim.proofs.headers.keep_row.Goals as goal
 
 pub returns-then-len-lt-KEPT_ROWS : goal.returns-then-len-lt-KEPT_ROWS
 returns-then-len-lt-KEPT_ROWS c =
