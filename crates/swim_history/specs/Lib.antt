@@ -22,3 +22,4 @@ pub mod Written
 pub mod ClockLaws
 pub mod RunLaws
 pub mod JudgementLaws
+pub mod WaitingLaws
