@@ -23,3 +23,4 @@ pub mod ClockLaws
 pub mod RunLaws
 pub mod JudgementLaws
 pub mod WaitingLaws
+pub mod ListedLaws
