@@ -1,9 +1,10 @@
 -- The lists of a round hold exactly the members that are up, each once.
-use Rattle.std.proofs.Common.{◌≡◌, ℕ, ◌+◌, ◌-◌, ◌≤◌, Bool, true, false, ◌&&◌, ◌||◌, cond, nat_lt, nat_eq, List, [], ◌∷◌, ◌++◌, length, Option, Some, None, refl, sym, ap, subst, ◌∙◌, append_assoc, append-nil}
+use Rattle.std.proofs.Common.{◌≡◌, ◌≢◌, ℕ, ◌+◌, ◌-◌, ◌<◌, ◌≤◌, Bool, true, false, ◌&&◌, ◌||◌, cond, nat_lt, nat_eq, List, [], ◌∷◌, ◌++◌, length, Option, Some, None, refl, sym, ap, subst, ◌∙◌, arith, append_assoc, append-nil}
 use Rattle.std.proofs.Math.Bool.{and-true, and-false}
 use Rattle.std.proofs.lemmas.Option.{same_Some}
 use Rattle.std.proofs.lemmas.Bool.{or_parts, or_from, or_right, eqb-true, eq-eqb}
 use Rattle.std.proofs.lemmas.Cmp.{nat_eq_equiv}
+use Rattle.std.proofs.lemmas.List.{length-map}
 use Rattle.std.proofs.lemmas.List.Elements.{filter-append}
 use Rattle.std.proofs.lemmas.List.Folds.{list_any-append}
 use Rattle.std.proofs.lemmas.List.Sorted.{list_any-IsPermutation, IsPermutation-refl, IsPermutation-sym, IsPermutation-trans, IsPermutation-insert, IsPermutation-append_left, IsPermutation-append_right, IsPermutation-middle}
@@ -32,6 +33,8 @@ use Rattle.swim_history.specs.Rows.{up, failed, row_at, row_then, row_of, is_up,
 use Rattle.swim_history.specs.Round.{drawn, lists_then, lists, listed}
 use Rattle.swim_history.specs.Run.{IsProbe, Answers, IsRun}
 use Rattle.swim_history.specs.RunLaws.{begins}
+use Rattle.swim_history.specs.Changes.{table, known_count}
+use Rattle.swim_history.specs.TableLaws.{table_shows, table_bound}
 
 -- ---- lists of ids
 
@@ -274,3 +277,42 @@ aim_listed o (e ∷ h) m s run aimed = by (is_start e) refl aimed (aim_listed o 
       let parts = or_parts (removes m e) (list_any (removes m) (since is_start h)) still.1 in
       let before : aim h ≡ Some m = rw (still.0, parts.1) refl in
       up_then e.call e.reply (period_number o h) m (row_of o h m) starts parts.0 (again before)
+
+-- ---- room
+
+-- the ids of the table are the known members
+has_known : (o : Setting) (h : List Entry) (id : ℕ) → has (ids_of (table o h)) id ≡ is_some (row_of o h id)
+has_known o h id = has_row (table o h) id ∙ ap is_some (table_shows o h id)
+
+up_is_known : (row : Option Row) → is_up row ≡ true → is_some row ≡ true
+up_is_known None is = absurd cc
+up_is_known (Some row) is = refl
+
+listed_known : (o : Setting) (h : List Entry) → IsSetting o → IsRun o h → (id : ℕ) → has (listed o h) id ≡ true → has (ids_of (table o h)) id ≡ true
+listed_known o h s run id is = has_known o h id ∙ up_is_known (row_of o h id) (sym (listed_is o h s run id) ∙ is)
+
+count_ids : (rows : List Row) → length (ids_of rows) ≡ length rows
+count_ids rows = length-map rows (λ row. row.id)
+
+-- in a run no more members are listed than are known
+pub listed_bound : (o : Setting) (h : List Entry) → IsSetting o → IsRun o h → length (listed o h) ≤ known_count o h
+listed_bound o h s run =
+    let most = no_longer (listed o h) (ids_of (table o h)) (listed_once o h s run) (listed_known o h s run) in
+    omega (arith, count_ids (table o h))
+
+-- a member that may join finds room among those listed
+pub room_to_join : (o : Setting) (h : List Entry) (id : ℕ) → IsSetting o → IsRun o h → is_listed o h id ≡ false → (row_of o h id ≡ None → known_count o h ≢ 128) → length (listed o h) < 128
+room_to_join o h id s run down room = by (row_of o h id) refl where
+  by : (row : Option Row) → row_of o h id ≡ row → length (listed o h) < 128
+  by None unknown =
+      let free : known_count o h ≢ 128 = room unknown in
+      omega (arith, free, listed_bound o h s run, table_bound o h s run)
+  by (Some row) known =
+      let once : has_twice (id ∷ listed o h) ≡ false = or_from (has (listed o h) id) (has_twice (listed o h)) (listed_is o h s run id ∙ down) (listed_once o h s run) in
+      let within : (q : ℕ) → has (id ∷ listed o h) q ≡ true → has (ids_of (table o h)) q ≡ true = λ q. here q (nat_eq q id) refl in
+      let more = no_longer (id ∷ listed o h) (ids_of (table o h)) once within in
+      omega (arith, count_ids (table o h), table_bound o h s run)
+    where
+      here : (q : ℕ) (b : Bool) → nat_eq q id ≡ b → (b || has (listed o h) q) ≡ true → has (ids_of (table o h)) q ≡ true
+      here q true same is = rw (eqb-true q id same, has_known o h id, known) refl
+      here q false same is = listed_known o h s run q is
