@@ -1,0 +1,95 @@
+//! Joins and removals (section 4.3 of the SWIM paper).
+
+ghost use Rattle.std.specs.Prelude.{◌≡◌, ◌≢◌, ◌<◌, false, None, length};
+ghost use Rattle.swim_history.specs.declared.calls.Call.TheVariants.{Join, Remove};
+ghost use Rattle.swim_history.specs.declared.replies.Reply.TheVariants.{Refused};
+ghost use Rattle.swim_history.specs.declared.entries.Choice.TheVariants.{Nothing};
+ghost use Rattle.swim_history.specs.Rows.{row_of, is_listed};
+ghost use Rattle.swim_history.specs.Run.{Answers};
+ghost use Rattle.swim_history.specs.Changes.{known_count};
+ghost use Rattle.swim_detector.specs.Mirrors.{Mirrors, IsAnswered, IsSettled, JoinsOr};
+
+use super::State;
+use crate::answers::Answer;
+use swim_history::{Journal, KNOWN_MEMBERS, Refusal, Reply, RowState};
+use swim_targets::Chooser;
+use swim_wire::{Id, Peer};
+
+impl State {
+    /// A member is to be listed.
+    pub(super) fn join<C: Chooser>(
+        &mut self,
+        journal: &Journal,
+        chooser: &mut C,
+        id: Id,
+        peer: Peer,
+    ) -> Answer
+        requires { Mirrors journal.now.opening journal.now.past self.old }
+        ensures { IsAnswered C.orders C.places journal.now.opening journal.now.past (Join id peer) result self.new chooser.old chooser.new }
+    {
+        match refusal_to_join(journal, id) {
+            Some(refusal) => self.refuse_to_join(journal, id, peer, refusal),
+            None => self.list(journal, chooser, id, peer),
+        }
+    }
+
+    fn refuse_to_join(&self, journal: &Journal, id: Id, _peer: Peer, refusal: Refusal) -> Answer
+        requires mirrors { Mirrors journal.now.opening journal.now.past self.now }
+        requires fits { Answers journal.now.opening journal.now.past (Join id _peer) (Refused refusal) Nothing }
+        ensures { IsSettled journal.now.opening journal.now.past (Join id _peer) result self.now }
+    {
+        Answer::of(Reply::Refused(refusal))
+    }
+
+    /// The joiner is listed at a place that the chooser draws.
+    fn list<C: Chooser>(
+        &mut self,
+        journal: &Journal,
+        chooser: &mut C,
+        id: Id,
+        _peer: Peer,
+    ) -> Answer
+        requires mirrors { Mirrors journal.now.opening journal.now.past self.old }
+        requires other { id ≢ journal.now.opening.me }
+        requires unlisted { is_listed journal.now.opening journal.now.past id ≡ false }
+        requires room { row_of journal.now.opening journal.now.past id ≡ None → known_count journal.now.opening journal.now.past ≢ 128 }
+        ensures { IsAnswered C.orders C.places journal.now.opening journal.now.past (Join id _peer) result self.new chooser.old chooser.new }
+    {
+        match self.targets.join(id, chooser) {
+            Ok(place) => Answer::of(Reply::Joined { place }),
+            Err(_) => unreachable!(),
+        }
+    }
+
+    /// A member is to be forgotten.
+    pub(super) fn remove(&mut self, journal: &Journal, id: Id) -> Answer
+        requires { Mirrors journal.now.opening journal.now.past self.old }
+        ensures { IsSettled journal.now.opening journal.now.past (Remove id) result self.new }
+    {
+        if id == journal.opening().me() {
+            return Answer::of(Reply::Refused(Refusal::Myself));
+        }
+        if journal.row(id).is_none() {
+            return Answer::of(Reply::Refused(Refusal::Unknown));
+        }
+        self.targets.remove(id);
+        if self.aim == Some(id) {
+            self.aim = None;
+        }
+        Answer::of(Reply::Removed)
+    }
+}
+
+/// Why a member is not listed, if it isn't.
+fn refusal_to_join(journal: &Journal, id: Id) -> Option<Refusal>
+    ensures { JoinsOr journal.now.opening journal.now.past id result }
+{
+    if id == journal.opening().me() {
+        return Some(Refusal::Myself);
+    }
+    match journal.row(id) {
+        Some(row) if row.state == RowState::Up => Some(Refusal::Listed),
+        None if journal.known() == KNOWN_MEMBERS => Some(Refusal::Full),
+        _ => None,
+    }
+}
