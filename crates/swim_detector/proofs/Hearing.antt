@@ -107,7 +107,7 @@ pub request_taken : (o : Setting) (h : List Entry) (m : Message) (source peer : 
     IsSettled o h (Hear m source) (plain (Send peer (passed_on Ping o.me m))) new
 request_taken o h m source peer old new setting mirrors is own other listed targets aims phases heard asked bound =
     let reply = Send peer (passed_on Ping o.me m) in
-    let r : Request = record { key = key_of m; peer = source; left = old.relays.period } in
+    let r : Request = record { key = key_of m; peer = source; left = o.period } in
     let room : is_waiting o h m ≡ false → length (waiting o h) < most_waiting = λ none. room_for (key_of m) (waiting o h) new.relays.waiting r (rw mirrors.requests_are at (ap (λ w. w.waiting) asked)) bound none in
     hears o h m source reply old new mirrors (rw is (own, other, listed, room, refl)) targets aims phases
     (λ seat number. rw (waiting_asked o h (entry_of seat number (Hear m source) (plain reply)) m source peer (passed_on Ping o.me m) (omega (arith, setting.timing.0, setting.timing.1)) refl is refl) (rw mirrors.requests_are at asked))

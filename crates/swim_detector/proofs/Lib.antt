@@ -1,3 +1,5 @@
 pub mod Settling
 pub mod Hearing
 pub mod Starting
+pub mod Listing
+pub mod Asking

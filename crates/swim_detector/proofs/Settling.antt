@@ -1,5 +1,6 @@
 -- Answers for which nothing is drawn: to ticks within a period, to refused calls, and to messages.
-use Rattle.std.proofs.Common.{◌≡◌, ◌≢◌, ℕ, ◌+◌, ◌%◌, ◌<◌, Bool, true, false, List, [], ◌∷◌, ◌++◌, Option, Some, None, refl, sym, ap, ◌∙◌, arith, add-one}
+use Rattle.std.proofs.Common.{◌≡◌, ◌≢◌, ℕ, ◌+◌, ◌%◌, ◌<◌, Bool, true, false, ◌||◌, List, [], ◌∷◌, ◌++◌, Option, Some, None, refl, sym, ap, ◌∙◌, arith, add-one}
+use Rattle.std.specs.Prelude.{option_and_then}
 use Rattle.std.specs.List.{list_any}
 use Rattle.swim_wire.specs.Address.{Address}
 use Rattle.swim_wire.specs.Requests.{aged}
@@ -9,18 +10,20 @@ use Rattle.swim_history.specs.declared.calls.Call.TheVariants.{Tick, Hear, Join,
 use Rattle.swim_history.specs.declared.replies.Reply.{Reply}
 use Rattle.swim_history.specs.declared.replies.Reply.TheVariants.{Quiet, Started, Asked, Joined, Refused}
 use Rattle.swim_history.specs.declared.replies.Refusal.{Refusal}
-use Rattle.swim_history.specs.declared.replies.Refusal.TheVariants.{Spent}
+use Rattle.swim_wire.specs.declared.messages.Kind.{Kind}
+use Rattle.swim_wire.specs.declared.messages.Kind.TheVariants.{Ping, PingReq, Ack}
 use Rattle.swim_history.specs.declared.entries.Choice.{Choice}
 use Rattle.swim_history.specs.declared.entries.Choice.TheVariants.{Nothing, Round}
 use Rattle.swim_history.specs.declared.entries.Entry.{Entry}
 use Rattle.swim_history.specs.Setting.{Setting, IsSetting}
-use Rattle.swim_history.specs.Events.{is_ticking, is_starting, is_start, acks}
+use Rattle.swim_history.specs.Events.{is_ticking, is_tick, is_starting, is_start, removes, acks}
 use Rattle.swim_history.specs.Clock.{phase, ticks, period_number}
-use Rattle.swim_history.specs.Aim.{since, unheard}
-use Rattle.swim_history.specs.RunLaws.{period_number-within}
-use Rattle.swim_history.specs.Waiting.{waiting}
+use Rattle.swim_history.specs.Aim.{since, unless, last_probed, aim, unheard}
+use Rattle.swim_history.specs.RunLaws.{period_number-within, period_number-same}
+use Rattle.swim_history.specs.Waiting.{waiting, asked_in, sent_on_in}
+use Rattle.swim_history.specs.Round.{lists, lists_then}
 use Rattle.swim_history.specs.WaitingLaws.{waiting_tick, waiting_same}
-use Rattle.swim_history.specs.Run.{Answers, last_number}
+use Rattle.swim_history.specs.Run.{Answers, Hears}
 use Rattle.swim_history.specs.Drawn.{DrawsEntry}
 use Rattle.swim_detector.specs.declared.states.State.{State}
 use Rattle.swim_detector.specs.declared.answers.Answer.{Answer}
@@ -43,37 +46,31 @@ settled orders places o h call answer state c s = (s.0, undrawn orders places o 
 abbrev pub plain : Reply → Answer
 plain reply = record { reply = reply; choice = Nothing }
 
--- the period numbers are used up
-pub spent : (o : Setting) (h : List Entry) (s : State) → Mirrors o h s → phase o h ≡ 0 → period_number o h ≡ last_number → IsSettled o h Tick (plain (Refused Spent)) s
-spent o h s m begins over = ((begins, over), refl, λ seat number. record {
-  lists_are = m.lists_are;
-  requests_are = m.requests_are ∙ ap (λ w. record { period = o.period; waiting = w }) (sym (waiting_same o h (entry_of seat number Tick (plain (Refused Spent))) refl refl refl));
-  aim_is = m.aim_is;
-  heard_is = m.heard_is;
-  phase_is = m.phase_is;
-})
+-- an entry by which nothing changes
+stays : (o : Setting) (h : List Entry) (s : State) (e : Entry) → Mirrors o h s → is_tick e ≡ false → is_start e ≡ false → lists_then e.call e.reply e.choice (lists o h) ≡ lists o h →
+    ((m : ℕ) → removes m e ≡ false) → ((m number : ℕ) → acks o.me m number e ≡ false) → asked_in e.call e.reply ≡ None → sent_on_in e.call e.reply ≡ None → Mirrors o (e ∷ h) s
+stays o h s e m idle goes_on same unremoved unacked unasked unsent =
+    let same_aim : aim (e ∷ h) ≡ aim h = rw goes_on (ap (λ (gone : ℕ → Bool). option_and_then (λ m. unless (gone m) m) (last_probed h)) (λ i m. (unremoved m i) || list_any (removes m) (since is_start h))) in
+    record {
+      lists_are = m.lists_are ∙ sym same;
+      requests_are = m.requests_are ∙ ap (λ w. record { period = o.period; waiting = w }) (sym (waiting_same o h e idle unasked unsent));
+      aim_is = m.aim_is ∙ sym same_aim;
+      heard_is = λ target is. m.heard_is target (sym same_aim ∙ is) ∙ rw (goes_on, period_number-same o h e idle, unacked target (period_number o h)) refl;
+      phase_is = m.phase_is ∙ rw idle refl;
+    }
 
--- a joiner is refused
-pub join_refused : (o : Setting) (h : List Entry) (s : State) (id : ℕ) (peer : Address) (why : Refusal) → Mirrors o h s → Answers o h (Join id peer) (Refused why) Nothing →
-    IsSettled o h (Join id peer) (plain (Refused why)) s
-join_refused o h s id peer why m fits = (fits, refl, λ seat number. record {
-  lists_are = m.lists_are;
-  requests_are = m.requests_are ∙ ap (λ w. record { period = o.period; waiting = w }) (sym (waiting_same o h (entry_of seat number (Join id peer) (plain (Refused why))) refl refl refl));
-  aim_is = m.aim_is;
-  heard_is = m.heard_is;
-  phase_is = m.phase_is;
-})
+-- a message is never refused
+no_refusal : (o : Setting) (h : List Entry) (m : Message) (source : Address) (kind : Kind) (why : Refusal) → Hears o h m source kind (Refused why) → ⊥
+no_refusal o h m source Ping why a = a
+no_refusal o h m source PingReq why a = a
+no_refusal o h m source Ack why a = a
 
--- a removal is refused
-pub removal_refused : (o : Setting) (h : List Entry) (s : State) (id : ℕ) (why : Refusal) → Mirrors o h s → Answers o h (Remove id) (Refused why) Nothing →
-    IsSettled o h (Remove id) (plain (Refused why)) s
-removal_refused o h s id why m fits = (fits, refl, λ seat number. record {
-  lists_are = m.lists_are;
-  requests_are = m.requests_are ∙ ap (λ w. record { period = o.period; waiting = w }) (sym (waiting_same o h (entry_of seat number (Remove id) (plain (Refused why))) refl refl refl));
-  aim_is = m.aim_is;
-  heard_is = m.heard_is;
-  phase_is = m.phase_is;
-})
+-- a call is refused: nothing changes
+pub refused : (o : Setting) (h : List Entry) (s : State) (call : Call) (why : Refusal) → Mirrors o h s → Answers o h call (Refused why) Nothing → IsSettled o h call (plain (Refused why)) s
+refused o h s Tick why m fits = (fits, refl, λ seat number. stays o h s (entry_of seat number Tick (plain (Refused why))) m refl refl refl (λ n. refl) (λ n k. refl) refl refl)
+refused o h s (Hear message source) why m fits = absurd (no_refusal o h message source message.kind why fits)
+refused o h s (Join id peer) why m fits = (fits, refl, λ seat number. stays o h s (entry_of seat number (Join id peer) (plain (Refused why))) m refl refl refl (λ n. refl) (λ n k. refl) refl refl)
+refused o h s (Remove id) why m fits = (fits, refl, λ seat number. stays o h s (entry_of seat number (Remove id) (plain (Refused why))) m refl refl refl (λ n. refl) (λ n k. refl) refl refl)
 
 -- a tick of the state: its requests age, and its phase goes on
 pub record Passes (o : Setting) (old new : State) : Type 0 where

@@ -1,6 +1,8 @@
 -- Answers to ticks that begin a period.
 use Rattle.std.proofs.Common.{◌≡◌, ◌≢◌, ℕ, ◌+◌, ◌%◌, ◌<◌, Bool, true, false, List, [], ◌∷◌, ◌++◌, Option, Some, None, refl, sym, ap, subst, ◌∙◌, arith, add-one, cond}
-use Rattle.std.specs.Prelude.{option_and_then, IfSome, IfNone, IsPermutation}
+use Rattle.std.proofs.lemmas.Bool.{and_parts, or_right}
+use Rattle.std.proofs.lemmas.List.Folds.{list_any-append}
+use Rattle.std.specs.Prelude.{◌==◌, nat_eq, not, option_and_then, IfSome, IfNone, IsPermutation}
 use Rattle.std.specs.Option.{option_map}
 use Rattle.std.specs.List.{list_any}
 use Rattle.arrayvec.specs.ArrayVec.{ArrayVec}
@@ -19,11 +21,12 @@ use Rattle.swim_history.specs.Clock.{phase, ticks, period_number}
 use Rattle.swim_history.specs.Aim.{aim, was_heard, unless, unheard}
 use Rattle.swim_history.specs.Rows.{up, row_of, is_listed}
 use Rattle.swim_history.specs.Round.{lists, listed, drawn}
+use Rattle.swim_history.specs.ListedLaws.{listed_is, has_front, has_part, has-IsPermutation, all-leave, all-advanced, all-started}
 use Rattle.swim_history.specs.Run.{IsRun, IsProbe, IsStart, last_number}
 use Rattle.swim_history.specs.Drawn.{DrawsEntry}
 use Rattle.swim_targets.specs.Rounds.{drawn_of}
 use Rattle.swim_detector.specs.declared.states.State.{State}
-use Rattle.swim_detector.specs.Mirrors.{Mirrors, IsAnswered, choice_of, entry_of}
+use Rattle.swim_detector.specs.Mirrors.{Mirrors, IsAnswered, IsListedNext, choice_of, entry_of}
 use Rattle.swim_detector.proofs.Settling.{requests_after}
 
 -- the aim that no ack came of, by what the state remembers
@@ -40,7 +43,7 @@ drawn_is None = refl
 drawn_is (Some order) = refl
 
 -- whom the probe is of
-probed : Option Probe → Option ℕ
+abbrev probed : Option Probe → Option ℕ
 probed probe = option_map (λ probe. probe.target) probe
 
 -- the member that is probed is the aim of the period
@@ -54,6 +57,28 @@ draws_round : {S : Type 0} (orders : S → List ℕ → List ℕ → S → Type 
     DrawsEntry orders places o h Tick (Started judged probe) (choice_of d) before after
 draws_round orders places o h judged probe None before after some none = none
 draws_round orders places o h judged probe (Some order) before after some none = some
+
+-- who is next in a round, after the judged member left it, is listed
+in_round : (o : Setting) (h : List Entry) (judged : Option ℕ) (m : ℕ) → has (all_of (leave_judged judged (lists o h))) m ≡ true → has (listed o h) m ≡ true
+in_round o h None m is = is
+in_round o h (Some gone) m is =
+    (and_parts (has (listed o h) m) (not (m == gone)) (sym (has_part (λ other. not (other == gone)) m (listed o h)) ∙ rw (all-leave gone (lists o h)) at is)).0
+
+pub next_listed : (o : Setting) (h : List Entry) (judged : Option ℕ) (order : Option (List ℕ)) (next : Option ℕ) → IsSetting o → IsRun o h → MayDraw order (leave_judged judged (lists o h)) →
+    next ≡ front (redraw order (leave_judged judged (lists o h))).rest → IsListedNext o h next
+next_listed o h judged order None s run may is = tt
+next_listed o h judged order (Some m) s run may is =
+    let r = redraw order (leave_judged judged (lists o h)) in
+    let here : has (all_of (advance r)) m ≡ true =
+    rw (all-advanced r.probed r.rest, list_any-append (nat_eq m) r.probed r.rest) (or_right (has r.probed m) (has r.rest m) (has_front m r.rest (sym is))) in
+    let before = sym (has-IsPermutation m (all_of (leave_judged judged (lists o h))) (all_of (advance r)) (all-started judged order (lists o h) may)) ∙ here in
+    sym (listed_is o h s run m) ∙ in_round o h judged m before
+
+pub next_of_round : (o : Setting) (h : List Entry) (s : State) (judged : Option ℕ) (order : Option (List ℕ)) (next : Option ℕ) (left : Lists) → IsSetting o → IsRun o h → Mirrors o h s → left ≡ leave_judged judged s.targets → MayDraw order left →
+    next ≡ front (redraw order left).rest → IsListedNext o h next
+next_of_round o h s judged order next left setting run m leaves may is =
+    let left_are : left ≡ leave_judged judged (lists o h) = leaves ∙ ap (leave_judged judged) m.lists_are in
+    next_listed o h judged order next setting run (subst (MayDraw order) left_are may) (is ∙ ap (λ (r : Lists). front (redraw order r).rest) left_are)
 
 -- a period begins: what the round, the chooser and the state became
 pub record Begins {S : Type 0} (orders : S → List ℕ → List ℕ → S → Type 0) (o : Setting) (old new : State) (left : Lists) (judged next : Option ℕ) (d : Option (ArrayVec ℕ)) (before after : S) : Type 0 where

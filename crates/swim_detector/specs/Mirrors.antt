@@ -2,7 +2,7 @@
 use Rattle.std.specs.Prelude.{◌≡◌, ◌≢◌, ℕ, ◌<◌, ◌≤◌, Bool, true, false, List, ◌∷◌, length, slice_index, Option, Some, None}
 use Rattle.arrayvec.specs.ArrayVec.{ArrayVec}
 use Rattle.swim_history.specs.declared.calls.Call.{Call}
-use Rattle.swim_history.specs.declared.calls.Call.TheVariants.{Tick, Join}
+use Rattle.swim_history.specs.declared.calls.Call.TheVariants.{Tick, Join, Remove}
 use Rattle.swim_history.specs.declared.replies.Reply.{Reply}
 use Rattle.swim_history.specs.declared.replies.Reply.TheVariants.{Started, Asked, Joined, Refused}
 use Rattle.swim_history.specs.declared.entries.Choice.{Choice}
@@ -86,3 +86,8 @@ AreAt o h relays = AllByRecursion (λ relay. row_of o h relay.id ≡ Some (up re
 abbrev pub JoinsOr : Setting → List Entry → ℕ → Option Refusal → Type 0
 JoinsOr o h id (Some refusal) = (peer : Address) → Answers o h (Join id peer) (Refused refusal) Nothing
 JoinsOr o h id None = (id ≢ o.me) × (is_listed o h id ≡ false) × (row_of o h id ≡ None → known_count o h ≢ 128)
+
+-- a removal is refused for that reason, or may be made
+abbrev pub RemovesOr : Setting → List Entry → ℕ → Option Refusal → Type 0
+RemovesOr o h id (Some refusal) = Answers o h (Remove id) (Refused refusal) Nothing
+RemovesOr o h id None = (id ≢ o.me) × (row_of o h id ≢ None)

@@ -66,14 +66,14 @@ no_longer xs ys once within = length-le_from_is_member nat_eq_equiv xs ys (diffe
 pub once-IsPermutation : (xs ys : List ℕ) → IsPermutation xs ys → has_twice xs ≡ false → has_twice ys ≡ false
 once-IsPermutation xs ys p once = once_from_differ ys (IsDistinct-IsPermutation nat_eq nat_eq_equiv.symm xs ys p (differ xs once))
 
-has-IsPermutation : (id : ℕ) (xs ys : List ℕ) → IsPermutation xs ys → has ys id ≡ has xs id
+pub has-IsPermutation : (id : ℕ) (xs ys : List ℕ) → IsPermutation xs ys → has ys id ≡ has xs id
 has-IsPermutation id xs ys p = sym (list_any-IsPermutation (nat_eq id) xs ys p)
 
 -- a part of the ids that is chosen by a test
-has_part : (p : ℕ → Bool) (id : ℕ) (ids : List ℕ) → has (filter p ids) id ≡ (has ids id && p id)
+pub has_part : (p : ℕ → Bool) (id : ℕ) (ids : List ℕ) → has (filter p ids) id ≡ (has ids id && p id)
 has_part p id ids = is_member-filter nat_eq_equiv p id (λ x same. ap p (eqb-true id x same)) ids
 
-once_part : (p : ℕ → Bool) (ids : List ℕ) → has_twice ids ≡ false → has_twice (filter p ids) ≡ false
+pub once_part : (p : ℕ → Bool) (ids : List ℕ) → has_twice ids ≡ false → has_twice (filter p ids) ≡ false
 once_part p [] once = refl
 once_part p (id ∷ ids) once =
     let parts = or_parts (has ids id) (has_twice ids) once in
@@ -85,7 +85,7 @@ once_part p (id ∷ ids) once =
 
 -- ---- the lists of a round
 
-all-advanced : (probed rest : List ℕ) → all_of (advanced probed rest) ≡ probed ++ rest
+pub all-advanced : (probed rest : List ℕ) → all_of (advanced probed rest) ≡ probed ++ rest
 all-advanced probed [] = refl
 all-advanced probed (id ∷ rest) = append_assoc probed (id ∷ []) rest
 
@@ -94,13 +94,13 @@ all-redraw None r d = IsPermutation-refl (all_of r)
 all-redraw (Some order) r d = rw (d.0, append-nil r.probed) d.2
 
 -- the members that stay listed at a start are in its lists
-all-started : (judged : Option ℕ) (order : Option (List ℕ)) (r : Lists) → MayDraw order (leave_judged judged r)
+pub all-started : (judged : Option ℕ) (order : Option (List ℕ)) (r : Lists) → MayDraw order (leave_judged judged r)
     → IsPermutation (all_of (leave_judged judged r)) (all_of (advance (redraw order (leave_judged judged r))))
 all-started judged order r d =
     let next = redraw order (leave_judged judged r) in
     subst (λ (ids : List ℕ). IsPermutation (all_of (leave_judged judged r)) ids) (sym (all-advanced next.probed next.rest)) (all-redraw order (leave_judged judged r) d)
 
-all-leave : (id : ℕ) (r : Lists) → all_of (leave id r) ≡ without id (all_of r)
+pub all-leave : (id : ℕ) (r : Lists) → all_of (leave id r) ≡ without id (all_of r)
 all-leave id r = sym (filter-append (λ other. not (nat_eq other id)) r.probed r.rest)
 
 all-join_at : (id place : ℕ) (r : Lists) → IsPermutation (id ∷ all_of r) (all_of (join_at id place r))
@@ -228,7 +228,7 @@ listed_once o (e ∷ h) s run = once_then o h e.call e.reply e.choice run.0.answ
 
 -- ---- the aim
 
-has_front : (id : ℕ) (ids : List ℕ) → front ids ≡ Some id → has ids id ≡ true
+pub has_front : (id : ℕ) (ids : List ℕ) → front ids ≡ Some id → has ids id ≡ true
 has_front id [] e = absurd cc
 has_front id (x ∷ ids) e = rw (eq-eqb id x (sym (same_Some x id e))) refl
 

@@ -1,7 +1,5 @@
 //! Entries of a journal.
 
-ghost use Rattle.std.specs.Prelude.{◌≡◌};
-
 use crate::calls::Call;
 use crate::replies::Reply;
 use arrayvec::ArrayVec;
@@ -28,14 +26,4 @@ pub struct Entry {
     pub call: Call,
     pub choice: Choice,
     pub reply: Reply,
-}
-
-impl Entry {
-    /// STUB
-    pub fn copy(&self) -> Entry
-        requires stub { ⊥ }
-        ensures { result ≡ self.now }
-    {
-        unreachable!()
-    }
 }

@@ -1,14 +1,12 @@
 //! The journal: a run of the sequential detector, as it happened.
 
-ghost use Rattle.std.specs.Prelude.{◌≡◌, ◌+◌, ◌^◌, ◌<◌, ◌==◌, ◌∷◌, ◌++◌, [], length, reverse, IfOk, IsOk, OnOk, slice_get, true, if◌then◌else◌};
+ghost use Rattle.std.specs.Prelude.{◌≡◌, ◌+◌, ◌^◌, ◌<◌, ◌==◌, ◌∷◌, ◌++◌, [], length, reverse, IfOk, OnOk, slice_get, true, if◌then◌else◌};
 ghost use Rattle.std.specs.Option.{option_copied, option_to_list};
 ghost use Rattle.swim_history.specs.Setting.{IsSetting};
 ghost use Rattle.swim_history.specs.Events.{is_starting, judged_in};
 ghost use Rattle.swim_history.specs.Run.{Continues, IsRun};
 ghost use Rattle.swim_history.specs.Judgement.{judgements, judgement, JudgesByRule};
 ghost use Rattle.swim_history.specs.Clock.{period_number};
-ghost use Rattle.swim_history.specs.Rows.{row_of};
-ghost use Rattle.swim_history.specs.Changes.{table, known_count};
 
 use crate::entries::Entry;
 use crate::openings::Opening;
@@ -61,9 +59,7 @@ impl Journal {
     pub fn opening(&self) -> &Opening
         ensures value { result.now ≡ self.now.opening }
         ensures run { IsRun self.now.opening self.now.past }
-        ensures limits { IsSetting self.now.opening }
     {
-        let _limits = self.opening.last();
         &self.opening
     }
 
@@ -71,9 +67,7 @@ impl Journal {
     pub fn len(&self) -> u32
         ensures value { result ≡ length self.now.past }
         ensures run { IsRun self.now.opening self.now.past }
-        ensures limits { IsSetting self.now.opening }
     {
-        let _limits = self.opening.last();
         self.entries.len() as u32
     }
 
@@ -93,7 +87,6 @@ impl Journal {
 
     /// Makes room for one more entry. `Err` only where the memory for it was refused.
     pub fn room(&mut self) -> Result<(), AllocError>
-        ensures succeeds { 0 < self.old.room → IsOk result }
         ensures opening { self.new.opening ≡ self.old.opening }
         ensures past { self.new.past ≡ self.old.past }
         ensures room { OnOk result (0 < self.new.room) }
@@ -110,40 +103,6 @@ impl Journal {
         ensures past { self.new.past ≡ entry ∷ self.old.past }
     {
         let _ = self.entries.push(entry);
-    }
-
-    /// STUB
-    pub fn row(&self, id: Id) -> Option<crate::rows::Row>
-        requires stub { ⊥ }
-        ensures value { result ≡ row_of self.now.opening self.now.past id }
-        ensures run { IsRun self.now.opening self.now.past }
-        ensures limits { IsSetting self.now.opening }
-    {
-        unreachable!()
-    }
-
-    /// STUB
-    pub fn rows(&self) -> crate::rows::Table
-        requires stub { ⊥ }
-        ensures value { result.items ≡ table self.now.opening self.now.past }
-    {
-        unreachable!()
-    }
-
-    /// STUB
-    pub fn known(&self) -> usize
-        requires stub { ⊥ }
-        ensures value { result ≡ known_count self.now.opening self.now.past }
-    {
-        unreachable!()
-    }
-
-    /// STUB
-    pub fn last_number(&self) -> u64
-        requires stub { ⊥ }
-        ensures value { result ≡ period_number self.now.opening self.now.past }
-    {
-        unreachable!()
     }
 
     /// How many members were judged failed, each time counted.

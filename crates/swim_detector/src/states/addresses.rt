@@ -69,18 +69,19 @@ pub(super) fn relays_for<C: Chooser>(
         return ArrayVec::new();
     }
     chooser.order(others.as_mut_slice());
-    first_at(journal, others.as_slice(), k as usize)
+    others.truncate(k as usize);
+    relays_at(journal, others.as_slice())
 }
 
-/// The first so many members, with their addresses.
-fn first_at(journal: &Journal, ids: &[Id], count: usize) -> ArrayVec<Relay, 8>
-    requires count { count ≤ 8 }
+/// These members, with their addresses.
+fn relays_at(journal: &Journal, ids: &[Id]) -> ArrayVec<Relay, 8>
+    requires count { length ids.now ≤ 8 }
     requires listed { AreListed journal.now.opening journal.now.past ids.now }
-    ensures ids { map (λ relay. relay.id) result.items ≡ take count ids.now }
+    ensures ids { map (λ relay. relay.id) result.items ≡ ids.now }
     ensures addresses { AreAt journal.now.opening journal.now.past result.items }
 {
     let mut relays = ArrayVec::new();
-    for id in ids.iter().take(count) {
+    for id in ids {
         relays.push(Relay {
             id: *id,
             peer: address_of(journal, *id),

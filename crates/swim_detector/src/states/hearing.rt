@@ -1,10 +1,14 @@
 //! Messages (section 3.1 of the SWIM paper).
 
-ghost use Rattle.std.specs.Prelude.{◌≡◌, ◌≢◌, Some};
+ghost use Rattle.std.specs.Prelude.{◌≡◌, ◌≢◌, ◌↔◌, Some, IsTrue, MatchResult};
+ghost use Rattle.swim_wire.specs.Address.{Address};
 ghost use Rattle.swim_wire.specs.declared.messages.Kind.TheVariants.{Ping, PingReq, Ack};
 ghost use Rattle.swim_history.specs.declared.calls.Call.TheVariants.{Hear};
+ghost use Rattle.swim_history.specs.declared.replies.Reply.TheVariants.{Dropped};
+ghost use Rattle.swim_history.specs.Clock.{period_number};
+ghost use Rattle.swim_history.specs.Aim.{aim};
 ghost use Rattle.swim_history.specs.Rows.{up, row_of};
-ghost use Rattle.swim_history.specs.Run.{IsRequest};
+ghost use Rattle.swim_history.specs.Run.{IsRequest, Hears};
 ghost use Rattle.swim_detector.specs.Mirrors.{Mirrors, IsSettled};
 
 use super::State;
@@ -50,17 +54,25 @@ impl State {
         requires kind { message.now.kind ≡ PingReq }
         ensures { IsSettled journal.now.opening journal.now.past (Hear message.now source) result self.new }
     {
-        let me = journal.opening().me();
-        if message.initiator != message.sender || message.initiator == me {
-            return Answer::of(Reply::Dropped(DropReason::Borrowed));
+        match requested_at(journal, message) {
+            Ok(peer) => self.take_request(journal, message, source, peer),
+            Err(why) => self.drop_request(journal, message, source, why),
         }
-        if message.target == me {
-            return Answer::of(Reply::Dropped(DropReason::AboutMe));
-        }
-        match listed_at(journal, message.target) {
-            None => Answer::of(Reply::Dropped(DropReason::Unlisted)),
-            Some(peer) => self.take_request(journal, message, source, peer),
-        }
+    }
+
+    fn drop_request(
+        &self,
+        journal: &Journal,
+        message: &Message,
+        _source: Peer,
+        why: DropReason,
+    ) -> Answer
+        requires mirrors { Mirrors journal.now.opening journal.now.past self.now }
+        requires kind { message.now.kind ≡ PingReq }
+        requires fits { Hears journal.now.opening journal.now.past message.now _source PingReq (Dropped why) }
+        ensures { IsSettled journal.now.opening journal.now.past (Hear message.now _source) result self.now }
+    {
+        Answer::of(Reply::Dropped(why))
     }
 
     /// The request waits, unless too many do.
@@ -101,21 +113,27 @@ impl State {
         }
     }
 
-    /// An ack of this member's own probe counts if it is of the aim, for this period.
+    /// An ack of this member's own probe counts if it is awaited.
     fn hear_own_ack(&mut self, journal: &Journal, message: &Message, _source: Peer) -> Answer
         requires mirrors { Mirrors journal.now.opening journal.now.past self.old }
         requires kind { message.now.kind ≡ Ack }
         requires own { message.now.initiator ≡ journal.now.opening.me }
         ensures { IsSettled journal.now.opening journal.now.past (Hear message.now _source) result self.new }
     {
-        let number = journal.last_number();
-        match self.aim {
-            Some(aim) if aim == message.target && message.number.get() == number => {
-                self.heard = true;
-                Answer::of(Reply::Heard)
-            }
-            _ => Answer::of(Reply::Dropped(DropReason::Stray)),
+        if self.awaits(journal, message) {
+            self.heard = true;
+            Answer::of(Reply::Heard)
+        } else {
+            Answer::of(Reply::Dropped(DropReason::Stray))
         }
+    }
+
+    /// Whether an ack is one of the aim, for this period.
+    fn awaits(&self, journal: &Journal, message: &Message) -> bool
+        requires { Mirrors journal.now.opening journal.now.past self.now }
+        ensures { IsTrue result ↔ ((aim journal.now.past ≡ Some message.now.target) × (message.now.number ≡ period_number journal.now.opening journal.now.past)) }
+    {
+        self.aim == Some(message.target) && message.number.get() == journal.last_number()
     }
 
     /// An ack of another member's probe is sent on, if that member waits for it.
@@ -134,4 +152,24 @@ impl State {
             None => Answer::of(Reply::Dropped(DropReason::NoRequest)),
         }
     }
+}
+
+/// Where the target of a request is to be pinged, or why the request is dropped.
+fn requested_at(journal: &Journal, message: &Message) -> Result<Peer, DropReason>
+    ensures { MatchResult result
+        (λ peer. IsRequest journal.now.opening.me message.now × (message.now.target ≢ journal.now.opening.me)
+            × (row_of journal.now.opening journal.now.past message.now.target ≡ Some (up message.now.target peer)))
+        (λ why. (source : Address) → Hears journal.now.opening journal.now.past message.now source PingReq (Dropped why)) }
+{
+    let me = journal.opening().me();
+    if message.initiator != message.sender {
+        return Err(DropReason::Borrowed);
+    }
+    if message.initiator == me {
+        return Err(DropReason::Borrowed);
+    }
+    if message.target == me {
+        return Err(DropReason::AboutMe);
+    }
+    listed_at(journal, message.target).ok_or(DropReason::Unlisted)
 }

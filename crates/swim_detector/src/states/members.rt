@@ -1,17 +1,18 @@
 //! Joins and removals (section 4.3 of the SWIM paper).
 
-ghost use Rattle.std.specs.Prelude.{◌≡◌, ◌≢◌, ◌<◌, false, None, length};
+ghost use Rattle.std.specs.Prelude.{◌≡◌, ◌≢◌, ◌==◌, false, None, option_and_then};
+ghost use Rattle.swim_history.specs.Aim.{unless};
 ghost use Rattle.swim_history.specs.declared.calls.Call.TheVariants.{Join, Remove};
 ghost use Rattle.swim_history.specs.declared.replies.Reply.TheVariants.{Refused};
 ghost use Rattle.swim_history.specs.declared.entries.Choice.TheVariants.{Nothing};
 ghost use Rattle.swim_history.specs.Rows.{row_of, is_listed};
 ghost use Rattle.swim_history.specs.Run.{Answers};
 ghost use Rattle.swim_history.specs.Changes.{known_count};
-ghost use Rattle.swim_detector.specs.Mirrors.{Mirrors, IsAnswered, IsSettled, JoinsOr};
+ghost use Rattle.swim_detector.specs.Mirrors.{Mirrors, IsAnswered, IsSettled, JoinsOr, RemovesOr};
 
 use super::State;
 use crate::answers::Answer;
-use swim_history::{Journal, KNOWN_MEMBERS, Refusal, Reply, RowState};
+use swim_history::{Call, Journal, KNOWN_MEMBERS, Refusal, Reply, RowState};
 use swim_targets::Chooser;
 use swim_wire::{Id, Peer};
 
@@ -28,17 +29,9 @@ impl State {
         ensures { IsAnswered C.orders C.places journal.now.opening journal.now.past (Join id peer) result self.new chooser.old chooser.new }
     {
         match refusal_to_join(journal, id) {
-            Some(refusal) => self.refuse_to_join(journal, id, peer, refusal),
+            Some(refusal) => self.refuse(journal, &Call::Join(id, peer), refusal),
             None => self.list(journal, chooser, id, peer),
         }
-    }
-
-    fn refuse_to_join(&self, journal: &Journal, id: Id, _peer: Peer, refusal: Refusal) -> Answer
-        requires mirrors { Mirrors journal.now.opening journal.now.past self.now }
-        requires fits { Answers journal.now.opening journal.now.past (Join id _peer) (Refused refusal) Nothing }
-        ensures { IsSettled journal.now.opening journal.now.past (Join id _peer) result self.now }
-    {
-        Answer::of(Reply::Refused(refusal))
     }
 
     /// The joiner is listed at a place that the chooser draws.
@@ -55,6 +48,7 @@ impl State {
         requires room { row_of journal.now.opening journal.now.past id ≡ None → known_count journal.now.opening journal.now.past ≢ 128 }
         ensures { IsAnswered C.orders C.places journal.now.opening journal.now.past (Join id _peer) result self.new chooser.old chooser.new }
     {
+        let _opening = journal.opening();
         match self.targets.join(id, chooser) {
             Ok(place) => Answer::of(Reply::Joined { place }),
             Err(_) => unreachable!(),
@@ -66,17 +60,41 @@ impl State {
         requires { Mirrors journal.now.opening journal.now.past self.old }
         ensures { IsSettled journal.now.opening journal.now.past (Remove id) result self.new }
     {
-        if id == journal.opening().me() {
-            return Answer::of(Reply::Refused(Refusal::Myself));
+        match refusal_to_remove(journal, id) {
+            Some(refusal) => self.refuse(journal, &Call::Remove(id), refusal),
+            None => self.forget(journal, id),
         }
-        if journal.row(id).is_none() {
-            return Answer::of(Reply::Refused(Refusal::Unknown));
-        }
+    }
+
+    /// The member is known no more, and is no aim.
+    fn forget(&mut self, journal: &Journal, id: Id) -> Answer
+        requires mirrors { Mirrors journal.now.opening journal.now.past self.old }
+        requires other { id ≢ journal.now.opening.me }
+        requires known { row_of journal.now.opening journal.now.past id ≢ None }
+        ensures { IsSettled journal.now.opening journal.now.past (Remove id) result self.new }
+    {
         self.targets.remove(id);
-        if self.aim == Some(id) {
-            self.aim = None;
-        }
+        self.aim = unless_removed(self.aim, id);
         Answer::of(Reply::Removed)
+    }
+
+    /// A call is refused.
+    pub(super) fn refuse(&self, journal: &Journal, call: &Call, refusal: Refusal) -> Answer
+        requires mirrors { Mirrors journal.now.opening journal.now.past self.now }
+        requires fits { Answers journal.now.opening journal.now.past call.now (Refused refusal) Nothing }
+        ensures { IsSettled journal.now.opening journal.now.past call.now result self.now }
+    {
+        Answer::of(Reply::Refused(refusal))
+    }
+}
+
+/// The aim, unless it is the removed member.
+fn unless_removed(aim: Option<Id>, removed: Id) -> Option<Id>
+    ensures { result ≡ option_and_then (λ m. unless (removed == m) m) aim }
+{
+    match aim {
+        Some(target) if target != removed => Some(target),
+        _ => None,
     }
 }
 
@@ -91,5 +109,18 @@ fn refusal_to_join(journal: &Journal, id: Id) -> Option<Refusal>
         Some(row) if row.state == RowState::Up => Some(Refusal::Listed),
         None if journal.known() == KNOWN_MEMBERS => Some(Refusal::Full),
         _ => None,
+    }
+}
+
+/// Why a member is not removed, if it isn't.
+fn refusal_to_remove(journal: &Journal, id: Id) -> Option<Refusal>
+    ensures { RemovesOr journal.now.opening journal.now.past id result }
+{
+    if id == journal.opening().me() {
+        return Some(Refusal::Myself);
+    }
+    match journal.row(id) {
+        Some(_) => None,
+        None => Some(Refusal::Unknown),
     }
 }

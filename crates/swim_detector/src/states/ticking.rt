@@ -13,7 +13,7 @@ ghost use Rattle.swim_detector.specs.Mirrors.{Mirrors, IsAnswered, IsSettled, ch
 use super::State;
 use super::addresses::{probe_of, relays_for};
 use crate::answers::Answer;
-use swim_history::{Choice, Journal, Order, Refusal, Reply};
+use swim_history::{Call, Choice, Journal, Order, Refusal, Reply};
 use swim_targets::{Chooser, Targets};
 use swim_wire::Id;
 
@@ -25,7 +25,7 @@ impl State {
     {
         if self.phase == 0 {
             if journal.last_number() == u64::MAX {
-                self.refuse(journal)
+                self.refuse(journal, &Call::Tick, Refusal::Spent)
             } else {
                 self.start(journal, chooser)
             }
@@ -34,16 +34,6 @@ impl State {
         } else {
             self.rest(journal)
         }
-    }
-
-    /// The period numbers are used up.
-    fn refuse(&self, journal: &Journal) -> Answer
-        requires mirrors { Mirrors journal.now.opening journal.now.past self.now }
-        requires begins { phase journal.now.opening journal.now.past ≡ 0 }
-        requires spent { period_number journal.now.opening journal.now.past ≡ last_number }
-        ensures { IsSettled journal.now.opening journal.now.past Tick result self.now }
-    {
-        Answer::of(Reply::Refused(Refusal::Spent))
     }
 
     /// A period ends, and the next begins: an aim that no ack came of is judged failed, and the next
