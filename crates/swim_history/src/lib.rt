@@ -3,6 +3,7 @@
 #![tactic(auto)]
 
 mod calls;
+mod copies;
 mod entries;
 mod journals;
 pub mod laws;
@@ -10,6 +11,7 @@ mod openings;
 mod replies;
 mod rows;
 mod sending;
+mod tables;
 
 pub use calls::Call;
 pub use entries::{Choice, Entry, Order};
