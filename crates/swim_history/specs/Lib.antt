@@ -24,3 +24,4 @@ pub mod Written
 pub mod ClockLaws
 pub mod RunLaws
 pub mod JudgementLaws
+pub mod ProbeLaws

@@ -1,11 +1,12 @@
 //! The journal: a run of the sequential detector, as it happened.
 
-ghost use Rattle.std.specs.Prelude.{◌≡◌, ◌+◌, ◌^◌, ◌<◌, ◌≤◌, ◌==◌, ◌∷◌, ◌++◌, [], length, reverse, IsOk, IfOk, OnOk, slice_get, true, if◌then◌else◌};
+ghost use Rattle.std.specs.Prelude.{◌≡◌, ◌+◌, ◌^◌, ◌<◌, ◌≤◌, ◌==◌, ◌∷◌, ◌++◌, [], length, map, reverse, IsOk, IfOk, OnOk, slice_get, true, if◌then◌else◌};
 ghost use Rattle.std.specs.Option.{option_copied, option_to_list};
 ghost use Rattle.swim_history.specs.Setting.{IsSetting};
 ghost use Rattle.swim_history.specs.Events.{is_starting, judged_in};
 ghost use Rattle.swim_history.specs.Run.{Continues, IsRun};
 ghost use Rattle.swim_history.specs.Judgement.{judgements, judgement, JudgesByRule};
+ghost use Rattle.swim_history.specs.Probes.{probes, probed_by, ProbesAsDrawn};
 ghost use Rattle.swim_history.specs.Clock.{period_number};
 ghost use Rattle.swim_history.specs.Rows.{row_of};
 ghost use Rattle.swim_history.specs.Changes.{table, known_count, change_by, rows_after, IsAscending};
@@ -13,6 +14,7 @@ ghost use Rattle.swim_history.specs.Changes.{table, known_count, change_by, rows
 use crate::copies::copied;
 use crate::entries::Entry;
 use crate::openings::Opening;
+use crate::probing::{Probed, collect_probed};
 use crate::replies::Reply;
 use crate::rows::{Row, Table};
 use crate::tables::{apply_change, change_by, find_row, table_of};
@@ -185,6 +187,16 @@ impl Journal {
             &self.opening,
             self.entries.as_slice(),
         )
+    }
+
+    /// Who was probed, in the journal's order, with the numbers of the periods. As long as nobody joins,
+    /// is removed or is judged, they are the members of the drawn orders, one order after the other, and
+    /// the last order may be unfinished. `Err` only where memory was refused.
+    pub fn probes(&self) -> Result<Vec<Probed>, AllocError>
+        ensures exact { IfOk result (λ probed. probed.items ≡ map probed_by (probes self.now.past)) }
+        ensures drawn { ProbesAsDrawn self.now.opening self.now.past }
+    {
+        collect_probed(*self.entries.allocator(), self.entries.as_slice())
     }
 }
 
