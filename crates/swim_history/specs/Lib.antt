@@ -5,6 +5,7 @@ pub mod Clock
 pub mod Aim
 pub mod Rows
 pub mod Changes
+pub mod Places
 pub mod TableLaws
 pub mod Round
 pub mod Waiting
@@ -23,5 +24,4 @@ pub mod Written
 pub mod ClockLaws
 pub mod RunLaws
 pub mod JudgementLaws
-pub mod WaitingLaws
-pub mod ListedLaws
+pub mod ProbeLaws

@@ -182,7 +182,7 @@ gone_length gone (row ∷ rows) =
     let again = gone_length gone rows in
     cond_both (not (row.id == gone)) _ _ (λ (x : List Row). length x ≤ length (row ∷ rows)) (λ _. omega arith) (λ _. omega arith)
 
-ascending_length : (rows : List Row) → length (ascending rows) ≤ length rows
+pub ascending_length : (rows : List Row) → length (ascending rows) ≤ length rows
 ascending_length [] = omega arith
 ascending_length (row ∷ rows) = omega (arith, put_length row (ascending rows), ascending_length rows)
 

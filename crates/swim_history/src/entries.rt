@@ -1,6 +1,9 @@
 //! Entries of a journal.
 
+ghost use Rattle.std.specs.Prelude.{◌≡◌};
+
 use crate::calls::Call;
+use crate::copies::copied;
 use crate::replies::Reply;
 use arrayvec::ArrayVec;
 use swim_wire::Id;
@@ -16,6 +19,18 @@ pub enum Choice {
     Round(Order),
 }
 
+impl Choice {
+    /// The same choice again. It takes no memory.
+    pub fn copy(&self) -> Choice
+        ensures { result ≡ self.now }
+    {
+        match self {
+            Choice::Nothing => Choice::Nothing,
+            Choice::Round(order) => Choice::Round(copied(order.as_slice())),
+        }
+    }
+}
+
 /// One call and its reply.
 #[derive(Debug, Drop)]
 pub struct Entry {
@@ -26,4 +41,19 @@ pub struct Entry {
     pub call: Call,
     pub choice: Choice,
     pub reply: Reply,
+}
+
+impl Entry {
+    /// The same entry again. It takes no memory.
+    pub fn copy(&self) -> Entry
+        ensures { result ≡ self.now }
+    {
+        Entry {
+            seat: self.seat,
+            number: self.number,
+            call: self.call,
+            choice: self.choice.copy(),
+            reply: self.reply.copy(),
+        }
+    }
 }
