@@ -1,14 +1,15 @@
 -- Answers to ticks at the timeout of an aim that no ack came of.
-use Rattle.std.proofs.Common.{◌≡◌, ◌≢◌, ◌⊎◌, ℕ, zero, suc, ◌+◌, ◌%◌, ◌<◌, ◌≤◌, Bool, true, false, ◌||◌, List, [], ◌∷◌, ◌++◌, length, take, map, min, refl, sym, ap, subst, ◌∙◌, Some, arith, inl, inr}
+use Rattle.std.proofs.Common.{◌≡◌, ◌⊎◌, ℕ, zero, suc, Bool, true, false, ◌||◌, List, [], ◌∷◌, length, take, map, min, refl, sym, ap, ◌∙◌, Some, arith, inl, inr}
 use Rattle.std.specs.Prelude.{IsPermutation, nat_eq, ◌==◌, not}
 use Rattle.std.specs.List.{AllByRecursion}
-use Rattle.std.proofs.lemmas.Bool.{and_parts, or_parts, or_from, or_left, or_right, eqb-true, eq-eqb, false_from_ne_true, both_ways}
-use Rattle.std.proofs.lemmas.List.{length-map}
+use Rattle.std.proofs.lemmas.Bool.{and_parts, or_parts, or_from, or_right, eq-eqb, false_from_ne_true, both_ways}
+use Rattle.std.proofs.Math.Nat.{min-zero, zero-min}
+use Rattle.std.proofs.lemmas.List.Sorted.{length_permutation}
+use Rattle.std.proofs.lemmas.List.{length-map, length-take}
 use Rattle.arrayvec.specs.ArrayVec.{ArrayVec}
-use Rattle.swim_wire.specs.Ids.{has, has_twice, without}
+use Rattle.swim_wire.specs.Ids.{has, has_twice}
 use Rattle.swim_history.specs.declared.calls.Call.TheVariants.{Tick}
 use Rattle.swim_history.specs.declared.replies.Relay.{Relay}
-use Rattle.swim_history.specs.declared.replies.Reply.{Reply}
 use Rattle.swim_history.specs.declared.replies.Reply.TheVariants.{Asked}
 use Rattle.swim_history.specs.declared.entries.Entry.{Entry}
 use Rattle.swim_history.specs.Setting.{Setting, IsSetting}
@@ -76,7 +77,7 @@ each_is o h m (relay ∷ relays) there at =
 pub are_relays : (o : Setting) (h : List Entry) (m : ℕ) (order : List ℕ) (relays : List Relay) → IsSetting o → IsRun o h → IsPermutation (candidates o h m) order → map (λ relay. relay.id) relays ≡ take o.k order → AreAt o h relays →
     AreRelays o h m relays
 are_relays o h m order relays s run p ids at = record {
-  count = ?;
+  count = sym (length-map relays (λ relay. relay.id)) ∙ (ap length ids ∙ (length-take o.k order ∙ ap (min o.k) (length_permutation (candidates o h m) order p)));
   once = rw ids (once_take o.k order (once-IsPermutation (candidates o h m) order p (once_part (λ other. not (other == m)) (listed o h) (listed_once o h s run))));
   each = each_is o h m relays (λ id there. chosen o h m id order p (rw ids at there)) at;
 }
@@ -86,8 +87,8 @@ pub no_relays : (o : Setting) (h : List Entry) (m : ℕ) → (o.k ≡ 0) ⊎ (ca
 no_relays o h m none = record { count = by none; once = refl; each = tt }
   where
     by : (o.k ≡ 0) ⊎ (candidates o h m ≡ []) → 0 ≡ min o.k (length (candidates o h m))
-    by (inl zero) = ?
-    by (inr nobody) = ?
+    by (inl none) = rw none (sym (zero-min (length (candidates o h m))))
+    by (inr nobody) = rw nobody (sym (min-zero o.k))
 
 -- the aim is asked about
 pub asked : {S : Type 0} (orders : S → List ℕ → List ℕ → S → Type 0) (places : S → ℕ → ℕ → S → Type 0) (o : Setting) (h : List Entry) (m number : ℕ) (relays : ArrayVec Relay) (old new : State) (before after : S) →

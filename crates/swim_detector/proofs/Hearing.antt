@@ -1,7 +1,6 @@
 -- Answers to messages.
-use Rattle.std.proofs.Common.{◌≡◌, ◌≢◌, ℕ, ◌+◌, ◌<◌, ◌≤◌, Bool, true, false, ◌||◌, ◌&&◌, List, [], ◌∷◌, ◌++◌, length, Option, Some, None, refl, sym, ap, subst, ◌∙◌, arith, length-append}
+use Rattle.std.proofs.Common.{◌≡◌, ◌≢◌, ℕ, ◌+◌, ◌<◌, ◌≤◌, Bool, true, false, ◌||◌, ◌&&◌, List, [], ◌∷◌, ◌++◌, length, Some, None, refl, sym, ap, ◌∙◌, arith, length-append}
 use Rattle.std.specs.Prelude.{◌==◌}
-use Rattle.std.specs.List.{list_any}
 use Rattle.std.proofs.lemmas.Bool.{eq-eqb, ne_eqb, eqb-true}
 use Rattle.std.proofs.lemmas.Option.{same_Some}
 use Rattle.swim_wire.specs.Address.{Address}
@@ -12,20 +11,18 @@ use Rattle.swim_wire.specs.Requests.{Request, waits, forget, peer_for}
 use Rattle.swim_wire.specs.declared.messages.Message.{Message}
 use Rattle.swim_wire.specs.declared.messages.Kind.{Kind}
 use Rattle.swim_wire.specs.declared.messages.Kind.TheVariants.{Ping, PingReq, Ack}
-use Rattle.swim_history.specs.declared.calls.Call.{Call}
 use Rattle.swim_history.specs.declared.calls.Call.TheVariants.{Hear}
 use Rattle.swim_history.specs.declared.replies.Reply.{Reply}
 use Rattle.swim_history.specs.declared.replies.Reply.TheVariants.{Heard, Send, Dropped}
 use Rattle.swim_history.specs.declared.replies.DropReason.{DropReason}
-use Rattle.swim_history.specs.declared.replies.DropReason.TheVariants.{NotForMe, Borrowed, AboutMe, Unlisted, TableFull, Stray, NoRequest}
-use Rattle.swim_history.specs.declared.entries.Choice.TheVariants.{Nothing}
+use Rattle.swim_history.specs.declared.replies.DropReason.TheVariants.{NotForMe, TableFull, Stray, NoRequest}
 use Rattle.swim_history.specs.declared.entries.Entry.{Entry}
 use Rattle.swim_history.specs.Setting.{Setting, IsSetting}
-use Rattle.swim_history.specs.Events.{is_starting, is_start, acks, is_acking}
+use Rattle.swim_history.specs.Events.{is_acking}
 use Rattle.swim_history.specs.Clock.{period_number}
 use Rattle.swim_history.specs.Aim.{aim, was_heard}
-use Rattle.swim_history.specs.Rows.{up, row_of, is_listed}
-use Rattle.swim_history.specs.Waiting.{waiting, asked_in, asking, sent_on_in, sent_on}
+use Rattle.swim_history.specs.Rows.{up, row_of}
+use Rattle.swim_history.specs.Waiting.{waiting, asked_in, sent_on_in}
 use Rattle.swim_history.specs.WaitingLaws.{waiting_asked, waiting_answered, waiting_same}
 use Rattle.swim_history.specs.RunLaws.{hears_no_start}
 use Rattle.swim_history.specs.Run.{Hears, IsRequest, is_waiting, most_waiting}

@@ -3,3 +3,5 @@ pub mod Hearing
 pub mod Starting
 pub mod Listing
 pub mod Asking
+pub mod Counting
+pub mod Finding

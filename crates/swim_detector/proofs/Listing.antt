@@ -1,5 +1,5 @@
 -- Answers to joins and removals.
-use Rattle.std.proofs.Common.{◌≡◌, ◌≢◌, ℕ, ◌+◌, ◌<◌, ◌≤◌, Bool, true, false, ◌||◌, List, [], ◌∷◌, ◌++◌, length, Option, Some, None, Ok, Err, refl, sym, ap, subst, ◌∙◌, ◌↔◌, arith}
+use Rattle.std.proofs.Common.{◌≡◌, ◌≢◌, ℕ, ◌≤◌, Bool, true, false, ◌||◌, List, ◌∷◌, length, Option, Some, None, refl, sym, ap, ◌∙◌, arith}
 use Rattle.std.specs.Prelude.{◌==◌, option_and_then}
 use Rattle.std.specs.List.{list_any}
 use Rattle.std.proofs.lemmas.Bool.{false≢true}
@@ -11,37 +11,45 @@ use Rattle.swim_history.specs.declared.replies.Reply.TheVariants.{Joined, Remove
 use Rattle.swim_history.specs.declared.entries.Entry.{Entry}
 use Rattle.swim_history.specs.Setting.{Setting, IsSetting}
 use Rattle.swim_history.specs.Events.{is_start, removes}
-use Rattle.swim_history.specs.Aim.{since, unless, last_probed, aim, was_heard}
+use Rattle.swim_history.specs.Aim.{since, unless, last_probed, aim}
 use Rattle.swim_history.specs.Rows.{row_of, is_listed}
 use Rattle.swim_history.specs.Changes.{known_count}
-use Rattle.swim_history.specs.Round.{lists, listed}
-use Rattle.swim_history.specs.Waiting.{waiting}
+use Rattle.swim_history.specs.Round.{listed}
 use Rattle.swim_history.specs.WaitingLaws.{waiting_same}
 use Rattle.swim_history.specs.ListedLaws.{listed_is, room_to_join}
 use Rattle.swim_history.specs.Run.{IsRun}
 use Rattle.swim_targets.specs.declared.rounds.JoinFault.{JoinFault}
 use Rattle.swim_targets.specs.declared.rounds.JoinFault.TheVariants.{Listed, Full}
 use Rattle.swim_detector.specs.declared.states.State.{State}
-use Rattle.swim_detector.specs.Mirrors.{Mirrors, IsAnswered, IsSettled, entry_of}
+use Rattle.swim_detector.specs.Mirrors.{Mirrors, MayList, IsAnswered, IsSettled, entry_of}
 use Rattle.swim_detector.proofs.Settling.{plain}
 
--- a member that isn't listed finds room on the list
-pub no_fault : (o : Setting) (h : List Entry) (s : State) (id : ℕ) (fault : JoinFault) → IsSetting o → IsRun o h → Mirrors o h s → is_listed o h id ≡ false → (row_of o h id ≡ None → known_count o h ≢ 128) →
+-- a member that isn't listed, nor refused, may be listed
+pub may_list : (o : Setting) (h : List Entry) (id : ℕ) → IsSetting o → IsRun o h → id ≢ o.me → is_listed o h id ≡ false → (row_of o h id ≡ None → known_count o h ≢ 128) → MayList o h id
+may_list o h id s run other down known = record {
+  other = other;
+  down = down;
+  known = known;
+  unlisted = listed_is o h s run id ∙ down;
+  room = room_to_join o h id s run down known;
+}
+
+-- such a member finds its place on the list
+pub no_fault : (o : Setting) (h : List Entry) (s : State) (id : ℕ) (fault : JoinFault) → Mirrors o h s → MayList o h id →
     (fault ≡ Listed → has (all_of s.targets) id ≡ true) → (fault ≡ Full → length (all_of s.targets) ≡ 128) → ⊥
-no_fault o h s id Listed setting run m unlisted room is_on is_full =
-    false≢true (sym unlisted ∙ sym (listed_is o h setting run id) ∙ ap (λ (r : Lists). has (all_of r) id) (sym m.lists_are) ∙ is_on refl)
-no_fault o h s id Full setting run m unlisted room is_on is_full =
+no_fault o h s id Listed m may is_on is_full = false≢true (sym may.unlisted ∙ ap (λ (r : Lists). has (all_of r) id) (sym m.lists_are) ∙ is_on refl)
+no_fault o h s id Full m may is_on is_full =
     let full : length (listed o h) ≡ 128 = ap (λ (r : Lists). length (all_of r)) (sym m.lists_are) ∙ is_full refl in
-    absurd (omega (arith, full, room_to_join o h id setting run unlisted room))
+    absurd (omega (arith, full, may.room))
 
 -- the joiner is listed
 pub joined : {S : Type 0} (orders : S → List ℕ → List ℕ → S → Type 0) (places : S → ℕ → ℕ → S → Type 0) (o : Setting) (h : List Entry) (id place : ℕ) (peer : Address) (old new : State) (before after : S) →
-    Mirrors o h old → id ≢ o.me → is_listed o h id ≡ false → (row_of o h id ≡ None → known_count o h ≢ 128) →
+    Mirrors o h old → MayList o h id →
     place ≤ length (all_of old.targets) → places before (length (all_of old.targets)) place after → new.targets ≡ join_at id place old.targets →
     new.relays ≡ old.relays → new.aim ≡ old.aim → new.heard ≡ old.heard → new.phase ≡ old.phase →
     IsAnswered orders places o h (Join id peer) (plain (Joined place)) new before after
-joined orders places o h id place peer old new before after m other unlisted room within drawn listing relays aims heard phases = (
-  (other, unlisted, room, rw m.lists_are at within),
+joined orders places o h id place peer old new before after m may within drawn listing relays aims heard phases = (
+  (may.other, may.down, may.known, rw m.lists_are at within),
   rw m.lists_are at drawn,
   λ seat number. record {
     lists_are = listing ∙ ap (join_at id place) m.lists_are;

@@ -1,5 +1,5 @@
 -- Answers for which nothing is drawn: to ticks within a period, to refused calls, and to messages.
-use Rattle.std.proofs.Common.{◌≡◌, ◌≢◌, ℕ, ◌+◌, ◌%◌, ◌<◌, Bool, true, false, ◌||◌, List, [], ◌∷◌, ◌++◌, Option, Some, None, refl, sym, ap, ◌∙◌, arith, add-one}
+use Rattle.std.proofs.Common.{◌≡◌, ◌≢◌, ℕ, ◌+◌, ◌%◌, Bool, true, false, ◌||◌, List, ◌∷◌, None, refl, sym, ap, ◌∙◌, add-one}
 use Rattle.std.specs.Prelude.{option_and_then}
 use Rattle.std.specs.List.{list_any}
 use Rattle.swim_wire.specs.Address.{Address}
@@ -55,7 +55,9 @@ stays o h s e m idle goes_on same unremoved unacked unasked unsent =
       lists_are = m.lists_are ∙ sym same;
       requests_are = m.requests_are ∙ ap (λ w. record { period = o.period; waiting = w }) (sym (waiting_same o h e idle unasked unsent));
       aim_is = m.aim_is ∙ sym same_aim;
-      heard_is = λ target is. m.heard_is target (sym same_aim ∙ is) ∙ rw (goes_on, period_number-same o h e idle, unacked target (period_number o h)) refl;
+      heard_is = λ target is.
+          let same_number : period_number o (e ∷ h) ≡ period_number o h = period_number-same o h e idle in
+          m.heard_is target (sym same_aim ∙ is) ∙ rw (goes_on, unacked target (period_number o (e ∷ h))) (ap (λ n. list_any (acks o.me target n) (since is_start h)) (sym same_number));
       phase_is = m.phase_is ∙ rw idle refl;
     }
 

@@ -1,28 +1,23 @@
 -- Answers to ticks that begin a period.
-use Rattle.std.proofs.Common.{◌≡◌, ◌≢◌, ℕ, ◌+◌, ◌%◌, ◌<◌, Bool, true, false, List, [], ◌∷◌, ◌++◌, Option, Some, None, refl, sym, ap, subst, ◌∙◌, arith, add-one, cond}
+use Rattle.std.proofs.Common.{◌≡◌, ℕ, ◌+◌, ◌%◌, ◌<◌, true, false, List, Option, Some, None, refl, sym, ap, subst, ◌∙◌, add-one}
 use Rattle.std.proofs.lemmas.Bool.{and_parts, or_right}
 use Rattle.std.proofs.lemmas.List.Folds.{list_any-append}
-use Rattle.std.specs.Prelude.{◌==◌, nat_eq, not, option_and_then, IfSome, IfNone, IsPermutation}
+use Rattle.std.specs.Prelude.{◌==◌, nat_eq, not, option_and_then, IfSome, IfNone}
 use Rattle.std.specs.Option.{option_map}
-use Rattle.std.specs.List.{list_any}
 use Rattle.arrayvec.specs.ArrayVec.{ArrayVec}
-use Rattle.swim_wire.specs.Address.{Address}
-use Rattle.swim_wire.specs.Ids.{has, without, front}
+use Rattle.swim_wire.specs.Ids.{has, front}
 use Rattle.swim_wire.specs.Requests.{aged}
 use Rattle.swim_wire.specs.Round.{Lists, all_of, leave_judged, MayDraw, redraw, advance}
 use Rattle.swim_history.specs.declared.calls.Call.TheVariants.{Tick}
 use Rattle.swim_history.specs.declared.replies.Reply.TheVariants.{Started}
 use Rattle.swim_history.specs.declared.replies.Probe.{Probe}
-use Rattle.swim_history.specs.declared.entries.Choice.{Choice}
-use Rattle.swim_history.specs.declared.entries.Choice.TheVariants.{Nothing, Round}
 use Rattle.swim_history.specs.declared.entries.Entry.{Entry}
 use Rattle.swim_history.specs.Setting.{Setting, IsSetting}
 use Rattle.swim_history.specs.Clock.{phase, ticks, period_number}
 use Rattle.swim_history.specs.Aim.{aim, was_heard, unless, unheard}
-use Rattle.swim_history.specs.Rows.{up, row_of, is_listed}
 use Rattle.swim_history.specs.Round.{lists, listed, drawn}
 use Rattle.swim_history.specs.ListedLaws.{listed_is, has_front, has_part, has-IsPermutation, all-leave, all-advanced, all-started}
-use Rattle.swim_history.specs.Run.{IsRun, IsProbe, IsStart, last_number}
+use Rattle.swim_history.specs.Run.{IsRun, IsProbe, last_number}
 use Rattle.swim_history.specs.Drawn.{DrawsEntry}
 use Rattle.swim_targets.specs.Rounds.{drawn_of}
 use Rattle.swim_detector.specs.declared.states.State.{State}

@@ -11,13 +11,14 @@ use Rattle.swim_history.specs.declared.entries.Entry.{Entry}
 use Rattle.swim_history.specs.declared.replies.Refusal.{Refusal}
 use Rattle.swim_history.specs.declared.replies.Relay.{Relay}
 use Rattle.swim_wire.specs.Address.{Address}
+use Rattle.swim_wire.specs.Ids.{has}
 use Rattle.swim_history.specs.Rows.{up, row_of, is_listed}
 use Rattle.swim_history.specs.Changes.{known_count}
 use Rattle.std.specs.List.{AllByRecursion}
-use Rattle.swim_history.specs.Setting.{Setting, IsSetting}
+use Rattle.swim_history.specs.Setting.{Setting}
 use Rattle.swim_history.specs.Clock.{phase}
 use Rattle.swim_history.specs.Aim.{aim, was_heard}
-use Rattle.swim_history.specs.Round.{lists}
+use Rattle.swim_history.specs.Round.{lists, listed}
 use Rattle.swim_history.specs.Waiting.{waiting}
 use Rattle.swim_history.specs.Run.{calls_of, Answers}
 use Rattle.swim_history.specs.Drawn.{DrawsEntry}
@@ -82,10 +83,18 @@ AreListed o h ids = AllByRecursion (λ id. is_listed o h id ≡ true) ids
 abbrev pub AreAt : Setting → List Entry → List Relay → Type 0
 AreAt o h relays = AllByRecursion (λ relay. row_of o h relay.id ≡ Some (up relay.id relay.peer)) relays
 
+-- a member may be listed, and there is room for it
+pub record MayList (o : Setting) (h : List Entry) (id : ℕ) : Type 0 where
+  pub other : id ≢ o.me
+  pub down : is_listed o h id ≡ false
+  pub known : row_of o h id ≡ None → known_count o h ≢ 128
+  pub unlisted : has (listed o h) id ≡ false
+  pub room : length (listed o h) < 128
+
 -- a joiner is refused for that reason, or may be listed
 abbrev pub JoinsOr : Setting → List Entry → ℕ → Option Refusal → Type 0
 JoinsOr o h id (Some refusal) = (peer : Address) → Answers o h (Join id peer) (Refused refusal) Nothing
-JoinsOr o h id None = (id ≢ o.me) × (is_listed o h id ≡ false) × (row_of o h id ≡ None → known_count o h ≢ 128)
+JoinsOr o h id None = MayList o h id
 
 -- a removal is refused for that reason, or may be made
 abbrev pub RemovesOr : Setting → List Entry → ℕ → Option Refusal → Type 0

@@ -25,3 +25,5 @@ pub mod ClockLaws
 pub mod RunLaws
 pub mod JudgementLaws
 pub mod ProbeLaws
+pub mod WaitingLaws
+pub mod ListedLaws

@@ -1,6 +1,6 @@
 //! Members with their addresses.
 
-ghost use Rattle.std.specs.Prelude.{◌≡◌, ◌≢◌, ◌+◌, ◌≤◌, true, false, Some, length, map, take, min, MatchOption};
+ghost use Rattle.std.specs.Prelude.{◌≡◌, ◌≢◌, ◌+◌, ◌≤◌, true, false, Some, length, map, take, min, MatchOption, IsPermutation};
 ghost use Rattle.std.specs.List.{AllByRecursion};
 ghost use Rattle.swim_wire.specs.Round.{Lists};
 ghost use Rattle.swim_history.specs.Rows.{up, row_of, is_listed};
@@ -10,7 +10,7 @@ ghost use Rattle.swim_history.specs.Drawn.{DrawsRelays};
 ghost use Rattle.swim_detector.specs.Mirrors.{IsListedNext, AreListed, AreAt};
 
 use arrayvec::ArrayVec;
-use swim_history::{Journal, Probe, Relay, RowState};
+use swim_history::{Journal, Order, Probe, Relay, RowState};
 use swim_targets::{Chooser, Targets};
 use swim_wire::{Id, Peer};
 
@@ -21,8 +21,11 @@ pub(super) fn listed_at(journal: &Journal, id: Id) -> Option<Peer>
         (λ peer. row_of journal.now.opening journal.now.past id ≡ Some (up id peer)) }
 {
     match journal.row(id) {
-        Some(row) if row.state == RowState::Up => Some(row.peer),
-        _ => None,
+        Some(row) => match row.state {
+            RowState::Up => Some(row.peer),
+            RowState::Failed(_) => None,
+        },
+        None => None,
     }
 }
 
@@ -68,9 +71,17 @@ pub(super) fn relays_for<C: Chooser>(
     if k == 0 || others.is_empty() {
         return ArrayVec::new();
     }
-    chooser.order(others.as_mut_slice());
+    order(&mut others, chooser);
     others.truncate(k as usize);
     relays_at(journal, others.as_slice())
+}
+
+/// Puts members into an order of the chooser's.
+fn order<C: Chooser>(members: &mut Order, chooser: &mut C)
+    ensures permutation { IsPermutation members.old.items members.new.items }
+    ensures drawn { C.orders chooser.old members.old.items members.new.items chooser.new }
+{
+    chooser.order(members.as_mut_slice());
 }
 
 /// These members, with their addresses.

@@ -1,14 +1,13 @@
 //! Joins and removals (section 4.3 of the SWIM paper).
 
-ghost use Rattle.std.specs.Prelude.{◌≡◌, ◌≢◌, ◌==◌, false, None, option_and_then};
+ghost use Rattle.std.specs.Prelude.{◌≡◌, ◌≢◌, ◌==◌, None, option_and_then};
 ghost use Rattle.swim_history.specs.Aim.{unless};
 ghost use Rattle.swim_history.specs.declared.calls.Call.TheVariants.{Join, Remove};
 ghost use Rattle.swim_history.specs.declared.replies.Reply.TheVariants.{Refused};
 ghost use Rattle.swim_history.specs.declared.entries.Choice.TheVariants.{Nothing};
-ghost use Rattle.swim_history.specs.Rows.{row_of, is_listed};
+ghost use Rattle.swim_history.specs.Rows.{row_of};
 ghost use Rattle.swim_history.specs.Run.{Answers};
-ghost use Rattle.swim_history.specs.Changes.{known_count};
-ghost use Rattle.swim_detector.specs.Mirrors.{Mirrors, IsAnswered, IsSettled, JoinsOr, RemovesOr};
+ghost use Rattle.swim_detector.specs.Mirrors.{Mirrors, IsAnswered, IsSettled, MayList, JoinsOr, RemovesOr};
 
 use super::State;
 use crate::answers::Answer;
@@ -43,12 +42,9 @@ impl State {
         _peer: Peer,
     ) -> Answer
         requires mirrors { Mirrors journal.now.opening journal.now.past self.old }
-        requires other { id ≢ journal.now.opening.me }
-        requires unlisted { is_listed journal.now.opening journal.now.past id ≡ false }
-        requires room { row_of journal.now.opening journal.now.past id ≡ None → known_count journal.now.opening journal.now.past ≢ 128 }
+        requires listing { MayList journal.now.opening journal.now.past id }
         ensures { IsAnswered C.orders C.places journal.now.opening journal.now.past (Join id _peer) result self.new chooser.old chooser.new }
     {
-        let _opening = journal.opening();
         match self.targets.join(id, chooser) {
             Ok(place) => Answer::of(Reply::Joined { place }),
             Err(_) => unreachable!(),
@@ -106,9 +102,12 @@ fn refusal_to_join(journal: &Journal, id: Id) -> Option<Refusal>
         return Some(Refusal::Myself);
     }
     match journal.row(id) {
-        Some(row) if row.state == RowState::Up => Some(Refusal::Listed),
+        Some(row) => match row.state {
+            RowState::Up => Some(Refusal::Listed),
+            RowState::Failed(_) => None,
+        },
         None if journal.known() == KNOWN_MEMBERS => Some(Refusal::Full),
-        _ => None,
+        None => None,
     }
 }
 

@@ -61,6 +61,7 @@ impl State {
     fn time_out<C: Chooser>(&mut self, journal: &Journal, chooser: &mut C) -> Answer
         requires mirrors { Mirrors journal.now.opening journal.now.past self.old }
         requires timeout { phase journal.now.opening journal.now.past ≡ journal.now.opening.rtt }
+        requires inside { phase journal.now.opening journal.now.past ≢ 0 }
         ensures { IsAnswered C.orders C.places journal.now.opening journal.now.past Tick result self.new chooser.old chooser.new }
     {
         match silent(self.heard, self.aim) {

@@ -1,4 +1,4 @@
-use Rattle.std.proofs.Common.{refl, sym, ap, ◌∙◌}
+use Rattle.std.proofs.Common.{refl, ap, ◌∙◌}
 use Rattle.swim_detector.proofs.Hearing.{ack_forwarded, ack_unasked}
 use Rattle.swim_detector.proofs.states.State.forward_ack.Goals as goal
 

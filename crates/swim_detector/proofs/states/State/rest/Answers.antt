@@ -1,4 +1,4 @@
-use Rattle.std.proofs.Common.{subst, ◌∙◌, ap}
+use Rattle.std.proofs.Common.{◌∙◌, ap}
 use Rattle.swim_detector.proofs.Settling.{quiet}
 use Rattle.swim_detector.proofs.states.State.rest.Goals as goal
 

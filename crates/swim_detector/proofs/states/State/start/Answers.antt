@@ -1,5 +1,4 @@
 use Rattle.std.proofs.Common.{refl, ap, ◌∙◌}
-use Rattle.swim_wire.specs.Round.{leave_judged}
 use Rattle.swim_targets.specs.Rounds.{drawn_of}
 use Rattle.swim_detector.proofs.Starting.{next_of_round, started}
 use Rattle.swim_detector.proofs.states.State.start.Goals as goal

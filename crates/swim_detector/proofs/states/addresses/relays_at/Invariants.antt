@@ -1,4 +1,4 @@
-use Rattle.std.proofs.Common.{◌≡◌, ◌≤◌, length, map, take}
+use Rattle.std.proofs.Common.{◌≡◌, length, map, take}
 use Rattle.swim_detector.specs.Mirrors.{AreAt}
 use Rattle.swim_detector.proofs.states.addresses.relays_at.Given as goal
 
