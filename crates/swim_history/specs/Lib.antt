@@ -25,3 +25,4 @@ pub mod RunLaws
 pub mod JudgementLaws
 pub mod WaitingLaws
 pub mod ListedLaws
+pub mod DrawnLaws
