@@ -26,3 +26,4 @@ pub mod JudgementLaws
 pub mod WaitingLaws
 pub mod ListedLaws
 pub mod DrawnLaws
+pub mod DrawnRuns
