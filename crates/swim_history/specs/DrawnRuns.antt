@@ -56,6 +56,10 @@ pub record HasDrawnRun {S : Type 0} (orders : S → List ℕ → List ℕ → S 
   pub is_drawn : IsDrawn orders places o start run now
   pub of_calls : calls_in run ≡ calls
 
+-- each list of calls by seats that there are has a drawn run, whatever the chooser is before it
+abbrev pub DrawsAlways : {S : Type 0} → (S → List ℕ → List ℕ → S → Type 0) → (S → ℕ → ℕ → S → Type 0) → Setting → Type 0
+DrawsAlways {S} orders places o = (start : S) (calls : List (ℕ × Call)) → AllByRecursion (λ asked. asked.0 < 4) calls → HasDrawnRun orders places o start calls
+
 -- ---- messages
 
 -- an answer to a message
@@ -342,8 +346,7 @@ module _ {S : Type 0} (orders : S → List ℕ → List ℕ → S → Type 0) (p
 -- ---- a run
 
 -- each list of calls has a drawn run
-pub drawn_run : {S : Type 0} (orders : S → List ℕ → List ℕ → S → Type 0) (places : S → ℕ → ℕ → S → Type 0) → IsTotal orders places → (o : Setting) → IsSetting o → (start : S) (calls : List (ℕ × Call)) → AllByRecursion (λ asked. asked.0 < 4) calls
-    → HasDrawnRun orders places o start calls
+pub drawn_run : {S : Type 0} (orders : S → List ℕ → List ℕ → S → Type 0) (places : S → ℕ → ℕ → S → Type 0) → IsTotal orders places → (o : Setting) → IsSetting o → DrawsAlways orders places o
 drawn_run orders places total o s start [] seats = record { run = []; now = start; is_run = tt; is_drawn = refl; of_calls = refl }
 drawn_run orders places total o s start (asked ∷ calls) seats =
     let earlier = drawn_run orders places total o s start calls seats.1 in

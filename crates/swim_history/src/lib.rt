@@ -3,6 +3,7 @@
 #![tactic(auto)]
 
 mod calls;
+pub mod drawn_laws;
 mod entries;
 mod journals;
 pub mod laws;
