@@ -131,7 +131,7 @@ hear_reply o h m source Ack =
 -- ---- the clock and the lists
 
 -- in a run no number is past the last
-number_bound : (o : Setting) (h : List Entry) → IsSetting o → IsRun o h → period_number o h ≤ last_number
+pub number_bound : (o : Setting) (h : List Entry) → IsSetting o → IsRun o h → period_number o h ≤ last_number
 number_bound o [] s run = omega (arith, s.last)
 number_bound o (e ∷ h) s run = by (is_start e) refl (number_then o h e s run.0) (number_bound o h s run.1) where
   by : (b : Bool) → is_start e ≡ b → period_number o (e ∷ h) ≡ cond (is_start e) (period_number o h + 1) (period_number o h) → period_number o h ≤ last_number → period_number o (e ∷ h) ≤ last_number
