@@ -27,3 +27,5 @@ pub mod JudgementLaws
 pub mod ProbeLaws
 pub mod WaitingLaws
 pub mod ListedLaws
+pub mod DrawnLaws
+pub mod DrawnRuns

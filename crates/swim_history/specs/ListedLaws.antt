@@ -2,7 +2,7 @@
 use Rattle.std.proofs.Common.{◌≡◌, ◌≢◌, ℕ, ◌+◌, ◌-◌, ◌<◌, ◌≤◌, Bool, true, false, ◌&&◌, ◌||◌, cond, nat_lt, nat_eq, List, [], ◌∷◌, ◌++◌, length, Option, Some, None, refl, sym, ap, subst, ◌∙◌, arith, append_assoc, append-nil}
 use Rattle.std.proofs.Math.Bool.{and-true, and-false}
 use Rattle.std.proofs.lemmas.Option.{same_Some}
-use Rattle.std.proofs.lemmas.Bool.{or_parts, or_from, or_right, eqb-true, eq-eqb}
+use Rattle.std.proofs.lemmas.Bool.{and_parts, or_parts, or_from, or_right, eqb-true, eq-eqb}
 use Rattle.std.proofs.lemmas.Cmp.{nat_eq_equiv}
 use Rattle.std.proofs.lemmas.List.{length-map}
 use Rattle.std.proofs.lemmas.List.Elements.{filter-append}
@@ -89,7 +89,7 @@ pub all-advanced : (probed rest : List ℕ) → all_of (advanced probed rest) �
 all-advanced probed [] = refl
 all-advanced probed (id ∷ rest) = append_assoc probed (id ∷ []) rest
 
-all-redraw : (order : Option (List ℕ)) (r : Lists) → MayDraw order r → IsPermutation (all_of r) (all_of (redraw order r))
+pub all-redraw : (order : Option (List ℕ)) (r : Lists) → MayDraw order r → IsPermutation (all_of r) (all_of (redraw order r))
 all-redraw None r d = IsPermutation-refl (all_of r)
 all-redraw (Some order) r d = rw (d.0, append-nil r.probed) d.2
 
@@ -146,6 +146,11 @@ listed_first (row ∷ rows) once id =
     by false is false same none again = again
 
 -- ---- what an entry does
+
+-- who stays listed was listed
+pub stays_from : (judged : Option ℕ) (r : Lists) (id : ℕ) → has (all_of (leave_judged judged r)) id ≡ true → has (all_of r) id ≡ true
+stays_from None r id is = is
+stays_from (Some judged) r id is = (and_parts (has (all_of r) id) (not (nat_eq id judged)) (sym (ap (λ (ids : List ℕ). has ids id) (all-leave judged r) ∙ has_part (λ other. not (nat_eq other judged)) id (all_of r)) ∙ is)).0
 
 failed_down : (number : ℕ) (row : Option Row) → is_up (option_map (failed number) row) ≡ false
 failed_down number None = refl
@@ -206,7 +211,7 @@ once_up (row ∷ rows) once =
     by true none again = or_from (has (ids_of ups) row.id) (has_twice (ids_of ups)) none again
     by false none again = again
 
-once_judged : (judged : Option ℕ) (r : Lists) → has_twice (all_of r) ≡ false → has_twice (all_of (leave_judged judged r)) ≡ false
+pub once_judged : (judged : Option ℕ) (r : Lists) → has_twice (all_of r) ≡ false → has_twice (all_of (leave_judged judged r)) ≡ false
 once_judged None r once = once
 once_judged (Some judged) r once = rw (all-leave judged r) (once_part (λ other. not (nat_eq other judged)) (all_of r) once)
 
@@ -232,6 +237,10 @@ pub has_front : (id : ℕ) (ids : List ℕ) → front ids ≡ Some id → has id
 has_front id [] e = absurd cc
 has_front id (x ∷ ids) e = rw (eq-eqb id x (sym (same_Some x id e))) refl
 
+-- who is next is in the lists
+pub next_is_in : (r : Lists) (id : ℕ) → front r.rest ≡ Some id → has (all_of r) id ≡ true
+next_is_in r id e = rw (list_any-append (nat_eq id) r.probed r.rest) (or_right (has r.probed id) (has r.rest id) (has_front id r.rest e))
+
 -- whom a start probes is in its lists
 probe_is_in : (o : Setting) (h : List Entry) (number m : ℕ) (r : Lists) (probe : Option Probe) → IsProbe o h number (front r.rest) probe → option_map (λ probe. probe.target) probe ≡ Some m → has (all_of (advance r)) m ≡ true
 probe_is_in o h number m r probe probes is = by (front r.rest) refl probes where
@@ -239,8 +248,7 @@ probe_is_in o h number m r probe probes is = by (front r.rest) refl probes where
   by None at p = absurd cc
   by (Some id) at p =
       let same : id ≡ m = same_Some id m (ap (option_map (λ (probe : Probe). probe.target)) (sym p.2) ∙ is) in
-      rw (all-advanced r.probed r.rest, list_any-append (nat_eq m) r.probed r.rest)
-      (or_right (has r.probed m) (has r.rest m) (has_front m r.rest (at ∙ ap Some same)))
+      rw (all-advanced r.probed r.rest) (next_is_in r m (at ∙ ap Some same))
 
 -- a value that is there unless a test holds, where it is there
 still_there : (probed : Option ℕ) (gone : ℕ → Bool) (m : ℕ) → option_and_then (λ m. unless (gone m) m) probed ≡ Some m → (probed ≡ Some m) × (gone m ≡ false)

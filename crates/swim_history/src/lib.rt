@@ -4,6 +4,7 @@
 
 mod calls;
 mod copies;
+pub mod drawn_laws;
 mod entries;
 mod journals;
 pub mod laws;
