@@ -5,3 +5,4 @@ pub mod Listing
 pub mod Asking
 pub mod Counting
 pub mod Finding
+pub mod Changing

@@ -2,12 +2,12 @@
 
 ghost use Rattle.std.specs.Prelude.{◌≡◌, ◌↔◌, ◌<◌, ◌≤◌, [], length, Err, IfOk, IsOk, OnOk, OnErr};
 ghost use Rattle.swim_history.specs.Changes.{table};
-ghost use Rattle.swim_detector.specs.Recording.{IsKept, Records};
+ghost use Rattle.swim_detector.specs.Recording.{IsKept, Records, IsChangeOf};
 
 use crate::states::State;
 use std::alloc::Global;
 use std::marker::Model;
-use swim_history::{Call, Entry, Journal, Opening, Table};
+use swim_history::{Call, Change, Entry, Journal, Opening, Table};
 use swim_targets::Chooser;
 
 /// Why a call got no reply. The detector, the chooser and the journal are as before.
@@ -103,6 +103,13 @@ impl<C: Chooser> Recorder<C> {
         self.journal.add(entry);
         self.counts[seat as usize] += 1;
         Ok(added)
+    }
+
+    /// The change that a call would make to the member table now, if it would make one.
+    pub fn change(&self, call: &Call) -> Option<Change>
+        ensures { IsChangeOf self.now.opening self.now.past call.now result }
+    {
+        self.state.change(&self.journal, call)
     }
 
     /// The members that are known, ascending by id.

@@ -1,6 +1,7 @@
 //! What a detector remembers beside its journal.
 
 mod addresses;
+mod changing;
 mod hearing;
 mod members;
 mod ticking;

@@ -95,7 +95,7 @@ fn unless_removed(aim: Option<Id>, removed: Id) -> Option<Id>
 }
 
 /// Why a member is not listed, if it isn't.
-fn refusal_to_join(journal: &Journal, id: Id) -> Option<Refusal>
+pub(super) fn refusal_to_join(journal: &Journal, id: Id) -> Option<Refusal>
     ensures { JoinsOr journal.now.opening journal.now.past id result }
 {
     if id == journal.opening().me() {
@@ -112,7 +112,7 @@ fn refusal_to_join(journal: &Journal, id: Id) -> Option<Refusal>
 }
 
 /// Why a member is not removed, if it isn't.
-fn refusal_to_remove(journal: &Journal, id: Id) -> Option<Refusal>
+pub(super) fn refusal_to_remove(journal: &Journal, id: Id) -> Option<Refusal>
     ensures { RemovesOr journal.now.opening journal.now.past id result }
 {
     if id == journal.opening().me() {

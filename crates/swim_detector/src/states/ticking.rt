@@ -116,7 +116,7 @@ fn phase_after(phase: u32, period: u32) -> u32
 }
 
 /// The aim, unless an ack of it was heard.
-fn silent(heard: bool, aim: Option<Id>) -> Option<Id>
+pub(super) fn silent(heard: bool, aim: Option<Id>) -> Option<Id>
     ensures { result ≡ option_and_then (λ m. unless heard m) aim }
 {
     match aim {
