@@ -40,8 +40,10 @@ hears : (o : Setting) (h : List Entry) (m : Message) (source : Address) (reply :
     ((seat number : ℕ) → new.relays ≡ record { period = o.period; waiting = waiting o (entry_of seat number (Hear m source) (plain reply) ∷ h) }) →
     ((target : ℕ) → aim h ≡ Some target → new.heard ≡ (counts o h target m source || was_heard o h target)) →
     IsSettled o h (Hear m source) (plain reply) new
-hears o h m source reply old new mirrors fits targets aims phases requests heard =
-    (fits, refl, λ seat number.
+hears o h m source reply old new mirrors fits targets aims phases requests heard = (
+  fits,
+  refl,
+  λ seat number.
       let idle = hears_no_start o h m source m.kind reply fits in
       let e = entry_of seat number (Hear m source) (plain reply) in
       let same_aim : aim (e ∷ h) ≡ aim h = rw idle refl in
@@ -51,7 +53,8 @@ hears o h m source reply old new mirrors fits targets aims phases requests heard
         aim_is = aims ∙ mirrors.aim_is ∙ sym same_aim;
         heard_is = λ target is. heard target (sym same_aim ∙ is) ∙ rw idle refl;
         phase_is = phases ∙ mirrors.phase_is;
-      })
+      },
+)
 
 -- nothing changed
 same_state : (o : Setting) (h : List Entry) (m : Message) (source : Address) (reply : Reply) (s : State) → Mirrors o h s → Hears o h m source m.kind reply →

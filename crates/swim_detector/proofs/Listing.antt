@@ -86,13 +86,13 @@ forgotten o h id old new m other known leaves aims relays heard phases = (
   (other, known),
   refl,
   λ seat number.
-    let e = entry_of seat number (Remove id) (plain Removed) in
-    let aim_after : aim (e ∷ h) ≡ option_and_then (λ m. unless (id == m) m) (aim h) = unless_either (λ m. id == m) (λ m. list_any (removes m) (since is_start h)) (last_probed h) in
-    record {
-      lists_are = leaves ∙ ap (leave id) m.lists_are;
-      requests_are = relays ∙ (m.requests_are ∙ ap (λ w. record { period = o.period; waiting = w }) (sym (waiting_same o h e refl refl refl)));
-      aim_is = aims ∙ (ap (option_and_then (λ m. unless (id == m) m)) m.aim_is ∙ sym aim_after);
-      heard_is = λ target is. heard ∙ m.heard_is target (still (λ m. id == m) (aim h) target (sym aim_after ∙ is));
-      phase_is = phases ∙ m.phase_is;
-    },
+      let e = entry_of seat number (Remove id) (plain Removed) in
+      let aim_after : aim (e ∷ h) ≡ option_and_then (λ m. unless (id == m) m) (aim h) = unless_either (λ m. id == m) (λ m. list_any (removes m) (since is_start h)) (last_probed h) in
+      record {
+        lists_are = leaves ∙ ap (leave id) m.lists_are;
+        requests_are = relays ∙ (m.requests_are ∙ ap (λ w. record { period = o.period; waiting = w }) (sym (waiting_same o h e refl refl refl)));
+        aim_is = aims ∙ (ap (option_and_then (λ m. unless (id == m) m)) m.aim_is ∙ sym aim_after);
+        heard_is = λ target is. heard ∙ m.heard_is target (still (λ m. id == m) (aim h) target (sym aim_after ∙ is));
+        phase_is = phases ∙ m.phase_is;
+      },
 )

@@ -99,8 +99,7 @@ pub started : {S : Type 0} (orders : S → List ℕ → List ℕ → S → Type 
     IsProbe o h (period_number o h + 1) next probe →
     IsAnswered orders places o h Tick (record { reply = Started judged probe; choice = choice_of d }) new before after
 started orders places o h old new left judged next d probe before after m b begins unspent probes =
-    let left_are = left_is orders o h old new left judged next d before after m b in
-    (
+    let left_are = left_is orders o h old new left judged next d before after m b in (
       record {
         begins = begins;
         unspent = unspent;
@@ -110,12 +109,12 @@ started orders places o h old new left judged next d probe before after m b begi
       },
       draws_round orders places o h judged probe d before after (rw left_are at b.order) b.none,
       λ seat number.
-        let e = entry_of seat number Tick (record { reply = Started judged probe; choice = choice_of d }) in
-        record {
-          lists_are = b.targets ∙ rw (left_are, drawn_is) refl;
-          requests_are = requests_after o h e old new m b.requests refl;
-          aim_is = b.aims ∙ sym (aimed o h (period_number o h + 1) next probe probes);
-          heard_is = λ target is. b.unheard;
-          phase_is = b.phase (ticks h) m.phase_is ∙ rw add-one refl;
-        },
+          let e = entry_of seat number Tick (record { reply = Started judged probe; choice = choice_of d }) in
+          record {
+            lists_are = b.targets ∙ rw (left_are, drawn_is) refl;
+            requests_are = requests_after o h e old new m b.requests refl;
+            aim_is = b.aims ∙ sym (aimed o h (period_number o h + 1) next probe probes);
+            heard_is = λ target is. b.unheard;
+            phase_is = b.phase (ticks h) m.phase_is ∙ rw add-one refl;
+          },
     )

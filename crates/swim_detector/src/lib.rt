@@ -6,4 +6,3 @@ mod recorder;
 mod states;
 
 pub use recorder::{ApplyFault, Recorder};
-

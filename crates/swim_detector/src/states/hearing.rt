@@ -158,7 +158,7 @@ impl State {
 fn requested_at(journal: &Journal, message: &Message) -> Result<Peer, DropReason>
     ensures { MatchResult result
         (λ peer. IsRequest journal.now.opening.me message.now × (message.now.target ≢ journal.now.opening.me)
-            × (row_of journal.now.opening journal.now.past message.now.target ≡ Some (up message.now.target peer)))
+        × (row_of journal.now.opening journal.now.past message.now.target ≡ Some (up message.now.target peer)))
         (λ why. (source : Address) → Hears journal.now.opening journal.now.past message.now source PingReq (Dropped why)) }
 {
     let me = journal.opening().me();
