@@ -12,7 +12,7 @@ use swim_wire::Id;
 pub type Order = ArrayVec<Id, 128>;
 
 /// What was drawn for an entry, beside what its reply says.
-#[derive(Debug, Drop)]
+#[derive(Debug, PartialEq, Eq, Drop)]
 pub enum Choice {
     Nothing,
     /// A round began in this order.
@@ -32,7 +32,7 @@ impl Choice {
 }
 
 /// One call and its reply.
-#[derive(Debug, Drop)]
+#[derive(Debug, PartialEq, Eq, Drop)]
 pub struct Entry {
     /// Whose call it was: 0 to 3.
     pub seat: u8,

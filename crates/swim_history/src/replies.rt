@@ -90,7 +90,7 @@ impl Refusal {
 }
 
 /// The detector's answer to a call.
-#[derive(Debug, Drop)]
+#[derive(Debug, PartialEq, Eq, Drop)]
 pub enum Reply {
     /// Nothing is to be done in this tick.
     Quiet,
