@@ -1,5 +1,6 @@
 -- What entries do to the member table, and the table after changes.
-use Rattle.std.specs.Prelude.{ℕ, ◌==◌, not, nat_lt, List, [], ◌∷◌, ◌++◌, map, filter, length, Option, Some, None, if◌then◌else◌}
+use Rattle.std.specs.Prelude.{ℕ, ◌<◌, ◌==◌, not, nat_lt, List, [], ◌∷◌, ◌++◌, map, filter, length, Option, Some, None, if◌then◌else◌}
+use Rattle.std.specs.List.{AllByRecursion}
 use Rattle.std.specs.Option.{option_to_list}
 use Rattle.swim_history.specs.declared.rows.Row.{Row}
 use Rattle.swim_history.specs.declared.rows.Change.{Change}
@@ -36,6 +37,11 @@ put new (row ∷ rows) =
 abbrev pub ascending : List Row → List Row
 ascending [] = []
 ascending (row ∷ rows) = put row (ascending rows)
+
+-- each row's id is below those of the rows after it
+abbrev pub IsAscending : List Row → Type 0
+IsAscending [] = Unit {0}
+IsAscending (row ∷ rows) = AllByRecursion (λ other. row.id < other.id) rows × IsAscending rows
 
 -- the rows after a change
 abbrev pub after_change : Change → List Row → List Row

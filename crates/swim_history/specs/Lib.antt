@@ -5,6 +5,8 @@ pub mod Clock
 pub mod Aim
 pub mod Rows
 pub mod Changes
+pub mod Places
+pub mod TableLaws
 pub mod Round
 pub mod Waiting
 pub mod Run
@@ -22,3 +24,8 @@ pub mod Written
 pub mod ClockLaws
 pub mod RunLaws
 pub mod JudgementLaws
+pub mod ProbeLaws
+pub mod WaitingLaws
+pub mod ListedLaws
+pub mod DrawnLaws
+pub mod DrawnRuns

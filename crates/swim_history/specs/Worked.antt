@@ -1,6 +1,6 @@
 -- Worked runs: the definitions, evaluated on histories that were written down by hand.
 use Rattle.std.specs.Prelude.{◌≡◌, ℕ, ◌+◌, List, [], ◌∷◌, length, Option, Some, None, refl}
-use Rattle.std.proofs.Common.{◌++◌, lit<}
+use Rattle.std.proofs.Common.{◌++◌, lit<, arith}
 use Rattle.std.proofs.lemmas.List.Sorted.{IsPermutation-refl}
 use Rattle.swim_wire.specs.Address.{Address}
 use Rattle.swim_wire.specs.declared.messages.Kind.TheVariants.{Ping, PingReq, Ack}
@@ -29,7 +29,7 @@ use Rattle.swim_history.specs.Probes.{probes}
 use Rattle.swim_history.specs.Gap.{IsGap}
 
 -- member n listens at 10.0.0.n:7000
-abbrev at : ℕ → Address
+abbrev pub at : ℕ → Address
 at n = record { ip = 10 ∷ 0 ∷ 0 ∷ n ∷ []; port = 7000 }
 
 abbrev row : ℕ → Row
@@ -40,16 +40,16 @@ abbrev of_members : ℕ → ℕ → List Row → Setting
 of_members k last rows = record { me = 1; k = k; rtt = 1; period = 3; rows = rows; last = last }
 
 -- an entry of the one caller
-abbrev entry : ℕ → Call → Reply → Choice → Entry
+abbrev pub entry : ℕ → Call → Reply → Choice → Entry
 entry number call reply choice = record { seat = 0; number = number; call = call; choice = choice; reply = reply }
 
-abbrev round : List ℕ → Choice
+abbrev pub round : List ℕ → Choice
 round order = Round (record { items = order })
 
-abbrev starting : ℕ → Option ℕ → ℕ → ℕ → Choice → Entry
+abbrev pub starting : ℕ → Option ℕ → ℕ → ℕ → Choice → Entry
 starting place judged target number choice = entry place Tick (Started judged (Some (record { target = target; peer = at target; number = number }))) choice
 
-abbrev asking : ℕ → ℕ → ℕ → List Relay → Entry
+abbrev pub asking : ℕ → ℕ → ℕ → List Relay → Entry
 asking place target number relays = entry place Tick (Asked target number (record { items = relays })) Nothing
 
 -- one member and no relays: the probe, the empty ask, a quiet tick and the judgement
@@ -89,10 +89,10 @@ silence_is_run = (
 )
 
 -- two members and one relay: the aim of the first period is judged, and the other member is probed next
-abbrev two_members : Setting
+abbrev pub two_members : Setting
 two_members = of_members 1 0 (row 2 ∷ row 3 ∷ [])
 
-abbrev first_start : Entry
+abbrev pub first_start : Entry
 first_start = starting 0 None 2 1 (round (2 ∷ 3 ∷ []))
 
 abbrev two_periods : List Entry
@@ -111,6 +111,34 @@ two_periods_show = refl
 
 two_periods_list : lists two_members two_periods ≡ record { probed = 3 ∷ []; rest = [] }
 two_periods_list = refl
+
+pub two_periods_are_run : IsRun two_members two_periods
+two_periods_are_run = (
+  record { seat = lit< tt; number = refl; answer = record { begins = refl; unspent = lit< tt; judges = refl; draws = λ e. refl; probes = (at 3, refl, refl) } },
+  (
+    record { seat = lit< tt; number = refl; answer = (λ e. absurd cc, λ e. absurd cc) },
+    (
+      record { seat = lit< tt; number = refl; answer = (refl, refl, refl, record { count = refl; once = refl; each = ((refl, refl), tt) }) },
+      (
+        record { seat = lit< tt; number = refl; answer = record { begins = refl; unspent = lit< tt; judges = refl; draws = (refl, λ e. absurd cc, IsPermutation-refl _); probes = (at 2, refl, refl) } },
+        tt,
+      ),
+    ),
+  ),
+)
+
+-- then a listed member is removed, and another joins
+abbrev one_for_another : List Entry
+one_for_another = entry 5 (Join 4 (at 4)) (Joined 0) Nothing ∷ entry 4 (Remove 3) Removed Nothing ∷ two_periods
+
+one_for_another_shows : table two_members one_for_another ≡ record { id = 2; peer = at 2; state = Failed 1 } ∷ row 4 ∷ []
+one_for_another_shows = refl
+
+one_for_another_is_run : IsRun two_members one_for_another
+one_for_another_is_run = (
+  record { seat = lit< tt; number = refl; answer = (λ e. absurd (omega arith), refl, λ e f. absurd (omega arith), omega arith) },
+  (record { seat = lit< tt; number = refl; answer = (λ e. absurd (omega arith), λ e. absurd cc) }, two_periods_are_run),
+)
 
 -- acks of member 2, of this member's period with that number, from the relay
 abbrev ack : ℕ → Call

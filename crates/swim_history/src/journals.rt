@@ -1,16 +1,23 @@
 //! The journal: a run of the sequential detector, as it happened.
 
-ghost use Rattle.std.specs.Prelude.{◌≡◌, ◌+◌, ◌^◌, ◌<◌, ◌==◌, ◌∷◌, ◌++◌, [], length, reverse, IfOk, OnOk, slice_get, true, if◌then◌else◌};
+ghost use Rattle.std.specs.Prelude.{◌≡◌, ◌+◌, ◌^◌, ◌<◌, ◌≤◌, ◌==◌, ◌∷◌, ◌++◌, [], length, map, reverse, IsOk, IfOk, OnOk, slice_get, true, if◌then◌else◌};
 ghost use Rattle.std.specs.Option.{option_copied, option_to_list};
 ghost use Rattle.swim_history.specs.Setting.{IsSetting};
 ghost use Rattle.swim_history.specs.Events.{is_starting, judged_in};
 ghost use Rattle.swim_history.specs.Run.{Continues, IsRun};
 ghost use Rattle.swim_history.specs.Judgement.{judgements, judgement, JudgesByRule};
+ghost use Rattle.swim_history.specs.Probes.{probes, probed_by, ProbesAsDrawn};
 ghost use Rattle.swim_history.specs.Clock.{period_number};
+ghost use Rattle.swim_history.specs.Rows.{row_of};
+ghost use Rattle.swim_history.specs.Changes.{table, known_count, change_by, rows_after, IsAscending};
 
+use crate::copies::copied;
 use crate::entries::Entry;
 use crate::openings::Opening;
+use crate::probing::{Probed, collect_probed};
 use crate::replies::Reply;
+use crate::rows::{Row, Table};
+use crate::tables::{apply_change, change_by, find_row, table_of};
 use std::alloc::{AllocError, Global};
 use std::marker::Model;
 use swim_wire::Id;
@@ -29,18 +36,26 @@ pub struct Judged {
 pub struct Journal {
     opening: Opening,
     entries: Vec<Entry>,
+    rows: Table,
+    // The last period number used.
+    number: u64,
+    judged: u32,
 }
 
 impl Model for Journal {
     ghost use Rattle.std.specs.Prelude.{◌-◌, ◌^◌, ◌<◌, reverse, vec_len, vec_capacity};
+    ghost use Rattle.swim_history.specs.Setting.{IsSetting};
     ghost use Rattle.swim_history.specs.Run.{IsRun};
-    ghost use Rattle.swim_history.specs.Written.{Written};
+    ghost use Rattle.swim_history.specs.Written.{Written, IsSummary};
 
     ghost Value = { Written };
 
     ghost view = { λ j. record { opening = j.opening; past = reverse j.entries.items; room = vec_capacity j.entries - vec_len j.entries } };
 
-    ghost invariant = { λ j. IsRun j.opening (reverse j.entries.items) × (vec_len j.entries < 2 ^ 32) };
+    ghost invariant = { λ j. IsSetting j.opening
+        × IsRun j.opening (reverse j.entries.items)
+        × (vec_len j.entries < 2 ^ 32)
+        × IsSummary j.opening (reverse j.entries.items) j.rows.items j.number j.judged };
 }
 
 impl Journal {
@@ -49,9 +64,14 @@ impl Journal {
         ensures opening { result.opening ≡ opening }
         ensures empty { result.past ≡ [] }
     {
+        let rows = table_of(opening.rows());
+        let number = opening.last();
         Journal {
             opening,
             entries: Vec::new(alloc),
+            rows,
+            number,
+            judged: 0,
         }
     }
 
@@ -59,6 +79,7 @@ impl Journal {
     pub fn opening(&self) -> &Opening
         ensures value { result.now ≡ self.now.opening }
         ensures run { IsRun self.now.opening self.now.past }
+        ensures limits { IsSetting self.now.opening }
     {
         &self.opening
     }
@@ -67,6 +88,7 @@ impl Journal {
     pub fn len(&self) -> u32
         ensures value { result ≡ length self.now.past }
         ensures run { IsRun self.now.opening self.now.past }
+        ensures limits { IsSetting self.now.opening }
     {
         self.entries.len() as u32
     }
@@ -90,6 +112,8 @@ impl Journal {
         ensures opening { self.new.opening ≡ self.old.opening }
         ensures past { self.new.past ≡ self.old.past }
         ensures room { OnOk result (0 < self.new.room) }
+        ensures kept { self.old.room ≤ self.new.room }
+        ensures succeeds { 0 < self.old.room → IsOk result }
     {
         self.entries.reserve(1)
     }
@@ -101,15 +125,55 @@ impl Journal {
         requires continues { Continues self.old.opening self.old.past entry }
         ensures opening { self.new.opening ≡ self.old.opening }
         ensures past { self.new.past ≡ entry ∷ self.old.past }
+        ensures room { self.old.room ≤ self.new.room + 1 }
     {
+        note_change(&mut self.rows, &entry, self.number);
+        self.judged = count_after(self.judged, &entry.reply);
+        self.number = number_after(self.number, &entry.reply);
         let _ = self.entries.push(entry);
+    }
+
+    /// The member table: the rows of the known members, ascending by id.
+    pub fn rows(&self) -> Table
+        ensures value { result.items ≡ table self.now.opening self.now.past }
+        ensures run { IsRun self.now.opening self.now.past }
+        ensures limits { IsSetting self.now.opening }
+    {
+        copied(self.rows.as_slice())
+    }
+
+    /// The row of a member, if it is known.
+    pub fn row(&self, id: Id) -> Option<Row>
+        ensures value { result ≡ row_of self.now.opening self.now.past id }
+        ensures run { IsRun self.now.opening self.now.past }
+        ensures limits { IsSetting self.now.opening }
+    {
+        find_row(self.rows.as_slice(), id)
+    }
+
+    /// How many members are known.
+    pub fn known(&self) -> usize
+        ensures value { result ≡ known_count self.now.opening self.now.past }
+        ensures run { IsRun self.now.opening self.now.past }
+        ensures limits { IsSetting self.now.opening }
+    {
+        self.rows.len()
+    }
+
+    /// The last period number that was used: that of the period that runs, if any.
+    pub fn last_number(&self) -> u64
+        ensures value { result ≡ period_number self.now.opening self.now.past }
+        ensures run { IsRun self.now.opening self.now.past }
+        ensures limits { IsSetting self.now.opening }
+    {
+        self.number
     }
 
     /// How many members were judged failed, each time counted.
     pub fn judged_count(&self) -> u32
         ensures { result ≡ length (judgements self.now.opening self.now.past) }
     {
-        count_judged(&self.opening, self.entries.as_slice())
+        self.judged
     }
 
     /// Who was judged failed, in the journal's order. Each judgement is one by the rule, and each case of
@@ -123,6 +187,16 @@ impl Journal {
             &self.opening,
             self.entries.as_slice(),
         )
+    }
+
+    /// Who was probed, in the journal's order, with the numbers of the periods. As long as nobody joins,
+    /// is removed or is judged, they are the members of the drawn orders, one order after the other, and
+    /// the last order may be unfinished. `Err` only where memory was refused.
+    pub fn probes(&self) -> Result<Vec<Probed>, AllocError>
+        ensures exact { IfOk result (λ probed. probed.items ≡ map probed_by (probes self.now.past)) }
+        ensures drawn { ProbesAsDrawn self.now.opening self.now.past }
+    {
+        collect_probed(*self.entries.allocator(), self.entries.as_slice())
     }
 }
 
@@ -143,18 +217,30 @@ fn is_start(reply: &Reply) -> bool
     matches!(reply, Reply::Started { .. })
 }
 
-/// How many of a run's entries judge a member.
-fn count_judged(opening: &Opening, entries: &[Entry]) -> u32
-    requires { length entries.now < 4294967296 }
-    ensures { result ≡ length (judgements opening.now (reverse entries.now)) }
+/// Makes the change of an entry, if it makes one; number is that of the period which it ends, if it
+/// ends one.
+fn note_change(rows: &mut Table, entry: &Entry, number: u64)
+    requires ascends { IsAscending rows.old.items }
+    requires fits { let change = change_by entry.now.call entry.now.reply number in
+        length (rows_after rows.old.items (option_to_list change)) ≤ 128 }
+    ensures { let change = change_by entry.now.call entry.now.reply number in
+        rows.new.items ≡ rows_after rows.old.items (option_to_list change) }
 {
-    let mut count = 0;
-    for entry in entries {
-        if judged_member(&entry.reply).is_some() {
-            count += 1;
-        }
+    if let Some(change) = change_by(&entry.call, &entry.reply, number) {
+        apply_change(rows, &change);
     }
-    count
+}
+
+/// How many members were judged after a reply.
+fn count_after(judged: u32, reply: &Reply) -> u32
+    requires { judged + 1 < 2 ^ 32 }
+    ensures { result ≡ judged + length (option_to_list (judged_in reply.now)) }
+{
+    if judged_member(reply).is_some() {
+        judged + 1
+    } else {
+        judged
+    }
 }
 
 /// The judgements of a run, with the numbers of the periods that they end.

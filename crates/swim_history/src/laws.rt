@@ -1,10 +1,12 @@
 //! Laws of runs. Each is the contract of a function that does nothing, so that it stays proved.
 
-ghost use Rattle.std.specs.Prelude.{◌≡◌, ◌↔◌, ◌+◌, ◌++◌, ◌∷◌, ℕ, List, true, if◌then◌else◌};
+ghost use Rattle.std.specs.Prelude.{◌≡◌, ◌↔◌, ◌+◌, ◌≤◌, ◌++◌, ◌∷◌, ℕ, List, length, true, if◌then◌else◌};
 ghost use Rattle.swim_history.specs.declared.entries.Entry.{Entry};
 ghost use Rattle.swim_history.specs.Setting.{Setting, IsSetting};
 ghost use Rattle.swim_history.specs.Events.{is_start, is_tick};
 ghost use Rattle.swim_history.specs.Clock.{period_number, phase};
+ghost use Rattle.swim_history.specs.Rows.{row_at, row_of};
+ghost use Rattle.swim_history.specs.Changes.{table, IsAscending};
 ghost use Rattle.swim_history.specs.Run.{Continues, IsRun};
 ghost use Rattle.swim_history.specs.Determined.{FitsOnce, StartsOnce};
 
@@ -31,4 +33,11 @@ pub fn older_part_is_a_run()
 pub fn one_reply_fits()
     ensures settled { (o : Setting) → IsSetting o → FitsOnce o }
     ensures started { (o : Setting) → StartsOnce o }
+{}
+
+/// The member table shows the row of each member, its ids ascend, and in a run it has at most 128 rows.
+pub fn table_shows_members()
+    ensures shows { (o : Setting) (h : List Entry) (id : ℕ) → row_at (table o h) id ≡ row_of o h id }
+    ensures ascends { (o : Setting) (h : List Entry) → IsAscending (table o h) }
+    ensures bound { (o : Setting) (h : List Entry) → IsSetting o → IsRun o h → length (table o h) ≤ 128 }
 {}

@@ -3,18 +3,23 @@
 #![tactic(auto)]
 
 mod calls;
+mod copies;
+pub mod drawn_laws;
 mod entries;
 mod journals;
 pub mod laws;
 mod openings;
+mod probing;
 mod replies;
 mod rows;
 mod sending;
+mod tables;
 
 pub use calls::Call;
 pub use entries::{Choice, Entry, Order};
 pub use journals::{Journal, Judged};
 pub use openings::{LONGEST_PERIOD, MOST_RELAYS, Opening, OpeningFault};
+pub use probing::Probed;
 pub use replies::{DropReason, Probe, Refusal, Relay, Reply};
 pub use rows::{Change, KNOWN_MEMBERS, Row, RowState, Table};
 pub use sending::sends;

@@ -3,6 +3,7 @@
 ghost use Rattle.std.specs.Prelude.{◌≡◌};
 ghost use Rattle.swim_history.specs.Reasons.{drop_number, refusal_number};
 
+use crate::copies::copied;
 use arrayvec::ArrayVec;
 use swim_wire::{Id, Message, Peer};
 
@@ -89,7 +90,7 @@ impl Refusal {
 }
 
 /// The detector's answer to a call.
-#[derive(Debug, Drop)]
+#[derive(Debug, PartialEq, Eq, Drop)]
 pub enum Reply {
     /// Nothing is to be done in this tick.
     Quiet,
@@ -123,4 +124,37 @@ pub enum Reply {
     Removed,
     /// The call is refused.
     Refused(Refusal),
+}
+
+impl Reply {
+    /// The same reply again. It takes no memory.
+    pub fn copy(&self) -> Reply
+        ensures { result ≡ self.now }
+    {
+        match self {
+            Reply::Quiet => Reply::Quiet,
+            Reply::Started { judged, probe } => Reply::Started {
+                judged: *judged,
+                probe: *probe,
+            },
+            Reply::Asked {
+                target,
+                number,
+                relays,
+            } => Reply::Asked {
+                target: *target,
+                number: *number,
+                relays: copied(relays.as_slice()),
+            },
+            Reply::Heard => Reply::Heard,
+            Reply::Send { peer, message } => Reply::Send {
+                peer: *peer,
+                message: *message,
+            },
+            Reply::Dropped(reason) => Reply::Dropped(*reason),
+            Reply::Joined { place } => Reply::Joined { place: *place },
+            Reply::Removed => Reply::Removed,
+            Reply::Refused(reason) => Reply::Refused(*reason),
+        }
+    }
 }

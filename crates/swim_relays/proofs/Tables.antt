@@ -10,6 +10,7 @@ use Rattle.swim_wire.specs.declared.messages.Key.{Key}
 use Rattle.swim_wire.specs.Address.{Address}
 use Rattle.swim_wire.specs.Probe.{same_key}
 use Rattle.swim_wire.specs.Requests.{Request, waits, forget, peer_for, one_less, aged}
+use Rattle.swim_wire.specs.RequestLaws.{forget_none}
 use Rattle.swim_relays.specs.Waiting.{waits_twice, AreWaiting, IsFirstOf}
 
 -- ---- keys
@@ -31,12 +32,6 @@ other_key : (a b : Key) → same_key a b ≡ false → same_key b a ≡ false
 other_key a b e = false_from_ne_true (same_key b a) (λ same. both_ways (same_key a b) e (subst (λ x. same_key x b ≡ true) (key_is b a same) (key_same b)))
 
 -- ---- one request taken out
-
-pub forget_none : (key : Key) (rs : List Request) → waits key rs ≡ false → forget key rs ≡ rs
-forget_none key [] none = refl
-forget_none key (r ∷ rs) none =
-    let parts = or_parts (same_key r.key key) (waits key rs) none in
-    rw (parts.0, forget_none key rs parts.1) refl
 
 pub peer_none : (key : Key) (rs : List Request) → waits key rs ≡ false → None ≡ peer_for key rs
 peer_none key [] none = refl

@@ -11,6 +11,7 @@ pub mod Numbers
 pub mod Parts
 pub mod Probe
 pub mod Requests
+pub mod RequestLaws
 pub mod Round
 pub mod Streams
 pub mod Words

@@ -1,7 +1,8 @@
 use Rattle.std.proofs.Common.{Some, ap, sym, ◌∙◌}
 use Rattle.swim_wire.specs.Requests.{Request}
 use Rattle.swim_relays.specs.Waiting.{IsFirstOf}
-use Rattle.swim_relays.proofs.Tables.{forget_none, forget_first, peer_none, peer_first}
+use Rattle.swim_wire.specs.RequestLaws.{forget_none}
+use Rattle.swim_relays.proofs.Tables.{forget_first, peer_none, peer_first}
 use Rattle.swim_relays.proofs.waiting.take.Goals as goal
 
 pub returns-in_err-place-clause-entries : goal.returns-in_err-place-clause-entries

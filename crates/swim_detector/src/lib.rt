@@ -1,0 +1,8 @@
+//! The sequential detector: it answers calls one after the other, and keeps the journal of them.
+#![tactic(auto)]
+
+mod answers;
+mod recorder;
+mod states;
+
+pub use recorder::{ApplyFault, Recorder};

@@ -1,0 +1,137 @@
+//! The detector with its journal.
+
+ghost use Rattle.std.specs.Prelude.{◌≡◌, ◌↔◌, ◌<◌, ◌≤◌, [], length, Err, IfOk, IsOk, OnOk, OnErr};
+ghost use Rattle.swim_history.specs.Changes.{table};
+ghost use Rattle.swim_detector.specs.Recording.{IsKept, Records, IsChangeOf};
+
+use crate::states::State;
+use std::alloc::Global;
+use std::marker::Model;
+use swim_history::{Call, Change, Entry, Journal, Opening, Table};
+use swim_targets::Chooser;
+
+/// Why a call got no reply. The detector, the chooser and the journal are as before.
+#[derive(Clone, Copy, Debug, PartialEq, Eq)]
+pub enum ApplyFault {
+    /// The journal has as many entries as it may have.
+    JournalFull,
+    /// Memory for one more entry was refused.
+    NoMemory,
+}
+
+/// The sequential detector, which keeps the journal of its calls (sections 3.1 and 4.3 of the SWIM paper).
+/// What it draws, it asks of its chooser. A contract sees its opening, the entries, newest first, how many
+/// there may be, how many more take no memory, and the chooser.
+#[derive(Drop)]
+pub struct Recorder<C: Chooser> {
+    journal: Journal,
+    state: State,
+    // How many calls each seat made.
+    counts: [u32; 4],
+    chooser: C,
+    limit: u32,
+}
+
+impl<C: Chooser> Model for Recorder<C> {
+    ghost use Rattle.std.specs.Prelude.{length};
+    ghost use Rattle.swim_detector.specs.Recording.{Recording};
+    ghost use Rattle.swim_detector.specs.Mirrors.{Mirrors, Counts};
+
+    ghost Value = { Recording C };
+
+    ghost view = { λ r. record { opening = r.journal.opening; past = r.journal.past; limit = r.limit; room = r.journal.room; chooser = r.chooser } };
+
+    ghost invariant = { λ r. Mirrors r.journal.opening r.journal.past r.state × Counts r.journal.past r.counts r.limit };
+}
+
+impl<C: Chooser> Recorder<C> {
+    /// A detector that wasn't called yet, whose journal may have so many entries.
+    pub fn open(alloc: Global, opening: Opening, chooser: C, limit: u32) -> Recorder<C>
+        ensures opening { result.opening ≡ opening }
+        ensures empty { result.past ≡ [] }
+        ensures limit { result.limit ≡ limit }
+        ensures chooser { result.chooser ≡ chooser }
+    {
+        let state = State::new(&opening);
+        Recorder {
+            journal: Journal::new(alloc, opening),
+            state,
+            counts: [0; 4],
+            chooser,
+            limit,
+        }
+    }
+
+    /// Makes room for one entry, so that the next `apply` succeeds and takes no memory. `JournalFull`
+    /// exactly where the journal has as many entries as it may have.
+    pub fn ready(&mut self) -> Result<(), ApplyFault>
+        ensures same { IsKept self.old self.new }
+        ensures room { OnOk result ((0 < self.new.room) × (length self.new.past < self.new.limit)) }
+        ensures succeeds { 0 < self.old.room → length self.old.past < self.old.limit → IsOk result }
+        ensures full { (result ≡ Err ApplyFault.JournalFull) ↔ (length self.old.past ≡ self.old.limit) }
+        ensures within { length self.old.past ≤ self.old.limit }
+    {
+        if self.journal.len() == self.limit {
+            return Err(ApplyFault::JournalFull);
+        }
+        match self.journal.room() {
+            Ok(()) => Ok(()),
+            Err(_) => Err(ApplyFault::NoMemory),
+        }
+    }
+
+    /// Answers a call of a seat, and adds the entry that it answers. An `Err` changes nothing. After
+    /// `ready` was answered `Ok` it succeeds and takes no memory.
+    pub fn apply(&mut self, seat: u8, call: Call) -> Result<Entry, ApplyFault>
+        requires { seat < 4 }
+        ensures ok { IfOk result (λ e. (e.seat ≡ seat) × (e.call ≡ call) × Records C.orders C.places self.old self.new e) }
+        ensures err { OnErr result (IsKept self.old self.new) }
+        ensures ready { 0 < self.old.room → length self.old.past < self.old.limit → IsOk result }
+        ensures full { (result ≡ Err ApplyFault.JournalFull) ↔ (length self.old.past ≡ self.old.limit) }
+        ensures within { length self.old.past ≤ self.old.limit }
+    {
+        self.ready()?;
+        let answer = self.state.answer(&self.journal, &mut self.chooser, &call);
+        let entry = Entry {
+            seat,
+            number: self.counts[seat as usize],
+            call,
+            choice: answer.choice,
+            reply: answer.reply,
+        };
+        let added = entry.copy();
+        self.journal.add(entry);
+        self.counts[seat as usize] += 1;
+        Ok(added)
+    }
+
+    /// The change that a call would make to the member table now, if it would make one.
+    pub fn change(&self, call: &Call) -> Option<Change>
+        ensures { IsChangeOf self.now.opening self.now.past call.now result }
+    {
+        self.state.change(&self.journal, call)
+    }
+
+    /// The members that are known, ascending by id.
+    pub fn table(&self) -> Table
+        ensures { result.items ≡ table self.now.opening self.now.past }
+    {
+        self.journal.rows()
+    }
+
+    /// What happened so far.
+    pub fn journal(&self) -> &Journal
+        ensures opening { result.now.opening ≡ self.now.opening }
+        ensures past { result.now.past ≡ self.now.past }
+    {
+        &self.journal
+    }
+
+    /// The journal alone.
+    pub fn into_journal(self) -> Journal
+        ensures opening { result.opening ≡ self.opening }
+        ensures past { result.past ≡ self.past }
+    {
+        self.journal
+    }
+}

@@ -1,0 +1,145 @@
+//! Ticks (sections 3.1 and 4.3 of the SWIM paper).
+
+ghost use Rattle.std.specs.Prelude.{◌≡◌, ◌≢◌, ◌+◌, ◌<◌, ◌%◌, ℕ, Some, None};
+ghost use Rattle.std.specs.Option.{option_and_then};
+ghost use Rattle.swim_wire.specs.Requests.{aged};
+ghost use Rattle.swim_wire.specs.Round.{leave_judged};
+ghost use Rattle.swim_history.specs.declared.calls.Call.TheVariants.{Tick};
+ghost use Rattle.swim_history.specs.Clock.{phase, period_number};
+ghost use Rattle.swim_history.specs.Aim.{unless, unheard};
+ghost use Rattle.swim_history.specs.Run.{last_number};
+ghost use Rattle.swim_detector.specs.Mirrors.{Mirrors, IsAnswered, IsSettled, choice_of};
+
+use super::State;
+use super::addresses::{probe_of, relays_for};
+use crate::answers::Answer;
+use swim_history::{Call, Choice, Journal, Order, Refusal, Reply};
+use swim_targets::{Chooser, Targets};
+use swim_wire::Id;
+
+impl State {
+    /// One tick passes.
+    pub(super) fn tick<C: Chooser>(&mut self, journal: &Journal, chooser: &mut C) -> Answer
+        requires { Mirrors journal.now.opening journal.now.past self.old }
+        ensures { IsAnswered C.orders C.places journal.now.opening journal.now.past Tick result self.new chooser.old chooser.new }
+    {
+        if self.phase == 0 {
+            if journal.last_number() == u64::MAX {
+                self.refuse(journal, &Call::Tick, Refusal::Spent)
+            } else {
+                self.start(journal, chooser)
+            }
+        } else if self.phase == journal.opening().rtt() {
+            self.time_out(journal, chooser)
+        } else {
+            self.rest(journal)
+        }
+    }
+
+    /// A period ends, and the next begins: an aim that no ack came of is judged failed, and the next
+    /// member is probed.
+    fn start<C: Chooser>(&mut self, journal: &Journal, chooser: &mut C) -> Answer
+        requires mirrors { Mirrors journal.now.opening journal.now.past self.old }
+        requires begins { phase journal.now.opening journal.now.past ≡ 0 }
+        requires unspent { period_number journal.now.opening journal.now.past < last_number }
+        ensures { IsAnswered C.orders C.places journal.now.opening journal.now.past Tick result self.new chooser.old chooser.new }
+    {
+        let judged = silent(self.heard, self.aim);
+        leave(&mut self.targets, &judged);
+        let next = self.targets.next(chooser);
+        self.pass(journal.opening().period());
+        self.aim = next.member;
+        self.heard = false;
+        let probe = probe_of(journal, &self.aim, journal.last_number() + 1);
+        Answer {
+            reply: Reply::Started { judged, probe },
+            choice: choice_of(next.drawn),
+        }
+    }
+
+    /// The timeout passed: where no ack of the aim came, other members are asked to ping it.
+    fn time_out<C: Chooser>(&mut self, journal: &Journal, chooser: &mut C) -> Answer
+        requires mirrors { Mirrors journal.now.opening journal.now.past self.old }
+        requires timeout { phase journal.now.opening journal.now.past ≡ journal.now.opening.rtt }
+        requires inside { phase journal.now.opening journal.now.past ≢ 0 }
+        ensures { IsAnswered C.orders C.places journal.now.opening journal.now.past Tick result self.new chooser.old chooser.new }
+    {
+        match silent(self.heard, self.aim) {
+            None => self.rest(journal),
+            Some(target) => self.ask(journal, chooser, target),
+        }
+    }
+
+    fn ask<C: Chooser>(&mut self, journal: &Journal, chooser: &mut C, target: Id) -> Answer
+        requires mirrors { Mirrors journal.now.opening journal.now.past self.old }
+        requires timeout { phase journal.now.opening journal.now.past ≡ journal.now.opening.rtt }
+        requires silent { unheard journal.now.opening journal.now.past ≡ Some target }
+        ensures { IsAnswered C.orders C.places journal.now.opening journal.now.past Tick result self.new chooser.old chooser.new }
+    {
+        self.pass(journal.opening().period());
+        Answer::of(Reply::Asked {
+            target,
+            number: journal.last_number(),
+            relays: relays_for(journal, &self.targets, target, chooser),
+        })
+    }
+
+    /// Nothing is to be done in this tick.
+    fn rest(&mut self, journal: &Journal) -> Answer
+        requires mirrors { Mirrors journal.now.opening journal.now.past self.old }
+        requires inside { phase journal.now.opening journal.now.past ≢ 0 }
+        requires quiet { phase journal.now.opening journal.now.past ≡ journal.now.opening.rtt → unheard journal.now.opening journal.now.past ≡ None }
+        ensures { IsSettled journal.now.opening journal.now.past Tick result self.new }
+    {
+        self.pass(journal.opening().period());
+        Answer::of(Reply::Quiet)
+    }
+
+    /// The period goes on by a tick, and so do the requests that wait.
+    fn pass(&mut self, period: u32)
+        requires { self.old.phase < period }
+        ensures same { (self.new.targets ≡ self.old.targets) × (self.new.aim ≡ self.old.aim) × (self.new.heard ≡ self.old.heard) }
+        ensures requests { self.new.relays ≡ record self.old.relays { waiting = aged self.old.relays.waiting } }
+        ensures phase { (ticks : ℕ) → self.old.phase ≡ ticks % period → self.new.phase ≡ (ticks + 1) % period }
+    {
+        self.relays.tick();
+        self.phase = phase_after(self.phase, period);
+    }
+}
+
+/// The phase after one more tick.
+fn phase_after(phase: u32, period: u32) -> u32
+    requires { phase < period }
+    ensures { (ticks : ℕ) → phase ≡ ticks % period → result ≡ (ticks + 1) % period }
+{
+    if phase + 1 == period { 0 } else { phase + 1 }
+}
+
+/// The aim, unless an ack of it was heard.
+pub(super) fn silent(heard: bool, aim: Option<Id>) -> Option<Id>
+    ensures { result ≡ option_and_then (λ m. unless heard m) aim }
+{
+    match aim {
+        Some(target) if !heard => Some(target),
+        _ => None,
+    }
+}
+
+/// A judged member leaves the round.
+fn leave(targets: &mut Targets, judged: &Option<Id>)
+    ensures { targets.new ≡ leave_judged judged.now targets.old }
+{
+    if let Some(member) = judged {
+        targets.remove(*member);
+    }
+}
+
+/// The order of a new round, if one was drawn.
+fn choice_of(drawn: Option<Order>) -> Choice
+    ensures { result ≡ choice_of drawn }
+{
+    match drawn {
+        Some(order) => Choice::Round(order),
+        None => Choice::Nothing,
+    }
+}

@@ -1,0 +1,361 @@
+-- Where a chooser always answers, each list of calls has a drawn run.
+use Rattle.std.proofs.Common.{◌≡◌, ◌≢◌, ◌⊎◌, ℕ, ◌+◌, ◌<◌, ◌≤◌, Bool, true, false, cond, List, [], ◌∷◌, ◌++◌, length, Option, Some, None, refl, sym, ap, subst, ◌∙◌, inl, inr, arith}
+use Rattle.std.proofs.lemmas.Option.{same_Some}
+use Rattle.std.proofs.lemmas.Bool.{false≢true, cases_eq, cases_lt, and_parts, or_left, or_right, or_parts, or_from, eq-eqb}
+use Rattle.std.proofs.lemmas.List.{length-map, length-take, take-append-drop}
+use Rattle.std.proofs.lemmas.List.Folds.{list_any-append}
+use Rattle.std.proofs.lemmas.List.Sorted.{length_permutation}
+use Rattle.std.specs.Prelude.{map, min, take, drop, not, nat_eq, IsPermutation}
+use Rattle.std.specs.List.{AllByRecursion}
+use Rattle.swim_wire.specs.Address.{Address}
+use Rattle.swim_wire.specs.Ids.{has, has_twice, front}
+use Rattle.swim_wire.specs.Probe.{key_of, passed_on}
+use Rattle.swim_wire.specs.Requests.{peer_for}
+use Rattle.swim_wire.specs.Round.{Lists, all_of, leave_judged, MayDraw, redraw}
+use Rattle.swim_wire.specs.declared.messages.Kind.{Kind}
+use Rattle.swim_wire.specs.declared.messages.Kind.TheVariants.{Ping, PingReq, Ack}
+use Rattle.swim_wire.specs.declared.messages.Message.{Message}
+use Rattle.swim_history.specs.declared.calls.Call.{Call}
+use Rattle.swim_history.specs.declared.calls.Call.TheVariants.{Tick, Hear, Join, Remove}
+use Rattle.swim_history.specs.declared.replies.Reply.{Reply}
+use Rattle.swim_history.specs.declared.replies.Reply.TheVariants.{Quiet, Started, Asked, Heard, Send, Dropped, Joined, Removed, Refused}
+use Rattle.swim_history.specs.declared.replies.Probe.{Probe}
+use Rattle.swim_history.specs.declared.replies.Relay.{Relay}
+use Rattle.swim_history.specs.declared.replies.DropReason.TheVariants.{NotForMe, Borrowed, AboutMe, Unlisted, TableFull, Stray, NoRequest}
+use Rattle.swim_history.specs.declared.replies.Refusal.TheVariants.{Myself, Listed, Full, Unknown, Spent}
+use Rattle.swim_history.specs.declared.rows.Row.{Row}
+use Rattle.swim_history.specs.declared.entries.Choice.{Choice}
+use Rattle.swim_history.specs.declared.entries.Choice.TheVariants.{Nothing, Round}
+use Rattle.swim_history.specs.declared.entries.Entry.{Entry}
+use Rattle.swim_history.specs.Setting.{Setting, IsSetting}
+use Rattle.swim_history.specs.Clock.{period_number, phase}
+use Rattle.swim_history.specs.Aim.{aim, unheard}
+use Rattle.swim_history.specs.Events.{is_start}
+use Rattle.swim_history.specs.Rows.{up, row_of, is_listed}
+use Rattle.swim_history.specs.Changes.{known_count}
+use Rattle.swim_history.specs.TableLaws.{table_bound, listed_row}
+use Rattle.swim_history.specs.Round.{drawn, lists, listed}
+use Rattle.swim_history.specs.Waiting.{waiting}
+use Rattle.swim_history.specs.Run.{last_number, IsProbe, candidates, IsRequest, most_waiting, is_waiting, Hears, Answers, calls_of, IsRun}
+use Rattle.swim_history.specs.RunLaws.{begins, number_then}
+use Rattle.swim_history.specs.ListedLaws.{no_longer, once-IsPermutation, has-IsPermutation, has_part, once_part, all-redraw, next_is_in, stays_from, once_judged, listed_is, listed_once, listed_bound, room_to_join}
+use Rattle.swim_history.specs.Drawn.{DrawsEntry, IsDrawn}
+use Rattle.swim_history.specs.DrawnLaws.{calls_in}
+
+-- choosers always answer: with an order of at most 128 ids of which none stands twice, and with one of at most
+-- 128 places
+pub record IsTotal {S : Type 0} (orders : S → List ℕ → List ℕ → S → Type 0) (places : S → ℕ → ℕ → S → Type 0) : Type 0 where
+  pub order : (before : S) (ids : List ℕ) → length ids ≤ 128 → has_twice ids ≡ false → (order : List ℕ) × (after : S) × IsPermutation ids order × orders before ids order after
+  pub place : (before : S) (last : ℕ) → last < 128 → (place : ℕ) × (after : S) × (place ≤ last) × places before last place after
+
+-- a drawn run of those calls
+pub record HasDrawnRun {S : Type 0} (orders : S → List ℕ → List ℕ → S → Type 0) (places : S → ℕ → ℕ → S → Type 0) (o : Setting) (start : S) (calls : List (ℕ × Call)) : Type 0 where
+  pub run : List Entry
+  pub now : S
+  pub is_run : IsRun o run
+  pub is_drawn : IsDrawn orders places o start run now
+  pub of_calls : calls_in run ≡ calls
+
+-- each list of calls by seats that there are has a drawn run, whatever the chooser is before it
+abbrev pub DrawsAlways : {S : Type 0} → (S → List ℕ → List ℕ → S → Type 0) → (S → ℕ → ℕ → S → Type 0) → Setting → Type 0
+DrawsAlways {S} orders places o = (start : S) (calls : List (ℕ × Call)) → AllByRecursion (λ asked. asked.0 < 4) calls → HasDrawnRun orders places o start calls
+
+-- ---- messages
+
+-- an answer to a message
+abbrev HasReply : Setting → List Entry → Message → Address → Kind → Type 0
+HasReply o h m source kind = (reply : Reply) × Hears o h m source kind reply
+
+relay_reply : (o : Setting) (h : List Entry) (m : Message) (source : Address) → IsRequest o.me m → m.target ≢ o.me → HasReply o h m source PingReq
+relay_reply o h m source request away = by (is_listed o h m.target) refl where
+  found : is_listed o h m.target ≡ true → (waits : Bool) → is_waiting o h m ≡ waits → HasReply o h m source PingReq
+  found is true waits =
+      let row = listed_row o h m.target is in
+      (Send row.0 (passed_on Ping o.me m), (request, away, row.1, λ none. absurd (false≢true (sym none ∙ waits)), refl))
+  found is false waits =
+      let row = listed_row o h m.target is in
+      elim (cases_lt (length (waiting o h)) most_waiting) [
+        | inl room ↦ (Send row.0 (passed_on Ping o.me m), (request, away, row.1, λ none. room, refl))
+        | inr full ↦ (Dropped TableFull, (request, away, is, waits, full))
+      ]
+
+  by : (b : Bool) → is_listed o h m.target ≡ b → HasReply o h m source PingReq
+  by false is = (Dropped Unlisted, (request, away, is))
+  by true is = found is (is_waiting o h m) refl
+
+ack_reply : (o : Setting) (h : List Entry) (m : Message) (source : Address) → m.initiator ≡ o.me → HasReply o h m source Ack
+ack_reply o h m source mine = by (aim h) refl where
+  by : (aimed : Option ℕ) → aim h ≡ aimed → HasReply o h m source Ack
+  by None at = (Dropped Stray, (mine, λ is. absurd cc))
+  by (Some id) at =
+      elim (cases_eq id m.target) [
+        | inl same ↦
+            elim (cases_eq m.number (period_number o h)) [
+              | inl now ↦ (Heard, (mine, at ∙ ap Some same, now))
+              | inr other ↦ (Dropped Stray, (mine, λ is. other))
+            ]
+        | inr other ↦ (Dropped Stray, (mine, λ is. absurd (other (same_Some id m.target (sym at ∙ is)))))
+      ]
+
+forward_reply : (o : Setting) (h : List Entry) (m : Message) (source : Address) → m.initiator ≢ o.me → HasReply o h m source Ack
+forward_reply o h m source other = by (peer_for (key_of m) (waiting o h)) refl where
+  by : (peer : Option Address) → peer_for (key_of m) (waiting o h) ≡ peer → HasReply o h m source Ack
+  by None is = (Dropped NoRequest, (other, is))
+  by (Some peer) is = (Send peer (passed_on Ack o.me m), (other, is, refl))
+
+hear_reply : (o : Setting) (h : List Entry) (m : Message) (source : Address) (kind : Kind) → HasReply o h m source kind
+hear_reply o h m source Ping =
+    elim (cases_eq m.target o.me) [
+      | inl mine ↦ (Send source (passed_on Ack o.me m), (mine, refl, refl))
+      | inr other ↦ (Dropped NotForMe, other)
+    ]
+hear_reply o h m source PingReq =
+    elim (cases_eq m.initiator m.sender) [
+      | inl begun ↦
+          elim (cases_eq m.initiator o.me) [
+            | inl mine ↦ (Dropped Borrowed, inr mine)
+            | inr other ↦
+                elim (cases_eq m.target o.me) [
+                  | inl about ↦ (Dropped AboutMe, ((begun, other), about))
+                  | inr away ↦ relay_reply o h m source (begun, other) away
+                ]
+          ]
+      | inr passed ↦ (Dropped Borrowed, inl passed)
+    ]
+hear_reply o h m source Ack =
+    elim (cases_eq m.initiator o.me) [
+      | inl mine ↦ ack_reply o h m source mine
+      | inr other ↦ forward_reply o h m source other
+    ]
+
+-- ---- the clock and the lists
+
+-- in a run no number is past the last
+pub number_bound : (o : Setting) (h : List Entry) → IsSetting o → IsRun o h → period_number o h ≤ last_number
+number_bound o [] s run = omega (arith, s.last)
+number_bound o (e ∷ h) s run = by (is_start e) refl (number_then o h e s run.0) (number_bound o h s run.1) where
+  by : (b : Bool) → is_start e ≡ b → period_number o (e ∷ h) ≡ cond (is_start e) (period_number o h + 1) (period_number o h) → period_number o h ≤ last_number → period_number o (e ∷ h) ≤ last_number
+  by true starts then most =
+      let b = begins o h e.call e.reply e.choice run.0.answer starts in
+      omega (arith, rw starts at then, b.fits.unspent)
+  by false starts then most = omega (arith, rw starts at then)
+
+-- ids of listed members, none twice, are at most 128
+few : (o : Setting) (h : List Entry) → IsSetting o → IsRun o h → (ids : List ℕ) → has_twice ids ≡ false → ((id : ℕ) → has ids id ≡ true → has (listed o h) id ≡ true) → length ids ≤ 128
+few o h s run ids once within = omega (arith, no_longer ids (listed o h) once within, listed_bound o h s run, table_bound o h s run)
+
+once_front : (xs ys : List ℕ) → has_twice (xs ++ ys) ≡ false → has_twice xs ≡ false
+once_front [] ys once = refl
+once_front (x ∷ xs) ys once =
+    let parts = or_parts (has (xs ++ ys) x) (has_twice (xs ++ ys)) once in
+    or_from (has xs x) (has_twice xs) (or_parts (has xs x) (has ys x) (sym (list_any-append (nat_eq x) xs ys) ∙ parts.0)).0 (once_front xs ys parts.1)
+
+has_in_front : (id : ℕ) (xs ys : List ℕ) → has xs id ≡ true → has (xs ++ ys) id ≡ true
+has_in_front id xs ys is = list_any-append (nat_eq id) xs ys ∙ or_left (has xs id) (has ys id) is
+
+-- ---- an entry
+
+-- an entry that may follow a history, with what the chooser answers for it
+record HasAnswer {S : Type 0} (orders : S → List ℕ → List ℕ → S → Type 0) (places : S → ℕ → ℕ → S → Type 0) (o : Setting) (h : List Entry) (call : Call) (before : S) : Type 0 where
+  reply : Reply
+  choice : Choice
+  after : S
+  fits : Answers o h call reply choice
+  draws : DrawsEntry orders places o h call reply choice before after
+
+module _ {S : Type 0} (orders : S → List ℕ → List ℕ → S → Type 0) (places : S → ℕ → ℕ → S → Type 0) (total : IsTotal orders places) (o : Setting) (h : List Entry) (s : IsSetting o) (run : IsRun o h) (before : S) where
+  -- the order of a new round, where one begins
+  record HasRound (r : Lists) : Type 0 where
+    choice : Choice
+    after : S
+    may : MayDraw (drawn choice) r
+    draws : (judged : Option ℕ) (probe : Option Probe) → leave_judged judged (lists o h) ≡ r → DrawsEntry orders places o h Tick (Started judged probe) choice before after
+
+  round_drawn : (r : Lists) → length r.probed ≤ 128 → has_twice r.probed ≡ false → HasRound r
+  round_drawn r most once = by r.rest r.probed refl refl where
+    by : (rest probed : List ℕ) → r.rest ≡ rest → r.probed ≡ probed → HasRound r
+    by (id ∷ rest) probed is was = record { choice = Nothing; after = before; may = λ none. absurd cc; draws = λ judged probe same. refl }
+    by [] [] is was = record { choice = Nothing; after = before; may = λ none. was; draws = λ judged probe same. refl }
+    by [] (id ∷ probed) is was =
+        let order = total.order before r.probed most once in
+        record {
+          choice = Round (record { items = order.0 });
+          after = order.1;
+          may = (is, λ none. absurd cc, order.2);
+          draws = λ judged probe same. subst (λ (x : Lists). orders before x.probed order.0 order.1) (sym same) order.3;
+        }
+
+  -- the probe of who is next
+  next_probed : (number : ℕ) (next : Option ℕ) → ((id : ℕ) → next ≡ Some id → is_listed o h id ≡ true) → (probe : Option Probe) × IsProbe o h number next probe
+  next_probed number None listed = (None, refl)
+  next_probed number (Some id) listed =
+      let row = listed_row o h id (listed id refl) in
+      (Some (record { target = id; peer = row.0; number = number }), (row.0, row.1, refl))
+
+  started : phase o h ≡ 0 → period_number o h < last_number → HasAnswer orders places o h Tick before
+  started begins unspent =
+      let judged = unheard o h in
+      let r = leave_judged judged (lists o h) in
+      let in_lists = λ (id : ℕ) (is : has (all_of r) id ≡ true). stays_from judged (lists o h) id is in
+      let once : has_twice r.probed ≡ false = once_front r.probed r.rest (once_judged judged (lists o h) (listed_once o h s run)) in
+      let most = few o h s run r.probed once (λ id is. in_lists id (has_in_front id r.probed r.rest is)) in
+      let round = round_drawn r most once in
+      let next = redraw (drawn round.choice) r in
+      let is_next : (id : ℕ) → front next.rest ≡ Some id → is_listed o h id ≡ true = λ id e. sym (listed_is o h s run id)
+      ∙ in_lists id (sym (has-IsPermutation id (all_of r) (all_of next) (all-redraw (drawn round.choice) r round.may)) ∙ next_is_in next id e) in
+      let probe = next_probed (period_number o h + 1) (front next.rest) is_next in
+      record {
+        reply = Started judged probe.0;
+        choice = round.choice;
+        after = round.after;
+        fits = record { begins = begins; unspent = unspent; judges = refl; draws = round.may; probes = probe.1 };
+        draws = round.draws judged probe.0 refl;
+      }
+
+  -- the relays, in the order that was drawn
+  record HasRelays (target : ℕ) (ids : List ℕ) : Type 0 where
+    relays : List Relay
+    are : map (λ relay. relay.id) relays ≡ ids
+    each : AllByRecursion (λ relay. (has (candidates o h target) relay.id ≡ true) × (row_of o h relay.id ≡ Some (up relay.id relay.peer))) relays
+
+  candidate_listed : (target id : ℕ) → has (candidates o h target) id ≡ true → has (listed o h) id ≡ true
+  candidate_listed target id is = (and_parts (has (listed o h) id) (not (nat_eq id target)) (sym (has_part (λ other. not (nat_eq other target)) id (listed o h)) ∙ is)).0
+
+  relays_of : (target : ℕ) (ids : List ℕ) → ((id : ℕ) → has ids id ≡ true → has (candidates o h target) id ≡ true) → HasRelays target ids
+  relays_of target [] within = record { relays = []; are = refl; each = tt }
+  relays_of target (id ∷ ids) within =
+      let first : has (candidates o h target) id ≡ true = within id (or_left (nat_eq id id) (has ids id) (eq-eqb id id refl)) in
+      let row = listed_row o h id (sym (listed_is o h s run id) ∙ candidate_listed target id first) in
+      let others = relays_of target ids (λ q is. within q (or_right (nat_eq q id) (has ids q) is)) in
+      record {
+        relays = record { id = id; peer = row.0 } ∷ others.relays;
+        are = ap (λ (xs : List ℕ). id ∷ xs) others.are;
+        each = ((first, row.1), others.each);
+      }
+
+  nobody_asked : (target : ℕ) → phase o h ≡ o.rtt → unheard o h ≡ Some target → (o.k ≡ 0) ⊎ (candidates o h target ≡ []) → HasAnswer orders places o h Tick before
+  nobody_asked target timeout silent none =
+      let count : 0 ≡ min o.k (length (candidates o h target)) =
+      elim none [
+        | inl zero ↦ omega arith
+        | inr empty ↦ omega (arith, ap (λ (xs : List ℕ). length xs) empty)
+      ] in
+      record {
+        reply = Asked target (period_number o h) (record { items = [] });
+        choice = Nothing;
+        after = before;
+        fits = (timeout, silent, refl, record { count = count; once = refl; each = tt });
+        draws = inl (none, refl);
+      }
+
+  some_asked : (target : ℕ) → phase o h ≡ o.rtt → unheard o h ≡ Some target → o.k ≢ 0 → candidates o h target ≢ [] → HasAnswer orders places o h Tick before
+  some_asked target timeout silent some others =
+      let ids = candidates o h target in
+      let once : has_twice ids ≡ false = once_part (λ other. not (nat_eq other target)) (listed o h) (listed_once o h s run) in
+      let order = total.order before ids (few o h s run ids once (candidate_listed target)) once in
+      let front = take o.k order.0 in
+      let whole = take-append-drop o.k order.0 in
+      let within : (id : ℕ) → has front id ≡ true → has ids id ≡ true = λ id is. sym (has-IsPermutation id ids order.0 order.2) ∙ ap (λ (xs : List ℕ). has xs id) (sym whole) ∙ has_in_front id front (drop o.k order.0) is in
+      let drawn = relays_of target front within in
+      let count : length drawn.relays ≡ min o.k (length ids) =
+      sym (length-map drawn.relays (λ relay. relay.id)) ∙ ap (λ (xs : List ℕ). length xs) drawn.are ∙ length-take o.k order.0 ∙ ap (min o.k) (length_permutation ids order.0 order.2) in
+      let differ : has_twice front ≡ false = once_front front (drop o.k order.0) (ap has_twice whole ∙ once-IsPermutation ids order.0 order.2 once) in
+      record {
+        reply = Asked target (period_number o h) (record { items = drawn.relays });
+        choice = Nothing;
+        after = order.1;
+        fits = (timeout, silent, refl, record { count = count; once = ap has_twice drawn.are ∙ differ; each = drawn.each });
+        draws = inr (some, others, order.0, order.3, drawn.are);
+      }
+
+  asked : (target : ℕ) → phase o h ≡ o.rtt → unheard o h ≡ Some target → HasAnswer orders places o h Tick before
+  asked target timeout silent =
+      elim (cases_eq o.k 0) [
+        | inl zero ↦ nobody_asked target timeout silent (inl zero)
+        | inr some ↦ by some (candidates o h target) refl
+      ]
+    where
+      by : o.k ≢ 0 → (ids : List ℕ) → candidates o h target ≡ ids → HasAnswer orders places o h Tick before
+      by some [] is = nobody_asked target timeout silent (inr is)
+      by some (id ∷ ids) is = some_asked target timeout silent some (λ none. absurd cc)
+
+  -- what is answered without asking the chooser
+  plain : (call : Call) (reply : Reply) → Answers o h call reply Nothing → DrawsEntry orders places o h call reply Nothing before before → HasAnswer orders places o h call before
+  plain call reply fits draws = record { reply = reply; choice = Nothing; after = before; fits = fits; draws = draws }
+
+  within_period : phase o h ≢ 0 → HasAnswer orders places o h Tick before
+  within_period inside =
+      elim (cases_eq (phase o h) o.rtt) [
+        | inl timeout ↦ by timeout (unheard o h) refl
+        | inr other ↦ plain Tick Quiet (inside, λ at. absurd (other at)) refl
+      ]
+    where
+      by : phase o h ≡ o.rtt → (silent : Option ℕ) → unheard o h ≡ silent → HasAnswer orders places o h Tick before
+      by timeout None is = plain Tick Quiet (inside, λ at. is) refl
+      by timeout (Some target) is = asked target timeout is
+
+  ticked : HasAnswer orders places o h Tick before
+  ticked =
+      elim (cases_eq (phase o h) 0) [
+        | inl begins ↦
+            elim (cases_lt (period_number o h) last_number) [
+              | inl unspent ↦ started begins unspent
+              | inr spent ↦ plain Tick (Refused Spent) (begins, omega (arith, number_bound o h s run)) refl
+            ]
+        | inr inside ↦ within_period inside
+      ]
+
+  joined : (id : ℕ) (peer : Address) → HasAnswer orders places o h (Join id peer) before
+  joined id peer =
+      elim (cases_eq id o.me) [
+        | inl myself ↦ plain (Join id peer) (Refused Myself) myself refl
+        | inr other ↦ by other (is_listed o h id) refl (row_of o h id) refl
+      ]
+    where
+      placed : id ≢ o.me → is_listed o h id ≡ false → (row_of o h id ≡ None → known_count o h ≢ 128) → HasAnswer orders places o h (Join id peer) before
+      placed other down room =
+          let place = total.place before (length (listed o h)) (room_to_join o h id s run down room) in
+          record { reply = Joined place.0; choice = Nothing; after = place.1; fits = (other, down, room, place.2); draws = place.3 }
+
+      by : id ≢ o.me → (b : Bool) → is_listed o h id ≡ b → (row : Option Row) → row_of o h id ≡ row → HasAnswer orders places o h (Join id peer) before
+      by other true is row known = plain (Join id peer) (Refused Listed) (other, is) refl
+      by other false is (Some row) known = placed other is (λ unknown. absurd cc)
+      by other false is None unknown =
+          elim (cases_eq (known_count o h) 128) [
+            | inl full ↦ plain (Join id peer) (Refused Full) (other, unknown, full) refl
+            | inr free ↦ placed other is (λ _. free)
+          ]
+
+  removed : (id : ℕ) → HasAnswer orders places o h (Remove id) before
+  removed id =
+      elim (cases_eq id o.me) [
+        | inl myself ↦ plain (Remove id) (Refused Myself) myself refl
+        | inr other ↦ by other (row_of o h id) refl
+      ]
+    where
+      by : id ≢ o.me → (row : Option Row) → row_of o h id ≡ row → HasAnswer orders places o h (Remove id) before
+      by other None unknown = plain (Remove id) (Refused Unknown) (other, unknown) refl
+      by other (Some row) known = plain (Remove id) Removed (other, λ unknown. absurd cc) refl
+
+  answered : (call : Call) → HasAnswer orders places o h call before
+  answered Tick = ticked
+  answered (Hear m source) = let reply = hear_reply o h m source m.kind in plain (Hear m source) reply.0 reply.1 refl
+  answered (Join id peer) = joined id peer
+  answered (Remove id) = removed id
+
+-- ---- a run
+
+-- each list of calls has a drawn run
+pub drawn_run : {S : Type 0} (orders : S → List ℕ → List ℕ → S → Type 0) (places : S → ℕ → ℕ → S → Type 0) → IsTotal orders places → (o : Setting) → IsSetting o → DrawsAlways orders places o
+drawn_run orders places total o s start [] seats = record { run = []; now = start; is_run = tt; is_drawn = refl; of_calls = refl }
+drawn_run orders places total o s start (asked ∷ calls) seats =
+    let earlier = drawn_run orders places total o s start calls seats.1 in
+    let answer = answered orders places total o earlier.run s earlier.is_run earlier.now asked.1 in
+    let entry : Entry = record { seat = asked.0; number = calls_of asked.0 earlier.run; call = asked.1; choice = answer.choice; reply = answer.reply } in
+    record {
+      run = entry ∷ earlier.run;
+      now = answer.after;
+      is_run = (record { seat = seats.0; number = refl; answer = answer.fits }, earlier.is_run);
+      is_drawn = (earlier.now, earlier.is_drawn, answer.draws);
+      of_calls = ap (λ (rest : List (ℕ × Call)). asked ∷ rest) earlier.of_calls;
+    }

@@ -1,0 +1,45 @@
+//! The probes of a journal.
+
+ghost use Rattle.std.specs.Prelude.{◌≡◌, ◌++◌, map, reverse, IfOk, OnOk};
+ghost use Rattle.std.specs.Option.{option_to_list};
+ghost use Rattle.swim_history.specs.Events.{probe_in};
+ghost use Rattle.swim_history.specs.Probes.{probes, probed_by};
+
+use crate::entries::Entry;
+use crate::replies::Reply;
+use std::alloc::{AllocError, Global};
+use swim_wire::Id;
+
+/// The number of a period that began with a probe, and the member that was probed.
+#[derive(Clone, Copy, Debug, PartialEq, Eq)]
+pub struct Probed {
+    pub number: u64,
+    pub member: Id,
+}
+
+/// The probes of these entries, in order.
+pub(crate) fn collect_probed(alloc: Global, entries: &[Entry]) -> Result<Vec<Probed>, AllocError>
+    ensures { IfOk result (λ probed. probed.items ≡ map probed_by (probes (reverse entries.now))) }
+{
+    let mut probed = Vec::new(alloc);
+    for entry in entries {
+        note_probed(&mut probed, &entry.reply)?;
+    }
+    Ok(probed)
+}
+
+/// Adds the probe of a start, if it makes one.
+fn note_probed(probed: &mut Vec<Probed>, reply: &Reply) -> Result<(), AllocError>
+    ensures { OnOk result (probed.new.items ≡ probed.old.items ++ map probed_by (option_to_list (probe_in reply.now))) }
+{
+    match reply {
+        Reply::Started {
+            probe: Some(probe),
+            ..
+        } => Ok(probed.push(Probed {
+            number: probe.number,
+            member: probe.target,
+        })?),
+        _ => Ok(()),
+    }
+}
