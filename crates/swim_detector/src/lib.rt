@@ -6,3 +6,6 @@ mod recorder;
 mod states;
 
 pub use recorder::{ApplyFault, Recorder};
+
+#[cfg(test)]
+mod tests;
