@@ -1,5 +1,5 @@
--- A seeded chooser always answers: with an order of the ids, and with a place up to the last. The words that are
--- left are those of a later state of the generator.
+-- A seeded chooser always answers, with an order of the ids or with a place up to the last, and the words that are
+-- left are those of a later state of the generator. The words to come determine both.
 use Rattle.std.proofs.Common.{◌≡◌, ℕ, zero, suc, ◌+◌, ◌-◌, ◌*◌, ◌/◌, ◌%◌, ◌^◌, ◌<◌, ◌≤◌, ◌==◌, Bool, true, false, if◌then◌else◌, nat_lt, nat_le, List, length, swap, refl, sym, ap, subst, ◌∙◌, inl, inr, arith}
 use Rattle.std.proofs.Math.Nat.{mod-lt, mul_comm, mul-lt-mul_of_pos_right}
 use Rattle.std.proofs.lemmas.Bool.{cases_lt, eqb-true, eqb-false, ne_eqb, lt-ltb}
@@ -11,11 +11,11 @@ use Rattle.rand_core.specs.Steps.{steps_u32}
 use Rattle.rand_core.proofs.StepsLemmas.{next_u32-stream_of}
 use Rattle.rand_chacha.specs.Block.{block_word}
 use Rattle.rand_chacha.specs.ChaCha.{ChaCha, next_word}
-use Rattle.rand.specs.Shuffle.{rising, grow, chunk_of, Chooser, chooser_at, chooser_refill, chooser_next, narrow_swaps}
-use Rattle.rand.specs.Uniform.{canon}
+use Rattle.rand.specs.Shuffle.{rising, grow, chunk_of, Chooser, chooser_at, chooser_refill, chooser_next, narrow_swaps, shuffled}
+use Rattle.rand.specs.Uniform.{canon, below_or_word}
 use Rattle.rand.proofs.ShuffleLemmas.{rising_more, rising_one, rising_positive, grow_stops, grow_goes, rest_below, last_below, narrow_none, narrow_next}
 use Rattle.rand.proofs.UniformLemmas.{canon_plain, canon_carried, carry_room, if_below}
-use Rattle.swim_targets.specs.Draws.{words_of, DrawsOrder, DrawsPlace}
+use Rattle.swim_targets.specs.Draws.{words_of, HaveSameWords, DrawsOrder, DrawsPlace}
 
 -- ---- a number below a bound
 
@@ -213,6 +213,11 @@ order_drawn before ids few =
     let narrow : nat_lt (length ids) (2 ^ 32 - 1) ≡ true = lt-ltb (length ids) (2 ^ 32 - 1) (omega arith) in
     (swaps.order, swaps.after, swaps.permutes, rw narrow (ap (λ (p : List ℕ × Chooser × Stream). (p.0, p.2)) swaps.drawn))
 
+pub order_drawn_once : (one other after after' : ChaCha) (ids order order' : List ℕ) → HaveSameWords one other → DrawsOrder one ids order after → DrawsOrder other ids order' after' → (order ≡ order') × HaveSameWords after after'
+order_drawn_once one other after after' ids order order' same drawn drawn' =
+    let both : ◌≡◌ {A = List ℕ × Stream} (order, words_of after) (order', words_of after') = drawn ∙ ap (λ (s : Stream). shuffled ids 0 s) same ∙ sym drawn' in
+    (ap (λ (p : List ℕ × Stream). p.0) both, ap (λ (p : List ℕ × Stream). p.1) both)
+
 -- ---- the place
 
 pub place_drawn : (before : ChaCha) (last : ℕ) → last < 128 → (place : ℕ) × (after : ChaCha) × (place ≤ last) × DrawsPlace before last place after
@@ -220,3 +225,8 @@ place_drawn before last few =
     let d = number_drawn (last + 1) before (omega arith) (omega arith) in
     let part : (last + 1 == 2 ^ 32) ≡ false = ne_eqb (last + 1) (2 ^ 32) (λ same. omega arith) in
     (d.number, d.after, omega (arith, d.below), rw part d.drawn)
+
+pub place_drawn_once : (one other after after' : ChaCha) (last place place' : ℕ) → HaveSameWords one other → DrawsPlace one last place after → DrawsPlace other last place' after' → (place ≡ place') × HaveSameWords after after'
+place_drawn_once one other after after' last place place' same drawn drawn' =
+    let both : ◌≡◌ {A = ℕ × Stream} (place, words_of after) (place', words_of after') = drawn ∙ ap (λ (s : Stream). below_or_word canon (2 ^ 32) next_u32 (last + 1) s) same ∙ sym drawn' in
+    (ap (λ (p : ℕ × Stream). p.0) both, ap (λ (p : ℕ × Stream). p.1) both)
