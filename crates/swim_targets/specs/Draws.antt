@@ -3,6 +3,7 @@ use Rattle.std.specs.Prelude.{◌≡◌, ℕ, ◌+◌, ◌^◌, List}
 use Rattle.rand_core.specs.Stream.{Stream, next_u32}
 use Rattle.rand_core.specs.Steps.{stream_of, steps_u32}
 use Rattle.rand_chacha.specs.ChaCha.{ChaCha, next_word}
+pub use Rattle.rand_chacha.specs.ChaCha.{of_seed}
 use Rattle.rand.specs.Shuffle.{shuffled}
 use Rattle.rand.specs.Uniform.{canon, below_or_word}
 
