@@ -11,6 +11,10 @@ use Rattle.rand.specs.Uniform.{canon, below_or_word}
 abbrev pub words_of : ChaCha → Stream
 words_of = stream_of (steps_u32 (next_word 10))
 
+-- two states with the same words to come
+abbrev pub HaveSameWords : ChaCha → ChaCha → Type 0
+HaveSameWords one other = words_of one ≡ words_of other
+
 -- the order, and the words that are left, are those of the shuffle
 abbrev pub DrawsOrder : ChaCha → List ℕ → List ℕ → ChaCha → Type 0
 DrawsOrder before ids order after = (order, words_of after) ≡ shuffled ids 0 (words_of before)

@@ -201,6 +201,17 @@ impl Session {
         if self.recorder.is_some() {
             return Ok(());
         }
+        self.open_recorder()
+    }
+
+    // A function of its own, since its locals are large and `start` runs at each event line.
+    fn open_recorder(&mut self) -> Result<(), ScriptFault>
+        requires { self.old.recorded ≡ None }
+        ensures started { Started self.old self.new result }
+        ensures same { self.new.lines ≡ self.old.lines }
+        ensures unread { result_kind result ≢ Some FaultKind.Read }
+        ensures written { is_write result ≡ false }
+    {
         let opening = self.header.opening()?;
         let limit = self.header.limit();
         let header = mem::replace(&mut self.header, Header::new(self.alloc));
