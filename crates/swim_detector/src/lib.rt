@@ -7,4 +7,3 @@ mod recorder;
 mod states;
 
 pub use recorder::{ApplyFault, Recorder};
-
