@@ -15,7 +15,7 @@ pub fn a_script_draws_one_run()
 {}
 
 /// An opening, words to come and a list of calls, each with its seat, have exactly one run that `Seeded` draws,
-/// and the same words are to come after it.
+/// and the words to come after it are determined.
 pub fn a_seed_draws_one_run()
     ensures once { (o : Setting) → IsSetting o → DrawsOnce DrawsOrder DrawsPlace HaveSameWords o }
     ensures always { (o : Setting) → IsSetting o → DrawsAlways DrawsOrder DrawsPlace o }

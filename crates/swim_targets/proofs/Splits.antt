@@ -1,7 +1,7 @@
 -- A list of ids in two parts, and what an insertion and a removal do to each.
-use Rattle.std.specs.Prelude.{◌≡◌, ◌≢◌, ℕ, ◌+◌, ◌-◌, ◌<◌, ◌≤◌, Bool, true, false, not, List, [], ◌∷◌, length, take, drop, insert, remove, IsPermutation, zero, suc}
+use Rattle.std.specs.Prelude.{◌≡◌, ◌≢◌, ℕ, ◌+◌, ◌-◌, ◌<◌, ◌≤◌, true, false, not, List, [], ◌∷◌, length, take, drop, insert, remove, IsPermutation, zero, suc}
 use Rattle.std.specs.List.{refill}
-use Rattle.std.proofs.Common.{cond, eqb, ltb, refl, sym, ap, subst, ◌∙◌, arith, add-one, get_or, take-append-drop}
+use Rattle.std.proofs.Common.{eqb, ltb, refl, sym, ap, subst, ◌∙◌, arith, add-one, get_or, take-append-drop}
 use Rattle.std.proofs.lemmas.Bool.{or_parts, or_from, eq-eqb, eqb-false, ne_eqb, lt-ltb, le-ltb, both_ways}
 use Rattle.std.proofs.lemmas.List.{length-take-le, length-drop, take_all, drop_all, take_at}
 use Rattle.std.proofs.lemmas.List.Folds.{list_any-append, list_any_at}

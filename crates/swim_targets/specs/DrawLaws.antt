@@ -3,7 +3,7 @@
 use Rattle.std.proofs.Common.{◌≡◌, ℕ, zero, suc, ◌+◌, ◌-◌, ◌*◌, ◌/◌, ◌%◌, ◌^◌, ◌<◌, ◌≤◌, ◌==◌, Bool, true, false, if◌then◌else◌, nat_lt, nat_le, List, length, swap, refl, sym, ap, subst, ◌∙◌, inl, inr, arith}
 use Rattle.std.proofs.Math.Nat.{mod-lt, mul_comm, mul-lt-mul_of_pos_right}
 use Rattle.std.proofs.lemmas.Bool.{cases_lt, eqb-true, eqb-false, ne_eqb, lt-ltb}
-use Rattle.std.proofs.lemmas.Nat.{div_below, mul-lt}
+use Rattle.std.proofs.lemmas.Nat.{div_below}
 use Rattle.std.proofs.lemmas.List.Sorted.{IsPermutation-refl, IsPermutation-trans, IsPermutation-swap, length_permutation}
 use Rattle.std.specs.Prelude.{IsPermutation}
 use Rattle.rand_core.specs.Stream.{Stream, next_u32}
@@ -23,15 +23,18 @@ word_fits : (g : ChaCha) → (next_word 10 g).0 < 2 ^ 32
 unfolding block_word
 word_fits g = mod-lt _ (omega arith)
 
+-- the words after a word are those of the next state
 next_is : (g : ChaCha) → ((next_word 10 g).0, words_of (next_word 10 g).1) ≡ next_u32 (words_of g)
 next_is g = sym (next_u32-stream_of (steps_u32 (next_word 10)) g)
 
+-- a product of a word has a high word and a low one
 parts : (x : ℕ) → x / 2 ^ 32 * 2 ^ 32 + x % 2 ^ 32 ≡ x
 parts x = omega arith
 
 remainder : (x : ℕ) → x % 2 ^ 32 < 2 ^ 32
 remainder x = omega arith
 
+-- a number below range, drawn from the words of g
 record HasNumber (range : ℕ) (g : ChaCha) : Type 0 where
   number : ℕ
   after : ChaCha
@@ -55,7 +58,7 @@ number_drawn range g some fits =
             after = second.1;
             below = if_below carries (if carries then high + 1 else high) (high + 1) high range refl room below;
             drawn = canon_carried (2 ^ 32) range next_u32 (words_of g) (words_of first.1) (words_of second.1) first.0 second.0 high (x % 2 ^ 32) (y / 2 ^ 32) (y % 2 ^ 32)
-            (next_is g) (next_is first.1) (parts x) (remainder x) (parts y) (remainder y) carried;
+                (next_is g) (next_is first.1) (parts x) (remainder x) (parts y) (remainder y) carried;
           }
       | inr plain ↦
           record {
@@ -66,41 +69,35 @@ number_drawn range g some fits =
           }
     ]
 
--- ---- the product of the bounds that one draw serves
+-- ---- the bounds that one draw serves
 
+-- a product of bounds from m up, and how many they are
 record IsChunk (m : ℕ) (chunk : ℕ × ℕ) : Type 0 where
   product : chunk.0 ≡ rising m chunk.1
   some : 0 < chunk.1
-  positive : 0 < chunk.0
   fits : chunk.0 < 2 ^ 32
 
-grow_is : (n m product current count : ℕ) → 0 < m → product ≡ rising m count → current ≡ m + count → 0 < count → product < 2 ^ 32 → IsChunk m (grow n product current count)
+grow_is : (n m product current count : ℕ) → product ≡ rising m count → current ≡ m + count → 0 < count → product < 2 ^ 32 → IsChunk m (grow n product current count)
 unfolding grow
-grow_is zero m product current count positive is at some fits = record {
-  product = is;
-  some = some;
-  positive = rw is (rising_positive m count positive);
-  fits = fits;
-}
-grow_is (suc n) m product current count positive is at some fits =
+grow_is zero m product current count is at some fits = record { product = is; some = some; fits = fits }
+grow_is (suc n) m product current count is at some fits =
     elim (cases_lt (product * current) (2 ^ 32)) [
       | inl within ↦
           subst (IsChunk m) (grow_goes n product current count within)
-          (grow_is n m (product * current) (current + 1) (count + 1) positive (rw (is, at) (sym (rising_more m count))) (omega arith) (omega arith) within)
-      | inr over ↦
-          subst (IsChunk m) (grow_stops n product current count (omega arith))
-          (record { product = is; some = some; positive = rw is (rising_positive m count positive); fits = fits })
+          (grow_is n m (product * current) (current + 1) (count + 1) (rw (is, at) (sym (rising_more m count))) (omega arith) (omega arith) within)
+      | inr over ↦ subst (IsChunk m) (grow_stops n product current count (omega arith)) (record { product = is; some = some; fits = fits })
     ]
 
-chunk_is : (m : ℕ) → 0 < m → m < 2 ^ 32 → IsChunk m (chunk_of m)
-chunk_is m positive fits = grow_is 32 m m (m + 1) 1 positive (rising_one m) refl (omega arith) fits
+chunk_is : (m : ℕ) → m < 2 ^ 32 → IsChunk m (chunk_of m)
+chunk_is m fits = grow_is 32 m m (m + 1) 1 (rising_one m) refl (omega arith) fits
 
 -- ---- an index up to a bound
 
--- what is left of a draw is below the product of the bounds that it still serves
+-- what is left of a draw is below the product of the bounds that it is still to serve
 abbrev Serves : Chooser → Type 0
 Serves c = 0 < c.left → c.chunk < rising (c.n + 1) c.left
 
+-- a draw that serves one more bound at least: the chooser's, or a fresh one where nothing is left of that
 record HasDraw (c : Chooser) (g : ChaCha) : Type 0 where
   chunk : ℕ
   left : ℕ
@@ -111,8 +108,9 @@ record HasDraw (c : Chooser) (g : ChaCha) : Type 0 where
 
 refilled : (n chunk left : ℕ) (g : ChaCha) → n + 1 < 2 ^ 32 → Serves (record { n = n; chunk = chunk; left = left }) → HasDraw (record { n = n; chunk = chunk; left = left }) g
 refilled n chunk zero g fits serves =
-    let served = chunk_is (n + 1) (omega arith) fits in
-    let d = number_drawn (chunk_of (n + 1)).0 g served.positive (omega (arith, served.fits)) in
+    let served = chunk_is (n + 1) fits in
+    let positive : 0 < (chunk_of (n + 1)).0 = rw served.product (rising_positive (n + 1) (chunk_of (n + 1)).1 (omega arith)) in
+    let d = number_drawn (chunk_of (n + 1)).0 g positive (omega (arith, served.fits)) in
     record {
       chunk = d.number;
       left = (chunk_of (n + 1)).1;
@@ -125,6 +123,7 @@ refilled n chunk (suc left) g fits serves =
     let some : (suc left == 0) ≡ false = ne_eqb (suc left) 0 (λ none. omega arith) in
     record { chunk = chunk; left = suc left; after = g; some = omega arith; below = serves (omega arith); drawn = rw some refl }
 
+-- the chooser's next index
 record HasIndex (c : Chooser) (g : ChaCha) : Type 0 where
   index : ℕ
   next : Chooser
@@ -134,6 +133,7 @@ record HasIndex (c : Chooser) (g : ChaCha) : Type 0 where
   serves : Serves next
   drawn : (index, next, words_of after) ≡ chooser_next c (words_of g)
 
+-- the index that the draw gives
 abbrev step_of : ℕ → ℕ × ℕ × Stream → ℕ × Chooser × Stream
 step_of n r =
     if r.1 == 1
@@ -172,6 +172,7 @@ index_drawn c g fits serves = by (d.left == 1) refl where
 
 -- ---- the shuffle
 
+-- the ids after k swaps
 record HasSwaps (ids : List ℕ) (g : ChaCha) (k : ℕ) : Type 0 where
   order : List ℕ
   chooser : Chooser
@@ -201,7 +202,7 @@ swapped ids g (suc k) within few =
       chooser = next.next;
       after = next.after;
       permutes = IsPermutation-trans ids before.order order before.permutes
-      (IsPermutation-swap before.order order before.chooser.n next.index (omega (arith, before.bound, size)) (omega (arith, before.bound, size, next.below)) refl);
+          (IsPermutation-swap before.order order before.chooser.n next.index (omega (arith, before.bound, size)) (omega (arith, before.bound, size, next.below)) refl);
       bound = omega (arith, next.bound, before.bound);
       serves = next.serves;
       drawn = narrow_next ids (chooser_at 0) (words_of g) k before.order before.chooser next.next (words_of before.after) (words_of next.after) next.index before.drawn next.drawn;

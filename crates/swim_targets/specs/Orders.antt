@@ -1,10 +1,10 @@
 -- How often an id stands on a list, and which lists are orders of one another.
-use Rattle.std.specs.Prelude.{◌≡◌, ℕ, ◌+◌, ◌<◌, ◌≤◌, Bool, true, false, ◌||◌, List, [], ◌∷◌, IsPermutation}
-use Rattle.std.proofs.Common.{cond, eqb, refl, sym, subst, ◌∙◌, arith}
-use Rattle.std.proofs.lemmas.Bool.{or_parts, or_from, and_parts, and_from, eqb-true, eqb-false, eq-eqb, ne_eqb}
+use Rattle.std.specs.Prelude.{◌≡◌, ℕ, ◌+◌, ◌<◌, Bool, true, false, ◌||◌, List, [], ◌∷◌, IsPermutation}
+use Rattle.std.proofs.Common.{cond, eqb, refl, sym, ◌∙◌, arith}
+use Rattle.std.proofs.lemmas.Bool.{and_parts, and_from, eqb-true, eqb-false, eq-eqb, ne_eqb}
 use Rattle.std.proofs.lemmas.List.Recursion.{is_sum_by}
 use Rattle.std.proofs.lemmas.List.Sorted.{sum_by-IsPermutation, IsPermutation-refl, IsPermutation-sym, IsPermutation-trans, IsPermutation-cons, IsPermutation-middle}
-use Rattle.swim_wire.specs.Ids.{has, has_twice}
+use Rattle.swim_wire.specs.Ids.{has}
 use Rattle.swim_targets.specs.Script.{less_one, is_order_of}
 
 -- 1 where the two are one id, and else 0
