@@ -120,8 +120,12 @@ entry_made : (told : Told) (made : List Call) (run : List Entry) (a b : Recordin
     e.seat ≡ 0 → e.call ≡ call → Records ChoosesOrder ChoosesPlace a b e → IsRunOf told (call ∷ made) (e ∷ run) b.chooser
 entry_made told made run a b e call past opening m seat called adds = record {
   legal = (subst (λ (h : List Entry). Continues (setting_in told) h e) past (subst (λ (o : Setting). Continues o a.past e) opening adds.0), m.legal);
-  drawn = (a.chooser, m.drawn, subst (λ (h : List Entry). DrawsEntry ChoosesOrder ChoosesPlace (setting_in told) h e.call e.reply e.choice a.chooser b.chooser) past
-      (subst (λ (o : Setting). DrawsEntry ChoosesOrder ChoosesPlace o a.past e.call e.reply e.choice a.chooser b.chooser) opening adds.1));
+  drawn = (
+    a.chooser,
+    m.drawn,
+    subst (λ (h : List Entry). DrawsEntry ChoosesOrder ChoosesPlace (setting_in told) h e.call e.reply e.choice a.chooser b.chooser) past
+        (subst (λ (o : Setting). DrawsEntry ChoosesOrder ChoosesPlace o a.past e.call e.reply e.choice a.chooser b.chooser) opening adds.1),
+  );
   calls = rw (called, m.calls) refl;
   one_seat = rw (eq-eqb e.seat 0 seat, m.one_seat) refl;
 }

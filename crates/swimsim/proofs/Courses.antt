@@ -21,8 +21,8 @@ use Rattle.swimsim.specs.declared.faults.FaultKind.{FaultKind}
 use Rattle.swimsim.specs.declared.faults.FaultKind.TheVariants.{Size, Long, Words, Opening, Memory, Read, Write}
 use Rattle.swimsim.specs.declared.faults.ScriptFault.{ScriptFault}
 use Rattle.swimsim.specs.Commands.{line_read}
-use Rattle.swimsim.specs.Headers.{Told, nothing_told, is_event, Head, stage_of, said, head_of, setting_in, chooser_in}
-use Rattle.swimsim.specs.Script.{Turn, lines_of, at_line, opening_at, fault_of_setting, fault_of_opening, fault_of_command, fault_of_read, bytes_of, fault_at, fault_with, fault_of_header, fault_at_end, first_of, fault_from, fault_of, IsTold, lines_before, takes_memory, WantsMemory, RunsTo}
+use Rattle.swimsim.specs.Headers.{Told, nothing_told, is_event, stage_of, said, head_of, setting_in, chooser_in}
+use Rattle.swimsim.specs.Script.{Turn, lines_of, at_line, opening_at, fault_of_setting, fault_of_opening, fault_of_read, bytes_of, fault_at, fault_with, fault_of_header, fault_at_end, first_of, fault_from, fault_of, IsTold, lines_before, takes_memory, WantsMemory, RunsTo}
 use Rattle.swimsim.specs.Holds.{Played, kept, IsSilent, line_of, IsWaiting, Plays, Holds, ending, ending_with, TurnDone, TurnFails, Course}
 use Rattle.swimsim.proofs.KeptRows.{fault_of_kept}
 
@@ -210,9 +210,12 @@ ends_in_line script rest left line old mid mid' new budget after s fault c i kep
           ends_with script old new fault fault.kind stands.1
           (first_fault_is script rest i.piece (pieces left) before fault c.fault i.first (within ∙ found.0), c.text, stands.0, appends_kept old mid' new c.text (appends_kept old mid mid' c.text c.written kept) found.1)
       | inr (inl short) ↦
-          subst (λ (f : ScriptFault). RunsTo script old new f f.kind) (sym short.0)
-          (wants_memory script before i.piece (pieces left) (c.cut ∙ ap (λ (lines : List (List ℕ)). reverse before ++ lines) i.first) short.1,
-          c.text, told_so_far (length before + 1) script c.turns c.run c.text (pieces rest) s refl c.cut c.holds, appends_kept old mid' new c.text (appends_kept old mid mid' c.text c.written kept) short.2)
+          subst (λ (f : ScriptFault). RunsTo script old new f f.kind) (sym short.0) (
+            wants_memory script before i.piece (pieces left) (c.cut ∙ ap (λ (lines : List (List ℕ)). reverse before ++ lines) i.first) short.1,
+            c.text,
+            told_so_far (length before + 1) script c.turns c.run c.text (pieces rest) s refl c.cut c.holds,
+            appends_kept old mid' new c.text (appends_kept old mid mid' c.text c.written kept) short.2,
+          )
       | inr (inr failed) ↦
           subst (λ (f : ScriptFault). RunsTo script old new f f.kind) (sym failed.0)
           (c.text, failed.1, told_so_far (length before + 1) script c.turns c.run c.text (pieces rest) s refl c.cut c.holds, appends_both old mid new c.text failed.1 c.written (kept_appends mid mid' new failed.1 kept failed.2))

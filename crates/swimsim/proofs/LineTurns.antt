@@ -1,5 +1,5 @@
 -- What a line does to a session, whatever it says.
-use Rattle.std.proofs.Common.{◌≡◌, ℕ, ◌+◌, ◌≤◌, cond, Bool, true, false, List, [], ◌∷◌, ◌++◌, length, Option, Some, None, Result, Ok, Err, refl, sym, ap, subst, ◌∙◌, inl, inr, arith, append-nil}
+use Rattle.std.proofs.Common.{◌≡◌, ℕ, ◌+◌, ◌≤◌, cond, Bool, true, false, List, [], ◌∷◌, length, Option, Some, None, Result, Ok, Err, refl, sym, ap, subst, ◌∙◌, inl, inr, arith, append-nil}
 use Rattle.std.specs.Io.KnownBytes.{Keeps}
 use Rattle.swim_wire.specs.Lines.{bare}
 use Rattle.swim_wire.specs.Streams.{appends_none}
@@ -26,7 +26,7 @@ use Rattle.swimsim.specs.Headers.{Told, told_then, is_event, draws_with, stage_w
 use Rattle.swimsim.specs.Texts.{table_text, wire_text}
 use Rattle.swimsim.specs.Script.{Turn, lines_of, asked_by, takes_memory, at_line, fault_of_opening, fault_of_command, fault_with, fault_of_header, fault_of_read}
 use Rattle.swimsim.specs.Script.Asked.{Nothing, Calls}
-use Rattle.swimsim.specs.Holds.{Played, stage_in, kept, line_of, Plays, Holds, IsStopped, IsNoted, Notes, MayNote, PlaysLine, ShowsLine, Done, TurnDone, TurnFails, Turned}
+use Rattle.swimsim.specs.Holds.{Played, stage_in, kept, line_of, Plays, Holds, IsStopped, IsNoted, PlaysLine, ShowsLine, Done, TurnDone, TurnFails, Turned}
 use Rattle.swimsim.proofs.KeptRows.{fault_of_kept, kept_more}
 use Rattle.swimsim.proofs.Turns.{taken, stage_is, noted}
 use Rattle.swimsim.proofs.Answered.{after_event, played, shown}

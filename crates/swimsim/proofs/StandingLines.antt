@@ -2,7 +2,6 @@
 use Rattle.std.proofs.Common.{◌≡◌, ℕ, Bool, true, false, cond, List, [], ◌∷◌, Option, Some, None, Result, Ok, Err, refl, subst}
 use Rattle.swim_wire.specs.Words.{words_of}
 use Rattle.swimsim.specs.declared.commands.LineFault.{LineFault}
-use Rattle.swimsim.specs.declared.commands.LineFault.TheVariants as faults
 use Rattle.swimsim.specs.declared.commands.Stage.{Stage}
 use Rattle.swimsim.specs.declared.commands.Word.{Word}
 use Rattle.swimsim.specs.declared.commands.Word.TheVariants as words

@@ -1,7 +1,7 @@
 -- What the chooser of a script chooses.
 use Rattle.std.specs.Prelude.{ℕ, List}
 use Rattle.swim_targets.specs.Draws.{DrawsOrder, DrawsPlace}
-use Rattle.swim_targets.specs.Script.{Script, FollowsOrder, FollowsPlace}
+use Rattle.swim_targets.specs.Script.{FollowsOrder, FollowsPlace}
 use Rattle.swimsim.specs.declared.choosers.Drawer.{Drawer}
 use Rattle.swimsim.specs.declared.choosers.Drawer.TheVariants.{Seeded, Scripted}
 

@@ -15,7 +15,7 @@ use Rattle.swimsim.specs.declared.commands.Draws.TheVariants.{Unsaid, Scripted, 
 use Rattle.swimsim.specs.declared.commands.Stage.{Stage}
 use Rattle.swimsim.specs.declared.commands.Stage.TheVariants.{Blank, Header, Events}
 use Rattle.swimsim.specs.declared.commands.Command.{Command}
-use Rattle.swimsim.specs.declared.commands.Command.TheVariants.{Open, Row, Order, Place, Seed, Tick, Hear, Join, Remove, Table}
+use Rattle.swimsim.specs.declared.commands.Command.TheVariants.{Open, Row, Order, Place, Seed}
 use Rattle.swimsim.specs.Commands.{line_read}
 
 -- what header lines tell: the opening, its rows in order, and who chooses

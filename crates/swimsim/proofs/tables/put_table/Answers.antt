@@ -1,4 +1,4 @@
-use Rattle.std.proofs.Common.{refl, ◌++◌, codes}
+use Rattle.std.proofs.Common.{refl, codes}
 use Rattle.swimsim.specs.Texts.{rows_text, table_text}
 use Rattle.swimsim.proofs.TwoPuts.{first_failed, both_put}
 use Rattle.swimsim.proofs.tables.put_table.Goals as goal
