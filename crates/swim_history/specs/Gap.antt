@@ -1,10 +1,11 @@
 -- Gaps between successive probes of a member that is listed all the time between.
-use Rattle.std.specs.Prelude.{◌≡◌, ◌+◌, ℕ, Bool, ◌||◌, false, ◌==◌, List, ◌∷◌, ◌++◌, length, filter, Option, Some, None}
+use Rattle.std.specs.Prelude.{◌≡◌, ◌+◌, ℕ, Bool, ◌||◌, true, false, ◌==◌, List, ◌∷◌, ◌++◌, length, filter, Option, Some, None}
 use Rattle.std.specs.List.{list_any}
 use Rattle.swim_history.specs.declared.replies.Probe.{Probe}
 use Rattle.swim_history.specs.declared.entries.Entry.{Entry}
 use Rattle.swim_history.specs.Setting.{Setting}
 use Rattle.swim_history.specs.Events.{probe_in, judged_in, removes, joins}
+use Rattle.swim_history.specs.Rows.{is_listed}
 use Rattle.swim_history.specs.Round.{listed}
 
 -- whether it is this member
@@ -42,3 +43,13 @@ pub record IsGap (o : Setting) (h : List Entry) (m a b n : ℕ) : Type 0 where
   pub none_between : list_any (probes_member m) between ≡ false
   pub stays : list_any (unlists m) between ≡ false
   pub count : n ≡ length (listed o (first ∷ before)) + length (filter joins between)
+
+-- some entries of a history, one after the other; the member is listed from just before the first of them until after
+-- the last; n is how many are listed just before the first, and how many join in them
+pub record IsStretch (o : Setting) (h : List Entry) (m n : ℕ) (stretch : List Entry) : Type 0 where
+  pub newer : List Entry
+  pub before : List Entry
+  pub split : h ≡ newer ++ (stretch ++ before)
+  pub listed_at_first : is_listed o before m ≡ true
+  pub stays : list_any (unlists m) stretch ≡ false
+  pub count : n ≡ length (listed o before) + length (filter joins stretch)

@@ -259,7 +259,7 @@ still_there (Some id) gone m e = by (gone id) refl e where
   by false is e = (e, subst (λ (x : ℕ). gone x ≡ false) (same_Some id m e) is)
 
 -- a member that is up stays so where no period begins and it isn't removed
-up_then : (call : Call) (reply : Reply) (number m : ℕ) (row : Option Row) → is_starting reply ≡ false → is_removing m call reply ≡ false → is_up row ≡ true → is_up (row_then call reply number m row) ≡ true
+pub up_then : (call : Call) (reply : Reply) (number m : ℕ) (row : Option Row) → is_starting reply ≡ false → is_removing m call reply ≡ false → is_up row ≡ true → is_up (row_then call reply number m row) ≡ true
 up_then Tick (Started judged probe) number m row starts removes is = absurd cc
 up_then (Join joiner peer) (Joined place) number m row starts removes is = by (nat_eq joiner m) where
   by : (b : Bool) → is_up (cond b (Some (up joiner peer)) row) ≡ true
