@@ -14,6 +14,7 @@ pub mod Drawn
 pub mod Judgement
 pub mod Probes
 pub mod Gap
+pub mod LastProbe
 pub mod Seats
 pub mod Reasons
 pub mod Determined

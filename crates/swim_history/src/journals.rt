@@ -219,7 +219,7 @@ fn is_start(reply: &Reply) -> bool
 
 /// Makes the change of an entry, if it makes one; number is that of the period which it ends, if it
 /// ends one.
-fn note_change(rows: &mut Table, entry: &Entry, number: u64)
+pub(crate) fn note_change(rows: &mut Table, entry: &Entry, number: u64)
     requires ascends { IsAscending rows.old.items }
     requires fits { let change = change_by entry.now.call entry.now.reply number in
         length (rows_after rows.old.items (option_to_list change)) ≤ 128 }
@@ -273,7 +273,7 @@ fn note_judged(judged: &mut Vec<Judged>, member: Option<Id>, number: u64) -> Res
 }
 
 /// The last period number used after an entry.
-fn number_after(number: u64, reply: &Reply) -> u64
+pub(crate) fn number_after(number: u64, reply: &Reply) -> u64
     requires { is_starting reply.now ≡ true → number + 1 < 2 ^ 64 }
     ensures { result ≡ (if is_starting reply.now then number + 1 else number) }
 {
