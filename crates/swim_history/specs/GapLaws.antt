@@ -1,6 +1,6 @@
 -- Successive probes of a member that is listed all the time are at most 2 n - 1 periods apart, and within so many
 -- starts it is probed; n is how many members are listed at first, and how many join.
-use Rattle.std.proofs.Common.{◌≡◌, ℕ, ◌+◌, ◌*◌, ◌-◌, ◌<◌, ◌≤◌, Bool, true, false, cond, nat_eq, List, [], ◌∷◌, ◌++◌, length, Option, Some, None, refl, sym, ap, subst, ◌∙◌, arith}
+use Rattle.std.proofs.Common.{◌≡◌, ℕ, ◌+◌, ◌*◌, ◌≤◌, Bool, true, false, cond, nat_eq, List, [], ◌∷◌, ◌++◌, length, Option, Some, None, refl, sym, ap, subst, ◌∙◌, arith}
 use Rattle.std.proofs.lemmas.Bool.{both_ways, or_parts, eqb-true}
 use Rattle.std.proofs.lemmas.Cmp.{nat_eq_equiv}
 use Rattle.std.specs.Prelude.{filter}
@@ -24,7 +24,7 @@ use Rattle.swim_history.specs.Run.{IsProbe, Answers, Continues, IsRun}
 use Rattle.swim_history.specs.RunLaws.{begins, number_then, IsRun-older}
 use Rattle.swim_history.specs.JudgementLaws.{started_number}
 use Rattle.swim_history.specs.ListedLaws.{listed_is, aim_listed, up_then}
-use Rattle.swim_history.specs.Gap.{is_member, is_probe_of, probes_member, unlists, IsGap, IsStretch}
+use Rattle.swim_history.specs.Gap.{is_member, is_probe_of, probes_member, unlists, AreGapsBounded, IsProbedInTime}
 use Rattle.swim_history.specs.Wait.{wait, wait-leave, wait-start, wait-join, wait_bound}
 
 -- ---- one entry
@@ -85,7 +85,7 @@ wait_then o h e m s run c none stays is = by (is_start e) refl
 
 -- ---- entries one after the other
 
-counted : (test : Entry → Bool) (e : Entry) (h : List Entry) → length (filter test (e ∷ h)) ≡ cond (test e) 1 0 + length (filter test h)
+pub counted : (test : Entry → Bool) (e : Entry) (h : List Entry) → length (filter test (e ∷ h)) ≡ cond (test e) 1 0 + length (filter test h)
 counted test e h = by (test e)
   where
     by : (b : Bool) → length (cond b (e ∷ filter test h) (filter test h)) ≡ cond b 1 0 + length (filter test h)
@@ -130,8 +130,8 @@ probed_listed o h e probe s run is =
     aim_listed o (e ∷ h) probe.target s run aimed
 
 -- a gap is at most so wide
-pub gap_bound : (o : Setting) (h : List Entry) (m a b n : ℕ) → IsSetting o → IsRun o h → IsGap o h m a b n → (a < b) × (b ≤ a + (2 * n - 1))
-gap_bound o h m a b n s run gap =
+pub gap_bound : (o : Setting) (h : List Entry) → IsSetting o → IsRun o h → AreGapsBounded o h
+gap_bound o h s run m a b n gap =
     let probed = gap.first ∷ gap.before in
     let ended = gap.between ++ probed in
     let older = IsRun-older o gap.newer (gap.second ∷ ended) (subst (λ (h : List Entry). IsRun o h) gap.split run) in
@@ -151,9 +151,8 @@ gap_bound o h m a b n s run gap =
 -- ---- rounds
 
 -- a member that is listed all the time is probed within so many starts
-pub probed_in_time : (o : Setting) (h : List Entry) (m n : ℕ) (stretch : List Entry) → IsSetting o → IsRun o h → IsStretch o h m n stretch → 2 * n - 1 ≤ length (filter is_start stretch)
-    → list_any (probes_member m) stretch ≡ true
-probed_in_time o h m n stretch s run is enough = by (list_any (probes_member m) stretch) refl
+pub probed_in_time : (o : Setting) (h : List Entry) → IsSetting o → IsRun o h → IsProbedInTime o h
+probed_in_time o h s run m n stretch is enough = by (list_any (probes_member m) stretch) refl
   where
     by : (b : Bool) → list_any (probes_member m) stretch ≡ b → b ≡ true
     by true some = refl

@@ -127,7 +127,7 @@ up_known None unknown = refl
 up_known (Some row) unknown = absurd cc
 
 -- the members that are up at the start
-listed_first : (rows : List Row) → has_twice (ids_of rows) ≡ false → (id : ℕ) → has (ids_of (filter (λ row. is_state_up row.state) rows)) id ≡ is_up (row_at rows id)
+pub listed_first : (rows : List Row) → has_twice (ids_of rows) ≡ false → (id : ℕ) → has (ids_of (filter (λ row. is_state_up row.state) rows)) id ≡ is_up (row_at rows id)
 listed_first [] once id = refl
 listed_first (row ∷ rows) once id =
     let parts = or_parts (has (ids_of rows) row.id) (has_twice (ids_of rows)) once in
@@ -196,7 +196,7 @@ listed_is o (e ∷ h) s run id = listed_then o h e.call e.reply e.choice id run.
 
 -- ---- each once
 
-once_up : (rows : List Row) → has_twice (ids_of rows) ≡ false → has_twice (ids_of (filter (λ row. is_state_up row.state) rows)) ≡ false
+pub once_up : (rows : List Row) → has_twice (ids_of rows) ≡ false → has_twice (ids_of (filter (λ row. is_state_up row.state) rows)) ≡ false
 once_up [] once = refl
 once_up (row ∷ rows) once =
     let parts = or_parts (has (ids_of rows) row.id) (has_twice (ids_of rows)) once in

@@ -73,7 +73,8 @@ fn probed_at(member: Id, reply: &Reply) -> Option<u64>
 {
     match reply {
         Reply::Started {
-            probe: Some(probe), ..
+            probe: Some(probe),
+            ..
         } if probe.target == member => Some(probe.number),
         _ => None,
     }
@@ -136,7 +137,10 @@ fn unlists(member: Id, entry: &Entry) -> bool
 fn joins(entry: &Entry) -> bool
     ensures { result ≡ joins entry.now }
 {
-    matches!((&entry.call, &entry.reply), (Call::Join(..), Reply::Joined { .. }))
+    matches!(
+        (&entry.call, &entry.reply),
+        (Call::Join(..), Reply::Joined { .. })
+    )
 }
 
 /// How many rows are of members that are up.
