@@ -2,7 +2,11 @@
 #![tactic(auto)]
 
 mod answers;
+pub mod laws;
 mod recorder;
 mod states;
 
 pub use recorder::{ApplyFault, Recorder};
+
+#[cfg(test)]
+mod tests;

@@ -28,7 +28,7 @@ use Rattle.swim_history.specs.Run.{Answers, IsRun}
 put_shows_more : (new row : Row) (rows : List Row) (id : ℕ) → row_at (put new rows) id ≡ cond (new.id == id) (Some new) (row_at rows id) → row_at (put new (row ∷ rows)) id ≡ cond (new.id == id) (Some new) (row_at (row ∷ rows) id)
 put_shows_more new row rows id again = grind (arith, nat_tests)
 
-pub put_shows : (new : Row) (rows : List Row) (id : ℕ) → row_at (put new rows) id ≡ cond (new.id == id) (Some new) (row_at rows id)
+put_shows : (new : Row) (rows : List Row) (id : ℕ) → row_at (put new rows) id ≡ cond (new.id == id) (Some new) (row_at rows id)
 put_shows new [] id = refl
 put_shows new (row ∷ rows) id = put_shows_more new row rows id (put_shows new rows id)
 

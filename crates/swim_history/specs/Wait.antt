@@ -8,9 +8,10 @@ use Rattle.std.proofs.lemmas.List.Folds.{list_any-append}
 use Rattle.std.proofs.lemmas.List.Sorted.{length_permutation, IsPermutation-insert}
 use Rattle.std.specs.Prelude.{insert}
 use Rattle.swim_wire.specs.Ids.{has, without, front}
+use Rattle.swim_wire.specs.IdLaws.{has_part, has-IsPermutation}
 use Rattle.swim_wire.specs.Round.{Lists, all_of, leave, leave_judged, MayDraw, redraw, advanced, advance, join_at}
 use Rattle.swim_history.specs.Gap.{is_member}
-use Rattle.swim_history.specs.ListedLaws.{has_part, has-IsPermutation, all-leave, all-redraw}
+use Rattle.swim_history.specs.ListedLaws.{all-leave, all-redraw}
 
 -- the place of an id on a list, counted from 1
 abbrev pub place_of : ℕ → List ℕ → ℕ

@@ -31,8 +31,8 @@ use Rattle.swim_history.specs.Probes.{probes}
 abbrev pub at : ℕ → Address
 at n = record { ip = 10 ∷ 0 ∷ 0 ∷ n ∷ []; port = 7000 }
 
-abbrev pub row : ℕ → Row
-row n = up n (at n)
+abbrev pub known : ℕ → Row
+known n = up n (at n)
 
 -- a detector of member 1 with a timeout of one tick and a period of three
 abbrev pub of_members : ℕ → ℕ → List Row → Setting
@@ -53,7 +53,7 @@ asking place target number relays = entry place Tick (Asked target number (recor
 
 -- one member and no relays: the probe, the empty ask, a quiet tick and the judgement
 abbrev silent_member : Setting
-silent_member = of_members 0 0 (row 2 ∷ [])
+silent_member = of_members 0 0 (known 2 ∷ [])
 
 abbrev silence : List Entry
 silence =
@@ -89,7 +89,7 @@ silence_is_run = (
 
 -- two members and one relay: the aim of the first period is judged, and the other member is probed next
 abbrev pub two_members : Setting
-two_members = of_members 1 0 (row 2 ∷ row 3 ∷ [])
+two_members = of_members 1 0 (known 2 ∷ known 3 ∷ [])
 
 abbrev pub first_start : Entry
 first_start = starting 0 None 2 1 (round (2 ∷ 3 ∷ []))
@@ -105,7 +105,7 @@ two_periods =
 two_periods_judge : judgements two_members two_periods ≡ record { member = 2; number = 1 } ∷ []
 two_periods_judge = refl
 
-two_periods_show : table two_members two_periods ≡ record { id = 2; peer = at 2; state = Failed 1 } ∷ row 3 ∷ []
+two_periods_show : table two_members two_periods ≡ record { id = 2; peer = at 2; state = Failed 1 } ∷ known 3 ∷ []
 two_periods_show = refl
 
 two_periods_list : lists two_members two_periods ≡ record { probed = 3 ∷ []; rest = [] }
@@ -130,7 +130,7 @@ two_periods_are_run = (
 abbrev one_for_another : List Entry
 one_for_another = entry 5 (Join 4 (at 4)) (Joined 0) Nothing ∷ entry 4 (Remove 3) Removed Nothing ∷ two_periods
 
-one_for_another_shows : table two_members one_for_another ≡ record { id = 2; peer = at 2; state = Failed 1 } ∷ row 4 ∷ []
+one_for_another_shows : table two_members one_for_another ≡ record { id = 2; peer = at 2; state = Failed 1 } ∷ known 4 ∷ []
 one_for_another_shows = refl
 
 one_for_another_is_run : IsRun two_members one_for_another
@@ -191,8 +191,8 @@ asked_again : length (waiting two_members (request 1 ∷ request 0 ∷ [])) ≡ 
 asked_again = refl
 
 -- the last number is used, and no period begins after it
-last_period : period_number (of_members 1 18446744073709551614 (row 2 ∷ [])) (starting 0 None 2 18446744073709551615 (round (2 ∷ [])) ∷ []) ≡ 18446744073709551615
+last_period : period_number (of_members 1 18446744073709551614 (known 2 ∷ [])) (starting 0 None 2 18446744073709551615 (round (2 ∷ [])) ∷ []) ≡ 18446744073709551615
 last_period = refl
 
-refused_when_spent : Continues (of_members 1 18446744073709551615 (row 2 ∷ [])) [] (entry 0 Tick (Refused Spent) Nothing)
+refused_when_spent : Continues (of_members 1 18446744073709551615 (known 2 ∷ [])) [] (entry 0 Tick (Refused Spent) Nothing)
 refused_when_spent = record { seat = lit< tt; number = refl; answer = (refl, refl) }

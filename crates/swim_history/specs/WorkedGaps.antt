@@ -14,7 +14,7 @@ use Rattle.swim_history.specs.Clock.{period_number, phase}
 use Rattle.swim_history.specs.Aim.{aim, unheard}
 use Rattle.swim_history.specs.Run.{calls_of, IsRun}
 use Rattle.swim_history.specs.Gap.{probes_member, unlists, IsGap, IsStretch}
-use Rattle.swim_history.specs.Worked.{at, row, of_members, entry, round, starting, two_members, first_start}
+use Rattle.swim_history.specs.Worked.{at, known, of_members, entry, round, starting, two_members, first_start}
 
 -- the entries of a period after its start: the aim's ack, then two quiet ticks
 abbrev pub heard : ℕ → ℕ → ℕ → Entry
@@ -39,7 +39,7 @@ acked_is_run o place target number before me calls aimed now first second none s
 
 -- four periods of two members without relays
 abbrev pub no_relays : Setting
-no_relays = of_members 0 0 (row 2 ∷ row 3 ∷ [])
+no_relays = of_members 0 0 (known 2 ∷ known 3 ∷ [])
 
 abbrev second_start : Entry
 second_start = starting 4 None 3 2 Nothing

@@ -2,14 +2,16 @@
 #![tactic(auto)]
 
 mod answers;
+mod arguments;
+mod choosers;
 mod commands;
 mod datagrams;
-mod detector;
 mod faults;
-mod fields;
+mod headers;
 mod playing;
 mod session;
 mod simulator;
+mod tables;
 
 use faults::{FaultKind, ScriptFault};
 use std::process::ExitCode;

@@ -1,0 +1,118 @@
+mod limits;
+mod members;
+mod periods;
+mod requests;
+
+use crate::Recorder;
+use std::test::*;
+use swim_history::{Call, Opening, Probe, Relay, Reply, Row, RowState};
+use swim_targets::{Order, Scripted};
+use swim_wire::{Id, Kind, Message, Peer, PeriodNumber};
+
+fn id(number: u32) -> Result<Id, Fail> {
+    Ok(Id::new(number).ok_or("an id is not 0")?)
+}
+
+// Members stand at 10.0.0.1:7000, 10.0.0.2:7000, ..
+fn at(last: u8) -> Peer {
+    Peer {
+        ip: [10, 0, 0, last],
+        port: 7000,
+    }
+}
+
+fn order_of(numbers: &[u32]) -> Result<Order, Fail> {
+    let mut order = Order::new();
+    for number in numbers {
+        order.try_push(id(*number)?)?;
+    }
+    Ok(order)
+}
+
+// Member 1, which knows these others, with a timeout of one tick and a period of three.
+fn opening(k: u32, others: &[u8], last: u64) -> Result<Opening, Fail> {
+    let mut rows = arrayvec::ArrayVec::<(Id, Peer), 128>::new();
+    for other in others {
+        rows.try_push((id(u32::from(*other))?, at(*other)))?;
+    }
+    Ok(Opening::check(id(1)?, k, 1, 3, rows.as_slice(), last).map_err(|_| "an opening")?)
+}
+
+// The detector of member 1, whose chooser leaves each order as it is and takes each last place.
+fn recorder(
+    rt: HostRuntime,
+    k: u32,
+    others: &[u8],
+    limit: u32,
+) -> Result<Recorder<Scripted>, Fail> {
+    let chooser = Scripted::new(Vec::new(rt.alloc()), Vec::new(rt.alloc()));
+    Ok(Recorder::open(rt.alloc(), opening(k, others, 0)?, chooser, limit))
+}
+
+fn message(
+    kind: Kind,
+    sender: u32,
+    initiator: u32,
+    target: u32,
+    number: u64,
+) -> Result<Message, Fail> {
+    Ok(Message {
+        kind,
+        sender: id(sender)?,
+        initiator: id(initiator)?,
+        target: id(target)?,
+        number: PeriodNumber::new(number).ok_or("a number is not 0")?,
+    })
+}
+
+// The reply to a call of seat 0.
+fn reply(recorder: &mut Recorder<Scripted>, call: Call) -> Result<Reply, Fail> {
+    Ok(recorder.apply(0, call).map_err(|_| "an entry")?.reply)
+}
+
+fn started(judged: Option<u32>, probe: Option<(u8, u64)>) -> Result<Reply, Fail> {
+    let judged = match judged {
+        Some(member) => Some(id(member)?),
+        None => None,
+    };
+    let probe = match probe {
+        Some((target, number)) => Some(Probe {
+            target: id(u32::from(target))?,
+            peer: at(target),
+            number,
+        }),
+        None => None,
+    };
+    Ok(Reply::Started { judged, probe })
+}
+
+fn asked(target: u32, number: u64, relays: &[u8]) -> Result<Reply, Fail> {
+    let mut asked = arrayvec::ArrayVec::<Relay, 8>::new();
+    for relay in relays {
+        asked.try_push(Relay {
+            id: id(u32::from(*relay))?,
+            peer: at(*relay),
+        })?;
+    }
+    Ok(Reply::Asked {
+        target: id(target)?,
+        number,
+        relays: asked,
+    })
+}
+
+fn up(member: u8) -> Result<Row, Fail> {
+    Ok(Row {
+        id: id(u32::from(member))?,
+        peer: at(member),
+        state: RowState::Up,
+    })
+}
+
+fn failed(member: u8, number: u64) -> Result<Row, Fail> {
+    Ok(Row {
+        id: id(u32::from(member))?,
+        peer: at(member),
+        state: RowState::Failed(number),
+    })
+}
