@@ -1,3 +1,6 @@
+pub mod GapWalk
 pub mod InOrder
+pub mod LastProbes
 pub mod Places
 pub mod Summaries
+pub mod UpRows

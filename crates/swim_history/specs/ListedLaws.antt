@@ -85,7 +85,7 @@ up_known None unknown = refl
 up_known (Some row) unknown = absurd cc
 
 -- the members that are up at the start
-listed_first : (rows : List Row) → has_twice (ids_of rows) ≡ false → (id : ℕ) → has (ids_of (filter (λ row. is_state_up row.state) rows)) id ≡ is_up (row_at rows id)
+pub listed_first : (rows : List Row) → has_twice (ids_of rows) ≡ false → (id : ℕ) → has (ids_of (filter (λ row. is_state_up row.state) rows)) id ≡ is_up (row_at rows id)
 listed_first [] once id = refl
 listed_first (row ∷ rows) once id =
     let parts = or_parts (has (ids_of rows) row.id) (has_twice (ids_of rows)) once in
@@ -154,7 +154,7 @@ listed_is o (e ∷ h) s run id = listed_then o h e.call e.reply e.choice id run.
 
 -- ---- each once
 
-once_up : (rows : List Row) → has_twice (ids_of rows) ≡ false → has_twice (ids_of (filter (λ row. is_state_up row.state) rows)) ≡ false
+pub once_up : (rows : List Row) → has_twice (ids_of rows) ≡ false → has_twice (ids_of (filter (λ row. is_state_up row.state) rows)) ≡ false
 once_up [] once = refl
 once_up (row ∷ rows) once =
     let parts = or_parts (has (ids_of rows) row.id) (has_twice (ids_of rows)) once in
@@ -217,7 +217,7 @@ still_there (Some id) gone m e = by (gone id) refl e where
   by false is e = (e, subst (λ (x : ℕ). gone x ≡ false) (same_Some id m e) is)
 
 -- a member that is up stays so where no period begins and it isn't removed
-up_then : (call : Call) (reply : Reply) (number m : ℕ) (row : Option Row) → is_starting reply ≡ false → is_removing m call reply ≡ false → is_up row ≡ true → is_up (row_then call reply number m row) ≡ true
+pub up_then : (call : Call) (reply : Reply) (number m : ℕ) (row : Option Row) → is_starting reply ≡ false → is_removing m call reply ≡ false → is_up row ≡ true → is_up (row_then call reply number m row) ≡ true
 up_then Tick (Started judged probe) number m row starts removes is = absurd cc
 up_then (Join joiner peer) (Joined place) number m row starts removes is = by (nat_eq joiner m) where
   by : (b : Bool) → is_up (cond b (Some (up joiner peer)) row) ≡ true

@@ -26,17 +26,16 @@ use Rattle.swim_history.specs.Waiting.{waiting}
 use Rattle.swim_history.specs.Run.{Continues, IsRun}
 use Rattle.swim_history.specs.Judgement.{judgements}
 use Rattle.swim_history.specs.Probes.{probes}
-use Rattle.swim_history.specs.Gap.{IsGap}
 
 -- member n listens at 10.0.0.n:7000
 abbrev pub at : ℕ → Address
 at n = record { ip = 10 ∷ 0 ∷ 0 ∷ n ∷ []; port = 7000 }
 
-abbrev known : ℕ → Row
+abbrev pub known : ℕ → Row
 known n = up n (at n)
 
 -- a detector of member 1 with a timeout of one tick and a period of three
-abbrev of_members : ℕ → ℕ → List Row → Setting
+abbrev pub of_members : ℕ → ℕ → List Row → Setting
 of_members k last rows = record { me = 1; k = k; rtt = 1; period = 3; rows = rows; last = last }
 
 -- an entry of the one caller
@@ -197,36 +196,3 @@ last_period = refl
 
 refused_when_spent : Continues (of_members 1 18446744073709551615 (known 2 ∷ [])) [] (entry 0 Tick (Refused Spent) Nothing)
 refused_when_spent = record { seat = lit< tt; number = refl; answer = (refl, refl) }
-
--- four periods without relays whose aims answer: the first member's probes are three periods apart, with two listed
-abbrev acked : ℕ → ℕ → ℕ → List Entry → List Entry
-acked place target number before =
-    entry (place + 2) Tick Quiet Nothing
-    ∷ entry (place + 1) Tick Quiet Nothing
-    ∷ entry place (Hear (record { kind = Ack; sender = target; initiator = 1; target = target; number = number }) (at target)) Heard Nothing
-    ∷ before
-
-abbrev no_relays : Setting
-no_relays = of_members 0 0 (known 2 ∷ known 3 ∷ [])
-
-abbrev between_probes : List Entry
-between_probes = acked 9 3 3 (starting 8 None 3 3 (round (3 ∷ 2 ∷ [])) ∷ acked 5 3 2 (starting 4 None 3 2 Nothing ∷ acked 1 2 1 []))
-
-four_probes : IsGap no_relays (starting 12 None 2 4 Nothing ∷ (between_probes ++ first_start ∷ [])) 2 1 4 2
-four_probes = record {
-  newer = [];
-  second = starting 12 None 2 4 Nothing;
-  between = between_probes;
-  first = first_start;
-  before = [];
-  split = refl;
-  from = record { target = 2; peer = at 2; number = 1 };
-  to = record { target = 2; peer = at 2; number = 4 };
-  probed = refl;
-  again = refl;
-  members = (refl, refl);
-  numbers = (refl, refl);
-  none_between = refl;
-  stays = refl;
-  count = refl;
-}

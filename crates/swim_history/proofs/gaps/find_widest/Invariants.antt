@@ -1,0 +1,13 @@
+use Rattle.std.proofs.Common.{◌≡◌, reverse, take}
+use Rattle.swim_history.specs.Clock.{period_number}
+use Rattle.swim_history.specs.Changes.{table}
+use Rattle.swim_history.proofs.GapWalk.{IsWalked}
+use Rattle.swim_history.proofs.gaps.find_widest.Given as goal
+
+-- the table and the last number used after the entries so far, and what is kept of the member
+abbrev pub invariant-loop-entry : goal.invariant-loop-entry
+invariant-loop-entry l = record {
+  rows_are : l.rows.items ≡ table l.opening (reverse (take l.entry-index l.entries));
+  number_is : l.number ≡ period_number l.opening (reverse (take l.entry-index l.entries));
+  walked : IsWalked l.opening (reverse (take l.entry-index l.entries)) l.member l.last l.widest;
+}
