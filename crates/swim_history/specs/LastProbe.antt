@@ -1,11 +1,13 @@
--- What a walk through the entries of a history keeps of a member: its last probe since which it is listed.
-use Rattle.std.specs.Prelude.{ℕ, ◌+◌, ◌-◌, ◌==◌, nat_lt, Bool, Option, Some, None, option_and_then, if◌then◌else◌}
+-- The last probe of a member since which it is listed, and its widest gap.
+use Rattle.std.specs.Prelude.{ℕ, ◌+◌, ◌-◌, ◌==◌, nat_lt, Bool, List, [], ◌∷◌, length, Option, Some, None, option_and_then, if◌then◌else◌}
 use Rattle.std.specs.Option.{option_map}
 use Rattle.swim_history.specs.declared.replies.Reply.{Reply}
 use Rattle.swim_history.specs.declared.entries.Entry.{Entry}
 use Rattle.swim_history.specs.declared.gaps.Gap.{Gap}
 use Rattle.swim_history.specs.declared.gaps.LastProbe.{LastProbe}
+use Rattle.swim_history.specs.Setting.{Setting}
 use Rattle.swim_history.specs.Events.{probe_in, joins}
+use Rattle.swim_history.specs.Round.{listed}
 use Rattle.swim_history.specs.Gap.{unlists}
 
 -- the number of the period that begins with a probe of the member
@@ -40,3 +42,13 @@ abbrev pub wider : Option Gap → Option Gap → Option Gap
 wider None new = new
 wider (Some old) None = Some old
 wider (Some old) (Some new) = if nat_lt (old.b - old.a) (new.b - new.a) then Some new else Some old
+
+-- the last probe of a member since which it is listed, in a history
+abbrev pub last_probe : Setting → ℕ → List Entry → Option LastProbe
+last_probe o m [] = None
+last_probe o m (e ∷ before) = last_then m e (length (listed o (e ∷ before))) (last_probe o m before)
+
+-- the widest gap of a member, the earliest of equals
+abbrev pub widest_gap : Setting → ℕ → List Entry → Option Gap
+widest_gap o m [] = None
+widest_gap o m (e ∷ before) = wider (widest_gap o m before) (gap_then m e.reply (last_probe o m before))

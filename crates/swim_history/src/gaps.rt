@@ -5,7 +5,7 @@ ghost use Rattle.swim_history.specs.Setting.{IsSetting, is_state_up};
 ghost use Rattle.swim_history.specs.Events.{joins};
 ghost use Rattle.swim_history.specs.Run.{IsRun};
 ghost use Rattle.swim_history.specs.Gap.{unlists, IsWidest, HasNoGap};
-ghost use Rattle.swim_history.specs.LastProbe.{probed_at, last_then, gap_then, wider};
+ghost use Rattle.swim_history.specs.LastProbe.{probed_at, last_then, gap_then, wider, widest_gap};
 
 use crate::calls::Call;
 use crate::entries::Entry;
@@ -37,6 +37,7 @@ struct LastProbe {
 pub(crate) fn find_widest(opening: &Opening, entries: &[Entry], member: Id) -> Option<Gap>
     requires run { IsRun opening.now (reverse entries.now) }
     requires count { length entries.now < 2 ^ 32 }
+    ensures exact { result ≡ widest_gap opening.now member (reverse entries.now) }
     ensures widest { let past = reverse entries.now in
         IfSome result (λ g. IsWidest opening.now past member g.a g.b g.n) }
     ensures none { (result ≡ None) ↔ HasNoGap opening.now (reverse entries.now) member }

@@ -7,6 +7,7 @@ ghost use Rattle.swim_history.specs.Events.{is_starting, judged_in};
 ghost use Rattle.swim_history.specs.Run.{Continues, IsRun};
 ghost use Rattle.swim_history.specs.Judgement.{judgements, judgement, JudgesByRule};
 ghost use Rattle.swim_history.specs.Probes.{probes, probed_by, ProbesAsDrawn};
+ghost use Rattle.swim_history.specs.LastProbe.{widest_gap};
 ghost use Rattle.swim_history.specs.Gap.{HasNoGap, IsWidest, AreGapsBounded, IsProbedInTime};
 ghost use Rattle.swim_history.specs.Clock.{period_number};
 ghost use Rattle.swim_history.specs.Rows.{row_of};
@@ -205,6 +206,7 @@ impl Journal {
     /// gap of any member is more than 2 n - 1 periods wide, with its own n, and each member is probed by
     /// one of 2 n - 1 starts, from the first of which until after the last it is listed.
     pub fn widest_gap(&self, member: Id) -> Option<Gap>
+        ensures exact { result ≡ widest_gap self.now.opening member self.now.past }
         ensures widest { IfSome result (λ g. IsWidest self.now.opening self.now.past member g.a g.b g.n) }
         ensures none { (result ≡ None) ↔ HasNoGap self.now.opening self.now.past member }
         ensures bound { AreGapsBounded self.now.opening self.now.past }

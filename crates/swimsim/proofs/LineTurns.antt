@@ -8,12 +8,11 @@ use Rattle.swim_wire.specs.declared.codec.WireFault.{WireFault}
 use Rattle.swim_history.specs.declared.calls.Call.{Call}
 use Rattle.swim_history.specs.declared.calls.Call.TheVariants as calls
 use Rattle.swim_history.specs.declared.entries.Entry.{Entry}
-use Rattle.swim_history.specs.Changes.{table}
 use Rattle.swim_detector.specs.Recording.{Recording}
 use Rattle.swimsim.specs.declared.arguments.Opened.{Opened}
 use Rattle.swimsim.specs.declared.choosers.Drawer.{Drawer}
 use Rattle.swimsim.specs.declared.commands.Command.{Command}
-use Rattle.swimsim.specs.declared.commands.Command.TheVariants.{Open, Row, Order, Place, Seed, Tick, Hear, Join, Remove, Table}
+use Rattle.swimsim.specs.declared.commands.Command.TheVariants.{Open, Row, Order, Place, Seed, Tick, Hear, Join, Remove, Table, Gap}
 use Rattle.swimsim.specs.declared.commands.Draws.{Draws}
 use Rattle.swimsim.specs.declared.commands.LineFault.TheVariants as faults
 use Rattle.swimsim.specs.declared.commands.Stage.TheVariants.{Blank, Events}
@@ -23,10 +22,10 @@ use Rattle.swimsim.specs.declared.faults.FaultKind.TheVariants.{Memory, Write}
 use Rattle.swimsim.specs.declared.faults.ScriptFault.{ScriptFault}
 use Rattle.swimsim.specs.Commands.{fault_of_word, line_read, word_for}
 use Rattle.swimsim.specs.Headers.{Told, told_then, is_event, draws_with, stage_with, stage_told, Head, stage_of, head_then, head_of}
-use Rattle.swimsim.specs.Texts.{table_text, wire_text}
+use Rattle.swimsim.specs.Texts.{wire_text}
 use Rattle.swimsim.specs.Script.{Turn, lines_of, asked_by, takes_memory, at_line, fault_of_opening, fault_of_command, fault_with, fault_of_header, fault_of_read}
 use Rattle.swimsim.specs.Script.Asked.{Nothing, Calls}
-use Rattle.swimsim.specs.Holds.{Played, stage_in, kept, line_of, Plays, Holds, IsStopped, IsNoted, PlaysLine, ShowsLine, Done, TurnDone, TurnFails, Turned}
+use Rattle.swimsim.specs.Holds.{Played, stage_in, kept, line_of, Plays, Holds, IsStopped, IsNoted, PlaysLine, ShowsLine, table_of, gap_of, Done, TurnDone, TurnFails, Turned}
 use Rattle.swimsim.proofs.KeptRows.{fault_of_kept, kept_more}
 use Rattle.swimsim.proofs.Turns.{taken, stage_is, noted}
 use Rattle.swimsim.proofs.Answered.{after_event, played, shown}
@@ -125,12 +124,21 @@ unread_turn turns run text piece s new source wire before after (Err fault) read
 
 table_turn : (turns : List Turn) (run : List Entry) (text piece : List ℕ) (s new : Played) (before after : Option (List ℕ)) (result : Result (Unit {0}) ScriptFault) →
     line_read (stage_of (head_of (lines_of turns))) (bare piece) ≡ Ok (Some Table) → fault_of_word (stage_in s.header s.recorded) words.Table ≡ None → Holds turns run text s →
-    ShowsLine s new (λ a. table_text (table a.opening a.past)) before after result → Turned turns text piece new before after result
+    ShowsLine s new table_of before after result → Turned turns text piece new before after result
 table_turn turns run text piece s new before after (Ok done) read stands h d =
-    shown turns run text piece s new Table (λ a. table_text (table a.opening a.past)) before after read refl
+    shown turns run text piece s new Table table_of before after read refl
     (λ turn asked. rw asked refl) (λ turn o a asked opening past. rw (asked, opening, past) refl) h d
 table_turn turns run text piece s new before after (Err fault) read stands h d =
     stopped turns run text piece s Table fault before after read refl refl stands h d
+
+gap_turn : (turns : List Turn) (run : List Entry) (text piece : List ℕ) (s new : Played) (id : ℕ) (before after : Option (List ℕ)) (result : Result (Unit {0}) ScriptFault) →
+    line_read (stage_of (head_of (lines_of turns))) (bare piece) ≡ Ok (Some (Gap id)) → fault_of_word (stage_in s.header s.recorded) words.Gap ≡ None → Holds turns run text s →
+    ShowsLine s new (gap_of id) before after result → Turned turns text piece new before after result
+gap_turn turns run text piece s new id before after (Ok done) read stands h d =
+    shown turns run text piece s new (Gap id) (gap_of id) before after read refl
+    (λ turn asked. rw asked refl) (λ turn o a asked opening past. rw (asked, opening, past) refl) h d
+gap_turn turns run text piece s new id before after (Err fault) read stands h d =
+    stopped turns run text piece s (Gap id) fault before after read refl refl stands h d
 
 -- what a line did that says something
 pub turned_by : (turns : List Turn) (run : List Entry) (text piece : List ℕ) (s new : Played) (command : Command) (before after : Option (List ℕ)) (result : Result (Unit {0}) ScriptFault) →
@@ -163,3 +171,4 @@ turned_by turns run text piece s new (Hear source (Err wire)) before after resul
 turned_by turns run text piece s new (Join id peer) before after result read stands h d = calls_turn turns run text piece s new (Join id peer) (calls.Join id peer) before after result read refl refl refl refl stands h d
 turned_by turns run text piece s new (Remove id) before after result read stands h d = calls_turn turns run text piece s new (Remove id) (calls.Remove id) before after result read refl refl refl refl stands h d
 turned_by turns run text piece s new Table before after result read stands h d = table_turn turns run text piece s new before after result read stands h d
+turned_by turns run text piece s new (Gap id) before after result read stands h d = gap_turn turns run text piece s new id before after result read stands h d

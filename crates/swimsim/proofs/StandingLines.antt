@@ -6,7 +6,7 @@ use Rattle.swimsim.specs.declared.commands.Stage.{Stage}
 use Rattle.swimsim.specs.declared.commands.Word.{Word}
 use Rattle.swimsim.specs.declared.commands.Word.TheVariants as words
 use Rattle.swimsim.specs.declared.commands.Command.{Command}
-use Rattle.swimsim.specs.declared.commands.Command.TheVariants.{Open, Row, Order, Place, Seed, Tick, Hear, Join, Remove, Table}
+use Rattle.swimsim.specs.declared.commands.Command.TheVariants.{Open, Row, Order, Place, Seed, Tick, Hear, Join, Remove, Table, Gap}
 use Rattle.swimsim.specs.Arguments.{◌>>=◌, take_id, take_number, take_peer, take_order, take_seed, take_datagram, open_arguments}
 use Rattle.swimsim.specs.Commands.{alone, command_after, word_of, fault_of_word, word_read, known_read, words_read, said_by, is_skipped, line_read, word_for, LineStandsAt}
 
@@ -56,6 +56,9 @@ word_after words.Remove after command e =
     let id = bind_ok (take_id after) (λ i. alone (Remove i.0) i.1) command e in
     word_alone (Remove id.0.0) command id.0.1 id.2
 word_after words.Table after command e = word_alone Table command after e
+word_after words.Gap after command e =
+    let id = bind_ok (take_id after) (λ i. alone (Gap i.0) i.1) command e in
+    word_alone (Gap id.0.0) command id.0.1 id.2
 
 word_stands : (stage : Stage) (word : Word) (after : List (List ℕ)) (fault : Option LineFault) (read : Result Command LineFault) → fault_of_word stage word ≡ fault → word_read fault word after ≡ read → LineStandsAt stage (said_by read)
 word_stands stage word after fault (Err wrong) stands is = tt

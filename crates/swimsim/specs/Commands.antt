@@ -10,7 +10,7 @@ use Rattle.swimsim.specs.declared.commands.Stage.TheVariants.{Blank, Header, Eve
 use Rattle.swimsim.specs.declared.commands.Word.{Word}
 use Rattle.swimsim.specs.declared.commands.Word.TheVariants as words
 use Rattle.swimsim.specs.declared.commands.Command.{Command}
-use Rattle.swimsim.specs.declared.commands.Command.TheVariants.{Open, Row, Order, Place, Seed, Tick, Hear, Join, Remove, Table}
+use Rattle.swimsim.specs.declared.commands.Command.TheVariants.{Open, Row, Order, Place, Seed, Tick, Hear, Join, Remove, Table, Gap}
 use Rattle.swimsim.specs.Arguments.{◌>>=◌, take_id, take_number, take_peer, take_order, take_seed, take_datagram, open_arguments}
 
 -- the first word of a line, if it is known
@@ -21,11 +21,12 @@ word_of text =
     else (if bytes_eq text (codes "join") then Some words.Join
     else (if bytes_eq text (codes "remove") then Some words.Remove
     else (if bytes_eq text (codes "table") then Some words.Table
+    else (if bytes_eq text (codes "gap") then Some words.Gap
     else (if bytes_eq text (codes "row") then Some words.Row
     else (if bytes_eq text (codes "order") then Some words.Order
     else (if bytes_eq text (codes "place") then Some words.Place
     else (if bytes_eq text (codes "seed") then Some words.Seed
-    else (if bytes_eq text (codes "open") then Some words.Open else None)))))))))
+    else (if bytes_eq text (codes "open") then Some words.Open else None))))))))))
 
 -- why a word can't stand at that stage, if it can't: the opening stands first and once, header lines stand
 -- before event lines, and a seed stands once, with no order and no place
@@ -79,6 +80,9 @@ command_after words.Remove given = do
   id ← take_id given
   alone (Remove id.0) id.1
 command_after words.Table given = alone Table given
+command_after words.Gap given = do
+  id ← take_id given
+  alone (Gap id.0) id.1
 
 -- what the words after a known first word say, where it may stand
 abbrev pub word_read : Option LineFault → Word → List (List ℕ) → Result Command LineFault
@@ -120,6 +124,7 @@ word_for (Hear peer datagram) = words.Hear
 word_for (Join id peer) = words.Join
 word_for (Remove id) = words.Remove
 word_for Table = words.Table
+word_for (Gap id) = words.Gap
 
 -- what a line says may stand at that stage
 abbrev pub LineStandsAt : Stage → Result (Option Command) LineFault → Type 0

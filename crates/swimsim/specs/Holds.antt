@@ -10,12 +10,13 @@ use Rattle.swim_history.specs.declared.calls.Call.{Call}
 use Rattle.swim_history.specs.declared.calls.Call.TheVariants as calls
 use Rattle.swim_history.specs.declared.entries.Entry.{Entry}
 use Rattle.swim_history.specs.Setting.{Setting}
+use Rattle.swim_history.specs.LastProbe.{widest_gap}
 use Rattle.swim_history.specs.Changes.{table}
 use Rattle.swim_detector.specs.Recording.{Recording, IsKept, Records}
 use Rattle.swimsim.specs.declared.arguments.Opened.{Opened}
 use Rattle.swimsim.specs.declared.choosers.Drawer.{Drawer}
 use Rattle.swimsim.specs.declared.commands.Command.{Command}
-use Rattle.swimsim.specs.declared.commands.Command.TheVariants.{Open, Row, Order, Place, Seed, Tick, Hear, Join, Remove, Table}
+use Rattle.swimsim.specs.declared.commands.Command.TheVariants.{Open, Row, Order, Place, Seed, Tick, Hear, Join, Remove, Table, Gap}
 use Rattle.swimsim.specs.declared.commands.Stage.{Stage}
 use Rattle.swimsim.specs.declared.commands.Stage.TheVariants.{Events}
 use Rattle.swimsim.specs.declared.faults.FaultKind.TheVariants.{Memory, Write}
@@ -23,7 +24,7 @@ use Rattle.swimsim.specs.declared.faults.ScriptFault.{ScriptFault}
 use Rattle.swimsim.specs.Choosers.{ChoosesOrder, ChoosesPlace}
 use Rattle.swimsim.specs.Commands.{line_read}
 use Rattle.swimsim.specs.Headers.{Told, told_then, stage_told, stage_of, said, head_of, setting_in, limit_in, chooser_in}
-use Rattle.swimsim.specs.Texts.{answer_text, table_text, wire_text, full_text, no_memory_text}
+use Rattle.swimsim.specs.Texts.{answer_text, table_text, gap_text, wire_text, full_text, no_memory_text}
 use Rattle.swimsim.specs.Script.{Turn, lines_of, calls_in, output_of, IsRunOf, takes_memory, fault_of, fault_from, fault_of_read, fault_of_header, at_line, bytes_of}
 
 -- what contracts see of a session: how many lines it was given, what those of the header told, and the recorder,
@@ -103,10 +104,17 @@ Called (Some a) (Some b) call before after done = Answers a b call before after 
 Called (Some a) None call before after done = ⊥
 Called None new call before after done = Unit {0}
 
--- the recorder's member table was written
-abbrev pub Showed : Option (Recording Drawer) → Option (List ℕ) → Option (List ℕ) → Bool → Type 0
-Showed (Some a) before after done = Puts before after (table_text (table a.opening a.past)) done
-Showed None before after done = Unit {0}
+-- what the recorder shows was written
+abbrev pub Showed : Option (Recording Drawer) → (Recording Drawer → List ℕ) → Option (List ℕ) → Option (List ℕ) → Bool → Type 0
+Showed (Some a) text before after done = Puts before after (text a) done
+Showed None text before after done = Unit {0}
+
+-- the member table of a recorder, and the widest gap of a member
+abbrev pub table_of : Recording Drawer → List ℕ
+table_of a = table_text (table a.opening a.past)
+
+abbrev pub gap_of : ℕ → Recording Drawer → List ℕ
+gap_of member a = gap_text (widest_gap a.opening member a.past)
 
 -- the fault at the end of the script
 abbrev pub ending_with : Told → Option (Recording Drawer) → Option ScriptFault
@@ -169,7 +177,8 @@ Done old new Tick before after result = PlaysLine old new calls.Tick before afte
 Done old new (Hear source read) before after result = HearsLine old new source read before after result
 Done old new (Join id peer) before after result = PlaysLine old new (calls.Join id peer) before after result
 Done old new (Remove id) before after result = PlaysLine old new (calls.Remove id) before after result
-Done old new Table before after result = ShowsLine old new (λ a. table_text (table a.opening a.past)) before after result
+Done old new Table before after result = ShowsLine old new table_of before after result
+Done old new (Gap id) before after result = ShowsLine old new (gap_of id) before after result
 
 -- what one line did: it has no fault, and its answer was written
 pub record TurnDone (turns : List Turn) (text piece : List ℕ) (new : Played) (before after : Option (List ℕ)) : Type 0 where

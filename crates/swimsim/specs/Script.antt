@@ -11,6 +11,7 @@ use Rattle.swim_history.specs.declared.entries.Entry.{Entry}
 use Rattle.swim_history.specs.declared.openings.OpeningFault.{OpeningFault}
 use Rattle.swim_history.specs.Setting.{Setting}
 use Rattle.swim_history.specs.Check.{first_fault}
+use Rattle.swim_history.specs.LastProbe.{widest_gap}
 use Rattle.swim_history.specs.Changes.{table}
 use Rattle.swim_history.specs.Run.{IsRun}
 use Rattle.swim_history.specs.Drawn.{IsDrawn}
@@ -19,14 +20,14 @@ use Rattle.swimsim.specs.declared.choosers.Drawer.{Drawer}
 use Rattle.swimsim.specs.declared.commands.LineFault.{LineFault}
 use Rattle.swimsim.specs.declared.commands.LineFault.TheVariants.{Word}
 use Rattle.swimsim.specs.declared.commands.Command.{Command}
-use Rattle.swimsim.specs.declared.commands.Command.TheVariants.{Order, Place, Tick, Hear, Join, Remove, Table}
+use Rattle.swimsim.specs.declared.commands.Command.TheVariants.{Order, Place, Tick, Hear, Join, Remove, Table, Gap}
 use Rattle.swimsim.specs.declared.faults.FaultKind.{FaultKind}
 use Rattle.swimsim.specs.declared.faults.FaultKind.TheVariants.{Size, Long, Words, Opening, Memory, Read, Write}
 use Rattle.swimsim.specs.declared.faults.ScriptFault.{ScriptFault}
 use Rattle.swimsim.specs.Choosers.{ChoosesOrder, ChoosesPlace}
 use Rattle.swimsim.specs.Commands.{line_read}
 use Rattle.swimsim.specs.Headers.{Told, is_event, Head, stage_of, said, head_of, setting_in, limit_in, chooser_in}
-use Rattle.swimsim.specs.Texts.{answer_text, table_text, wire_text, full_text, no_memory_text}
+use Rattle.swimsim.specs.Texts.{answer_text, table_text, gap_text, wire_text, full_text, no_memory_text}
 
 -- ---- faults
 
@@ -105,11 +106,13 @@ pub record Turn : Type 0 where
 abbrev pub lines_of : List Turn → List (List ℕ)
 lines_of turns = map (λ turn. turn.line) turns
 
--- what a line asks: nothing, to hear bytes that are no datagram, to show the member table, or a call
+-- what a line asks: nothing, to hear bytes that are no datagram, to show the member table, to measure a member's
+-- widest gap, or a call
 pub data Asked : Type 0 where
   Nothing : Asked
   Unread : (fault : WireFault) → Asked
   Shows : Asked
+  Measures : (member : ℕ) → Asked
   Calls : (call : Call) → Asked
 
 abbrev pub asked_by : Option Command → Asked
@@ -119,6 +122,7 @@ asked_by (Some (Hear peer (Err fault))) = Unread fault
 asked_by (Some (Join id peer)) = Calls (calls.Join id peer)
 asked_by (Some (Remove id)) = Calls (calls.Remove id)
 asked_by (Some Table) = Shows
+asked_by (Some (Gap id)) = Measures id
 asked_by command = Nothing
 
 abbrev pub asked_in : List (List ℕ) → List ℕ → Asked
@@ -150,6 +154,7 @@ abbrev pub output_then : Setting → Bool → Bool → Asked → (List Entry →
 output_then o full refused Nothing text run = text run
 output_then o full refused (Unread fault) text run = text run ++ wire_text fault
 output_then o full refused Shows text run = text run ++ table_text (table o run)
+output_then o full refused (Measures member) text run = text run ++ gap_text (widest_gap o member run)
 output_then o full refused (Calls call) text run =
     if full then text run ++ full_text
     else (if refused then text run ++ no_memory_text else with_answer o text run)

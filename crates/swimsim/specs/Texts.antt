@@ -12,6 +12,7 @@ use Rattle.swim_history.specs.declared.replies.Relay.{Relay}
 use Rattle.swim_history.specs.declared.rows.Row.{Row}
 use Rattle.swim_history.specs.declared.rows.RowState.{RowState}
 use Rattle.swim_history.specs.declared.rows.RowState.TheVariants.{Up, Failed}
+use Rattle.swim_history.specs.declared.gaps.Gap.{Gap}
 use Rattle.swim_history.specs.Reasons.{drop_number, refusal_number}
 use Rattle.swim_history.specs.Sends.{sends_of}
 use Rattle.swim_history.specs.Setting.{Setting}
@@ -79,6 +80,11 @@ rows_text (row ∷ rows) = row_text row ++ rows_text rows
 -- the lines of a member table: one for each row, and a dot
 abbrev pub table_text : List Row → List ℕ
 table_text rows = rows_text rows ++ codes ".\n"
+
+-- the line of a gap, if there is one: the numbers of its periods, and how many were listed and joined
+abbrev pub gap_text : Option Gap → List ℕ
+gap_text None = codes "gap none\n"
+gap_text (Some gap) = codes "gap " ++ (decimal gap.a ++ (codes " " ++ (decimal gap.b ++ (codes " " ++ (decimal gap.n ++ feed)))))
 
 -- the line of a datagram that is none
 abbrev pub wire_text : WireFault → List ℕ

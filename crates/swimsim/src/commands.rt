@@ -81,6 +81,7 @@ pub enum Word {
     Join,
     Remove,
     Table,
+    Gap,
 }
 
 /// What a line says.
@@ -96,6 +97,7 @@ pub enum Command {
     Join(Id, Peer),
     Remove(Id),
     Table,
+    Gap(Id),
 }
 
 /// What a line says at that stage of its script: nothing where it is skipped, else a command, or the first
@@ -153,6 +155,8 @@ fn first_word(text: &[u8]) -> Option<Word>
         Some(Word::Remove)
     } else if text == b"table".as_slice() {
         Some(Word::Table)
+    } else if text == b"gap".as_slice() {
+        Some(Word::Gap)
     } else if text == b"row".as_slice() {
         Some(Word::Row)
     } else if text == b"order".as_slice() {
@@ -229,6 +233,10 @@ fn read_command(word: Word, words: &mut Words<'_>) -> Result<Command, LineFault>
             alone(Command::Remove(id), words)
         }
         Word::Table => alone(Command::Table, words),
+        Word::Gap => {
+            let id = take_id(words)?;
+            alone(Command::Gap(id), words)
+        }
     }
 }
 

@@ -7,6 +7,7 @@ mod choosers;
 mod commands;
 mod datagrams;
 mod faults;
+mod gaps;
 mod headers;
 mod playing;
 mod session;

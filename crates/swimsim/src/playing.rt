@@ -2,13 +2,10 @@
 
 ghost use Rattle.swim_wire.specs.Streams.{Puts, failures_if};
 ghost use Rattle.std.specs.Prelude.{◌≡◌};
-ghost use Rattle.swim_history.specs.Changes.{table};
-ghost use Rattle.swimsim.specs.Texts.{table_text};
 ghost use Rattle.swimsim.specs.Holds.{Answers};
 
 use crate::answers::put_answer;
 use crate::choosers::Drawer;
-use crate::tables::put_table;
 use swim_detector::{ApplyFault, Recorder};
 use swim_history::Call;
 use swim_wire::Sink;
@@ -23,12 +20,4 @@ pub fn play<W: Sink>(recorder: &mut Recorder<Drawer>, call: Call, writer: &mut W
         Err(ApplyFault::JournalFull) => writer.put(b"journal full\n"),
         Err(ApplyFault::NoMemory) => writer.put(b"no memory\n"),
     }
-}
-
-/// Writes the member table. It answers whether the sink took all of it.
-pub fn show<W: Sink>(recorder: &Recorder<Drawer>, writer: &mut W) -> bool
-    ensures told { Puts (W.written writer.old) (W.written writer.new) (table_text (table recorder.now.opening recorder.now.past)) result }
-    ensures failures { W.failures writer.new ≡ failures_if (W.failures writer.old) result }
-{
-    put_table(writer, recorder.table().as_slice())
 }

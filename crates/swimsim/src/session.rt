@@ -6,19 +6,20 @@ ghost use Rattle.swim_wire.specs.Streams.{failures_if};
 ghost use Rattle.swim_history.specs.declared.calls.Call.TheVariants as calls;
 ghost use Rattle.swim_history.specs.declared.entries.Entry.{Entry};
 ghost use Rattle.swimsim.specs.declared.commands.Command.TheVariants as commands;
-ghost use Rattle.swimsim.specs.Texts.{wire_text, table_text};
-ghost use Rattle.swim_history.specs.Changes.{table};
+ghost use Rattle.swimsim.specs.Texts.{wire_text};
 ghost use Rattle.swimsim.specs.Headers.{nothing_told, told_then};
 ghost use Rattle.swimsim.specs.Script.{Turn, is_write, result_kind};
-ghost use Rattle.swimsim.specs.Holds.{Done, Holds, Turned, Started, Called, Showed, PlaysLine, ShowsLine, HearsLine, kept, ending, stage_in};
+ghost use Rattle.swimsim.specs.Holds.{Done, Holds, Turned, Started, Called, Showed, table_of, gap_of, PlaysLine, ShowsLine, HearsLine, kept, ending, stage_in};
 
 use crate::answers::put_wire_fault;
 use crate::arguments::OpenArguments;
 use crate::choosers::Drawer;
 use crate::commands::{Command, Stage, read_line};
 use crate::faults::{FaultKind, ScriptFault};
+use crate::gaps::put_gap;
 use crate::headers::Header;
-use crate::playing::{play, show};
+use crate::playing::play;
+use crate::tables::put_table;
 use std::alloc::Global;
 use std::marker::Model;
 use std::mem;
@@ -130,6 +131,7 @@ impl Session {
             Command::Join(id, peer) => self.call(Call::Join(id, peer), writer),
             Command::Remove(id) => self.call(Call::Remove(id), writer),
             Command::Table => self.show_table(writer),
+            Command::Gap(id) => self.show_gap(id, writer),
         }
     }
 
@@ -279,7 +281,7 @@ impl Session {
     /// The member table.
     fn show_table<W: Sink>(&mut self, writer: &mut W) -> Result<(), ScriptFault>
         requires { self.old.lines < 4294967295 }
-        ensures done { ShowsLine self.old self.new (λ a. table_text (table a.opening a.past)) (W.written writer.old) (W.written writer.new) result }
+        ensures done { ShowsLine self.old self.new table_of (W.written writer.old) (W.written writer.new) result }
         ensures unread { result_kind result ≢ Some FaultKind.Read }
         ensures failures { W.failures writer.new ≡ failures_if (W.failures writer.old) (not (is_write result)) }
     {
@@ -290,11 +292,34 @@ impl Session {
     }
 
     fn put_rows<W: Sink>(&self, writer: &mut W) -> bool
-        ensures showed { Showed self.now.recorded (W.written writer.old) (W.written writer.new) result }
+        ensures showed { Showed self.now.recorded table_of (W.written writer.old) (W.written writer.new) result }
         ensures failures { W.failures writer.new ≡ failures_if (W.failures writer.old) result }
     {
         match &self.recorder {
-            Some(recorder) => show(recorder, writer),
+            Some(recorder) => put_table(writer, recorder.table().as_slice()),
+            None => true,
+        }
+    }
+
+    /// The widest gap of a member.
+    fn show_gap<W: Sink>(&mut self, member: Id, writer: &mut W) -> Result<(), ScriptFault>
+        requires { self.old.lines < 4294967295 }
+        ensures done { ShowsLine self.old self.new (gap_of member) (W.written writer.old) (W.written writer.new) result }
+        ensures unread { result_kind result ≢ Some FaultKind.Read }
+        ensures failures { W.failures writer.new ≡ failures_if (W.failures writer.old) (not (is_write result)) }
+    {
+        self.start()?;
+        self.lines += 1;
+        let done = self.put_gap_of(member, writer);
+        self.written(done)
+    }
+
+    fn put_gap_of<W: Sink>(&self, member: Id, writer: &mut W) -> bool
+        ensures showed { Showed self.now.recorded (gap_of member) (W.written writer.old) (W.written writer.new) result }
+        ensures failures { W.failures writer.new ≡ failures_if (W.failures writer.old) result }
+    {
+        match &self.recorder {
+            Some(recorder) => put_gap(writer, recorder.journal().widest_gap(member)),
             None => true,
         }
     }

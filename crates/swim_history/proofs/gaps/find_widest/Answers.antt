@@ -1,4 +1,4 @@
-use Rattle.std.proofs.Common.{◌≡◌, ◌<◌, ◌^◌, ◌∷◌, ◌+◌, length, take, reverse, sym, ap, ◌∙◌, arith}
+use Rattle.std.proofs.Common.{◌≡◌, refl, ◌<◌, ◌^◌, ◌∷◌, ◌+◌, length, take, reverse, sym, ap, ◌∙◌, arith}
 use Rattle.std.proofs.lemmas.List.{length-reverse, length-take-le, take_all}
 use Rattle.swim_history.specs.Changes.{ascending, table}
 use Rattle.swim_history.specs.TableLaws.{table_ascends, table_next}
@@ -10,7 +10,7 @@ use Rattle.swim_history.proofs.GapWalk.{walked_none, walked_then, gap_rises, wid
 use Rattle.swim_history.proofs.gaps.find_widest.Goals as goal
 
 pub loop-entry-init : goal.loop-entry-init
-loop-entry-init c = record { rows_are = c.table_of-rows.ensures ∙ ap ascending c.rows.ensures.value; number_is = c.last-number.ensures.value; walked = walked_none c.args.opening.now c.args.member }
+loop-entry-init c = record { rows_are = c.table_of-rows.ensures ∙ ap ascending c.rows.ensures.value; number_is = c.last-number.ensures.value; last_is = refl; widest_is = refl; walked = walked_none c.args.opening.now c.args.member }
 
 pub note_change-requires-clause-ascends : goal.note_change-requires-clause-ascends
 note_change-requires-clause-ascends c =
@@ -69,6 +69,8 @@ loop-entry-preserved c =
     rw more (record {
       rows_are = rows;
       number_is = rw (c.number_after-number.ensures, c.loop-entry.invariant.number_is) (sym (number_then o h e s run.0));
+      last_is = rw (c.last_after-last.ensures, c.as_slice.ensures.value, rows, up_rows o (e ∷ h) s run, c.loop-entry.invariant.last_is) refl;
+      widest_is = rw (c.wider-widest.ensures, c.gap_at.ensures, c.loop-entry.invariant.last_is, c.loop-entry.invariant.widest_is) refl;
       walked = rw (c.last_after-last.ensures, c.wider-widest.ensures, c.gap_at.ensures, c.as_slice.ensures.value, rows, up_rows o (e ∷ h) s run) walked;
     })
 
@@ -81,3 +83,8 @@ pub returns-clause-none : goal.returns-clause-none
 returns-clause-none c =
     let all = take_all c.loop-entry.entry-index c.args.entries.now c.loop-entry-test.false in
     rw all at (walked_none_left c.args.opening.now _ c.args.member c.loop-entry.last c.loop-entry.widest c.loop-entry.invariant.walked)
+
+pub returns-clause-exact : goal.returns-clause-exact
+returns-clause-exact c =
+    let all = take_all c.loop-entry.entry-index c.args.entries.now c.loop-entry-test.false in
+    rw all at c.loop-entry.invariant.widest_is

@@ -1,6 +1,7 @@
 use Rattle.std.proofs.Common.{◌≡◌, reverse, take}
 use Rattle.swim_history.specs.Clock.{period_number}
 use Rattle.swim_history.specs.Changes.{table}
+use Rattle.swim_history.specs.LastProbe.{last_probe, widest_gap}
 use Rattle.swim_history.proofs.GapWalk.{IsWalked}
 use Rattle.swim_history.proofs.gaps.find_widest.Given as goal
 
@@ -9,5 +10,7 @@ abbrev pub invariant-loop-entry : goal.invariant-loop-entry
 invariant-loop-entry l = record {
   rows_are : l.rows.items ≡ table l.opening (reverse (take l.entry-index l.entries));
   number_is : l.number ≡ period_number l.opening (reverse (take l.entry-index l.entries));
+  last_is : l.last ≡ last_probe l.opening l.member (reverse (take l.entry-index l.entries));
+  widest_is : l.widest ≡ widest_gap l.opening l.member (reverse (take l.entry-index l.entries));
   walked : IsWalked l.opening (reverse (take l.entry-index l.entries)) l.member l.last l.widest;
 }
