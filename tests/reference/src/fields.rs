@@ -48,9 +48,13 @@ impl<'a> Words<'a> {
         Ok(Message::of_digits(self.digits()?))
     }
 
+    /// Hexadecimal digits, an even number of them.
     fn digits(&mut self) -> Result<&'a [u8], Fault> {
         let word = self.next().ok_or(Fault::Hex)?;
-        let good = word.len() % 2 == 0 && word.iter().all(u8::is_ascii_hexdigit);
+        let values = word
+            .iter()
+            .fold(0, |values, digit| values | VALUES[usize::from(*digit)]);
+        let good = word.len() % 2 == 0 && values & NO_DIGIT == 0;
         if good {
             Ok(word)
         } else {
@@ -59,12 +63,7 @@ impl<'a> Words<'a> {
     }
 
     pub fn seed(&mut self) -> Result<[u8; 32], Fault> {
-        let mut seed = [0; 32];
-        if bytes_of(self.digits()?, &mut seed) {
-            Ok(seed)
-        } else {
-            Err(Fault::Hex)
-        }
+        bytes_of(self.digits()?).ok_or(Fault::Hex)
     }
 
     /// Puts the ids of an order behind those that are there.
@@ -133,20 +132,26 @@ pub fn peer_of(text: &[u8]) -> Option<Peer> {
     (octets.next().is_none() && port != 0).then_some(Peer { ip, port })
 }
 
-/// Fills the bytes from hexadecimal digits, and says whether they are exactly as many.
-pub fn bytes_of(digits: &[u8], bytes: &mut [u8]) -> bool {
-    if digits.len() != 2 * bytes.len() {
-        return false;
-    }
+/// The bytes that hexadecimal digits spell, if they are exactly as many.
+pub fn bytes_of<const COUNT: usize>(digits: &[u8]) -> Option<[u8; COUNT]> {
+    let mut bytes = [0; COUNT];
     for (byte, pair) in bytes.iter_mut().zip(digits.chunks_exact(2)) {
-        *byte = value_of(pair[0]) << 4 | value_of(pair[1]);
+        *byte = VALUES[usize::from(pair[0])] << 4 | VALUES[usize::from(pair[1])];
     }
-    true
+    (digits.len() == 2 * COUNT).then_some(bytes)
 }
 
-fn value_of(digit: u8) -> u8 {
-    match digit {
-        b'0'..=b'9' => digit - b'0',
-        _ => (digit | 0x20) - b'a' + 10,
+/// What stands in `VALUES` for a byte that is no digit.
+const NO_DIGIT: u8 = 0x80;
+
+/// The value of each hexadecimal digit.
+const VALUES: [u8; 256] = {
+    let mut values = [NO_DIGIT; 256];
+    let mut value = 0;
+    while value < 16 {
+        values[b"0123456789abcdef"[value] as usize] = value as u8;
+        values[b"0123456789ABCDEF"[value] as usize] = value as u8;
+        value += 1;
     }
-}
+    values
+};

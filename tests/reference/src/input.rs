@@ -1,7 +1,7 @@
 //! The bytes of a script, and its lines.
 
 use crate::faults::Fault;
-use std::io::Read;
+use std::io::{BufRead, Read};
 
 /// The most bytes of a script, and of a line without its line feed.
 const SCRIPT_BYTES: usize = 16_777_216;
@@ -42,21 +42,23 @@ impl<'a> Iterator for Lines<'a> {
     type Item = Result<&'a [u8], Fault>;
 
     fn next(&mut self) -> Option<Self::Item> {
-        let bytes = &self.input.bytes;
-        let rest = &bytes[self.start..];
-        let feed = rest.iter().position(|byte| *byte == b'\n');
-        let line = &rest[..feed.unwrap_or(rest.len())];
-        self.start = (self.start + line.len() + 1).min(bytes.len());
+        let rest = &self.input.bytes[self.start..];
+        let mut behind = rest;
+        // Over bytes in memory this is a fast search for the line feed, and can't fail.
+        let length = behind.skip_until(b'\n').unwrap_or(rest.len());
+        let ended = rest[..length].strip_suffix(b"\n");
+        self.start += length;
         if self.start > SCRIPT_BYTES {
-            Some(Err(Fault::Size))
-        } else if feed.is_none() && self.input.failed {
-            Some(Err(Fault::Read))
-        } else if rest.is_empty() {
-            None
-        } else if line.len() > LINE_BYTES {
-            Some(Err(Fault::Long))
-        } else {
-            Some(Ok(line))
+            return Some(Err(Fault::Size));
+        }
+        if ended.is_none() && self.input.failed {
+            return Some(Err(Fault::Read));
+        }
+        let line = ended.unwrap_or(rest);
+        match line.len() {
+            _ if rest.is_empty() => None,
+            0..=LINE_BYTES => Some(Ok(line)),
+            _ => Some(Err(Fault::Long)),
         }
     }
 }

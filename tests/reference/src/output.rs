@@ -162,9 +162,8 @@ impl<W: Write> Output<W> {
         self.put("> ");
         self.peer(peer);
         self.put(" ");
-        for byte in message.bytes() {
-            self.text.extend_from_slice(&DIGITS[usize::from(byte)]);
-        }
+        let digits = message.bytes().map(|byte| DIGITS[usize::from(byte)]);
+        self.text.extend_from_slice(digits.as_flattened());
         self.put("\n");
     }
 

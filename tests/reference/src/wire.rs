@@ -44,11 +44,9 @@ pub enum WireFault {
 impl Message {
     /// The message that an even number of hexadecimal digits spell, or the first fault.
     pub fn of_digits(digits: &[u8]) -> Result<Message, WireFault> {
-        let mut bytes = [0; 24];
-        if bytes_of(digits, &mut bytes) {
-            Message::of_bytes(&bytes)
-        } else {
-            Err(WireFault::Length)
+        match bytes_of(digits) {
+            Some(bytes) => Message::of_bytes(&bytes),
+            None => Err(WireFault::Length),
         }
     }
 
