@@ -125,7 +125,7 @@ third_start_probes : (length (filter is_start three_starts) ≡ 3) × (list_any 
 third_start_probes = (refl, refl)
 
 -- a third member joins in the first period, so that it is probed next
-abbrev joiner : Entry
+abbrev pub joiner : Entry
 joiner = entry 4 (Join 4 (at 4)) (Joined 1) Nothing
 
 abbrev joiner_start : Entry
@@ -134,7 +134,7 @@ joiner_start = starting 5 None 4 2 Nothing
 abbrev later_start : Entry
 later_start = starting 9 None 3 3 Nothing
 
-abbrev next_round : Entry
+abbrev pub next_round : Entry
 next_round = starting 13 None 2 4 (round (2 ∷ 4 ∷ 3 ∷ []))
 
 abbrev to_joiner : List Entry
@@ -176,10 +176,10 @@ gap_with_joiner = record {
 }
 
 -- the first member is removed in the second period, and joins again
-abbrev removal : Entry
+abbrev pub removal : Entry
 removal = entry 5 (Remove 2) Removed Nothing
 
-abbrev rejoiner : Entry
+abbrev pub rejoiner : Entry
 rejoiner = entry 6 (Join 2 (at 2)) (Joined 0) Nothing
 
 abbrev rejoined_start : Entry
