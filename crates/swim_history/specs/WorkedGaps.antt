@@ -1,6 +1,6 @@
 -- Worked runs with gaps: members whose acks are heard in each period.
-use Rattle.std.specs.Prelude.{IsPermutation, ◌≡◌, ◌≢◌, ℕ, ◌+◌, true, List, [], ◌∷◌, length, filter, Option, Some, None, refl}
-use Rattle.std.proofs.Common.{◌++◌, ◌∙◌, ap, lit<, arith}
+use Rattle.std.specs.Prelude.{IsPermutation, ◌≡◌, ◌≢◌, ℕ, ◌+◌, true, List, [], ◌∷◌, length, filter, Some, None, refl}
+use Rattle.std.proofs.Common.{lit<, arith}
 use Rattle.std.proofs.lemmas.List.Sorted.{IsPermutation-refl, IsPermutation-swap}
 use Rattle.std.specs.List.{list_any}
 use Rattle.swim_history.specs.declared.calls.Call.TheVariants.{Tick, Hear, Join, Remove}
@@ -14,7 +14,7 @@ use Rattle.swim_history.specs.Clock.{period_number, phase}
 use Rattle.swim_history.specs.Aim.{aim, unheard}
 use Rattle.swim_history.specs.Run.{calls_of, IsRun}
 use Rattle.swim_history.specs.Gap.{probes_member, unlists, IsGap, IsStretch}
-use Rattle.swim_history.specs.Worked.{at, known, of_members, entry, round, starting, two_members, first_start}
+use Rattle.swim_history.specs.Worked.{at, known, of_members, entry, round, starting, first_start}
 
 -- the entries of a period after its start: the aim's ack, then two quiet ticks
 abbrev pub heard : ℕ → ℕ → ℕ → Entry

@@ -80,7 +80,13 @@ pub(super) fn entry(number: u32, call: Call, reply: Reply, choice: Choice) -> En
 }
 
 // A start, by which a member may be judged and another is probed.
-pub(super) fn start(place: u32, judged: Option<Id>, target: u8, number: u64, choice: Choice) -> Option<Entry>
+pub(super) fn start(
+    place: u32,
+    judged: Option<Id>,
+    target: u8,
+    number: u64,
+    choice: Choice,
+) -> Option<Entry>
     ensures { IfSome result (λ e. e ≡ starting place judged target number choice) }
 {
     let probe = Some(Probe {

@@ -1,4 +1,4 @@
-use Rattle.std.proofs.Common.{◌≡◌, length, take, reverse, ap, arith}
+use Rattle.std.proofs.Common.{take, arith}
 use Rattle.std.proofs.lemmas.List.{length-reverse, length-take-le}
 use Rattle.swim_history.proofs.InOrder.{next_continues}
 use Rattle.swim_history.proofs.tests.gaps.replayed.Goals as goal
