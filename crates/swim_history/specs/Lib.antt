@@ -19,6 +19,7 @@ pub mod Seats
 pub mod Reasons
 pub mod Determined
 pub mod Worked
+pub mod WorkedGaps
 pub mod Sends
 pub mod CheckLaws
 pub mod Written
