@@ -13,6 +13,16 @@ use Rattle.swimsim.specs.declared.commands.Command.{Command}
 use Rattle.swimsim.specs.declared.commands.Command.TheVariants.{Open, Row, Order, Place, Seed, Tick, Hear, Join, Remove, Table, Gap}
 use Rattle.swimsim.specs.Arguments.{◌>>=◌, take_id, take_number, take_peer, take_order, take_seed, take_datagram, open_arguments}
 
+-- the word that tells a fault of a line's words
+abbrev pub fault_name : LineFault → List ℕ
+fault_name faults.Word = codes "word"
+fault_name faults.Seed = codes "seed"
+fault_name faults.Number = codes "number"
+fault_name faults.Peer = codes "peer"
+fault_name faults.Hex = codes "hex"
+fault_name faults.Order = codes "order"
+fault_name faults.Extra = codes "extra"
+
 -- the first word of a line, if it is known
 abbrev pub word_of : List ℕ → Option Word
 word_of text =

@@ -1,7 +1,7 @@
 //! What a line of a script says.
 
 ghost use Rattle.std.specs.Prelude.{◌≡◌};
-ghost use Rattle.swimsim.specs.Commands.{LineStandsAt, word_of, fault_of_word, command_after, line_read, is_skipped, words_read, alone};
+ghost use Rattle.swimsim.specs.Commands.{fault_name, LineStandsAt, word_of, fault_of_word, command_after, line_read, is_skipped, words_read, alone};
 
 use crate::arguments::{
     OpenArguments, take_datagram, take_id, take_number, take_open, take_order, take_peer, take_seed,
@@ -33,7 +33,9 @@ pub enum LineFault {
 
 impl LineFault {
     /// The word that tells the fault.
-    pub fn name(self) -> &'static str {
+    pub fn name(self) -> &'static str
+        ensures { result.now ≡ fault_name self }
+    {
         match self {
             LineFault::Word => "word",
             LineFault::Seed => "seed",
