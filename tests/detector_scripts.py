@@ -1,4 +1,4 @@
-"""Random scripts of a detector, without faults but those of openings. Each takes its random numbers and gives a script."""
+"""Random scripts of a detector, with no faults but those of openings. Each takes random numbers and gives a script."""
 
 from growing_scripts import ACK, LARGEST_ID, LARGEST_NUMBER, PING, REQUEST
 from growing_scripts import Script, address, any_event, datagram, scripted, show
@@ -97,7 +97,7 @@ def relaying(r):
                 script.tick(r.randint(1, script.period))
         if r.random() < 0.2:
             script.remove(target)
-        script.tick(r.choice([0, 1, script.period - 1, script.period - 1, script.period, script.period, script.period + 1]))
+        script.tick(script.period + r.choice([-script.period, -1, -1, 0, 0, 1]))
         for _ in range(r.choice([1, 1, 2])):
             script.hear(target, ACK, target, initiator, target, r.choice([number] * 5 + [3]))
     return script
@@ -223,6 +223,6 @@ def openings(r):
         else:
             id = r.choice([script.me, r.randint(1, 500), r.choice([1, *script.members])])
             script.header.insert(r.randint(0, len(script.header)), f"row {id} {address(id)}")
-    event = r.choice(["tick", "tick", "table", "gap 2", "join 3 1.2.3.4:5", "remove 2", "hear 1.2.3.4:5 ", "hear 1.2.3.4:5 5"])
-    script.events = [event] * r.choice([0, 1, 1, 5])
+    events = ["tick", "tick", "table", "gap 2", "join 3 1.2.3.4:5", "remove 2", "hear 1.2.3.4:5 ", "hear 1.2.3.4:5 5"]
+    script.events = [r.choice(events)] * r.choice([0, 1, 1, 5])
     return script

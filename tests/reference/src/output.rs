@@ -2,8 +2,8 @@
 
 use crate::gaps::Gap;
 use crate::members::{Members, State};
-use crate::replies::Reply;
-use crate::wire::{Key, Kind, Message, Peer, WireFault};
+use crate::replies::{Probe, Reply};
+use crate::wire::{Kind, Message, Peer, WireFault};
 use std::io::{self, Write};
 
 /// How many bytes are gathered before they are handed on.
@@ -60,52 +60,32 @@ impl<W: Write> Output<W> {
             Reply::Joined(place) => self.numbered("joined ", u64::from(*place)),
             Reply::Dropped(reason) => self.numbered("dropped ", *reason as u64),
             Reply::Refused(refusal) => self.numbered("refused ", *refusal as u64),
-            Reply::Started { judged, probe } => {
-                self.put("started judged ");
-                self.id_or_none(*judged);
-                self.put(" probe ");
-                self.id_or_none(probe.as_ref().map(|probe| probe.target));
-                if let Some(probe) = probe {
-                    self.put(" ");
-                    self.number(probe.number);
-                    self.put("\n");
-                    let key = Key {
-                        initiator: me,
-                        target: probe.target,
-                        number: probe.number,
-                    };
-                    return self.send(
-                        probe.peer,
-                        Message {
-                            kind: Kind::Ping,
-                            sender: me,
-                            key,
-                        },
-                    );
-                }
-                self.put("\n");
-            }
+            Reply::Started { judged, probe } => self.started(*judged, probe.as_ref(), me),
             Reply::Asked { target, number } => {
                 self.asked(*target, *number, relays);
-                let key = Key {
-                    initiator: me,
-                    target: *target,
-                    number: *number,
-                };
                 for (_, peer) in relays {
-                    self.send(
-                        *peer,
-                        Message {
-                            kind: Kind::PingReq,
-                            sender: me,
-                            key,
-                        },
-                    );
+                    let request = Message::of_probe(Kind::PingReq, me, *target, *number);
+                    self.send(*peer, request);
                 }
             }
             Reply::Send(peer, message) => {
                 self.line("sent");
                 self.send(*peer, *message);
+            }
+        }
+    }
+
+    fn started(&mut self, judged: Option<u32>, probe: Option<&Probe>, me: u32) {
+        self.put("started judged ");
+        self.id_or_none(judged);
+        self.put(" probe ");
+        self.id_or_none(probe.map(|probe| probe.target));
+        match probe {
+            None => self.put("\n"),
+            Some(probe) => {
+                self.numbered(" ", probe.number);
+                let ping = Message::of_probe(Kind::Ping, me, probe.target, probe.number);
+                self.send(probe.peer, ping);
             }
         }
     }

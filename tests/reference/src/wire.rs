@@ -42,6 +42,20 @@ pub enum WireFault {
 }
 
 impl Message {
+    /// A message of the member that began the probe.
+    pub fn of_probe(kind: Kind, initiator: u32, target: u32, number: u64) -> Message {
+        let key = Key {
+            initiator,
+            target,
+            number,
+        };
+        Message {
+            kind,
+            sender: initiator,
+            key,
+        }
+    }
+
     /// The message that an even number of hexadecimal digits spell, or the first fault.
     pub fn of_digits(digits: &[u8]) -> Result<Message, WireFault> {
         match bytes_of(digits) {
