@@ -1,3 +1,4 @@
 pub mod InOrder
 pub mod Places
+pub mod Storing
 pub mod Summaries

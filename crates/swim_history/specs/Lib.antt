@@ -20,6 +20,7 @@ pub mod Determined
 pub mod Worked
 pub mod Sends
 pub mod CheckLaws
+pub mod Storage
 pub mod Written
 pub mod ClockLaws
 pub mod RunLaws

@@ -7,6 +7,7 @@ use swim_wire::{Id, Peer};
 mod journals;
 mod openings;
 mod replies;
+mod storage;
 
 fn id(value: u32) -> Option<Id>
     ensures { SomeIff result (0 < value) value }
