@@ -32,10 +32,14 @@ run_so_far o entries i run =
     ap reverse (sym (take-append-drop i entries)) ∙ reverse-append (take i entries) (drop i entries) in
     IsRun-older o (reverse (drop i entries)) (reverse (take i entries)) (subst (λ (h : List Entry). IsRun o h) whole run)
 
+-- the entries of a run up to the next are a run
+pub next_run : (o : Setting) (entries : List Entry) (i : ℕ) (e : Entry) → i < length entries → e ≡ get_or entries i e → IsRun o (reverse entries) → IsRun o (e ∷ reverse (take i entries))
+next_run o entries i e lt is run =
+    subst (λ (h : List Entry). IsRun o h) (past_more entries i e lt ∙ ap (λ (x : Entry). x ∷ reverse (take i entries)) (sym is)) (run_so_far o entries (i + 1) run)
+
 -- each entry of a run follows those before it
 pub next_continues : (o : Setting) (entries : List Entry) (i : ℕ) (e : Entry) → i < length entries → e ≡ get_or entries i e → IsRun o (reverse entries) → Continues o (reverse (take i entries)) e
-next_continues o entries i e lt is run =
-    (subst (λ (h : List Entry). IsRun o h) (past_more entries i e lt ∙ ap (λ (x : Entry). x ∷ reverse (take i entries)) (sym is)) (run_so_far o entries (i + 1) run)).0
+next_continues o entries i e lt is run = (next_run o entries i e lt is run).0
 
 -- a period begins only while numbers are left
 pub unspent_at : (o : Setting) (h : List Entry) (e : Entry) → Continues o h e → is_start e ≡ true → period_number o h + 1 < 2 ^ 64

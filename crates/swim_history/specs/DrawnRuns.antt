@@ -9,6 +9,7 @@ use Rattle.std.specs.Prelude.{map, min, take, drop, not, nat_eq, IsPermutation}
 use Rattle.std.specs.List.{AllByRecursion}
 use Rattle.swim_wire.specs.Address.{Address}
 use Rattle.swim_wire.specs.Ids.{has, has_twice, front}
+use Rattle.swim_wire.specs.IdLaws.{once-IsPermutation, has-IsPermutation, has_part, once_part}
 use Rattle.swim_wire.specs.Probe.{key_of, passed_on}
 use Rattle.swim_wire.specs.Requests.{peer_for}
 use Rattle.swim_wire.specs.Round.{Lists, all_of, leave_judged, MayDraw, redraw}
@@ -38,7 +39,7 @@ use Rattle.swim_history.specs.Round.{drawn, lists, listed}
 use Rattle.swim_history.specs.Waiting.{waiting}
 use Rattle.swim_history.specs.Run.{last_number, IsProbe, candidates, IsRequest, most_waiting, is_waiting, Hears, Answers, calls_of, IsRun}
 use Rattle.swim_history.specs.RunLaws.{begins, number_then}
-use Rattle.swim_history.specs.ListedLaws.{no_longer, once-IsPermutation, has-IsPermutation, has_part, once_part, all-redraw, next_is_in, stays_from, once_judged, listed_is, listed_once, listed_bound, room_to_join}
+use Rattle.swim_history.specs.ListedLaws.{no_longer, all-redraw, next_is_in, stays_from, once_judged, listed_is, listed_once, listed_bound, room_to_join}
 use Rattle.swim_history.specs.Drawn.{DrawsEntry, IsDrawn}
 use Rattle.swim_history.specs.DrawnLaws.{calls_in}
 

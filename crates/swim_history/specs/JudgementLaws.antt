@@ -47,7 +47,7 @@ unless_some : {A : Type 0} (b : Bool) (x y : A) → unless b x ≡ Some y → (b
 unless_some true x y e = absurd cc
 unless_some false x y e = (refl, same_Some x y e)
 
-map_some : {A B : Type 0} (f : A → B) (o : Option A) (y : B) → option_map f o ≡ Some y → (x : A) × (o ≡ Some x) × (f x ≡ y)
+pub map_some : {A B : Type 0} (f : A → B) (o : Option A) (y : B) → option_map f o ≡ Some y → (x : A) × (o ≡ Some x) × (f x ≡ y)
 map_some f None y e = absurd cc
 map_some f (Some x) y e = (x, refl, same_Some (f x) y e)
 

@@ -14,10 +14,12 @@ pub mod Drawn
 pub mod Judgement
 pub mod Probes
 pub mod Gap
+pub mod LastProbe
 pub mod Seats
 pub mod Reasons
 pub mod Determined
 pub mod Worked
+pub mod WorkedGaps
 pub mod Sends
 pub mod CheckLaws
 pub mod Storage
@@ -28,5 +30,7 @@ pub mod JudgementLaws
 pub mod ProbeLaws
 pub mod WaitingLaws
 pub mod ListedLaws
+pub mod Wait
+pub mod GapLaws
 pub mod DrawnLaws
 pub mod DrawnRuns

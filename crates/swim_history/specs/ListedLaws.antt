@@ -7,14 +7,15 @@ use Rattle.std.proofs.lemmas.Cmp.{nat_eq_equiv}
 use Rattle.std.proofs.lemmas.List.{length-map}
 use Rattle.std.proofs.lemmas.List.Elements.{filter-append}
 use Rattle.std.proofs.lemmas.List.Folds.{list_any-append}
-use Rattle.std.proofs.lemmas.List.Sorted.{list_any-IsPermutation, IsPermutation-refl, IsPermutation-sym, IsPermutation-trans, IsPermutation-insert, IsPermutation-append_left, IsPermutation-append_right, IsPermutation-middle}
-use Rattle.std.proofs.lemmas.Map.Keys.{IsDistinct-IsPermutation, IsDistinct-head, IsDistinct-tail, IsDistinct-cons}
-use Rattle.std.proofs.lemmas.Map.Made.{is_member-filter, length-le_from_is_member}
+use Rattle.std.proofs.lemmas.List.Sorted.{IsPermutation-refl, IsPermutation-sym, IsPermutation-trans, IsPermutation-insert, IsPermutation-append_left, IsPermutation-append_right, IsPermutation-middle}
+use Rattle.std.proofs.lemmas.Map.Made.{length-le_from_is_member}
 use Rattle.std.specs.Prelude.{filter, find, not, insert, is_some, option_and_then, IsPermutation}
-use Rattle.std.specs.List.{AllByRecursion, IsDistinct, list_any}
+use Rattle.std.specs.List.{list_any}
 use Rattle.std.specs.Option.{option_map}
 use Rattle.swim_wire.specs.Address.{Address}
 use Rattle.swim_wire.specs.Ids.{has, has_twice, without, front}
+use Rattle.swim_wire.specs.IdLaws.{differ}
+use Rattle.swim_wire.specs.IdLaws.{has-IsPermutation, once-IsPermutation, has_part, once_part}
 use Rattle.swim_wire.specs.Round.{Lists, all_of, leave, leave_judged, MayDraw, redraw, advanced, advance, join_at}
 use Rattle.swim_history.specs.declared.rows.Row.{Row}
 use Rattle.swim_history.specs.declared.calls.Call.{Call}
@@ -36,52 +37,9 @@ use Rattle.swim_history.specs.RunLaws.{begins}
 use Rattle.swim_history.specs.Changes.{table, known_count}
 use Rattle.swim_history.specs.TableLaws.{table_shows, table_bound}
 
--- ---- lists of ids
-
--- where no id stands twice, any two differ, and the other way round
-none_same : (id : ℕ) (ids : List ℕ) → has ids id ≡ false → AllByRecursion (λ other. nat_eq id other ≡ false) ids
-none_same id [] none = tt
-none_same id (x ∷ ids) none = let parts = or_parts (nat_eq id x) (has ids id) none in (parts.0, none_same id ids parts.1)
-
-has_none : (id : ℕ) (ids : List ℕ) → AllByRecursion (λ other. nat_eq id other ≡ false) ids → has ids id ≡ false
-has_none id [] none = refl
-has_none id (x ∷ ids) none = or_from (nat_eq id x) (has ids id) none.0 (has_none id ids none.1)
-
-differ : (ids : List ℕ) → has_twice ids ≡ false → IsDistinct nat_eq ids
-unfolding IsDistinct
-differ [] once = tt
-differ (id ∷ ids) once =
-    let parts = or_parts (has ids id) (has_twice ids) once in
-    IsDistinct-cons nat_eq id ids (none_same id ids parts.0) (differ ids parts.1)
-
-once_from_differ : (ids : List ℕ) → IsDistinct nat_eq ids → has_twice ids ≡ false
-once_from_differ [] d = refl
-once_from_differ (id ∷ ids) d =
-    or_from (has ids id) (has_twice ids) (has_none id ids (IsDistinct-head nat_eq id ids d)) (once_from_differ ids (IsDistinct-tail nat_eq id ids d))
-
 -- ids of which none stands twice, and each of which stands on another list, are no more than those of that list
 pub no_longer : (xs ys : List ℕ) → has_twice xs ≡ false → ((id : ℕ) → has xs id ≡ true → has ys id ≡ true) → length xs ≤ length ys
 no_longer xs ys once within = length-le_from_is_member nat_eq_equiv xs ys (differ xs once) within
-
-pub once-IsPermutation : (xs ys : List ℕ) → IsPermutation xs ys → has_twice xs ≡ false → has_twice ys ≡ false
-once-IsPermutation xs ys p once = once_from_differ ys (IsDistinct-IsPermutation nat_eq nat_eq_equiv.symm xs ys p (differ xs once))
-
-pub has-IsPermutation : (id : ℕ) (xs ys : List ℕ) → IsPermutation xs ys → has ys id ≡ has xs id
-has-IsPermutation id xs ys p = sym (list_any-IsPermutation (nat_eq id) xs ys p)
-
--- a part of the ids that is chosen by a test
-pub has_part : (p : ℕ → Bool) (id : ℕ) (ids : List ℕ) → has (filter p ids) id ≡ (has ids id && p id)
-has_part p id ids = is_member-filter nat_eq_equiv p id (λ x same. ap p (eqb-true id x same)) ids
-
-pub once_part : (p : ℕ → Bool) (ids : List ℕ) → has_twice ids ≡ false → has_twice (filter p ids) ≡ false
-once_part p [] once = refl
-once_part p (id ∷ ids) once =
-    let parts = or_parts (has ids id) (has_twice ids) once in
-    by (p id) (has_part p id ids ∙ rw parts.0 refl) (once_part p ids parts.1)
-  where
-    by : (b : Bool) → has (filter p ids) id ≡ false → has_twice (filter p ids) ≡ false → has_twice (cond b (id ∷ filter p ids) (filter p ids)) ≡ false
-    by true none again = or_from (has (filter p ids) id) (has_twice (filter p ids)) none again
-    by false none again = again
 
 -- ---- the lists of a round
 
@@ -127,7 +85,7 @@ up_known None unknown = refl
 up_known (Some row) unknown = absurd cc
 
 -- the members that are up at the start
-listed_first : (rows : List Row) → has_twice (ids_of rows) ≡ false → (id : ℕ) → has (ids_of (filter (λ row. is_state_up row.state) rows)) id ≡ is_up (row_at rows id)
+pub listed_first : (rows : List Row) → has_twice (ids_of rows) ≡ false → (id : ℕ) → has (ids_of (filter (λ row. is_state_up row.state) rows)) id ≡ is_up (row_at rows id)
 listed_first [] once id = refl
 listed_first (row ∷ rows) once id =
     let parts = or_parts (has (ids_of rows) row.id) (has_twice (ids_of rows)) once in
@@ -196,7 +154,7 @@ listed_is o (e ∷ h) s run id = listed_then o h e.call e.reply e.choice id run.
 
 -- ---- each once
 
-once_up : (rows : List Row) → has_twice (ids_of rows) ≡ false → has_twice (ids_of (filter (λ row. is_state_up row.state) rows)) ≡ false
+pub once_up : (rows : List Row) → has_twice (ids_of rows) ≡ false → has_twice (ids_of (filter (λ row. is_state_up row.state) rows)) ≡ false
 once_up [] once = refl
 once_up (row ∷ rows) once =
     let parts = or_parts (has (ids_of rows) row.id) (has_twice (ids_of rows)) once in
@@ -259,7 +217,7 @@ still_there (Some id) gone m e = by (gone id) refl e where
   by false is e = (e, subst (λ (x : ℕ). gone x ≡ false) (same_Some id m e) is)
 
 -- a member that is up stays so where no period begins and it isn't removed
-up_then : (call : Call) (reply : Reply) (number m : ℕ) (row : Option Row) → is_starting reply ≡ false → is_removing m call reply ≡ false → is_up row ≡ true → is_up (row_then call reply number m row) ≡ true
+pub up_then : (call : Call) (reply : Reply) (number m : ℕ) (row : Option Row) → is_starting reply ≡ false → is_removing m call reply ≡ false → is_up row ≡ true → is_up (row_then call reply number m row) ≡ true
 up_then Tick (Started judged probe) number m row starts removes is = absurd cc
 up_then (Join joiner peer) (Joined place) number m row starts removes is = by (nat_eq joiner m) where
   by : (b : Bool) → is_up (cond b (Some (up joiner peer)) row) ≡ true

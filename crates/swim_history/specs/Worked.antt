@@ -1,6 +1,6 @@
 -- Worked runs: the definitions, evaluated on histories that were written down by hand.
-use Rattle.std.specs.Prelude.{◌≡◌, ℕ, ◌+◌, List, [], ◌∷◌, length, Option, Some, None, refl}
-use Rattle.std.proofs.Common.{◌++◌, lit<, arith}
+use Rattle.std.specs.Prelude.{◌≡◌, ℕ, List, [], ◌∷◌, length, Option, Some, None, refl}
+use Rattle.std.proofs.Common.{lit<, arith}
 use Rattle.std.proofs.lemmas.List.Sorted.{IsPermutation-refl}
 use Rattle.swim_wire.specs.Address.{Address}
 use Rattle.swim_wire.specs.declared.messages.Kind.TheVariants.{Ping, PingReq, Ack}
@@ -26,17 +26,16 @@ use Rattle.swim_history.specs.Waiting.{waiting}
 use Rattle.swim_history.specs.Run.{Continues, IsRun}
 use Rattle.swim_history.specs.Judgement.{judgements}
 use Rattle.swim_history.specs.Probes.{probes}
-use Rattle.swim_history.specs.Gap.{IsGap}
 
 -- member n listens at 10.0.0.n:7000
 abbrev pub at : ℕ → Address
 at n = record { ip = 10 ∷ 0 ∷ 0 ∷ n ∷ []; port = 7000 }
 
-abbrev row : ℕ → Row
-row n = up n (at n)
+abbrev pub known : ℕ → Row
+known n = up n (at n)
 
 -- a detector of member 1 with a timeout of one tick and a period of three
-abbrev of_members : ℕ → ℕ → List Row → Setting
+abbrev pub of_members : ℕ → ℕ → List Row → Setting
 of_members k last rows = record { me = 1; k = k; rtt = 1; period = 3; rows = rows; last = last }
 
 -- an entry of the one caller
@@ -54,7 +53,7 @@ asking place target number relays = entry place Tick (Asked target number (recor
 
 -- one member and no relays: the probe, the empty ask, a quiet tick and the judgement
 abbrev silent_member : Setting
-silent_member = of_members 0 0 (row 2 ∷ [])
+silent_member = of_members 0 0 (known 2 ∷ [])
 
 abbrev silence : List Entry
 silence =
@@ -90,7 +89,7 @@ silence_is_run = (
 
 -- two members and one relay: the aim of the first period is judged, and the other member is probed next
 abbrev pub two_members : Setting
-two_members = of_members 1 0 (row 2 ∷ row 3 ∷ [])
+two_members = of_members 1 0 (known 2 ∷ known 3 ∷ [])
 
 abbrev pub first_start : Entry
 first_start = starting 0 None 2 1 (round (2 ∷ 3 ∷ []))
@@ -106,7 +105,7 @@ two_periods =
 two_periods_judge : judgements two_members two_periods ≡ record { member = 2; number = 1 } ∷ []
 two_periods_judge = refl
 
-two_periods_show : table two_members two_periods ≡ record { id = 2; peer = at 2; state = Failed 1 } ∷ row 3 ∷ []
+two_periods_show : table two_members two_periods ≡ record { id = 2; peer = at 2; state = Failed 1 } ∷ known 3 ∷ []
 two_periods_show = refl
 
 two_periods_list : lists two_members two_periods ≡ record { probed = 3 ∷ []; rest = [] }
@@ -131,7 +130,7 @@ two_periods_are_run = (
 abbrev one_for_another : List Entry
 one_for_another = entry 5 (Join 4 (at 4)) (Joined 0) Nothing ∷ entry 4 (Remove 3) Removed Nothing ∷ two_periods
 
-one_for_another_shows : table two_members one_for_another ≡ record { id = 2; peer = at 2; state = Failed 1 } ∷ row 4 ∷ []
+one_for_another_shows : table two_members one_for_another ≡ record { id = 2; peer = at 2; state = Failed 1 } ∷ known 4 ∷ []
 one_for_another_shows = refl
 
 one_for_another_is_run : IsRun two_members one_for_another
@@ -192,41 +191,8 @@ asked_again : length (waiting two_members (request 1 ∷ request 0 ∷ [])) ≡ 
 asked_again = refl
 
 -- the last number is used, and no period begins after it
-last_period : period_number (of_members 1 18446744073709551614 (row 2 ∷ [])) (starting 0 None 2 18446744073709551615 (round (2 ∷ [])) ∷ []) ≡ 18446744073709551615
+last_period : period_number (of_members 1 18446744073709551614 (known 2 ∷ [])) (starting 0 None 2 18446744073709551615 (round (2 ∷ [])) ∷ []) ≡ 18446744073709551615
 last_period = refl
 
-refused_when_spent : Continues (of_members 1 18446744073709551615 (row 2 ∷ [])) [] (entry 0 Tick (Refused Spent) Nothing)
+refused_when_spent : Continues (of_members 1 18446744073709551615 (known 2 ∷ [])) [] (entry 0 Tick (Refused Spent) Nothing)
 refused_when_spent = record { seat = lit< tt; number = refl; answer = (refl, refl) }
-
--- four periods without relays whose aims answer: the first member's probes are three periods apart, with two listed
-abbrev acked : ℕ → ℕ → ℕ → List Entry → List Entry
-acked place target number before =
-    entry (place + 2) Tick Quiet Nothing
-    ∷ entry (place + 1) Tick Quiet Nothing
-    ∷ entry place (Hear (record { kind = Ack; sender = target; initiator = 1; target = target; number = number }) (at target)) Heard Nothing
-    ∷ before
-
-abbrev no_relays : Setting
-no_relays = of_members 0 0 (row 2 ∷ row 3 ∷ [])
-
-abbrev between_probes : List Entry
-between_probes = acked 9 3 3 (starting 8 None 3 3 (round (3 ∷ 2 ∷ [])) ∷ acked 5 3 2 (starting 4 None 3 2 Nothing ∷ acked 1 2 1 []))
-
-four_probes : IsGap no_relays (starting 12 None 2 4 Nothing ∷ (between_probes ++ first_start ∷ [])) 2 1 4 2
-four_probes = record {
-  newer = [];
-  second = starting 12 None 2 4 Nothing;
-  between = between_probes;
-  first = first_start;
-  before = [];
-  split = refl;
-  from = record { target = 2; peer = at 2; number = 1 };
-  to = record { target = 2; peer = at 2; number = 4 };
-  probed = refl;
-  again = refl;
-  members = (refl, refl);
-  numbers = (refl, refl);
-  none_between = refl;
-  stays = refl;
-  count = refl;
-}

@@ -23,7 +23,7 @@ pub fn calls_determine_a_drawn_run<C: Drawing>()
     ensures { IsFunctional C.orders C.places C.same → (o : Setting) → IsSetting o → DrawsOnce C.orders C.places C.same o }
 {}
 
-/// Where choosers always answer, an opening, a chooser and a list of calls, each with its seat, have a drawn run.
+/// Where choosers always answer, an opening, a chooser and a list of calls, each with its seat, 0 to 3, have a drawn run.
 pub fn calls_have_a_drawn_run<C: Drawing>()
     ensures { IsTotal C.orders C.places → (o : Setting) → IsSetting o → DrawsAlways C.orders C.places o }
 {}

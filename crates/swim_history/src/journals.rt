@@ -1,12 +1,14 @@
 //! The journal: a run of the sequential detector, as it happened.
 
-ghost use Rattle.std.specs.Prelude.{◌≡◌, ◌+◌, ◌^◌, ◌<◌, ◌≤◌, ◌==◌, ◌∷◌, ◌++◌, [], length, map, reverse, IsOk, IfOk, OnOk, slice_get, true, if◌then◌else◌};
+ghost use Rattle.std.specs.Prelude.{◌≡◌, ◌↔◌, ◌+◌, ◌^◌, ◌<◌, ◌≤◌, ◌==◌, ◌∷◌, ◌++◌, [], None, length, map, reverse, IfSome, IsOk, IfOk, OnOk, slice_get, true, if◌then◌else◌};
 ghost use Rattle.std.specs.Option.{option_to_list};
 ghost use Rattle.swim_history.specs.Setting.{IsSetting};
 ghost use Rattle.swim_history.specs.Events.{is_starting, judged_in};
 ghost use Rattle.swim_history.specs.Run.{Continues, IsRun};
 ghost use Rattle.swim_history.specs.Judgement.{judgements, judgement, JudgesByRule};
 ghost use Rattle.swim_history.specs.Probes.{probes, probed_by, ProbesAsDrawn};
+ghost use Rattle.swim_history.specs.LastProbe.{widest_gap};
+ghost use Rattle.swim_history.specs.Gap.{HasNoGap, IsWidest, AreGapsBounded, IsProbedInTime};
 ghost use Rattle.swim_history.specs.Clock.{period_number};
 ghost use Rattle.swim_history.specs.Rows.{row_of};
 ghost use Rattle.swim_history.specs.Changes.{table, known_count, change_by, rows_after, IsAscending};
@@ -14,6 +16,7 @@ ghost use Rattle.swim_history.specs.Changes.{table, known_count, change_by, rows
 use crate::calls::Call;
 use crate::copies::copied;
 use crate::entries::Entry;
+use crate::gaps::{Gap, find_widest};
 use crate::openings::Opening;
 use crate::probing::{Probed, collect_probed};
 use crate::replies::Reply;
@@ -196,6 +199,19 @@ impl Journal {
     {
         collect_probed(self.entries.allocator(), &self.entries)
     }
+
+    /// The gap of a member with the greatest `b - a`, the earliest of equals; `None` if there is none. No
+    /// gap of any member is more than 2 n - 1 periods wide, with its own n, and each member is probed by
+    /// one of 2 n - 1 starts, from the first of which until after the last it is listed.
+    pub fn widest_gap(&self, member: Id) -> Option<Gap>
+        ensures exact { result ≡ widest_gap self.now.opening member self.now.past }
+        ensures widest { IfSome result (λ g. IsWidest self.now.opening self.now.past member g.a g.b g.n) }
+        ensures none { (result ≡ None) ↔ HasNoGap self.now.opening self.now.past member }
+        ensures bound { AreGapsBounded self.now.opening self.now.past }
+        ensures round { IsProbedInTime self.now.opening self.now.past }
+    {
+        find_widest(&self.opening, &self.entries, member)
+    }
 }
 
 /// Whom a start judged.
@@ -217,7 +233,7 @@ fn is_start(reply: &Reply) -> bool
 
 /// Makes the change of an entry, if it makes one; number is that of the period which it ends, if it
 /// ends one.
-fn note_change(rows: &mut Table, call: &Call, reply: &Reply, number: u64)
+pub(crate) fn note_change(rows: &mut Table, call: &Call, reply: &Reply, number: u64)
     requires ascends { IsAscending rows.old.items }
     requires fits { let change = change_by call.now reply.now number in
         length (rows_after rows.old.items (option_to_list change)) ≤ 128 }
@@ -272,7 +288,7 @@ fn note_judged(judged: &mut Vec<Judged>, member: Option<Id>, number: u64) -> Res
 }
 
 /// The last period number used after an entry.
-fn number_after(number: u64, reply: &Reply) -> u64
+pub(crate) fn number_after(number: u64, reply: &Reply) -> u64
     requires { is_starting reply.now ≡ true → number + 1 < 2 ^ 64 }
     ensures { result ≡ (if is_starting reply.now then number + 1 else number) }
 {

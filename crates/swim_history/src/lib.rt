@@ -6,6 +6,7 @@ mod calls;
 mod copies;
 pub mod drawn_laws;
 mod entries;
+mod gaps;
 mod journals;
 pub mod laws;
 mod openings;
@@ -18,6 +19,7 @@ mod tables;
 
 pub use calls::Call;
 pub use entries::{Choice, Entry, Order};
+pub use gaps::Gap;
 pub use journals::{Journal, Judged};
 pub use openings::{LONGEST_PERIOD, MOST_RELAYS, Opening, OpeningFault};
 pub use probing::Probed;

@@ -4,6 +4,7 @@ ghost use Rattle.std.specs.Option.{SomeIff};
 use super::*;
 use swim_wire::{Id, Peer};
 
+mod gaps;
 mod journals;
 mod openings;
 mod replies;

@@ -1,15 +1,15 @@
 -- A list of ids in two parts, and what an insertion and a removal do to each.
-use Rattle.std.specs.Prelude.{◌≡◌, ◌≢◌, ℕ, ◌+◌, ◌-◌, ◌<◌, ◌≤◌, Bool, true, false, not, List, [], ◌∷◌, length, take, drop, insert, remove, IsPermutation, zero, suc}
+use Rattle.std.specs.Prelude.{◌≡◌, ◌≢◌, ℕ, ◌+◌, ◌-◌, ◌<◌, ◌≤◌, true, false, not, List, [], ◌∷◌, length, take, drop, insert, remove, IsPermutation, zero, suc}
 use Rattle.std.specs.List.{refill}
-use Rattle.std.proofs.Common.{cond, eqb, ltb, refl, sym, ap, subst, ◌∙◌, arith, add-one, get_or, take-append-drop}
+use Rattle.std.proofs.Common.{eqb, ltb, refl, sym, ap, subst, ◌∙◌, arith, add-one, get_or, take-append-drop}
 use Rattle.std.proofs.lemmas.Bool.{or_parts, or_from, eq-eqb, eqb-false, ne_eqb, lt-ltb, le-ltb, both_ways}
 use Rattle.std.proofs.lemmas.List.{length-take-le, length-drop, take_all, drop_all, take_at}
 use Rattle.std.proofs.lemmas.List.Folds.{list_any-append, list_any_at}
 use Rattle.std.proofs.lemmas.List.Edits.{length-insert, length-remove}
 use Rattle.std.proofs.lemmas.List.Sorted.{IsPermutation-insert, length_permutation}
 use Rattle.swim_wire.specs.Ids.{has, has_twice, without}
+use Rattle.swim_wire.specs.IdLaws.{once-IsPermutation, once_part}
 use Rattle.swim_wire.specs.Round.{Lists, all_of, leave, join_at}
-use Rattle.swim_targets.specs.Orders.{times, one_if_same, times_once, once_from_times, once-IsPermutation}
 use Rattle.swim_targets.specs.Rounds.{IsKept, IsListing}
 
 -- the list, of which the first c were probed
@@ -97,15 +97,8 @@ once_insert : (ids : List ℕ) (p id : ℕ) → has ids id ≡ false → has_twi
 once_insert ids p id none once =
     once-IsPermutation (id ∷ ids) (insert ids p id) (IsPermutation-insert ids p id) (or_from (has ids id) (has_twice ids) none once)
 
-times-without-le : (q id : ℕ) (ids : List ℕ) → times q (without id ids) ≤ times q ids
-times-without-le q id [] = omega arith
-times-without-le q id (x ∷ ids) = by (eqb x id) (times-without-le q id ids) where
-  by : (b : Bool) → times q (without id ids) ≤ times q ids → times q (cond (not b) (x ∷ without id ids) (without id ids)) ≤ one_if_same q x + times q ids
-  by true again = omega (arith, again)
-  by false again = omega (arith, again)
-
 once_without : (ids : List ℕ) (id : ℕ) → has_twice ids ≡ false → has_twice (without id ids) ≡ false
-once_without ids id once = once_from_times (without id ids) (λ q. omega (arith, times-without-le q id ids, times_once ids once q))
+once_without ids id once = once_part (λ other. not (eqb other id)) ids once
 
 pub listing : (ids : List ℕ) (c : ℕ) → IsKept ids c → IsListing (split c ids)
 listing ids c kept = record { once = rw (take-append-drop c ids) kept.once; bound = rw (take-append-drop c ids) kept.bound }

@@ -3,12 +3,17 @@ use Rattle.std.specs.Prelude.{◌≡◌, ℕ, ◌+◌, ◌^◌, List}
 use Rattle.rand_core.specs.Stream.{Stream, next_u32}
 use Rattle.rand_core.specs.Steps.{stream_of, steps_u32}
 use Rattle.rand_chacha.specs.ChaCha.{ChaCha, next_word}
+pub use Rattle.rand_chacha.specs.ChaCha.{of_seed}
 use Rattle.rand.specs.Shuffle.{shuffled}
 use Rattle.rand.specs.Uniform.{canon, below_or_word}
 
 -- the words to come: those of ChaCha with 20 rounds, that is 10 double rounds
 abbrev pub words_of : ChaCha → Stream
 words_of = stream_of (steps_u32 (next_word 10))
+
+-- two states with the same words to come
+abbrev pub HaveSameWords : ChaCha → ChaCha → Type 0
+HaveSameWords one other = words_of one ≡ words_of other
 
 -- the order, and the words that are left, are those of the shuffle
 abbrev pub DrawsOrder : ChaCha → List ℕ → List ℕ → ChaCha → Type 0

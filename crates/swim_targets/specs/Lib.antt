@@ -1,4 +1,5 @@
 pub mod Draws
+pub mod DrawLaws
 pub mod Orders
 pub mod Places
 pub mod Rounds

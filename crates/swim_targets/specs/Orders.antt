@@ -1,10 +1,10 @@
--- Laws of lists of ids: how often an id stands on a list, and which lists are orders of one another.
-use Rattle.std.specs.Prelude.{◌≡◌, ℕ, ◌+◌, ◌<◌, ◌≤◌, Bool, true, false, ◌||◌, List, [], ◌∷◌, IsPermutation}
-use Rattle.std.proofs.Common.{cond, eqb, refl, sym, subst, ◌∙◌, arith}
-use Rattle.std.proofs.lemmas.Bool.{or_parts, or_from, and_parts, and_from, eqb-true, eqb-false, eq-eqb, ne_eqb}
+-- How often an id stands on a list, and which lists are orders of one another.
+use Rattle.std.specs.Prelude.{◌≡◌, ℕ, ◌+◌, ◌<◌, Bool, true, false, ◌||◌, List, [], ◌∷◌, IsPermutation}
+use Rattle.std.proofs.Common.{cond, eqb, refl, sym, ◌∙◌, arith}
+use Rattle.std.proofs.lemmas.Bool.{and_parts, and_from, eqb-true, eqb-false, eq-eqb, ne_eqb}
 use Rattle.std.proofs.lemmas.List.Recursion.{is_sum_by}
 use Rattle.std.proofs.lemmas.List.Sorted.{sum_by-IsPermutation, IsPermutation-refl, IsPermutation-sym, IsPermutation-trans, IsPermutation-cons, IsPermutation-middle}
-use Rattle.swim_wire.specs.Ids.{has, has_twice}
+use Rattle.swim_wire.specs.Ids.{has}
 use Rattle.swim_targets.specs.Script.{less_one, is_order_of}
 
 -- 1 where the two are one id, and else 0
@@ -23,51 +23,12 @@ times-IsPermutation id xs ys p =
     ∙ sum_by-IsPermutation (one_if_same id) xs ys p
     ∙ sym (is_sum_by (times id) (one_if_same id) refl (λ x zs. refl) xs)
 
-pub times_none : (id : ℕ) (ids : List ℕ) → has ids id ≡ false → times id ids ≡ 0
-times_none id [] h = refl
-times_none id (x ∷ ids) h =
-    let parts = or_parts (eqb id x) (has ids id) h in
-    rw parts.0 (omega (arith, times_none id ids parts.1))
-
-pub times_some : (id : ℕ) (ids : List ℕ) → has ids id ≡ true → 0 < times id ids
-times_some id [] h = absurd cc
-times_some id (x ∷ ids) h = by (eqb id x) h (times_some id ids) where
-  by : (b : Bool) → (b || has ids id) ≡ true → (has ids id ≡ true → 0 < times id ids) → 0 < cond b 1 0 + times id ids
-  by true h again = omega arith
-  by false h again = omega (arith, again h)
-
 pub has_from_times : (id : ℕ) (ids : List ℕ) → 0 < times id ids → has ids id ≡ true
 has_from_times id [] h = absurd (omega arith)
 has_from_times id (x ∷ ids) h = by (eqb id x) h (has_from_times id ids) where
   by : (b : Bool) → 0 < cond b 1 0 + times id ids → (0 < times id ids → has ids id ≡ true) → (b || has ids id) ≡ true
   by true h again = refl
   by false h again = again (omega arith)
-
--- where no id stands twice, each stands at most once, and the other way round
-pub times_once : (ids : List ℕ) → has_twice ids ≡ false → (id : ℕ) → times id ids ≤ 1
-times_once [] once id = omega arith
-times_once (x ∷ ids) once id =
-    let parts = or_parts (has ids x) (has_twice ids) once in
-    by (eqb id x) refl parts.0 (times_once ids parts.1 id)
-  where
-    by : (b : Bool) → eqb id x ≡ b → has ids x ≡ false → times id ids ≤ 1 → cond b 1 0 + times id ids ≤ 1
-    by true same none most = omega (arith, times_none id ids (subst (λ y. has ids y ≡ false) (sym (eqb-true id x same)) none))
-    by false same none most = omega arith
-
-pub once_from_times : (ids : List ℕ) → ((id : ℕ) → times id ids ≤ 1) → has_twice ids ≡ false
-once_from_times [] most = refl
-once_from_times (x ∷ ids) most =
-    or_from (has ids x) (has_twice ids) (by (has ids x) refl) (once_from_times ids (λ id. omega (arith, most id)))
-  where
-    by : (b : Bool) → has ids x ≡ b → b ≡ false
-    by false e = refl
-    by true e =
-        let here : one_if_same x x ≡ 1 = rw (eq-eqb x x refl) refl in
-        absurd (omega (arith, here, most x, times_some x ids e))
-
--- an order of a list where no id stands twice is another
-pub once-IsPermutation : (xs ys : List ℕ) → IsPermutation xs ys → has_twice xs ≡ false → has_twice ys ≡ false
-once-IsPermutation xs ys p once = once_from_times ys (λ id. omega (arith, times-IsPermutation id xs ys p, times_once xs once id))
 
 -- ---- orders
 

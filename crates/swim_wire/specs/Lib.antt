@@ -4,6 +4,7 @@ pub mod Buffers
 pub mod Cutting
 pub mod First
 pub mod Ids
+pub mod IdLaws
 pub mod Layout
 pub mod Lines
 pub mod Memory

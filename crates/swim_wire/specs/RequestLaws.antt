@@ -1,8 +1,7 @@
 -- Laws of the requests that wait.
-use Rattle.std.proofs.Common.{◌≡◌, Bool, true, false, ◌||◌, List, [], ◌∷◌, Option, Some, None, refl}
+use Rattle.std.proofs.Common.{◌≡◌, Bool, true, false, ◌||◌, List, [], ◌∷◌, None, refl}
 use Rattle.std.proofs.lemmas.Bool.{or_parts}
 use Rattle.swim_wire.specs.declared.messages.Key.{Key}
-use Rattle.swim_wire.specs.Address.{Address}
 use Rattle.swim_wire.specs.Probe.{same_key}
 use Rattle.swim_wire.specs.Requests.{Request, waits, forget, peer_for}
 

@@ -1,7 +1,9 @@
 -- Words of a line.
-use Rattle.std.specs.Prelude.{◌≡◌, ℕ, ◌+◌, ◌<◌, ◌==◌, Bool, true, false, ◌||◌, List, [], ◌∷◌, length, take, drop, slice_index, cond, Option, Some, None, refl}
-use Rattle.std.specs.List.{slice_split, onto_first, list_any}
-use Rattle.std.proofs.Common.{ap, arith, ◌∙◌, zero, suc, add-one}
+use Rattle.std.specs.Prelude.{◌≡◌, ℕ, ◌==◌, Bool, true, false, List, [], ◌∷◌, length, cond, Option, Some, None, refl}
+use Rattle.std.specs.List.{slice_split, onto_first}
+use Rattle.std.specs.Option.{option_map}
+use Rattle.std.proofs.Common.{arith}
+use Rattle.swim_wire.specs.Parts.{cut}
 
 -- the text cut at each separator: one part more than separators, and an empty part between two that touch
 abbrev pub words_by : ℕ → List ℕ → List (List ℕ)
@@ -16,38 +18,22 @@ abbrev pub words_left : ℕ → Option (List ℕ) → List (List ℕ)
 words_left separator None = []
 words_left separator (Some text) = words_by separator text
 
--- the byte stands in the text
-abbrev pub has_byte : ℕ → List ℕ → Bool
-has_byte byte text = list_any (λ b. b == byte) text
-
 -- ---- laws
 
--- a text with no separator is one word
-pub words_none : (separator : ℕ) (text : List ℕ) → has_byte separator text ≡ false → words_by separator text ≡ text ∷ []
-words_none separator [] h = refl
-words_none separator (b ∷ rest) h = by (b == separator) h (words_none separator rest)
-  where
-    by : (c : Bool) → (c || has_byte separator rest) ≡ false → (has_byte separator rest ≡ false → words_by separator rest ≡ rest ∷ []) → cond c ([] ∷ words_by separator rest) (onto_first b (words_by separator rest)) ≡ (b ∷ rest) ∷ []
-    by true h again = absurd cc
-    by false h again = ap (onto_first b) (again h)
+-- the first word ends at the first separator, and a text without one is one word
+abbrev pub words_after : ℕ → List ℕ → Option (List ℕ × List ℕ) → List (List ℕ)
+words_after separator text None = text ∷ []
+words_after separator text (Some parts) = parts.0 ∷ words_by separator parts.1
 
--- the first word ends at the first separator
-pub words_at : (separator : ℕ) (text : List ℕ) (at : ℕ) → at < length text → slice_index text at ≡ separator → has_byte separator (take at text) ≡ false
-    → words_by separator text ≡ take at text ∷ words_by separator (drop (at + 1) text)
-words_at separator [] at in_text here h = absurd (omega arith)
-words_at separator (b ∷ rest) zero in_text here h = by (b == separator) (is_same here)
+pub words_cut : (separator : ℕ) (text : List ℕ) → words_by separator text ≡ words_after separator text (cut separator text)
+words_cut separator [] = refl
+words_cut separator (b ∷ rest) = by (b == separator) (cut separator rest) (words_cut separator rest)
   where
-    is_same : b ≡ separator → (b == separator) ≡ true
-    is_same e = grind arith
-
-    by : (c : Bool) → c ≡ true → cond c ([] ∷ words_by separator rest) (onto_first b (words_by separator rest)) ≡ [] ∷ words_by separator rest
-    by true e = refl
-    by false e = absurd cc
-words_at separator (b ∷ rest) (suc at) in_text here h = by (b == separator) h (words_at separator rest at (omega arith) here)
-  where
-    by : (c : Bool) → (c || has_byte separator (take at rest)) ≡ false → (has_byte separator (take at rest) ≡ false → words_by separator rest ≡ take at rest ∷ words_by separator (drop (at + 1) rest)) → cond c ([] ∷ words_by separator rest) (onto_first b (words_by separator rest)) ≡ (b ∷ take at rest) ∷ words_by separator (drop (suc at + 1) (b ∷ rest))
-    by true h again = absurd cc
-    by false h again = ap (onto_first b) (again h) ∙ (rw (add-one, add-one) refl)
+    by : (c : Bool) (parts : Option (List ℕ × List ℕ)) → words_by separator rest ≡ words_after separator rest parts
+        → cond c ([] ∷ words_by separator rest) (onto_first b (words_by separator rest)) ≡ words_after separator (b ∷ rest) (cond c (Some ([], rest)) (option_map (λ parts. (b ∷ parts.0, parts.1)) parts))
+    by true parts again = refl
+    by false None again = rw again refl
+    by false (Some parts) again = rw again refl
 
 -- a text has a word
 pub words_some : (separator : ℕ) (text : List ℕ) → (length (words_by separator text) == 0) ≡ false

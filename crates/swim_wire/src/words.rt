@@ -1,8 +1,9 @@
 //! Words of a line.
 
-ghost use Rattle.std.specs.Prelude.{◌≡◌, ◌+◌, ◌<◌, ◌==◌, ◌∷◌, [], length, take, drop, MatchOption};
+ghost use Rattle.std.specs.Prelude.{◌≡◌, ◌==◌, ◌∷◌, [], length, MatchOption};
 ghost use Rattle.swim_wire.specs.Words.{words_by, words_of};
 
+use crate::parts::cut;
 use std::marker::Model;
 
 /// The words of a line that are left to be taken. A contract sees the list of them.
@@ -54,10 +55,10 @@ impl<'a> Words<'a> {
             (λ word. self.old ≡ word.now ∷ self.new) }
     {
         let text = self.left?;
-        match first_at(text, self.separator) {
-            Some(at) => {
-                self.left = Some(&text[at + 1..]);
-                Some(&text[..at])
+        match cut(text, self.separator) {
+            Some((word, rest)) => {
+                self.left = Some(rest);
+                Some(word)
             }
             None => {
                 self.left = None;
@@ -65,18 +66,4 @@ impl<'a> Words<'a> {
             }
         }
     }
-}
-
-/// Where the separator first stands.
-fn first_at(text: &[u8], separator: u8) -> Option<usize>
-    ensures { MatchOption result (words_by separator text.now ≡ text.now ∷ [])
-        (λ at. (at < length text.now)
-        × (words_by separator text.now ≡ take at text.now ∷ words_by separator (drop (at + 1) text.now))) }
-{
-    for (at, byte) in text.iter().enumerate() {
-        if *byte == separator {
-            return Some(at);
-        }
-    }
-    None
 }

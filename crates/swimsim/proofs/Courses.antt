@@ -1,29 +1,30 @@
 -- Where the lines lead that were read of a script: at the start, after one more line, and at its end.
-use Rattle.std.proofs.Common.{◌≡◌, ◌≢◌, ℕ, zero, suc, ◌+◌, ◌-◌, ◌<◌, ◌≤◌, List, [], ◌∷◌, ◌++◌, length, take, drop, reverse, Option, Some, None, Result, Ok, Err, refl, sym, ap, subst, ◌∙◌, inl, inr, arith, append-nil}
+use Rattle.std.proofs.Common.{◌≡◌, ◌≢◌, ℕ, zero, suc, ◌+◌, ◌-◌, ◌<◌, ◌≤◌, Bool, true, false, cond, List, [], ◌∷◌, ◌++◌, length, take, drop, reverse, Option, Some, None, Result, Ok, Err, refl, sym, ap, subst, ◌∙◌, inl, inr, arith, append-nil}
 use Rattle.std.specs.Io.KnownBytes.{Keeps, Appends}
 use Rattle.std.proofs.lemmas.Bool.{lt-ltb, le-ltb}
 use Rattle.std.proofs.lemmas.Grind.{reverse_onto}
 use Rattle.std.proofs.lemmas.List.{append_assoc, take_at, take-append-drop, map-append, length-map, length-drop, length-reverse, reverse-append, reverse-reverse}
-use Rattle.swim_wire.specs.Address.{Address}
 use Rattle.swim_wire.specs.Lines.{pieces, bare, IsLine, IsLong, IsOversize}
 use Rattle.swim_wire.specs.Streams.{appends_none, appends_both, kept_appends, appends_kept, keeps_self}
 use Rattle.swim_history.specs.declared.entries.Entry.{Entry}
 use Rattle.std.proofs.lemmas.Option.{same_Some}
 use Rattle.swim_history.specs.declared.openings.OpeningFault.{OpeningFault}
 use Rattle.swim_history.specs.Check.{first_fault}
+use Rattle.swim_history.specs.Setting.{Setting}
+use Rattle.swim_detector.specs.Recording.{Recording}
+use Rattle.swimsim.specs.declared.arguments.Opened.{Opened}
+use Rattle.swimsim.specs.declared.choosers.Drawer.{Drawer}
 use Rattle.swimsim.specs.declared.commands.Command.{Command}
-use Rattle.swimsim.specs.declared.commands.Command.TheVariants.{Open, Row, Tick, Hear}
 use Rattle.swimsim.specs.declared.commands.LineFault.{LineFault}
 use Rattle.swimsim.specs.declared.commands.LineFault.TheVariants.{Word}
-use Rattle.swimsim.specs.declared.commands.Opened.{Opened}
 use Rattle.swimsim.specs.declared.faults.FaultKind.{FaultKind}
-use Rattle.swimsim.specs.declared.faults.FaultKind.TheVariants.{Size, Long, Words, Opening, Read, Write}
+use Rattle.swimsim.specs.declared.faults.FaultKind.TheVariants.{Size, Long, Words, Opening, Memory, Read, Write}
 use Rattle.swimsim.specs.declared.faults.ScriptFault.{ScriptFault}
 use Rattle.swimsim.specs.Commands.{line_read}
-use Rattle.swimsim.specs.Mirrors.{Simulated}
-use Rattle.swimsim.specs.Script.{Head, head_of, setting_in, Turn, lines_of, at_line, bytes_of, fault_at, first_of, fault_from, fault_of, fault_of_read, fault_at_call, opening_fault, opening_at, setting_with, fault_of_opening, fault_at_end, IsTold, lines_before, RunsTo}
-use Rattle.swimsim.specs.Holds.{Played, stage_of, first_rows, IsSilent, line_of, Plays, Holds, ending, ending_with, TurnDone, TurnFails, Course}
-use Rattle.swimsim.proofs.Served.{fault_of_first_rows}
+use Rattle.swimsim.specs.Headers.{Told, nothing_told, is_event, stage_of, said, head_of, setting_in, chooser_in}
+use Rattle.swimsim.specs.Script.{Turn, lines_of, at_line, opening_at, fault_of_setting, fault_of_opening, fault_of_read, bytes_of, fault_at, fault_with, fault_of_header, fault_at_end, first_of, fault_from, fault_of, IsTold, lines_before, takes_memory, WantsMemory, RunsTo}
+use Rattle.swimsim.specs.Holds.{Played, kept, IsSilent, line_of, IsWaiting, Plays, Holds, ending, ending_with, TurnDone, TurnFails, Course}
+use Rattle.swimsim.proofs.KeptRows.{fault_of_kept}
 
 -- ---- lines of a script
 
@@ -50,40 +51,38 @@ before_earlier n script turns more earlier cut =
 
 -- ---- what was told
 
--- before the first call nothing was
+-- before the first event line nothing was
 silent_told : (turns : List Turn) → IsSilent turns → (k : ℕ) → IsTold (lines_of (drop k turns)) []
 silent_told turns silent k = record {
   turns = drop k turns;
   are = refl;
   run = [];
-  legal = tt;
-  calls = sym (silent k).0;
-  one_seat = refl;
-  text_is = sym ((silent k).1 (setting_in (head_of (lines_of (drop k turns)))));
+  after = chooser_in (head_of (lines_of (drop k turns))).told;
+  made = record { legal = tt; drawn = refl; calls = sym (silent k).0; one_seat = refl };
+  text_is = sym ((silent k).1 (setting_in (head_of (lines_of (drop k turns))).told));
 }
 
-told_by : (turns : List Turn) (run : List Entry) (text : List ℕ) (opened : Option Opened) (simulated : Option Simulated) → Plays turns run text opened simulated → IsTold (lines_of turns) text
-told_by turns run text opened None p = subst (IsTold (lines_of turns)) (sym p.nothing) (silent_told turns p.silent 0)
-told_by turns run text opened (Some a) p = record {
+told_by : (turns : List Turn) (run : List Entry) (text : List ℕ) (header : Told) (recorded : Option (Recording Drawer)) → Plays turns run text header recorded → IsTold (lines_of turns) text
+told_by turns run text header None p = subst (IsTold (lines_of turns)) (sym p.nothing) (silent_told turns p.silent 0)
+told_by turns run text header (Some a) p = record {
   turns = turns;
   are = refl;
   run = run;
-  legal = p.legal;
-  calls = p.calls;
-  one_seat = p.one_seat;
-  text_is = p.text_is;
+  after = a.chooser;
+  made = p.1.made;
+  text_is = p.1.text_is;
 }
 
 -- the lines that were read were answered
 pub told_so_far : (n : ℕ) (script : List ℕ) (turns : List Turn) (run : List Entry) (text : List ℕ) (more : List (List ℕ)) (s : Played) → n ≡ length (lines_of turns) + 1 →
     pieces script ≡ reverse (lines_of turns) ++ more → Holds turns run text s → IsTold (lines_before n script) text
 told_so_far n script turns run text more s count cut h =
-    subst (λ (lines : List (List ℕ)). IsTold lines text) (sym (before_next n script (lines_of turns) more (omega (arith, count)) cut)) (told_by turns run text s.opened s.simulated h.plays)
+    subst (λ (lines : List (List ℕ)). IsTold lines text) (sym (before_next n script (lines_of turns) more (omega (arith, count)) cut)) (told_by turns run text s.header s.recorded h.plays)
 
--- those before a line that was read were, where no call was made
-told_earlier : (n : ℕ) (script : List ℕ) (turns : List Turn) (run : List Entry) (text : List ℕ) (more : List (List ℕ)) (opened : Option Opened) → n - 1 ≤ length turns →
-    pieces script ≡ reverse (lines_of turns) ++ more → Plays turns run text opened None → IsTold (lines_before n script) text
-told_earlier n script turns run text more opened earlier cut p =
+-- those before a line that was read were, where no event line was met
+told_earlier : (n : ℕ) (script : List ℕ) (turns : List Turn) (run : List Entry) (text : List ℕ) (more : List (List ℕ)) (header : Told) → n - 1 ≤ length turns →
+    pieces script ≡ reverse (lines_of turns) ++ more → IsWaiting turns run text header → IsTold (lines_before n script) text
+told_earlier n script turns run text more header earlier cut p =
     subst (λ (lines : List (List ℕ)). IsTold lines text) (sym (before_earlier n script turns more earlier cut))
     (subst (IsTold (lines_of (drop (length turns - (n - 1)) turns))) (sym p.nothing) (silent_told turns p.silent (length turns - (n - 1))))
 
@@ -91,7 +90,7 @@ told_earlier n script turns run text more opened earlier cut p =
 
 -- a line within the limits has the fault of what it says
 fault_within : (before : List (List ℕ)) (piece : List ℕ) → length piece + bytes_of before ≤ 16777216 → length (bare piece) ≤ 2048 →
-    fault_at before piece ≡ fault_of_read (length before + 1) (head_of before) (line_read (head_of before).stage (bare piece))
+    fault_at before piece ≡ fault_of_read (length before + 1) (head_of before) (line_read (stage_of (head_of before)) (bare piece))
 fault_within before piece size fits = rw (le-ltb 16777216 (length piece + bytes_of before) size, le-ltb 2048 (length (bare piece)) fits) refl
 
 fault_long : (before : List (List ℕ)) (piece : List ℕ) → length piece + bytes_of before ≤ 16777216 → 2048 < length (bare piece) → fault_at before piece ≡ Some (at_line (length before + 1) Long)
@@ -126,52 +125,80 @@ next script rest left line old mid mid' new budget after s s' c i kept d =
 
 -- ---- how a run ends
 
--- any fault but the reader's and the writer's
-ends_with : (script : List ℕ) (old new : Option (List ℕ)) (fault : ScriptFault) (kind : FaultKind) → kind ≢ Read → kind ≢ Write →
+-- a fault that the format names by the script alone
+abbrev pub IsNamed : FaultKind → Type 0
+IsNamed kind = (kind ≢ Read) × (kind ≢ Write) × (kind ≢ Memory)
+
+-- any fault but the reader's, the writer's and the want of memory
+ends_with : (script : List ℕ) (old new : Option (List ℕ)) (fault : ScriptFault) (kind : FaultKind) → IsNamed kind →
     (fault_of script ≡ Some fault) × (text : List ℕ) × IsTold (lines_before fault.line script) text × Appends old new text → RunsTo script old new fault kind
-ends_with script old new fault Size other another p = p
-ends_with script old new fault Long other another p = p
-ends_with script old new fault (Words wrong) other another p = p
-ends_with script old new fault (Opening opening) other another p = p
-ends_with script old new fault Read other another p = absurd (other refl)
-ends_with script old new fault Write other another p = absurd (another refl)
+ends_with script old new fault Size named p = p
+ends_with script old new fault Long named p = p
+ends_with script old new fault (Words wrong) named p = p
+ends_with script old new fault (Opening opening) named p = p
+ends_with script old new fault Read named p = absurd (named.0 refl)
+ends_with script old new fault Write named p = absurd (named.1 refl)
+ends_with script old new fault Memory named p = absurd (named.2 refl)
 
 -- the lines before such a fault's line were answered
-abbrev Stands : List ℕ → List ℕ → ScriptFault → Type 0
-Stands script text fault = IsTold (lines_before fault.line script) text × (fault.kind ≢ Read) × (fault.kind ≢ Write)
+abbrev pub Stands : List ℕ → List ℕ → ScriptFault → Type 0
+Stands script text fault = IsTold (lines_before fault.line script) text × IsNamed fault.kind
+
+named_words : (wrong : LineFault) → IsNamed (Words wrong)
+named_words wrong = ((λ e. absurd (cc e)), (λ e. absurd (cc e)), (λ e. absurd (cc e)))
+
+named_opening : (refused : OpeningFault) → IsNamed (Opening refused)
+named_opening refused = ((λ e. absurd (cc e)), (λ e. absurd (cc e)), (λ e. absurd (cc e)))
 
 -- the fault of an opening stands in its `open` line
-refused_at : (n : ℕ) (refused : Option OpeningFault) (fault : ScriptFault) → opening_at n refused ≡ Some fault → (fault.line ≡ n) × (fault.kind ≢ Read) × (fault.kind ≢ Write)
+refused_at : (n : ℕ) (refused : Option OpeningFault) (fault : ScriptFault) → opening_at n refused ≡ Some fault → (fault.line ≡ n) × IsNamed fault.kind
 refused_at n None fault found = absurd (cc found)
-refused_at n (Some refused) fault found = subst (λ (f : ScriptFault). (f.line ≡ n) × (f.kind ≢ Read) × (f.kind ≢ Write)) (same_Some (at_line n (Opening refused)) fault found) (refl, (λ e. absurd (cc e)), (λ e. absurd (cc e)))
+refused_at n (Some refused) fault found = subst (λ (f : ScriptFault). (f.line ≡ n) × IsNamed f.kind) (same_Some (at_line n (Opening refused)) fault found) (refl, named_opening refused)
 
-opening_stands : (opened : Option Opened) (rows : List (ℕ × Address)) (fault : ScriptFault) → fault_of_opening opened rows ≡ Some fault → (fault.line ≡ line_of opened) × (fault.kind ≢ Read) × (fault.kind ≢ Write)
-opening_stands None rows fault found = absurd (cc found)
-opening_stands (Some opened) rows fault found = refused_at opened.line (opening_fault (setting_with (Some opened) rows) (first_fault (setting_with (Some opened) rows))) fault found
+opening_stands : (opened : Option Opened) (o : Setting) (fault : ScriptFault) → fault_of_setting opened o ≡ Some fault → (fault.line ≡ line_of opened) × IsNamed fault.kind
+opening_stands None o fault found = absurd (cc found)
+opening_stands (Some opened) o fault found = refused_at opened.line (first_fault o) fault found
 
--- a fault at a call is one of the opening
-call_stands : (script : List ℕ) (turns : List Turn) (run : List Entry) (text : List ℕ) (more : List (List ℕ)) (opened : Option Opened) (simulated : Option Simulated) (fault : ScriptFault) →
-    pieces script ≡ reverse (lines_of turns) ++ more → (head_of (lines_of turns)).stage ≡ stage_of opened simulated → opened ≡ (head_of (lines_of turns)).opened → Plays turns run text opened simulated →
-    fault_at_call (head_of (lines_of turns)) (head_of (lines_of turns)).stage ≡ Some fault → Stands script text fault
-call_stands script turns run text more opened (Some a) fault cut stage same p found = absurd (cc (sym (ap (fault_at_call (head_of (lines_of turns))) stage) ∙ found))
-call_stands script turns run text more None None fault cut stage same p found = absurd (cc (sym (ap (fault_at_call (head_of (lines_of turns))) stage) ∙ found))
-call_stands script turns run text more (Some o) None fault cut stage same p found =
-    let stands = opening_stands (head_of (lines_of turns)).opened (head_of (lines_of turns)).rows fault (sym (ap (fault_at_call (head_of (lines_of turns))) stage) ∙ found) in
-    let line : fault.line ≡ o.line = stands.0 ∙ ap line_of (sym same) in
-    (told_earlier fault.line script turns run text more (Some o) (omega (arith, line, p.within, length-map turns (λ (turn : Turn). turn.line))) cut p, stands.1, stands.2)
+-- a fault of a command is one of the opening, at the first event line
+opening_found : (begun event : Bool) (refused : Option ScriptFault) (fault : ScriptFault) → cond begun None (cond event refused None) ≡ Some fault → (begun ≡ false) × (refused ≡ Some fault)
+opening_found true event refused fault found = absurd (cc found)
+opening_found false true refused fault found = (refl, found)
+opening_found false false refused fault found = absurd (cc found)
+
+event_stands : (script : List ℕ) (turns : List Turn) (run : List Entry) (text : List ℕ) (more : List (List ℕ)) (header : Told) (recorded : Option (Recording Drawer)) (fault : ScriptFault) →
+    pieces script ≡ reverse (lines_of turns) ++ more → Plays turns run text header recorded → (head_of (lines_of turns)).begun ≡ false →
+    fault_of_opening (head_of (lines_of turns)).told ≡ Some fault → Stands script text fault
+event_stands script turns run text more header (Some a) fault cut p begun found = absurd (cc (p.0, begun))
+event_stands script turns run text more header None fault cut p begun found =
+    let told = (head_of (lines_of turns)).told in
+    let stands = opening_stands told.opened (setting_in told) fault found in
+    let line : fault.line ≡ line_of header.opened = stands.0 ∙ ap (λ (t : Told). line_of t.opened) (sym p.told) in
+    (told_earlier fault.line script turns run text more header (omega (arith, line, p.within, length-map turns (λ (turn : Turn). turn.line))) cut p, stands.1)
 
 -- the fault of a line's words
 read_stands : (script : List ℕ) (turns : List Turn) (run : List Entry) (text : List ℕ) (more : List (List ℕ)) (s : Played) (read : Result (Option Command) LineFault) (fault : ScriptFault) →
     pieces script ≡ reverse (lines_of turns) ++ more → Holds turns run text s → fault_of_read (length (lines_of turns) + 1) (head_of (lines_of turns)) read ≡ Some fault → Stands script text fault
 read_stands script turns run text more s (Err wrong) fault cut h found =
-    subst (Stands script text) (same_Some (at_line (length (lines_of turns) + 1) (Words wrong)) fault found) (told_so_far (length (lines_of turns) + 1) script turns run text more s refl cut h, (λ e. absurd (cc e)), (λ e. absurd (cc e)))
+    subst (Stands script text) (same_Some (at_line (length (lines_of turns) + 1) (Words wrong)) fault found) (told_so_far (length (lines_of turns) + 1) script turns run text more s refl cut h, named_words wrong)
 read_stands script turns run text more s (Ok None) fault cut h found = absurd (cc found)
-read_stands script turns run text more s (Ok (Some (Open arguments))) fault cut h found = absurd (cc found)
-read_stands script turns run text more s (Ok (Some (Row id peer))) fault cut h found = absurd (cc found)
-read_stands script turns run text more s (Ok (Some Tick)) fault cut h found = call_stands script turns run text more s.opened s.simulated fault cut h.stage_is h.opened_is h.plays found
-read_stands script turns run text more s (Ok (Some (Hear source datagram))) fault cut h found = call_stands script turns run text more s.opened s.simulated fault cut h.stage_is h.opened_is h.plays found
+read_stands script turns run text more s (Ok (Some command)) fault cut h found =
+    let head = head_of (lines_of turns) in
+    let refused = opening_found head.begun (is_event command) (fault_of_opening head.told) fault found in
+    event_stands script turns run text more s.header s.recorded fault cut h.plays refused.0 refused.1
 
--- a run that ends at a line's words, or where the writer fails
+-- a line for which there was no memory
+wants_memory : (script : List ℕ) (before : List (List ℕ)) (piece : List ℕ) (more : List (List ℕ)) → pieces script ≡ reverse before ++ piece ∷ more → takes_memory (said (head_of before) piece) ≡ true →
+    WantsMemory script (length before + 1)
+wants_memory script before piece more cut takes =
+    let same : lines_before (length before + 1) script ≡ before = before_next (length before + 1) script before (piece ∷ more) (omega arith) cut in
+    record {
+      piece = piece;
+      more = more;
+      cut = cut ∙ ap (λ (lines : List (List ℕ)). reverse lines ++ piece ∷ more) (sym same);
+      takes = ap (λ (lines : List (List ℕ)). takes_memory (said (head_of lines) piece)) same ∙ takes;
+    }
+
+-- a run that ends at a line's words, for want of memory, or where the writer fails
 pub ends_in_line : (script rest left line : List ℕ) (old mid mid' new : Option (List ℕ)) (budget after : ℕ) (s : Played) (fault : ScriptFault) (c : Course script rest old mid budget s) (i : IsLine rest left line 2048 budget after) →
     Keeps mid mid' → TurnFails c.turns i.piece fault mid' new → RunsTo script old new fault fault.kind
 ends_in_line script rest left line old mid mid' new budget after s fault c i kept fails =
@@ -179,10 +206,17 @@ ends_in_line script rest left line old mid mid' new budget after s fault c i kep
     elim fails [
       | inl found ↦
           let within = fault_within before i.piece (omega (arith, c.spent, i.spent)) (rw (i.bytes) i.fits) in
-          let stands = read_stands script c.turns c.run c.text (pieces rest) s (line_read (head_of before).stage (bare i.piece)) fault c.cut c.holds found.0 in
-          ends_with script old new fault fault.kind stands.1 stands.2
+          let stands = read_stands script c.turns c.run c.text (pieces rest) s (line_read (stage_of (head_of before)) (bare i.piece)) fault c.cut c.holds found.0 in
+          ends_with script old new fault fault.kind stands.1
           (first_fault_is script rest i.piece (pieces left) before fault c.fault i.first (within ∙ found.0), c.text, stands.0, appends_kept old mid' new c.text (appends_kept old mid mid' c.text c.written kept) found.1)
-      | inr failed ↦
+      | inr (inl short) ↦
+          subst (λ (f : ScriptFault). RunsTo script old new f f.kind) (sym short.0) (
+            wants_memory script before i.piece (pieces left) (c.cut ∙ ap (λ (lines : List (List ℕ)). reverse before ++ lines) i.first) short.1,
+            c.text,
+            told_so_far (length before + 1) script c.turns c.run c.text (pieces rest) s refl c.cut c.holds,
+            appends_kept old mid' new c.text (appends_kept old mid mid' c.text c.written kept) short.2,
+          )
+      | inr (inr failed) ↦
           subst (λ (f : ScriptFault). RunsTo script old new f f.kind) (sym failed.0)
           (c.text, failed.1, told_so_far (length before + 1) script c.turns c.run c.text (pieces rest) s refl c.cut c.holds, appends_both old mid new c.text failed.1 c.written (kept_appends mid mid' new failed.1 kept failed.2))
     ]
@@ -223,25 +257,28 @@ ends_unsent script rest old mid new budget s c kept =
 
 -- ---- the end of a script
 
-end_is : (head : Head) (opened : Option Opened) (rows : List (ℕ × Address)) (simulated : Option Simulated) → head.stage ≡ stage_of opened simulated → opened ≡ head.opened → rows ≡ first_rows head.rows →
-    fault_at_end head head.stage ≡ ending_with opened rows simulated
-end_is head opened rows (Some a) stage same kept = ap (fault_at_end head) stage
-end_is head None rows None stage same kept = ap (fault_at_end head) stage
-end_is head (Some o) rows None stage same kept =
-    ap (fault_at_end head) stage ∙ (ap (λ opened. fault_of_opening opened head.rows) (sym same) ∙ (sym (fault_of_first_rows (Some o) head.rows) ∙ ap (fault_of_opening (Some o)) (sym kept)))
+end_is : (turns : List Turn) (run : List Entry) (text : List ℕ) (header : Told) (recorded : Option (Recording Drawer)) → Plays turns run text header recorded →
+    fault_at_end (head_of (lines_of turns)) ≡ ending_with header recorded
+end_is turns run text header (Some a) p = rw p.0 refl
+end_is turns run text header None p =
+    let before : fault_at_end (head_of (lines_of turns)) ≡ fault_of_header (head_of (lines_of turns)).told = rw p.begun refl in
+    before ∙ (sym (fault_of_kept (head_of (lines_of turns)).told) ∙ ap fault_of_header (sym p.told))
 
 fault_of_whole : (script rest : List ℕ) (old mid : Option (List ℕ)) (budget : ℕ) (s : Played) (c : Course script rest old mid budget s) → rest ≡ [] → fault_of script ≡ ending s
 fault_of_whole script rest old mid budget s c over =
-    c.fault ∙ (ap (λ (text : List ℕ). fault_from (lines_of c.turns) (pieces text)) over ∙ end_is (head_of (lines_of c.turns)) s.opened s.rows s.simulated c.holds.stage_is c.holds.opened_is c.holds.rows_are)
+    c.fault ∙ (ap (λ (text : List ℕ). fault_from (lines_of c.turns) (pieces text)) over ∙ end_is c.turns c.run c.text s.header s.recorded c.holds.plays)
 
-end_stands : (script : List ℕ) (turns : List Turn) (run : List Entry) (text : List ℕ) (more : List (List ℕ)) (opened : Option Opened) (rows : List (ℕ × Address)) (simulated : Option Simulated) (fault : ScriptFault) →
-    pieces script ≡ reverse (lines_of turns) ++ more → Plays turns run text opened simulated → ending_with opened rows simulated ≡ Some fault → Stands script text fault
-end_stands script turns run text more opened rows (Some a) fault cut p found = absurd (cc found)
-end_stands script turns run text more None rows None fault cut p found =
-    subst (Stands script text) (same_Some (at_line 0 (Words Word)) fault found) (told_earlier 0 script turns run text more None (omega arith) cut p, (λ e. absurd (cc e)), (λ e. absurd (cc e)))
-end_stands script turns run text more (Some o) rows None fault cut p found =
-    let stands = opening_stands (Some o) rows fault found in
-    (told_earlier fault.line script turns run text more (Some o) (omega (arith, stands.0, p.within, length-map turns (λ (turn : Turn). turn.line))) cut p, stands.1, stands.2)
+-- such a fault is the opening's, or that there is none
+header_stands : (opened : Option Opened) (o : Setting) (fault : ScriptFault) → fault_with opened (fault_of_setting opened o) ≡ Some fault → (fault.line ≡ line_of opened) × IsNamed fault.kind
+header_stands None o fault found = subst (λ (f : ScriptFault). (f.line ≡ 0) × IsNamed f.kind) (same_Some (at_line 0 (Words Word)) fault found) (refl, named_words Word)
+header_stands (Some opened) o fault found = opening_stands (Some opened) o fault found
+
+end_stands : (script : List ℕ) (turns : List Turn) (run : List Entry) (text : List ℕ) (more : List (List ℕ)) (header : Told) (recorded : Option (Recording Drawer)) (fault : ScriptFault) →
+    pieces script ≡ reverse (lines_of turns) ++ more → Plays turns run text header recorded → ending_with header recorded ≡ Some fault → Stands script text fault
+end_stands script turns run text more header (Some a) fault cut p found = absurd (cc found)
+end_stands script turns run text more header None fault cut p found =
+    let stands = header_stands header.opened (setting_in header) fault found in
+    (told_earlier fault.line script turns run text more header (omega (arith, stands.0, p.within, length-map turns (λ (turn : Turn). turn.line))) cut p, stands.1)
 
 -- a script that has come to its end and has no fault
 pub ends_well : (script rest : List ℕ) (old mid new : Option (List ℕ)) (budget : ℕ) (s : Played) (c : Course script rest old mid budget s) → rest ≡ [] → Keeps mid new → ending s ≡ None →
@@ -249,14 +286,14 @@ pub ends_well : (script rest : List ℕ) (old mid new : Option (List ℕ)) (budg
 ends_well script rest old mid new budget s c over kept none =
     let lines : reverse (pieces script) ≡ lines_of c.turns =
     ap reverse (c.cut ∙ ap (λ (text : List ℕ). reverse (lines_of c.turns) ++ pieces text) over ∙ append-nil (reverse (lines_of c.turns))) ∙ reverse-reverse (lines_of c.turns) in
-    (fault_of_whole script rest old mid budget s c over ∙ none, c.text, subst (λ (l : List (List ℕ)). IsTold l c.text) (sym lines) (told_by c.turns c.run c.text s.opened s.simulated c.holds.plays), appends_kept old mid new c.text c.written kept)
+    (fault_of_whole script rest old mid budget s c over ∙ none, c.text, subst (λ (l : List (List ℕ)). IsTold l c.text) (sym lines) (told_by c.turns c.run c.text s.header s.recorded c.holds.plays), appends_kept old mid new c.text c.written kept)
 
 -- one that has a fault at its end
 pub ends_badly : (script rest : List ℕ) (old mid new : Option (List ℕ)) (budget : ℕ) (s : Played) (fault : ScriptFault) (c : Course script rest old mid budget s) → rest ≡ [] → Keeps mid new → ending s ≡ Some fault →
     RunsTo script old new fault fault.kind
 ends_badly script rest old mid new budget s fault c over kept found =
-    let stands = end_stands script c.turns c.run c.text (pieces rest) s.opened s.rows s.simulated fault c.cut c.holds.plays found in
-    ends_with script old new fault fault.kind stands.1 stands.2 (fault_of_whole script rest old mid budget s c over ∙ found, c.text, stands.0, appends_kept old mid new c.text c.written kept)
+    let stands = end_stands script c.turns c.run c.text (pieces rest) s.header s.recorded fault c.cut c.holds.plays found in
+    ends_with script old new fault fault.kind stands.1 (fault_of_whole script rest old mid budget s c over ∙ found, c.text, stands.0, appends_kept old mid new c.text c.written kept)
 
 -- ---- the start
 
@@ -264,12 +301,12 @@ nothing_silent : IsSilent []
 nothing_silent zero = (refl, λ o. refl)
 nothing_silent (suc k) = (refl, λ o. refl)
 
-pub at_start : (script : List ℕ) (written : Option (List ℕ)) → Course script script written written 16777216 (record { lines = 0; opened = None; rows = []; simulated = None })
+pub at_start : (script : List ℕ) (written : Option (List ℕ)) → Course script script written written 16777216 (record { lines = 0; header = nothing_told; recorded = None })
 at_start script written = record {
   turns = [];
   run = [];
   text = [];
-  holds = record { count = refl; opened_is = refl; rows_are = refl; stage_is = refl; plays = record { none = refl; nothing = refl; silent = nothing_silent; within = omega arith } };
+  holds = record { count = refl; plays = record { begun = refl; told = refl; none = refl; nothing = refl; silent = nothing_silent; within = omega arith } };
   cut = refl;
   fault = refl;
   spent = refl;

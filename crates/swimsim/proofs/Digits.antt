@@ -10,7 +10,7 @@ use Rattle.swim_wire.specs.Layout.{decoded}
 use Rattle.swim_wire.specs.declared.messages.Message.{Message}
 use Rattle.swim_wire.specs.declared.codec.WireFault.{WireFault}
 use Rattle.swim_wire.specs.declared.codec.WireFault.TheVariants.{Length}
-use Rattle.swimsim.specs.Commands.{datagram_of, served}
+use Rattle.swimsim.specs.Arguments.{datagram_of}
 
 abbrev Read : Type 0
 Read = Option (Result Message WireFault)
@@ -39,14 +39,14 @@ digits_of_another_length text even digits other =
     rw (found.1, another_length found.0 (λ e. other (omega (arith, long, e)))) refl
 
 -- as many digits as a datagram has spell what the bytes are read as
-pub digits_of_a_datagram : (text bytes : List ℕ) → length text ≡ 48 → decode_sized text 24 ≡ Ok bytes → datagram_of text ≡ served (decoded bytes)
+pub digits_of_a_datagram : (text bytes : List ℕ) → length text ≡ 48 → decode_sized text 24 ≡ Ok bytes → datagram_of text ≡ Some (decoded bytes)
 digits_of_a_datagram text bytes long read = rw (sym (decode_sized-twice text 24 long) ∙ read) refl
 
 -- where they could be decoded
 pub decoded_digits : (text out : List ℕ) (result : Result (Unit {0}) FromHexError) → length text ≡ 48 →
-    MatchResult (decode_sized text 24) (λ bytes. (result ≡ Ok tt) × (out ≡ bytes)) (λ fault. result ≡ Err fault) → result ≡ Ok tt → datagram_of text ≡ served (decoded out)
+    MatchResult (decode_sized text 24) (λ bytes. (result ≡ Ok tt) × (out ≡ bytes)) (λ fault. result ≡ Err fault) → result ≡ Ok tt → datagram_of text ≡ Some (decoded out)
 decoded_digits text out result long given ok = by (decode_sized text 24) refl given
   where
-    by : (read : Result (List ℕ) FromHexError) → decode_sized text 24 ≡ read → MatchResult read (λ bytes. (result ≡ Ok tt) × (out ≡ bytes)) (λ fault. result ≡ Err fault) → datagram_of text ≡ served (decoded out)
-    by (Ok bytes) is given = digits_of_a_datagram text bytes long is ∙ ap (λ (bytes : List ℕ). served (decoded bytes)) (sym given.1)
+    by : (read : Result (List ℕ) FromHexError) → decode_sized text 24 ≡ read → MatchResult read (λ bytes. (result ≡ Ok tt) × (out ≡ bytes)) (λ fault. result ≡ Err fault) → datagram_of text ≡ Some (decoded out)
+    by (Ok bytes) is given = digits_of_a_datagram text bytes long is ∙ ap (λ (bytes : List ℕ). Some (decoded bytes)) (sym given.1)
     by (Err fault) is given = absurd cc

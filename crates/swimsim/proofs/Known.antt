@@ -1,5 +1,5 @@
 -- The course of a script whose bytes are known, or are not.
-use Rattle.std.proofs.Common.{◌≡◌, ℕ, ◌+◌, List, [], Option, Some, None, Result, Ok, Err, sym, subst}
+use Rattle.std.proofs.Common.{◌≡◌, ℕ, ◌+◌, List, Option, Some, None, Result, Ok, Err, sym, subst}
 use Rattle.std.specs.Prelude.{MatchResult}
 use Rattle.std.specs.Result.{IsErrAnd}
 use Rattle.std.specs.Io.KnownBytes.{Keeps}
@@ -8,11 +8,12 @@ use Rattle.swim_wire.specs.declared.lines.Taken.TheVariants.{Line, Long, Size, O
 use Rattle.swim_history.specs.declared.entries.Entry.{Entry}
 use Rattle.swimsim.specs.declared.faults.FaultKind.TheVariants as kinds
 use Rattle.swimsim.specs.declared.faults.ScriptFault.{ScriptFault}
+use Rattle.swimsim.specs.Headers.{nothing_told}
 use Rattle.swimsim.specs.Script.{Turn, at_line, RunsKnown}
 use Rattle.swimsim.specs.Holds.{Played, Holds, Turned, ending, CourseKnown}
 use Rattle.swimsim.proofs.Courses.{at_start, next, ends_in_line, ends_long, ends_oversize, ends_unread, ends_unsent, ends_well, ends_badly}
 
-pub start_known : (left written : Option (List ℕ)) → CourseKnown left left written written 16777216 (record { lines = 0; opened = None; rows = []; simulated = None })
+pub start_known : (left written : Option (List ℕ)) → CourseKnown left left written written 16777216 (record { lines = 0; header = nothing_told; recorded = None })
 start_known None written = tt
 start_known (Some script) written = at_start script written
 

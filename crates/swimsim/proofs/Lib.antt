@@ -1,9 +1,10 @@
 pub mod Answered
 pub mod Courses
 pub mod Digits
+pub mod KeptRows
 pub mod Known
-pub mod Served
-pub mod ServedLines
-pub mod Steps
+pub mod LineTurns
+pub mod OrderParts
+pub mod StandingLines
 pub mod Turns
 pub mod TwoPuts

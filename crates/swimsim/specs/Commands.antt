@@ -1,108 +1,63 @@
 -- What a line of a script says.
-use Rattle.std.specs.Prelude.{◌≡◌, ◌≢◌, ℕ, Bool, true, false, ◌==◌, List, [], ◌∷◌, Option, Some, None, Result, Ok, Err, codes, if◌then◌else◌, option_and_then}
+use Rattle.std.specs.Prelude.{◌≡◌, ℕ, Bool, true, ◌==◌, List, [], ◌∷◌, Option, Some, None, Result, Ok, Err, codes, if◌then◌else◌}
 use Rattle.std.specs.Str.{bytes_eq}
-use Rattle.std.specs.Result.{result_ok}
-use Rattle.hex.specs.Hex.{decode_of}
-use Rattle.swim_wire.specs.Address.{Address, address_of}
-use Rattle.swim_wire.specs.Numbers.{number_of, id_of}
-use Rattle.swim_wire.specs.Layout.{decoded}
 use Rattle.swim_wire.specs.Words.{words_of}
-use Rattle.swim_wire.specs.declared.messages.Kind.{Kind}
-use Rattle.swim_wire.specs.declared.messages.Kind.TheVariants.{Ping, PingReq, Ack}
-use Rattle.swim_wire.specs.declared.messages.Message.{Message}
-use Rattle.swim_wire.specs.declared.codec.WireFault.{WireFault}
 use Rattle.swimsim.specs.declared.commands.LineFault.{LineFault}
-use Rattle.swimsim.specs.declared.commands.LineFault.TheVariants.{Number, Peer, Hex, Extra}
 use Rattle.swimsim.specs.declared.commands.LineFault.TheVariants as faults
+use Rattle.swimsim.specs.declared.commands.Draws.TheVariants.{Scripted, Seeded}
 use Rattle.swimsim.specs.declared.commands.Stage.{Stage}
 use Rattle.swimsim.specs.declared.commands.Stage.TheVariants.{Blank, Header, Events}
 use Rattle.swimsim.specs.declared.commands.Word.{Word}
 use Rattle.swimsim.specs.declared.commands.Word.TheVariants as words
-use Rattle.swimsim.specs.declared.commands.OpenArguments.{OpenArguments}
 use Rattle.swimsim.specs.declared.commands.Command.{Command}
-use Rattle.swimsim.specs.declared.commands.Command.TheVariants.{Open, Row, Tick, Hear}
+use Rattle.swimsim.specs.declared.commands.Command.TheVariants.{Open, Row, Order, Place, Seed, Tick, Hear, Join, Remove, Table, Gap}
+use Rattle.swimsim.specs.Arguments.{◌>>=◌, take_id, take_number, take_peer, take_order, take_seed, take_datagram, open_arguments}
 
--- a step after another that may fail
-infixl 10 ◌>>=◌
-abbrev pub ◌>>=◌ : {A B : Type 0} → Result A LineFault → (A → Result B LineFault) → Result B LineFault
-(Ok x) >>= f = f x
-(Err fault) >>= f = Err fault
-
--- the value of a word that was read, and the words after it
-abbrev pub with_words : {A : Type 0} → LineFault → List (List ℕ) → Option A → Result (A × List (List ℕ)) LineFault
-with_words fault after None = Err fault
-with_words fault after (Some x) = Ok (x, after)
-
--- the first word as an argument of that kind: a missing or refused one is the kind's fault
-abbrev pub argument : {A : Type 0} → LineFault → (List ℕ → Option A) → List (List ℕ) → Result (A × List (List ℕ)) LineFault
-argument fault read [] = Err fault
-argument fault read (word ∷ after) = with_words fault after (read word)
-
--- what was taken from the words, of which those are left
-abbrev pub TakesFrom : {A : Type 0} → Result A LineFault → List (List ℕ) → Result (A × List (List ℕ)) LineFault → Type 0
-TakesFrom (Ok x) after read = read ≡ Ok (x, after)
-TakesFrom (Err fault) after read = read ≡ Err fault
-
--- the message of a datagram, or its fault; a request for an indirect probe isn't served yet
-abbrev pub unless_request : Kind → Message → Option (Result Message WireFault)
-unless_request Ping message = Some (Ok message)
-unless_request PingReq message = None
-unless_request Ack message = Some (Ok message)
-
-abbrev pub served : Result Message WireFault → Option (Result Message WireFault)
-served (Err fault) = Some (Err fault)
-served (Ok message) = unless_request message.kind message
-
--- the datagram that the digits spell
-abbrev pub datagram_of : List ℕ → Option (Result Message WireFault)
-datagram_of text = option_and_then (λ bytes. served (decoded bytes)) (result_ok (decode_of text))
+-- the word that tells a fault of a line's words
+abbrev pub fault_name : LineFault → List ℕ
+fault_name faults.Word = codes "word"
+fault_name faults.Seed = codes "seed"
+fault_name faults.Number = codes "number"
+fault_name faults.Peer = codes "peer"
+fault_name faults.Hex = codes "hex"
+fault_name faults.Order = codes "order"
+fault_name faults.Extra = codes "extra"
 
 -- the first word of a line, if it is known
 abbrev pub word_of : List ℕ → Option Word
 word_of text =
     if bytes_eq text (codes "tick") then Some words.Tick
     else (if bytes_eq text (codes "hear") then Some words.Hear
+    else (if bytes_eq text (codes "join") then Some words.Join
+    else (if bytes_eq text (codes "remove") then Some words.Remove
+    else (if bytes_eq text (codes "table") then Some words.Table
+    else (if bytes_eq text (codes "gap") then Some words.Gap
     else (if bytes_eq text (codes "row") then Some words.Row
-    else (if bytes_eq text (codes "open") then Some words.Open else None)))
+    else (if bytes_eq text (codes "order") then Some words.Order
+    else (if bytes_eq text (codes "place") then Some words.Place
+    else (if bytes_eq text (codes "seed") then Some words.Seed
+    else (if bytes_eq text (codes "open") then Some words.Open else None))))))))))
 
--- which words may stand at that stage
-abbrev pub may_stand : Stage → Word → Bool
-may_stand Blank words.Open = true
-may_stand Blank word = false
-may_stand Header words.Open = false
-may_stand Header word = true
-may_stand Events words.Open = false
-may_stand Events words.Row = false
-may_stand Events word = true
-
--- an id, numbers of 32 and 64 bits, an address, a datagram
-abbrev pub take_id : List (List ℕ) → Result (ℕ × List (List ℕ)) LineFault
-take_id = argument Number id_of
-
-abbrev pub take_number : ℕ → List (List ℕ) → Result (ℕ × List (List ℕ)) LineFault
-take_number limit = argument Number (number_of limit)
-
-abbrev pub take_peer : List (List ℕ) → Result (Address × List (List ℕ)) LineFault
-take_peer = argument Peer address_of
-
-abbrev pub take_datagram : List (List ℕ) → Result (Result Message WireFault × List (List ℕ)) LineFault
-take_datagram = argument Hex datagram_of
-
--- the arguments of an `open` line
-unfoldable pub open_arguments : List (List ℕ) → Result (OpenArguments × List (List ℕ)) LineFault
-open_arguments given = do
-  me ← take_id given
-  k ← take_number 4294967295 me.1
-  rtt ← take_number 4294967295 k.1
-  period ← take_number 4294967295 rtt.1
-  last ← take_number 18446744073709551615 period.1
-  limit ← take_number 4294967295 last.1
-  Ok (record { me = me.0; k = k.0; rtt = rtt.0; period = period.0; last = last.0; limit = limit.0 }, limit.1)
+-- why a word can't stand at that stage, if it can't: the opening stands first and once, header lines stand
+-- before event lines, and a seed stands once, with no order and no place
+abbrev pub fault_of_word : Stage → Word → Option LineFault
+fault_of_word Blank words.Open = None
+fault_of_word Blank word = Some faults.Word
+fault_of_word stage words.Open = Some faults.Word
+fault_of_word Events words.Row = Some faults.Word
+fault_of_word Events words.Order = Some faults.Word
+fault_of_word Events words.Place = Some faults.Word
+fault_of_word Events words.Seed = Some faults.Word
+fault_of_word (Header Scripted) words.Seed = Some faults.Seed
+fault_of_word (Header Seeded) words.Seed = Some faults.Seed
+fault_of_word (Header Seeded) words.Order = Some faults.Seed
+fault_of_word (Header Seeded) words.Place = Some faults.Seed
+fault_of_word stage word = None
 
 -- the command, where no words are left over
 abbrev pub alone : Command → List (List ℕ) → Result Command LineFault
 alone command [] = Ok command
-alone command (word ∷ after) = Err Extra
+alone command (word ∷ after) = Err faults.Extra
 
 -- what the words after the first say
 unfoldable pub command_after : Word → List (List ℕ) → Result Command LineFault
@@ -113,21 +68,46 @@ command_after words.Row given = do
   id ← take_id given
   peer ← take_peer id.1
   alone (Row id.0 peer.0) peer.1
+command_after words.Order given = do
+  order ← take_order given
+  alone (Order order.0) order.1
+command_after words.Place given = do
+  place ← take_number 4294967295 given
+  alone (Place place.0) place.1
+command_after words.Seed given = do
+  seed ← take_seed given
+  alone (Seed seed.0) seed.1
 command_after words.Tick given = alone Tick given
 command_after words.Hear given = do
   peer ← take_peer given
   datagram ← take_datagram peer.1
   alone (Hear peer.0 datagram.0) datagram.1
+command_after words.Join given = do
+  id ← take_id given
+  peer ← take_peer id.1
+  alone (Join id.0 peer.0) peer.1
+command_after words.Remove given = do
+  id ← take_id given
+  alone (Remove id.0) id.1
+command_after words.Table given = alone Table given
+command_after words.Gap given = do
+  id ← take_id given
+  alone (Gap id.0) id.1
 
 -- what the words after a known first word say, where it may stand
-abbrev pub word_read : Stage → List (List ℕ) → Option Word → Result Command LineFault
-word_read stage after None = Err faults.Word
-word_read stage after (Some word) = if may_stand stage word then command_after word after else Err faults.Word
+abbrev pub word_read : Option LineFault → Word → List (List ℕ) → Result Command LineFault
+word_read None word after = command_after word after
+word_read (Some fault) word after = Err fault
+
+-- what the words after the first say, if that is known
+abbrev pub known_read : Stage → Option Word → List (List ℕ) → Result Command LineFault
+known_read stage None after = Err faults.Word
+known_read stage (Some word) after = word_read (fault_of_word stage word) word after
 
 -- what the words of a line say
 abbrev pub words_read : Stage → List (List ℕ) → Result Command LineFault
 words_read stage [] = Err faults.Word
-words_read stage (word ∷ after) = word_read stage after (word_of word)
+words_read stage (word ∷ after) = known_read stage (word_of word) after
 
 -- an empty line or a comment
 abbrev pub is_skipped : List ℕ → Bool
@@ -142,16 +122,22 @@ said_by (Err fault) = Err fault
 abbrev pub line_read : Stage → List ℕ → Result (Option Command) LineFault
 line_read stage line = if is_skipped line then Ok None else said_by (words_read stage (words_of line))
 
--- what a line says is served where it stands: the opening first, a row behind it, a call after it, and no
--- request for an indirect probe
-abbrev pub IsServed : Stage → Command → Type 0
-IsServed stage (Open arguments) = stage ≡ Blank
-IsServed stage (Row id peer) = stage ≡ Header
-IsServed stage Tick = stage ≢ Blank
-IsServed stage (Hear peer (Err fault)) = stage ≢ Blank
-IsServed stage (Hear peer (Ok message)) = (stage ≢ Blank) × (message.kind ≢ PingReq)
+-- the first word of a line that says this
+abbrev pub word_for : Command → Word
+word_for (Open arguments) = words.Open
+word_for (Row id peer) = words.Row
+word_for (Order order) = words.Order
+word_for (Place place) = words.Place
+word_for (Seed key) = words.Seed
+word_for Tick = words.Tick
+word_for (Hear peer datagram) = words.Hear
+word_for (Join id peer) = words.Join
+word_for (Remove id) = words.Remove
+word_for Table = words.Table
+word_for (Gap id) = words.Gap
 
-abbrev pub ServesLine : Stage → Result (Option Command) LineFault → Type 0
-ServesLine stage (Ok (Some command)) = IsServed stage command
-ServesLine stage (Ok None) = Unit {0}
-ServesLine stage (Err fault) = Unit {0}
+-- what a line says may stand at that stage
+abbrev pub LineStandsAt : Stage → Result (Option Command) LineFault → Type 0
+LineStandsAt stage (Ok (Some command)) = fault_of_word stage (word_for command) ≡ None
+LineStandsAt stage (Ok None) = Unit {0}
+LineStandsAt stage (Err fault) = Unit {0}

@@ -1,5 +1,7 @@
+pub mod Arguments
+pub mod Choosers
 pub mod Commands
+pub mod Headers
 pub mod Holds
-pub mod Mirrors
 pub mod Script
 pub mod Texts

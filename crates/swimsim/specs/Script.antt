@@ -1,72 +1,33 @@
--- A script: what its header says, its first fault, its calls, and what is written for it. Lines are lists of
--- bytes with their line feeds; a list of lines is newest first, so that each line stands before the earlier ones.
+-- A script: its first fault, its calls, and what is written for it. Lines are lists of bytes with their line feeds; a
+-- list of lines is newest first, so that each line stands before the earlier ones.
 use Rattle.std.specs.Prelude.{◌≡◌, ℕ, ◌+◌, ◌-◌, ◌==◌, Bool, true, false, not, ◌||◌, nat_lt, List, [], ◌∷◌, ◌++◌, length, map, take, reverse, Option, Some, None, Result, Ok, Err, if◌then◌else◌}
 use Rattle.std.specs.List.{list_all}
 use Rattle.std.specs.Io.KnownBytes.{Appends}
-use Rattle.swim_wire.specs.Address.{Address}
 use Rattle.swim_wire.specs.Lines.{pieces, bare}
 use Rattle.swim_wire.specs.declared.codec.WireFault.{WireFault}
 use Rattle.swim_history.specs.declared.calls.Call.{Call}
 use Rattle.swim_history.specs.declared.calls.Call.TheVariants as calls
 use Rattle.swim_history.specs.declared.entries.Entry.{Entry}
 use Rattle.swim_history.specs.declared.openings.OpeningFault.{OpeningFault}
-use Rattle.swim_history.specs.declared.openings.OpeningFault.TheVariants.{Relays, TooManyRows}
 use Rattle.swim_history.specs.Setting.{Setting}
-use Rattle.swim_history.specs.Check.{setting_of, first_fault}
+use Rattle.swim_history.specs.Check.{first_fault}
+use Rattle.swim_history.specs.LastProbe.{widest_gap}
+use Rattle.swim_history.specs.Changes.{table}
 use Rattle.swim_history.specs.Run.{IsRun}
+use Rattle.swim_history.specs.Drawn.{IsDrawn}
+use Rattle.swimsim.specs.declared.arguments.Opened.{Opened}
+use Rattle.swimsim.specs.declared.choosers.Drawer.{Drawer}
 use Rattle.swimsim.specs.declared.commands.LineFault.{LineFault}
 use Rattle.swimsim.specs.declared.commands.LineFault.TheVariants.{Word}
-use Rattle.swimsim.specs.declared.commands.Stage.{Stage}
-use Rattle.swimsim.specs.declared.commands.Stage.TheVariants.{Blank, Header, Events}
-use Rattle.swimsim.specs.declared.commands.Opened.{Opened}
 use Rattle.swimsim.specs.declared.commands.Command.{Command}
-use Rattle.swimsim.specs.declared.commands.Command.TheVariants.{Open, Row, Tick, Hear}
+use Rattle.swimsim.specs.declared.commands.Command.TheVariants.{Order, Place, Tick, Hear, Join, Remove, Table, Gap}
 use Rattle.swimsim.specs.declared.faults.FaultKind.{FaultKind}
-use Rattle.swimsim.specs.declared.faults.FaultKind.TheVariants.{Size, Long, Words, Opening, Read, Write}
+use Rattle.swimsim.specs.declared.faults.FaultKind.TheVariants.{Size, Long, Words, Opening, Memory, Read, Write}
 use Rattle.swimsim.specs.declared.faults.ScriptFault.{ScriptFault}
+use Rattle.swimsim.specs.Choosers.{ChoosesOrder, ChoosesPlace}
 use Rattle.swimsim.specs.Commands.{line_read}
-use Rattle.swimsim.specs.Texts.{answer_text, wire_text, full_text, no_memory_text}
-
--- ---- the header
-
--- how far lines have come, what their `open` line says, and their rows in order
-pub record Head : Type 0 where
-  pub stage : Stage
-  pub opened : Option Opened
-  pub rows : List (ℕ × Address)
-
--- after a line, by what it says
-abbrev pub head_then : ℕ → Option Command → Head → Head
-head_then n None head = head
-head_then n (Some (Open arguments)) head = record { stage = Header; opened = Some (record { line = n; arguments = arguments }); rows = head.rows }
-head_then n (Some (Row id peer)) head = record { stage = head.stage; opened = head.opened; rows = head.rows ++ (id, peer) ∷ [] }
-head_then n (Some Tick) head = record { stage = Events; opened = head.opened; rows = head.rows }
-head_then n (Some (Hear peer datagram)) head = record { stage = Events; opened = head.opened; rows = head.rows }
-
--- what a line says that has no fault; nothing where it is skipped
-abbrev pub command_in : Result (Option Command) LineFault → Option Command
-command_in (Ok said) = said
-command_in (Err fault) = None
-
-abbrev pub said : Head → List ℕ → Option Command
-said head line = command_in (line_read head.stage (bare line))
-
--- after all these lines
-abbrev pub head_of : List (List ℕ) → Head
-head_of [] = record { stage = Blank; opened = None; rows = [] }
-head_of (line ∷ before) = head_then (length before + 1) (said (head_of before) line) (head_of before)
-
--- the opening that a header tells, and how many entries its journal may have
-abbrev pub setting_with : Option Opened → List (ℕ × Address) → Setting
-setting_with None rows = setting_of 0 0 0 0 rows 0
-setting_with (Some opened) rows = let a = opened.arguments in setting_of a.me a.k a.rtt a.period rows a.last
-
-abbrev pub setting_in : Head → Setting
-setting_in head = setting_with head.opened head.rows
-
-abbrev pub limit_with : Option Opened → ℕ
-limit_with None = 0
-limit_with (Some opened) = opened.arguments.limit
+use Rattle.swimsim.specs.Headers.{Told, is_event, Head, stage_of, said, head_of, setting_in, limit_in, chooser_in}
+use Rattle.swimsim.specs.Texts.{answer_text, table_text, gap_text, wire_text, full_text, no_memory_text}
 
 -- ---- faults
 
@@ -74,32 +35,21 @@ limit_with (Some opened) = opened.arguments.limit
 abbrev pub at_line : ℕ → FaultKind → ScriptFault
 at_line n kind = record { line = n; kind = kind }
 
--- the fault of an opening: the first of the check, else that of what isn't served yet, relays and a second member
-abbrev pub opening_fault : Setting → Option OpeningFault → Option OpeningFault
-opening_fault o (Some fault) = Some fault
-opening_fault o None = if not (o.k == 0) then Some Relays else (if nat_lt 1 (length o.rows) then Some TooManyRows else None)
-
 abbrev pub opening_at : ℕ → Option OpeningFault → Option ScriptFault
 opening_at n None = None
 opening_at n (Some fault) = Some (at_line n (Opening fault))
 
--- the fault of the opening that a header tells, in its `open` line
-abbrev pub fault_of_opening : Option Opened → List (ℕ × Address) → Option ScriptFault
-fault_of_opening None rows = None
-fault_of_opening (Some opened) rows =
-    let o = setting_with (Some opened) rows in
-    opening_at opened.line (opening_fault o (first_fault o))
+-- the fault of an opening, in its `open` line
+abbrev pub fault_of_setting : Option Opened → Setting → Option ScriptFault
+fault_of_setting None o = None
+fault_of_setting (Some opened) o = opening_at opened.line (first_fault o)
 
--- at the first call the opening is checked
-abbrev pub fault_at_call : Head → Stage → Option ScriptFault
-fault_at_call head Header = fault_of_opening head.opened head.rows
-fault_at_call head stage = None
+abbrev pub fault_of_opening : Told → Option ScriptFault
+fault_of_opening told = fault_of_setting told.opened (setting_in told)
 
+-- at the first event line the opening is checked
 abbrev pub fault_of_command : Head → Command → Option ScriptFault
-fault_of_command head (Open arguments) = None
-fault_of_command head (Row id peer) = None
-fault_of_command head Tick = fault_at_call head head.stage
-fault_of_command head (Hear peer datagram) = fault_at_call head head.stage
+fault_of_command head command = if head.begun then None else (if is_event command then fault_of_opening head.told else None)
 
 -- the fault of a line by what it says
 abbrev pub fault_of_read : ℕ → Head → Result (Option Command) LineFault → Option ScriptFault
@@ -118,12 +68,19 @@ fault_at before line =
     let n = length before + 1 in
     if nat_lt 16777216 (length line + bytes_of before) then Some (at_line n Size)
     else (if nat_lt 2048 (length (bare line)) then Some (at_line n Long)
-    else fault_of_read n (head_of before) (line_read (head_of before).stage (bare line)))
+    else fault_of_read n (head_of before) (line_read (stage_of (head_of before)) (bare line)))
+
+-- the fault of a script that ends with its header: where there is no opening the first word is missing
+abbrev pub fault_with : Option Opened → Option ScriptFault → Option ScriptFault
+fault_with None fault = Some (at_line 0 (Words Word))
+fault_with (Some opened) fault = fault
+
+abbrev pub fault_of_header : Told → Option ScriptFault
+fault_of_header told = fault_with told.opened (fault_of_opening told)
 
 -- the fault at the end of a script
-abbrev pub fault_at_end : Head → Stage → Option ScriptFault
-fault_at_end head Blank = Some (at_line 0 (Words Word))
-fault_at_end head stage = fault_at_call head stage
+abbrev pub fault_at_end : Head → Option ScriptFault
+fault_at_end head = if head.begun then None else fault_of_header head.told
 
 -- the fault if there is one, else what comes later
 abbrev pub first_of : Option ScriptFault → Option ScriptFault → Option ScriptFault
@@ -132,7 +89,7 @@ first_of (Some fault) later = Some fault
 
 -- the first fault of the lines that are to come, after those before them
 abbrev pub fault_from : List (List ℕ) → List (List ℕ) → Option ScriptFault
-fault_from before [] = fault_at_end (head_of before) (head_of before).stage
+fault_from before [] = fault_at_end (head_of before)
 fault_from before (line ∷ more) = first_of (fault_at before line) (fault_from (line ∷ before) more)
 
 -- the fault of a script that the format names, if any
@@ -149,19 +106,24 @@ pub record Turn : Type 0 where
 abbrev pub lines_of : List Turn → List (List ℕ)
 lines_of turns = map (λ turn. turn.line) turns
 
--- what a line asks: nothing, to hear bytes that are no datagram, or a call
+-- what a line asks: nothing, to hear bytes that are no datagram, to show the member table, to measure a member's
+-- widest gap, or a call
 pub data Asked : Type 0 where
   Nothing : Asked
   Unread : (fault : WireFault) → Asked
+  Shows : Asked
+  Measures : (member : ℕ) → Asked
   Calls : (call : Call) → Asked
 
 abbrev pub asked_by : Option Command → Asked
-asked_by None = Nothing
-asked_by (Some (Open arguments)) = Nothing
-asked_by (Some (Row id peer)) = Nothing
 asked_by (Some Tick) = Calls calls.Tick
 asked_by (Some (Hear peer (Ok message))) = Calls (calls.Hear message peer)
 asked_by (Some (Hear peer (Err fault))) = Unread fault
+asked_by (Some (Join id peer)) = Calls (calls.Join id peer)
+asked_by (Some (Remove id)) = Calls (calls.Remove id)
+asked_by (Some Table) = Shows
+asked_by (Some (Gap id)) = Measures id
+asked_by command = Nothing
 
 abbrev pub asked_in : List (List ℕ) → List ℕ → Asked
 asked_in before line = asked_by (said (head_of before) line)
@@ -180,7 +142,7 @@ calls_then limit refused asked made = made
 abbrev pub calls_in : List Turn → List Call
 calls_in [] = []
 calls_in (turn ∷ before) =
-    calls_then (limit_with (head_of (lines_of before)).opened) turn.refused (asked_in (lines_of before) turn.line) (calls_in before)
+    calls_then (limit_in (head_of (lines_of before)).told) turn.refused (asked_in (lines_of before) turn.line) (calls_in before)
 
 -- what is written for a run's newest entry, after what is written for the run before it
 abbrev pub with_answer : Setting → (List Entry → List ℕ) → List Entry → List ℕ
@@ -191,6 +153,8 @@ with_answer o text (e ∷ run) = text run ++ answer_text o e.reply
 abbrev pub output_then : Setting → Bool → Bool → Asked → (List Entry → List ℕ) → List Entry → List ℕ
 output_then o full refused Nothing text run = text run
 output_then o full refused (Unread fault) text run = text run ++ wire_text fault
+output_then o full refused Shows text run = text run ++ table_text (table o run)
+output_then o full refused (Measures member) text run = text run ++ gap_text (widest_gap o member run)
 output_then o full refused (Calls call) text run =
     if full then text run ++ full_text
     else (if refused then text run ++ no_memory_text else with_answer o text run)
@@ -199,31 +163,53 @@ output_then o full refused (Calls call) text run =
 abbrev pub output_of : Setting → List Turn → List Entry → List ℕ
 output_of o [] run = []
 output_of o (turn ∷ before) run =
-    output_then o (is_full (limit_with (head_of (lines_of before)).opened) (length (calls_in before))) turn.refused
+    output_then o (is_full (limit_in (head_of (lines_of before)).told) (length (calls_in before))) turn.refused
     (asked_in (lines_of before) turn.line) (output_of o before) run
 
 -- ---- the whole
 
--- the text is what is written for these lines: there is a run of their opening, by one caller, of their
--- calls, and each line has its answer by that run
+-- the run is one of the opening that was told, by one caller, of these calls, and its choices are those of the
+-- chooser that was told, which is this one after it
+pub record IsRunOf (told : Told) (made : List Call) (run : List Entry) (after : Drawer) : Type 0 where
+  pub legal : IsRun (setting_in told) run
+  pub drawn : IsDrawn ChoosesOrder ChoosesPlace (setting_in told) (chooser_in told) run after
+  pub calls : map (λ e. e.call) run ≡ made
+  pub one_seat : list_all (λ e. e.seat == 0) run ≡ true
+
+-- the text is what is written for these lines: there is a run of their calls, and each line has its answer by
+-- that run
 pub record IsTold (lines : List (List ℕ)) (text : List ℕ) : Type 0 where
   pub turns : List Turn
   pub are : lines_of turns ≡ lines
   pub run : List Entry
-  pub legal : IsRun (setting_in (head_of lines)) run
-  pub calls : map (λ e. e.call) run ≡ calls_in turns
-  pub one_seat : list_all (λ e. e.seat == 0) run ≡ true
-  pub text_is : text ≡ output_of (setting_in (head_of lines)) turns run
+  pub after : Drawer
+  pub made : IsRunOf (head_of lines).told (calls_in turns) run after
+  pub text_is : text ≡ output_of (setting_in (head_of lines).told) turns run
 
 -- the lines of a script before line n
 abbrev pub lines_before : ℕ → List ℕ → List (List ℕ)
 lines_before n script = reverse (take (n - 1) (pieces script))
 
--- where the reader failed at a line, the lines before it were answered
+-- the line tells an order or a place, which is kept in memory
+abbrev pub takes_memory : Option Command → Bool
+takes_memory (Some (Order order)) = true
+takes_memory (Some (Place place)) = true
+takes_memory command = false
+
+-- line n of a script takes memory
+pub record WantsMemory (script : List ℕ) (n : ℕ) : Type 0 where
+  pub piece : List ℕ
+  pub more : List (List ℕ)
+  pub cut : pieces script ≡ reverse (lines_before n script) ++ piece ∷ more
+  pub takes : takes_memory (said (head_of (lines_before n script)) piece) ≡ true
+
+-- what was written before a fault: where the reader failed at a line, the lines before it were answered
 abbrev pub RunsTo : List ℕ → Option (List ℕ) → Option (List ℕ) → ScriptFault → FaultKind → Type 0
 RunsTo script old new fault Read = (text : List ℕ) × IsTold (lines_before fault.line script) text × Appends old new text
 -- where the writer failed, nothing is said of the last answer's part
 RunsTo script old new fault Write = (text : List ℕ) × (part : List ℕ) × IsTold (lines_before fault.line script) text × Appends old new (text ++ part)
+-- memory is wanted for a line that is kept in it, and the lines before it were answered
+RunsTo script old new fault Memory = WantsMemory script fault.line × (text : List ℕ) × IsTold (lines_before fault.line script) text × Appends old new text
 -- any other fault is the one that the format names, and the lines before it were answered
 RunsTo script old new fault kind =
     (fault_of script ≡ Some fault) × (text : List ℕ) × IsTold (lines_before fault.line script) text × Appends old new text

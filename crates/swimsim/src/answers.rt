@@ -67,7 +67,7 @@ fn put_reply<W: Sink>(writer: &mut W, reply: &Reply) -> bool
 }
 
 /// A word and a number.
-fn put_numbered<W: Sink>(writer: &mut W, word: &[u8], number: u64) -> bool
+pub fn put_numbered<W: Sink>(writer: &mut W, word: &[u8], number: u64) -> bool
     ensures bytes { Puts (W.written writer.old) (W.written writer.new) (word.now ++ decimal number) result }
     ensures failures { W.failures writer.new ≡ failures_if (W.failures writer.old) result }
 {
@@ -77,7 +77,7 @@ fn put_numbered<W: Sink>(writer: &mut W, word: &[u8], number: u64) -> bool
     put_number(writer, number)
 }
 
-fn put_number<W: Sink>(writer: &mut W, number: u64) -> bool
+pub fn put_number<W: Sink>(writer: &mut W, number: u64) -> bool
     ensures bytes { Puts (W.written writer.old) (W.written writer.new) (decimal number) result }
     ensures failures { W.failures writer.new ≡ failures_if (W.failures writer.old) result }
 {
@@ -238,18 +238,19 @@ fn put_send<W: Sink>(writer: &mut W, peer: &Peer, message: &Message) -> bool
         (send_text (peer.now, message.now)) result }
     ensures failures { W.failures writer.new ≡ failures_if (W.failures writer.old) result }
 {
-    if !put_address(writer, peer) {
+    if !put_address(writer, b"> ", peer) {
         return false;
     }
     put_datagram(writer, message)
 }
 
-fn put_address<W: Sink>(writer: &mut W, peer: &Peer) -> bool
+/// A word and an address.
+pub fn put_address<W: Sink>(writer: &mut W, word: &[u8], peer: &Peer) -> bool
     ensures bytes { Puts (W.written writer.old) (W.written writer.new)
-        (codes "> " ++ address_text peer.now) result }
+        (word.now ++ address_text peer.now) result }
     ensures failures { W.failures writer.new ≡ failures_if (W.failures writer.old) result }
 {
-    if !writer.put(b"> ") {
+    if !writer.put(word) {
         return false;
     }
     let text = peer.write();

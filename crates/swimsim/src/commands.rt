@@ -1,10 +1,13 @@
 //! What a line of a script says.
 
 ghost use Rattle.std.specs.Prelude.{◌≡◌};
-ghost use Rattle.swimsim.specs.Commands.{TakesFrom, ServesLine, word_of, may_stand, open_arguments, command_after, take_id, take_number, take_peer, take_datagram, line_read, is_skipped, words_read, alone};
+ghost use Rattle.swimsim.specs.Commands.{fault_name, LineStandsAt, word_of, fault_of_word, command_after, line_read, is_skipped, words_read, alone};
 
-use crate::datagrams::read_datagram;
-use swim_wire::{Id, Message, Peer, WireFault, Words, read_number};
+use crate::arguments::{
+    OpenArguments, take_datagram, take_id, take_number, take_open, take_order, take_peer, take_seed,
+};
+use swim_targets::Order;
+use swim_wire::{Id, Message, Peer, WireFault, Words};
 
 /// The longest line of a script, in bytes without its line feed.
 pub const LINE_BYTES: usize = 2048;
@@ -14,27 +17,46 @@ pub const LINE_BYTES: usize = 2048;
 pub enum LineFault {
     /// An unknown first word, or one that can't stand here.
     Word,
+    /// A second seed, or a seed beside orders or places.
+    Seed,
     /// A missing, misspelt or out-of-range number or id.
     Number,
     /// A missing or refused address.
     Peer,
-    /// Missing or refused digits of a datagram, or a datagram that isn't served.
+    /// Missing or refused digits of a datagram or a seed.
     Hex,
+    /// More than 128 ids in an order.
+    Order,
     /// Words left over.
     Extra,
 }
 
 impl LineFault {
     /// The word that tells the fault.
-    pub fn name(self) -> &'static str {
+    pub fn name(self) -> &'static str
+        ensures { result.now ≡ fault_name self }
+    {
         match self {
             LineFault::Word => "word",
+            LineFault::Seed => "seed",
             LineFault::Number => "number",
             LineFault::Peer => "peer",
             LineFault::Hex => "hex",
+            LineFault::Order => "order",
             LineFault::Extra => "extra",
         }
     }
+}
+
+/// What a header has told of who chooses.
+#[derive(Clone, Copy, Debug, PartialEq, Eq)]
+pub enum Draws {
+    /// Nothing.
+    Unsaid,
+    /// Orders or places.
+    Scripted,
+    /// A seed.
+    Seeded,
 }
 
 /// How far a script has come.
@@ -43,8 +65,8 @@ pub enum Stage {
     /// No line but skipped ones.
     Blank,
     /// The opening is being told.
-    Header,
-    /// A call was made.
+    Header(Draws),
+    /// An event line was met.
     Events,
 }
 
@@ -53,42 +75,38 @@ pub enum Stage {
 pub enum Word {
     Open,
     Row,
+    Order,
+    Place,
+    Seed,
     Tick,
     Hear,
-}
-
-/// The arguments of an `open` line.
-#[derive(Clone, Copy, Debug, PartialEq, Eq)]
-pub struct OpenArguments {
-    pub me: Id,
-    pub k: u32,
-    pub rtt: u32,
-    pub period: u32,
-    pub last: u64,
-    pub limit: u32,
-}
-
-/// An `open` line: its number, counted from 1, and its arguments.
-#[derive(Clone, Copy, Debug, PartialEq, Eq)]
-pub struct Opened {
-    pub line: u32,
-    pub arguments: OpenArguments,
+    Join,
+    Remove,
+    Table,
+    Gap,
 }
 
 /// What a line says.
-#[derive(Clone, Copy, Debug, PartialEq, Eq)]
+#[derive(Debug, Drop)]
 pub enum Command {
     Open(OpenArguments),
     Row(Id, Peer),
+    Order(Order),
+    Place(u32),
+    Seed([u8; 32]),
     Tick,
     Hear(Peer, Result<Message, WireFault>),
+    Join(Id, Peer),
+    Remove(Id),
+    Table,
+    Gap(Id),
 }
 
 /// What a line says at that stage of its script: nothing where it is skipped, else a command, or the first
 /// fault of its words.
 pub fn read_line(stage: Stage, line: &[u8]) -> Result<Option<Command>, LineFault>
     ensures exact { result ≡ line_read stage line.now }
-    ensures served { ServesLine stage result }
+    ensures stands { LineStandsAt stage result }
 {
     read_any(stage, line)
 }
@@ -119,10 +137,10 @@ fn read_words(stage: Stage, words: &mut Words<'_>) -> Result<Command, LineFault>
 {
     let first = words.next().ok_or(LineFault::Word)?;
     let word = first_word(first).ok_or(LineFault::Word)?;
-    if !may_stand(stage, word) {
-        return Err(LineFault::Word);
+    match fault_of_word(stage, word) {
+        Some(fault) => Err(fault),
+        None => read_command(word, words),
     }
-    read_command(word, words)
 }
 
 /// The first word of a line, if it is known.
@@ -133,8 +151,22 @@ fn first_word(text: &[u8]) -> Option<Word>
         Some(Word::Tick)
     } else if text == b"hear".as_slice() {
         Some(Word::Hear)
+    } else if text == b"join".as_slice() {
+        Some(Word::Join)
+    } else if text == b"remove".as_slice() {
+        Some(Word::Remove)
+    } else if text == b"table".as_slice() {
+        Some(Word::Table)
+    } else if text == b"gap".as_slice() {
+        Some(Word::Gap)
     } else if text == b"row".as_slice() {
         Some(Word::Row)
+    } else if text == b"order".as_slice() {
+        Some(Word::Order)
+    } else if text == b"place".as_slice() {
+        Some(Word::Place)
+    } else if text == b"seed".as_slice() {
+        Some(Word::Seed)
     } else if text == b"open".as_slice() {
         Some(Word::Open)
     } else {
@@ -142,15 +174,21 @@ fn first_word(text: &[u8]) -> Option<Word>
     }
 }
 
-/// Which words may stand at that stage.
-fn may_stand(stage: Stage, word: Word) -> bool
-    ensures { result ≡ may_stand stage word }
+/// Why a word can't stand at that stage, if it can't.
+fn fault_of_word(stage: Stage, word: Word) -> Option<LineFault>
+    ensures { result ≡ fault_of_word stage word }
 {
     match (stage, word) {
-        (Stage::Blank, Word::Open) => true,
-        (Stage::Header, Word::Row) => true,
-        (Stage::Header | Stage::Events, Word::Tick | Word::Hear) => true,
-        _ => false,
+        (Stage::Blank, Word::Open) => None,
+        (Stage::Blank, _) | (_, Word::Open) => Some(LineFault::Word),
+        (Stage::Events, Word::Row | Word::Order | Word::Place | Word::Seed) => {
+            Some(LineFault::Word)
+        }
+        (Stage::Header(Draws::Scripted), Word::Seed) => Some(LineFault::Seed),
+        (Stage::Header(Draws::Seeded), Word::Seed | Word::Order | Word::Place) => {
+            Some(LineFault::Seed)
+        }
+        _ => None,
     }
 }
 
@@ -169,11 +207,37 @@ fn read_command(word: Word, words: &mut Words<'_>) -> Result<Command, LineFault>
             let peer = take_peer(words)?;
             alone(Command::Row(id, peer), words)
         }
+        Word::Order => {
+            let order = take_order(words)?;
+            alone(Command::Order(order), words)
+        }
+        Word::Place => {
+            let place = take_number(words)?;
+            alone(Command::Place(place), words)
+        }
+        Word::Seed => {
+            let seed = take_seed(words)?;
+            alone(Command::Seed(seed), words)
+        }
         Word::Tick => alone(Command::Tick, words),
         Word::Hear => {
             let peer = take_peer(words)?;
             let datagram = take_datagram(words)?;
             alone(Command::Hear(peer, datagram), words)
+        }
+        Word::Join => {
+            let id = take_id(words)?;
+            let peer = take_peer(words)?;
+            alone(Command::Join(id, peer), words)
+        }
+        Word::Remove => {
+            let id = take_id(words)?;
+            alone(Command::Remove(id), words)
+        }
+        Word::Table => alone(Command::Table, words),
+        Word::Gap => {
+            let id = take_id(words)?;
+            alone(Command::Gap(id), words)
         }
     }
 }
@@ -187,60 +251,4 @@ fn alone(command: Command, words: &Words<'_>) -> Result<Command, LineFault>
     } else {
         Err(LineFault::Extra)
     }
-}
-
-#[tactic(auto, unfolding(crate::specs::Commands::open_arguments))]
-fn take_open(words: &mut Words<'_>) -> Result<OpenArguments, LineFault>
-    ensures { TakesFrom result words.new (open_arguments words.old) }
-{
-    let me = take_id(words)?;
-    let k = take_number(words)?;
-    let rtt = take_number(words)?;
-    let period = take_number(words)?;
-    let last = take_long_number(words)?;
-    let limit = take_number(words)?;
-    Ok(OpenArguments {
-        me,
-        k,
-        rtt,
-        period,
-        last,
-        limit,
-    })
-}
-
-fn take_id(words: &mut Words<'_>) -> Result<Id, LineFault>
-    ensures { TakesFrom result words.new (take_id words.old) }
-{
-    let word = words.next().ok_or(LineFault::Number)?;
-    Id::read(word).ok_or(LineFault::Number)
-}
-
-fn take_number(words: &mut Words<'_>) -> Result<u32, LineFault>
-    ensures { TakesFrom result words.new (take_number 4294967295 words.old) }
-{
-    let word = words.next().ok_or(LineFault::Number)?;
-    let number = read_number(word, u64::from(u32::MAX)).ok_or(LineFault::Number)?;
-    Ok(number as u32)
-}
-
-fn take_long_number(words: &mut Words<'_>) -> Result<u64, LineFault>
-    ensures { TakesFrom result words.new (take_number 18446744073709551615 words.old) }
-{
-    let word = words.next().ok_or(LineFault::Number)?;
-    read_number(word, u64::MAX).ok_or(LineFault::Number)
-}
-
-fn take_peer(words: &mut Words<'_>) -> Result<Peer, LineFault>
-    ensures { TakesFrom result words.new (take_peer words.old) }
-{
-    let word = words.next().ok_or(LineFault::Peer)?;
-    Peer::read(word).ok_or(LineFault::Peer)
-}
-
-fn take_datagram(words: &mut Words<'_>) -> Result<Result<Message, WireFault>, LineFault>
-    ensures { TakesFrom result words.new (take_datagram words.old) }
-{
-    let word = words.next().ok_or(LineFault::Hex)?;
-    read_datagram(word).ok_or(LineFault::Hex)
 }

@@ -3,12 +3,12 @@
 ghost use Rattle.std.specs.Prelude.{◌≡◌, ◌≢◌, ◌↔◌, IsTrue, length};
 ghost use Rattle.std.specs.List.{AllPass};
 ghost use Rattle.hex.specs.Hex.{is_hex_digit};
-ghost use Rattle.swimsim.specs.Commands.{datagram_of, served};
+ghost use Rattle.swimsim.specs.Arguments.{datagram_of};
 
-use swim_wire::{DATAGRAM_BYTES, Kind, Message, WireFault, decode};
+use swim_wire::{DATAGRAM_BYTES, Message, WireFault, decode};
 
 /// What the digits spell, either case: a message, or the fault of bytes that are none. `None` where they are
-/// no digits, or an odd number of them, or spell a request for an indirect probe, which isn't served yet.
+/// no digits, or an odd number of them.
 pub fn read_datagram(text: &[u8]) -> Option<Result<Message, WireFault>>
     ensures { result ≡ datagram_of text.now }
 {
@@ -17,7 +17,7 @@ pub fn read_datagram(text: &[u8]) -> Option<Result<Message, WireFault>>
     }
     let mut bytes = [0; DATAGRAM_BYTES];
     match hex::decode_to_slice(text, &mut bytes) {
-        Ok(()) => served(decode(&bytes)),
+        Ok(()) => Some(decode(&bytes)),
         Err(_) => None,
     }
 }
@@ -47,16 +47,4 @@ fn is_digit(byte: u8) -> bool
     ensures { result ≡ is_hex_digit byte }
 {
     byte.is_ascii_hexdigit()
-}
-
-fn served(read: Result<Message, WireFault>) -> Option<Result<Message, WireFault>>
-    ensures { result ≡ served read }
-{
-    match read {
-        Ok(message) => match message.kind {
-            Kind::PingReq => None,
-            _ => Some(Ok(message)),
-        },
-        Err(fault) => Some(Err(fault)),
-    }
 }

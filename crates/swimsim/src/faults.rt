@@ -19,6 +19,8 @@ pub enum FaultKind {
     Words(LineFault),
     /// The opening is refused.
     Opening(OpeningFault),
+    /// Memory to keep what the line tells was refused.
+    Memory,
     /// The reader failed.
     Read,
     /// The writer failed.
@@ -44,6 +46,7 @@ impl fmt::Display for FaultKind {
                 let number = fault.number();
                 write!(f, "opening {number}")
             }
+            FaultKind::Memory => f.write_str("memory"),
             FaultKind::Read => f.write_str("read"),
             FaultKind::Write => f.write_str("write"),
         }

@@ -1,15 +1,20 @@
 //! Replays a script of a detector's calls, and prints the replies.
 #![tactic(auto)]
 
+ghost use Rattle.std.specs.Prelude.{◌≡◌, if◌then◌else◌};
+
 mod answers;
+mod arguments;
+mod choosers;
 mod commands;
 mod datagrams;
-mod detector;
 mod faults;
-mod fields;
+mod gaps;
+mod headers;
 mod playing;
 mod session;
 mod simulator;
+mod tables;
 
 use faults::{FaultKind, ScriptFault};
 use std::process::ExitCode;
@@ -28,7 +33,9 @@ fn main(rt: HostRuntime) -> ExitCode {
 }
 
 /// The fault that is told: where what was written before it could not be handed on, that is told instead.
-fn told(fault: ScriptFault, handed_on: bool) -> ScriptFault {
+fn told(fault: ScriptFault, handed_on: bool) -> ScriptFault
+    ensures { result ≡ (if handed_on then fault else record { line = fault.line; kind = FaultKind.Write }) }
+{
     if handed_on {
         fault
     } else {

@@ -1,60 +1,60 @@
 //! A script as it is played, line by line.
 
-ghost use Rattle.std.specs.Prelude.{◌≡◌, ◌≢◌, ◌+◌, ◌<◌, ◌≤◌, ◌∷◌, ◌++◌, [], List, ℕ, Some, None, Ok, Err, MatchResult, OnOk, not, if◌then◌else◌};
+ghost use Rattle.std.specs.Prelude.{◌≡◌, ◌≢◌, ◌+◌, ◌<◌, List, ℕ, Some, None, Ok, Err, MatchResult, OnOk, false, not, if◌then◌else◌};
 ghost use Rattle.swim_wire.specs.Lines.{bare};
-ghost use Rattle.swim_wire.specs.Streams.{Puts, failures_if};
-ghost use Rattle.swim_history.specs.declared.entries.Entry.{Entry};
+ghost use Rattle.swim_wire.specs.Streams.{failures_if};
 ghost use Rattle.swim_history.specs.declared.calls.Call.TheVariants as calls;
-ghost use Rattle.swim_wire.specs.declared.messages.Kind.TheVariants.{PingReq};
-ghost use Rattle.swimsim.specs.Commands.{IsServed};
-ghost use Rattle.swimsim.specs.Mirrors.{IsSmall};
+ghost use Rattle.swim_history.specs.declared.entries.Entry.{Entry};
+ghost use Rattle.swimsim.specs.declared.commands.Command.TheVariants as commands;
 ghost use Rattle.swimsim.specs.Texts.{wire_text};
-ghost use Rattle.swimsim.specs.Script.{Turn, fault_of_opening, setting_with, fault_at_end, is_write, result_kind};
-ghost use Rattle.swimsim.specs.Holds.{Done, Holds, Turned, Started, Starts, Called, ending, first_rows, stage_of};
+ghost use Rattle.swimsim.specs.Headers.{nothing_told, told_then};
+ghost use Rattle.swimsim.specs.Script.{Turn, is_write, result_kind};
+ghost use Rattle.swimsim.specs.Holds.{Done, Holds, Turned, Started, Called, Showed, table_of, gap_of, PlaysLine, ShowsLine, HearsLine, kept, ending, stage_in};
 
 use crate::answers::put_wire_fault;
-use crate::commands::{Command, LineFault, OpenArguments, Opened, Stage, read_line};
-use crate::detector::Detector;
+use crate::arguments::OpenArguments;
+use crate::choosers::Drawer;
+use crate::commands::{Command, Stage, read_line};
 use crate::faults::{FaultKind, ScriptFault};
-use crate::playing::{play_message, play_tick};
-use arrayvec::ArrayVec;
+use crate::gaps::put_gap;
+use crate::headers::Header;
+use crate::playing::play;
+use crate::tables::put_table;
 use std::alloc::Global;
 use std::marker::Model;
-use swim_history::{KNOWN_MEMBERS, Opening, OpeningFault};
+use std::mem;
+use swim_detector::Recorder;
+use swim_history::Call;
+use swim_targets::Order;
 use swim_wire::{Id, Message, Peer, Sink, WireFault};
 
-/// How many rows are kept: one more than an opening may have, so that its check can tell.
-const KEPT_ROWS: usize = KNOWN_MEMBERS + 1;
-
-/// Where a script has come: its header, and the detector once a call was made.
+/// Where a script has come: its header, and the recorder once an event line was met.
 #[derive(Drop)]
 pub struct Session {
     alloc: Global,
     lines: u32,
-    opened: Option<Opened>,
-    rows: ArrayVec<(Id, Peer), 129>,
-    detector: Option<Detector>,
+    header: Header,
+    recorder: Option<Recorder<Drawer>>,
 }
 
 impl Model for Session {
-    ghost use Rattle.swimsim.specs.Holds.{Done, Played};
+    ghost use Rattle.swimsim.specs.Holds.{Played};
 
     ghost Value = { Played };
 
-    ghost view = { λ s. record { lines = s.lines; opened = s.opened; rows = s.rows.items; simulated = s.detector } };
+    ghost view = { λ s. record { lines = s.lines; header = s.header; recorded = s.recorder } };
 }
 
 impl Session {
     /// A script of which no line was read.
     pub fn new(alloc: Global) -> Session
-        ensures { result ≡ record { lines = 0; opened = None; rows = []; simulated = None } }
+        ensures { result ≡ record { lines = 0; header = nothing_told; recorded = None } }
     {
         Session {
             alloc,
             lines: 0,
-            opened: None,
-            rows: ArrayVec::new(),
-            detector: None,
+            header: Header::new(alloc),
+            recorder: None,
         }
     }
 
@@ -84,7 +84,7 @@ impl Session {
                 self.skip();
                 Ok(())
             }
-            Ok(Some(command)) => self.carry_out(&command, writer),
+            Ok(Some(command)) => self.carry_out(command, writer),
         }
     }
 
@@ -94,54 +94,44 @@ impl Session {
             (λ done. ending self.now ≡ None)
             (λ fault. ending self.now ≡ Some fault) }
     {
-        match (&self.detector, &self.opened) {
-            (Some(_), _) => Ok(()),
-            (None, Some(opened)) => match checked(opened, self.rows.as_slice()) {
-                Ok(_) => Ok(()),
-                Err(fault) => Err(fault),
-            },
-            (None, None) => Err(ScriptFault {
-                line: 0,
-                kind: FaultKind::Words(LineFault::Word),
-            }),
+        if self.recorder.is_some() {
+            return Ok(());
+        }
+        match self.header.opening() {
+            Ok(_) => Ok(()),
+            Err(fault) => Err(fault),
         }
     }
 
     /// Does what a line says.
-    fn carry_out<W: Sink>(&mut self, command: &Command, writer: &mut W) -> Result<(), ScriptFault>
-        requires count { self.old.lines < 4294967295 }
-        requires served { IsServed (stage_of self.old.opened self.old.simulated) command.now }
-        ensures done { Done self.old self.new command.now (W.written writer.old) (W.written writer.new) result }
+    fn carry_out<W: Sink>(&mut self, command: Command, writer: &mut W) -> Result<(), ScriptFault>
+        requires { self.old.lines < 4294967295 }
+        ensures done { Done self.old self.new command (W.written writer.old) (W.written writer.new) result }
         ensures count { OnOk result (self.new.lines ≡ self.old.lines + 1) }
         ensures unread { result_kind result ≢ Some FaultKind.Read }
         ensures failures { W.failures writer.new ≡ failures_if (W.failures writer.old) (not (is_write result)) }
     {
         match command {
             Command::Open(arguments) => {
-                self.open(*arguments);
+                self.open(arguments);
                 Ok(())
             }
             Command::Row(id, peer) => {
-                self.add_row(*id, *peer);
+                self.add_row(id, peer);
                 Ok(())
             }
-            Command::Tick => {
-                self.start()?;
-                let done = self.tick(writer);
-                self.told(done)
+            Command::Order(order) => self.add_order(order),
+            Command::Place(place) => self.add_place(place),
+            Command::Seed(key) => {
+                self.set_seed(key);
+                Ok(())
             }
-            Command::Hear(source, read) => match read {
-                Ok(message) => {
-                    self.start()?;
-                    let done = self.hear(*message, *source, writer);
-                    self.told(done)
-                }
-                Err(fault) => {
-                    self.start()?;
-                    let done = self.unread(*fault, writer);
-                    self.told(done)
-                }
-            },
+            Command::Tick => self.call(Call::Tick, writer),
+            Command::Hear(source, read) => self.hear(source, read, writer),
+            Command::Join(id, peer) => self.call(Call::Join(id, peer), writer),
+            Command::Remove(id) => self.call(Call::Remove(id), writer),
+            Command::Table => self.show_table(writer),
+            Command::Gap(id) => self.show_gap(id, writer),
         }
     }
 
@@ -155,151 +145,213 @@ impl Session {
 
     fn open(&mut self, arguments: OpenArguments)
         requires { self.old.lines < 4294967295 }
-        ensures { self.new ≡ record { lines = self.old.lines + 1; opened = Some (record { line = self.old.lines + 1; arguments = arguments }); rows = self.old.rows; simulated = self.old.simulated } }
+        ensures { self.new ≡ record { lines = self.old.lines + 1; header = told_then (self.old.lines + 1) (commands.Open arguments) self.old.header; recorded = self.old.recorded } }
     {
         self.lines += 1;
-        self.opened = Some(Opened {
-            line: self.lines,
-            arguments,
-        });
+        self.header.open(self.lines, arguments);
     }
 
     fn add_row(&mut self, id: Id, peer: Peer)
         requires { self.old.lines < 4294967295 }
-        ensures { self.new ≡ record { lines = self.old.lines + 1; opened = self.old.opened; rows = first_rows (self.old.rows ++ (id, peer) ∷ []); simulated = self.old.simulated } }
+        ensures { self.new ≡ record { lines = self.old.lines + 1; header = kept (told_then (self.old.lines + 1) (commands.Row id peer) self.old.header); recorded = self.old.recorded } }
     {
         self.lines += 1;
-        keep_row(&mut self.rows, id, peer);
+        self.header.add_row(id, peer);
     }
 
-    /// At the first call, checks the opening and opens the detector.
-    fn start(&mut self) -> Result<(), ScriptFault>
-        requires { self.old.simulated ≡ None → self.old.opened ≢ None }
-        ensures started { Started self.old self.new result }
-        ensures same { (self.new.lines ≡ self.old.lines) × (self.new.opened ≡ self.old.opened) × (self.new.rows ≡ self.old.rows) }
+    fn add_order(&mut self, order: Order) -> Result<(), ScriptFault>
+        requires { self.old.lines < 4294967295 }
+        ensures { MatchResult result
+            (λ done. self.new ≡ record { lines = self.old.lines + 1; header = told_then (self.old.lines + 1) (commands.Order order) self.old.header; recorded = self.old.recorded })
+            (λ fault. fault ≡ record { line = self.old.lines + 1; kind = FaultKind.Memory }) }
     {
-        if self.detector.is_none() {
-            let detector = self.opening_detector()?;
-            self.detector = Some(detector);
+        self.lines += 1;
+        match self.header.add_order(order) {
+            Ok(()) => Ok(()),
+            Err(_) => Err(self.stopped(FaultKind::Memory)),
         }
+    }
+
+    fn add_place(&mut self, place: u32) -> Result<(), ScriptFault>
+        requires { self.old.lines < 4294967295 }
+        ensures { MatchResult result
+            (λ done. self.new ≡ record { lines = self.old.lines + 1; header = told_then (self.old.lines + 1) (commands.Place place) self.old.header; recorded = self.old.recorded })
+            (λ fault. fault ≡ record { line = self.old.lines + 1; kind = FaultKind.Memory }) }
+    {
+        self.lines += 1;
+        match self.header.add_place(place) {
+            Ok(()) => Ok(()),
+            Err(_) => Err(self.stopped(FaultKind::Memory)),
+        }
+    }
+
+    fn set_seed(&mut self, key: [u8; 32])
+        requires { self.old.lines < 4294967295 }
+        ensures { self.new ≡ record { lines = self.old.lines + 1; header = told_then (self.old.lines + 1) (commands.Seed key) self.old.header; recorded = self.old.recorded } }
+    {
+        self.lines += 1;
+        self.header.set_seed(key);
+    }
+
+    /// At the first event line, checks the opening and opens the recorder.
+    fn start(&mut self) -> Result<(), ScriptFault>
+        ensures started { Started self.old self.new result }
+        ensures same { self.new.lines ≡ self.old.lines }
+        ensures unread { result_kind result ≢ Some FaultKind.Read }
+        ensures written { is_write result ≡ false }
+    {
+        if self.recorder.is_some() {
+            return Ok(());
+        }
+        self.open_recorder()
+    }
+
+    // A function of its own, since its locals are large and `start` runs at each event line.
+    fn open_recorder(&mut self) -> Result<(), ScriptFault>
+        requires { self.old.recorded ≡ None }
+        ensures started { Started self.old self.new result }
+        ensures same { self.new.lines ≡ self.old.lines }
+        ensures unread { result_kind result ≢ Some FaultKind.Read }
+        ensures written { is_write result ≡ false }
+    {
+        let opening = self.header.opening()?;
+        let limit = self.header.limit();
+        let header = mem::replace(&mut self.header, Header::new(self.alloc));
+        let chooser = header.into_chooser();
+        self.recorder = Some(Recorder::open(self.alloc, opening, chooser, limit));
         Ok(())
     }
 
-    fn opening_detector(&self) -> Result<Detector, ScriptFault>
-        requires { self.now.opened ≢ None }
-        ensures { MatchResult result
-            (λ detector. Starts self.now.opened self.now.rows None (Some detector))
-            (λ fault. fault_of_opening self.now.opened self.now.rows ≡ Some fault) }
-    {
-        match &self.opened {
-            None => unreachable!(),
-            Some(opened) => {
-                let opening = checked(opened, self.rows.as_slice())?;
-                Ok(Detector::open(self.alloc, opening, opened.arguments.limit))
-            }
-        }
-    }
-
-    fn tick<W: Sink>(&mut self, writer: &mut W) -> bool
+    /// A message, or bytes that are none, came.
+    fn hear<W: Sink>(
+        &mut self,
+        source: Peer,
+        read: Result<Message, WireFault>,
+        writer: &mut W,
+    ) -> Result<(), ScriptFault>
         requires { self.old.lines < 4294967295 }
-        ensures called { Called self.old.simulated self.new.simulated calls.Tick (W.written writer.old) (W.written writer.new) result }
-        ensures same { (self.new.lines ≡ self.old.lines + 1) × (self.new.opened ≡ self.old.opened) × (self.new.rows ≡ self.old.rows) }
-        ensures failures { W.failures writer.new ≡ failures_if (W.failures writer.old) result }
+        ensures done { HearsLine self.old self.new source read (W.written writer.old) (W.written writer.new) result }
+        ensures unread { result_kind result ≢ Some FaultKind.Read }
+        ensures failures { W.failures writer.new ≡ failures_if (W.failures writer.old) (not (is_write result)) }
     {
-        self.lines += 1;
-        match &mut self.detector {
-            Some(detector) => play_tick(detector, writer),
-            None => true,
+        match read {
+            Ok(message) => self.call(Call::Hear(message, source), writer),
+            Err(fault) => self.tell_fault(fault, writer),
         }
     }
 
-    fn hear<W: Sink>(&mut self, message: Message, source: Peer, writer: &mut W) -> bool
-        requires count { self.old.lines < 4294967295 }
-        requires kind { message.kind ≢ PingReq }
-        ensures called { Called self.old.simulated self.new.simulated (calls.Hear message source) (W.written writer.old) (W.written writer.new) result }
-        ensures same { (self.new.lines ≡ self.old.lines + 1) × (self.new.opened ≡ self.old.opened) × (self.new.rows ≡ self.old.rows) }
+    /// A call of the detector.
+    fn call<W: Sink>(&mut self, call: Call, writer: &mut W) -> Result<(), ScriptFault>
+        requires { self.old.lines < 4294967295 }
+        ensures done { PlaysLine self.old self.new call (W.written writer.old) (W.written writer.new) result }
+        ensures unread { result_kind result ≢ Some FaultKind.Read }
+        ensures failures { W.failures writer.new ≡ failures_if (W.failures writer.old) (not (is_write result)) }
+    {
+        self.start()?;
+        let done = self.apply(call, writer);
+        self.written(done)
+    }
+
+    fn apply<W: Sink>(&mut self, call: Call, writer: &mut W) -> bool
+        requires { self.old.lines < 4294967295 }
+        ensures called { Called self.old.recorded self.new.recorded call (W.written writer.old) (W.written writer.new) result }
+        ensures count { self.new.lines ≡ self.old.lines + 1 }
         ensures failures { W.failures writer.new ≡ failures_if (W.failures writer.old) result }
     {
         self.lines += 1;
-        match &mut self.detector {
-            Some(detector) => play_message(detector, message, source, writer),
+        match &mut self.recorder {
+            Some(recorder) => play(recorder, call, writer),
             None => true,
         }
     }
 
     /// A datagram that is none.
-    fn unread<W: Sink>(&mut self, fault: WireFault, writer: &mut W) -> bool
+    fn tell_fault<W: Sink>(&mut self, fault: WireFault, writer: &mut W) -> Result<(), ScriptFault>
         requires { self.old.lines < 4294967295 }
-        ensures told { Puts (W.written writer.old) (W.written writer.new) (wire_text fault) result }
-        ensures same { self.new ≡ record self.old { lines = self.old.lines + 1 } }
+        ensures done { ShowsLine self.old self.new (λ a. wire_text fault) (W.written writer.old) (W.written writer.new) result }
+        ensures unread { result_kind result ≢ Some FaultKind.Read }
+        ensures failures { W.failures writer.new ≡ failures_if (W.failures writer.old) (not (is_write result)) }
+    {
+        self.start()?;
+        self.lines += 1;
+        let done = put_wire_fault(writer, fault);
+        self.written(done)
+    }
+
+    /// The member table.
+    fn show_table<W: Sink>(&mut self, writer: &mut W) -> Result<(), ScriptFault>
+        requires { self.old.lines < 4294967295 }
+        ensures done { ShowsLine self.old self.new table_of (W.written writer.old) (W.written writer.new) result }
+        ensures unread { result_kind result ≢ Some FaultKind.Read }
+        ensures failures { W.failures writer.new ≡ failures_if (W.failures writer.old) (not (is_write result)) }
+    {
+        self.start()?;
+        self.lines += 1;
+        let done = self.put_rows(writer);
+        self.written(done)
+    }
+
+    fn put_rows<W: Sink>(&self, writer: &mut W) -> bool
+        ensures showed { Showed self.now.recorded table_of (W.written writer.old) (W.written writer.new) result }
         ensures failures { W.failures writer.new ≡ failures_if (W.failures writer.old) result }
     {
+        match &self.recorder {
+            Some(recorder) => put_table(writer, recorder.table().as_slice()),
+            None => true,
+        }
+    }
+
+    /// The widest gap of a member.
+    fn show_gap<W: Sink>(&mut self, member: Id, writer: &mut W) -> Result<(), ScriptFault>
+        requires { self.old.lines < 4294967295 }
+        ensures done { ShowsLine self.old self.new (gap_of member) (W.written writer.old) (W.written writer.new) result }
+        ensures unread { result_kind result ≢ Some FaultKind.Read }
+        ensures failures { W.failures writer.new ≡ failures_if (W.failures writer.old) (not (is_write result)) }
+    {
+        self.start()?;
         self.lines += 1;
-        put_wire_fault(writer, fault)
+        let done = self.put_gap_of(member, writer);
+        self.written(done)
+    }
+
+    fn put_gap_of<W: Sink>(&self, member: Id, writer: &mut W) -> bool
+        ensures showed { Showed self.now.recorded (gap_of member) (W.written writer.old) (W.written writer.new) result }
+        ensures failures { W.failures writer.new ≡ failures_if (W.failures writer.old) result }
+    {
+        match &self.recorder {
+            Some(recorder) => put_gap(writer, recorder.journal().widest_gap(member)),
+            None => true,
+        }
     }
 
     /// Whether the answer of the newest line was written.
-    fn told(&self, done: bool) -> Result<(), ScriptFault>
+    fn written(&self, done: bool) -> Result<(), ScriptFault>
         ensures { result ≡ (if done then Ok tt else Err (record { line = self.now.lines; kind = FaultKind.Write })) }
     {
         if done {
             Ok(())
         } else {
-            Err(ScriptFault {
-                line: self.lines,
-                kind: FaultKind::Write,
-            })
+            Err(self.stopped(FaultKind::Write))
+        }
+    }
+
+    /// A fault in the newest line.
+    fn stopped(&self, kind: FaultKind) -> ScriptFault
+        ensures { result ≡ record { line = self.now.lines; kind = kind } }
+    {
+        ScriptFault {
+            line: self.lines,
+            kind,
         }
     }
 
     fn stage(&self) -> Stage
-        ensures { result ≡ stage_of self.now.opened self.now.simulated }
+        ensures { result ≡ stage_in self.now.header self.now.recorded }
     {
-        match (&self.detector, &self.opened) {
-            (Some(_), _) => Stage::Events,
-            (None, Some(_)) => Stage::Header,
-            (None, None) => Stage::Blank,
+        if self.recorder.is_some() {
+            Stage::Events
+        } else {
+            self.header.stage()
         }
-    }
-}
-
-/// Puts a row last, unless as many are kept as tell that there are too many.
-fn keep_row(rows: &mut ArrayVec<(Id, Peer), 129>, id: Id, peer: Peer)
-    ensures { rows.new.items ≡ first_rows (rows.old.items ++ (id, peer) ∷ []) }
-{
-    if rows.len() < KEPT_ROWS {
-        rows.push((id, peer));
-    }
-}
-
-/// The opening that a header tells, if it is within the limits and what is served yet: no relays, and at most
-/// one member.
-fn checked(opened: &Opened, rows: &[(Id, Peer)]) -> Result<Opening, ScriptFault>
-    ensures { MatchResult result
-        (λ opening. (fault_of_opening (Some opened.now) rows.now ≡ None) × (opening ≡ setting_with (Some opened.now) rows.now) × IsSmall opening)
-        (λ fault. fault_of_opening (Some opened.now) rows.now ≡ Some fault) }
-{
-    let a = opened.arguments;
-    match Opening::check(a.me, a.k, a.rtt, a.period, rows, a.last) {
-        Err(fault) => Err(refused(opened.line, fault)),
-        Ok(opening) => {
-            if a.k != 0 {
-                return Err(refused(opened.line, OpeningFault::Relays));
-            }
-            if rows.len() > 1 {
-                return Err(refused(opened.line, OpeningFault::TooManyRows));
-            }
-            Ok(opening)
-        }
-    }
-}
-
-/// The opening is refused, in its `open` line.
-fn refused(line: u32, fault: OpeningFault) -> ScriptFault
-    ensures { result ≡ record { line = line; kind = FaultKind.Opening fault } }
-{
-    ScriptFault {
-        line,
-        kind: FaultKind::Opening(fault),
     }
 }

@@ -67,7 +67,7 @@ fn two_members() -> Option<Opening>
 }
 
 // An entry of the one caller.
-fn entry(number: u32, call: Call, reply: Reply, choice: Choice) -> Entry
+pub(super) fn entry(number: u32, call: Call, reply: Reply, choice: Choice) -> Entry
     ensures { result ≡ entry number call reply choice }
 {
     Entry {
@@ -80,7 +80,13 @@ fn entry(number: u32, call: Call, reply: Reply, choice: Choice) -> Entry
 }
 
 // A start, by which a member may be judged and another is probed.
-fn start(place: u32, judged: Option<Id>, target: u8, number: u64, choice: Choice) -> Option<Entry>
+pub(super) fn start(
+    place: u32,
+    judged: Option<Id>,
+    target: u8,
+    number: u64,
+    choice: Choice,
+) -> Option<Entry>
     ensures { IfSome result (λ e. e ≡ starting place judged target number choice) }
 {
     let probe = Some(Probe {
@@ -92,7 +98,7 @@ fn start(place: u32, judged: Option<Id>, target: u8, number: u64, choice: Choice
 }
 
 // The first start, which draws the order of a round.
-fn first_start() -> Option<Entry>
+pub(super) fn first_start() -> Option<Entry>
     ensures { IfSome result (λ e. e ≡ first_start) }
 {
     let mut order = ArrayVec::new();
@@ -125,37 +131,37 @@ fn ask() -> Option<Entry>
     Some(entry(1, Call::Tick, reply, Choice::Nothing))
 }
 
-fn append(journal: &mut Journal, entry: Entry) -> Result<(), Fail>
+pub(super) fn append(journal: &mut Journal, entry: &Entry) -> Result<(), Fail>
     requires count { length journal.old.past < 4294967295 }
-    requires continues { Continues journal.old.opening journal.old.past entry }
+    requires continues { Continues journal.old.opening journal.old.past entry.now }
     ensures opening { OnOk result (journal.new.opening ≡ journal.old.opening) }
-    ensures past { OnOk result (journal.new.past ≡ entry ∷ journal.old.past) }
+    ensures past { OnOk result (journal.new.past ≡ entry.now ∷ journal.old.past) }
 {
     journal.room()?;
-    journal.add(&entry);
+    journal.add(entry);
     Ok(())
 }
 
 // Member 2 is probed, and judged as no ack of it comes. Then member 3 is probed, it is removed, and member 4
 // joins.
-fn played(alloc: Global) -> Result<Journal, Fail> {
+pub(super) fn played(alloc: Global) -> Result<Journal, Fail> {
     let mut journal = Journal::new(alloc, two_members().ok_or("an opening")?);
-    append(&mut journal, first_start().ok_or("a start")?)?;
-    append(&mut journal, ask().ok_or("an ask")?)?;
+    append(&mut journal, &first_start().ok_or("a start")?)?;
+    append(&mut journal, &ask().ok_or("an ask")?)?;
     append(
         &mut journal,
-        entry(2, Call::Tick, Reply::Quiet, Choice::Nothing),
+        &entry(2, Call::Tick, Reply::Quiet, Choice::Nothing),
     )?;
-    append(&mut journal, second_start().ok_or("a start")?)?;
+    append(&mut journal, &second_start().ok_or("a start")?)?;
     let removal = Call::Remove(id(3).ok_or("an id")?);
     append(
         &mut journal,
-        entry(4, removal, Reply::Removed, Choice::Nothing),
+        &entry(4, removal, Reply::Removed, Choice::Nothing),
     )?;
     let joining = Call::Join(id(4).ok_or("an id")?, address(4));
     append(
         &mut journal,
-        entry(5, joining, Reply::Joined { place: 0 }, Choice::Nothing),
+        &entry(5, joining, Reply::Joined { place: 0 }, Choice::Nothing),
     )?;
     Ok(journal)
 }

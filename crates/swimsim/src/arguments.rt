@@ -1,0 +1,131 @@
+//! The arguments of a line.
+
+ghost use Rattle.std.specs.Prelude.{◌≡◌};
+ghost use Rattle.swimsim.specs.Arguments.{TakesFrom, open_arguments, take_id, take_number, take_peer, take_order, take_seed, take_datagram, order_of, seed_of};
+
+use crate::commands::LineFault;
+use crate::datagrams::read_datagram;
+use swim_targets::Order;
+use swim_wire::{Id, Message, Peer, WireFault, Words, read_number};
+
+/// The arguments of an `open` line.
+#[derive(Clone, Copy, Debug, PartialEq, Eq)]
+pub struct OpenArguments {
+    pub me: Id,
+    pub k: u32,
+    pub rtt: u32,
+    pub period: u32,
+    pub last: u64,
+    pub limit: u32,
+}
+
+/// An `open` line: its number, counted from 1, and its arguments.
+#[derive(Clone, Copy, Debug, PartialEq, Eq)]
+pub struct Opened {
+    pub line: u32,
+    pub arguments: OpenArguments,
+}
+
+#[tactic(auto, unfolding(crate::specs::Arguments::open_arguments))]
+pub fn take_open(words: &mut Words<'_>) -> Result<OpenArguments, LineFault>
+    ensures { TakesFrom result words.new (open_arguments words.old) }
+{
+    let me = take_id(words)?;
+    let k = take_number(words)?;
+    let rtt = take_number(words)?;
+    let period = take_number(words)?;
+    let last = take_long_number(words)?;
+    let limit = take_number(words)?;
+    Ok(OpenArguments {
+        me,
+        k,
+        rtt,
+        period,
+        last,
+        limit,
+    })
+}
+
+pub fn take_id(words: &mut Words<'_>) -> Result<Id, LineFault>
+    ensures { TakesFrom result words.new (take_id words.old) }
+{
+    let word = words.next().ok_or(LineFault::Number)?;
+    Id::read(word).ok_or(LineFault::Number)
+}
+
+pub fn take_number(words: &mut Words<'_>) -> Result<u32, LineFault>
+    ensures { TakesFrom result words.new (take_number 4294967295 words.old) }
+{
+    let word = words.next().ok_or(LineFault::Number)?;
+    let number = read_number(word, u64::from(u32::MAX)).ok_or(LineFault::Number)?;
+    Ok(number as u32)
+}
+
+fn take_long_number(words: &mut Words<'_>) -> Result<u64, LineFault>
+    ensures { TakesFrom result words.new (take_number 18446744073709551615 words.old) }
+{
+    let word = words.next().ok_or(LineFault::Number)?;
+    read_number(word, u64::MAX).ok_or(LineFault::Number)
+}
+
+pub fn take_peer(words: &mut Words<'_>) -> Result<Peer, LineFault>
+    ensures { TakesFrom result words.new (take_peer words.old) }
+{
+    let word = words.next().ok_or(LineFault::Peer)?;
+    Peer::read(word).ok_or(LineFault::Peer)
+}
+
+pub fn take_datagram(words: &mut Words<'_>) -> Result<Result<Message, WireFault>, LineFault>
+    ensures { TakesFrom result words.new (take_datagram words.old) }
+{
+    let word = words.next().ok_or(LineFault::Hex)?;
+    read_datagram(word).ok_or(LineFault::Hex)
+}
+
+pub fn take_seed(words: &mut Words<'_>) -> Result<[u8; 32], LineFault>
+    ensures { TakesFrom result words.new (take_seed words.old) }
+{
+    let word = words.next().ok_or(LineFault::Hex)?;
+    read_seed(word).ok_or(LineFault::Hex)
+}
+
+/// The seed that 64 digits spell, of either case.
+fn read_seed(text: &[u8]) -> Option<[u8; 32]>
+    ensures { result ≡ seed_of text.now }
+{
+    let mut seed = [0; 32];
+    match hex::decode_to_slice(text, &mut seed) {
+        Ok(()) => Some(seed),
+        Err(_) => None,
+    }
+}
+
+pub fn take_order(words: &mut Words<'_>) -> Result<Order, LineFault>
+    ensures { TakesFrom result words.new (take_order words.old) }
+{
+    let word = words.next().ok_or(LineFault::Number)?;
+    read_order(word)
+}
+
+/// The ids of an order, with commas between. Where one is no id that is told, and else where they are too
+/// many.
+fn read_order(text: &[u8]) -> Result<Order, LineFault>
+    ensures { result ≡ order_of text.now }
+{
+    let mut parts = Words::split(text, b',');
+    let mut order = Order::new();
+    let mut fits = true;
+    while let Some(part) = parts.next() {
+        let id = Id::read(part).ok_or(LineFault::Number)?;
+        if order.is_full() {
+            fits = false;
+        } else {
+            order.push(id);
+        }
+    }
+    if fits {
+        Ok(order)
+    } else {
+        Err(LineFault::Order)
+    }
+}

@@ -1,0 +1,227 @@
+//! The detector: ticks, messages, joins and removals in, replies out.
+
+use crate::choosers::Chooser;
+use crate::gaps::Gaps;
+use crate::header::Opening;
+use crate::members::Members;
+use crate::replies::{DropReason, Probe, Refusal, Reply};
+use crate::requests::Requests;
+use crate::round::Round;
+use crate::wire::{Key, Kind, Message, Peer};
+
+pub struct Detector {
+    me: u32,
+    k: usize,
+    rtt: u32,
+    period: u32,
+    /// The last period number that was used, and how many ticks of its period there were.
+    number: u64,
+    phase: u32,
+    aim: Option<u32>,
+    heard: bool,
+    members: Members,
+    round: Round,
+    requests: Requests,
+    chooser: Chooser,
+    gaps: Gaps,
+    candidates: Vec<u32>,
+    relays: Vec<(u32, Peer)>,
+}
+
+impl Detector {
+    /// A detector at its opening, which is within the limits.
+    pub fn new(opening: &Opening, chooser: Chooser) -> Detector {
+        let mut members = Members::default();
+        for (id, peer) in &opening.rows {
+            members.put(*id, *peer);
+        }
+        Detector {
+            me: opening.me,
+            k: opening.k as usize,
+            rtt: opening.rtt,
+            period: opening.period,
+            number: opening.last,
+            phase: 0,
+            aim: None,
+            heard: false,
+            members,
+            round: Round::new(opening.rows.iter().map(|row| row.0).collect()),
+            requests: Requests::new(opening.period),
+            chooser,
+            gaps: Gaps::default(),
+            candidates: Vec::new(),
+            relays: Vec::new(),
+        }
+    }
+
+    pub fn members(&self) -> &Members {
+        &self.members
+    }
+
+    pub fn gaps(&self) -> &Gaps {
+        &self.gaps
+    }
+
+    /// The relays of the last ask.
+    pub fn relays(&self) -> &[(u32, Peer)] {
+        &self.relays
+    }
+
+    pub fn me(&self) -> u32 {
+        self.me
+    }
+
+    pub fn tick(&mut self) -> Reply {
+        let phase = self.phase;
+        if phase == 0 && self.number == u64::MAX {
+            return Reply::Refused(Refusal::Spent);
+        }
+        self.requests.tick();
+        self.phase = (phase + 1) % self.period;
+        match self.aim {
+            _ if phase == 0 => self.start(),
+            Some(aim) if phase == self.rtt && !self.heard => self.ask(aim),
+            _ => Reply::Quiet,
+        }
+    }
+
+    /// Ends the period, and begins the next.
+    fn start(&mut self) -> Reply {
+        let judged = self.aim.filter(|_| !self.heard);
+        if let Some(id) = judged {
+            self.members.fail(id, self.number);
+            self.leave(id);
+        }
+        self.number += 1;
+        self.heard = false;
+        self.aim = self.round.next(&mut self.chooser);
+        let number = self.number;
+        if let Some(id) = self.aim {
+            self.gaps.probe(id, number, self.round.ids().len());
+        }
+        let probe = self.aim.and_then(|target| {
+            let peer = self.members.listed(target)?;
+            Some(Probe {
+                target,
+                peer,
+                number,
+            })
+        });
+        Reply::Started { judged, probe }
+    }
+
+    /// Draws relays for the aim.
+    fn ask(&mut self, aim: u32) -> Reply {
+        self.relays.clear();
+        self.candidates.clear();
+        self.candidates
+            .extend(self.round.ids().iter().filter(|id| **id != aim));
+        if self.k > 0 && !self.candidates.is_empty() {
+            self.chooser.order(&mut self.candidates);
+            let members = &self.members;
+            let relay = |id: &u32| Some((*id, members.listed(*id)?));
+            self.relays
+                .extend(self.candidates.iter().take(self.k).filter_map(relay));
+        }
+        Reply::Asked {
+            target: aim,
+            number: self.number,
+        }
+    }
+
+    /// The member leaves the list.
+    fn leave(&mut self, id: u32) {
+        self.round.remove(id);
+        self.gaps.leave(id);
+    }
+
+    pub fn hear(&mut self, message: Message, source: Peer) -> Reply {
+        match message.kind {
+            Kind::Ping => self.hear_ping(message.key, source),
+            Kind::PingReq => self.hear_request(message, source),
+            Kind::Ack => self.hear_ack(message.key),
+        }
+    }
+
+    /// A message of this member.
+    fn send(&self, kind: Kind, key: Key, peer: Peer) -> Reply {
+        Reply::Send(
+            peer,
+            Message {
+                kind,
+                sender: self.me,
+                key,
+            },
+        )
+    }
+
+    fn hear_ping(&self, key: Key, source: Peer) -> Reply {
+        if key.target != self.me {
+            return Reply::Dropped(DropReason::NotForMe);
+        }
+        self.send(Kind::Ack, key, source)
+    }
+
+    fn hear_request(&mut self, message: Message, source: Peer) -> Reply {
+        let key = message.key;
+        if key.initiator != message.sender || key.initiator == self.me {
+            return Reply::Dropped(DropReason::Borrowed);
+        }
+        if key.target == self.me {
+            return Reply::Dropped(DropReason::AboutMe);
+        }
+        match self.members.listed(key.target) {
+            None => Reply::Dropped(DropReason::Unlisted),
+            Some(peer) if self.requests.ask(key, source) => self.send(Kind::Ping, key, peer),
+            Some(_) => Reply::Dropped(DropReason::TableFull),
+        }
+    }
+
+    fn hear_ack(&mut self, key: Key) -> Reply {
+        if key.initiator == self.me {
+            let of_aim = self.aim == Some(key.target) && key.number == self.number;
+            self.heard |= of_aim;
+            return if of_aim {
+                Reply::Heard
+            } else {
+                Reply::Dropped(DropReason::Stray)
+            };
+        }
+        match self.requests.answer(&key) {
+            Some(peer) => self.send(Kind::Ack, key, peer),
+            None => Reply::Dropped(DropReason::NoRequest),
+        }
+    }
+
+    pub fn join(&mut self, id: u32, peer: Peer) -> Reply {
+        if id == self.me {
+            return Reply::Refused(Refusal::Myself);
+        }
+        if self.members.listed(id).is_some() {
+            return Reply::Refused(Refusal::Listed);
+        }
+        if self.members.get(id).is_none() && self.members.is_full() {
+            return Reply::Refused(Refusal::Full);
+        }
+        let place = self.chooser.place(self.round.ids().len() as u32);
+        self.round.insert(place as usize, id);
+        self.members.put(id, peer);
+        self.gaps.join();
+        Reply::Joined(place)
+    }
+
+    pub fn remove(&mut self, id: u32) -> Reply {
+        if id == self.me {
+            return Reply::Refused(Refusal::Myself);
+        }
+        if self.members.get(id).is_none() {
+            return Reply::Refused(Refusal::Unknown);
+        }
+        self.members.remove(id);
+        self.leave(id);
+        if self.aim == Some(id) {
+            self.aim = None;
+        }
+        Reply::Removed
+    }
+}

@@ -1,0 +1,91 @@
+//! The header of a script: the opening, and who chooses.
+
+use crate::chacha::ChaCha;
+use crate::choosers::{Chooser, Scripted};
+use crate::faults::Fault;
+use crate::fields::Words;
+use crate::members::KNOWN_MEMBERS;
+use crate::wire::Peer;
+
+/// What a detector starts from.
+pub struct Opening {
+    pub me: u32,
+    pub k: u32,
+    pub rtt: u32,
+    pub period: u32,
+    pub last: u64,
+    pub rows: Vec<(u32, Peer)>,
+}
+
+impl Opening {
+    /// The number of the first limit that it breaks.
+    pub fn fault(&self) -> Option<u8> {
+        let (rtt, period) = (u64::from(self.rtt), u64::from(self.period));
+        let mut ids: Vec<u32> = self.rows.iter().map(|row| row.0).collect();
+        ids.sort_unstable();
+        let faults = [
+            self.k > 8,
+            rtt == 0 || period < 3 * rtt || period > 65_535,
+            ids.len() > KNOWN_MEMBERS,
+            ids.contains(&self.me),
+            ids.windows(2).any(|pair| pair[0] == pair[1]),
+        ];
+        faults
+            .iter()
+            .position(|fault| *fault)
+            .map(|place| place as u8 + 1)
+    }
+}
+
+/// What the lines before the first event line told.
+pub struct Header {
+    /// The number of the `open` line.
+    pub line: u32,
+    pub limit: u32,
+    pub opening: Opening,
+    script: Scripted,
+    seed: Option<[u8; 32]>,
+}
+
+impl Header {
+    /// The arguments of the `open` line, which is the line of that number.
+    pub fn open(line: u32, words: &mut Words) -> Result<Header, Fault> {
+        let opening = Opening {
+            me: words.id()?,
+            k: words.short()?,
+            rtt: words.short()?,
+            period: words.short()?,
+            last: words.number(u64::MAX)?,
+            rows: Vec::new(),
+        };
+        let limit = words.short()?;
+        Ok(Header {
+            line,
+            limit,
+            opening,
+            script: Scripted::default(),
+            seed: None,
+        })
+    }
+
+    /// A further line of the header.
+    pub fn tell(&mut self, word: &[u8], words: &mut Words) -> Result<(), Fault> {
+        match word {
+            b"row" => self.opening.rows.push((words.id()?, words.peer()?)),
+            b"order" | b"place" | b"seed" if self.seed.is_some() => return Err(Fault::Seed),
+            b"order" => self.script.add_order(words)?,
+            b"place" => self.script.add_place(words)?,
+            b"seed" if !self.script.is_empty() => return Err(Fault::Seed),
+            b"seed" => self.seed = Some(words.seed()?),
+            _ => return Err(Fault::Word),
+        }
+        Ok(())
+    }
+
+    pub fn chooser(&mut self) -> Chooser {
+        match &self.seed {
+            Some(seed) => Chooser::Seeded(ChaCha::new(seed)),
+            None => Chooser::Scripted(std::mem::take(&mut self.script)),
+        }
+    }
+}

@@ -1,0 +1,40 @@
+//! The reference: an ordinary program for swimsim's scripts, which shares no code with swimsim. A script on standard
+//! input, its replies on standard output; a fault is one line on standard error, with status 1.
+//!
+//! It is made to be short and fast: the round is one array with a cursor, the aim and whether it was heard are kept,
+//! and gaps are counted as probes come, so it keeps no journal.
+
+mod chacha;
+mod choosers;
+mod detector;
+mod events;
+mod faults;
+mod fields;
+mod gaps;
+mod header;
+mod input;
+mod members;
+mod output;
+mod replies;
+mod requests;
+mod round;
+mod script;
+mod session;
+mod wire;
+
+#[cfg(test)]
+mod tests;
+
+use std::process::ExitCode;
+
+fn main() -> ExitCode {
+    let input = input::Input::read(std::io::stdin().lock());
+    let mut output = output::Output::new(std::io::stdout().lock());
+    match script::run(&input, &mut output) {
+        Ok(()) => ExitCode::SUCCESS,
+        Err(fault) => {
+            eprintln!("{fault}");
+            ExitCode::FAILURE
+        }
+    }
+}

@@ -1,0 +1,49 @@
+//! The detector of a script, and how many entries its journal would have.
+
+use crate::detector::Detector;
+use crate::events::Event;
+use crate::faults::{Fault, ScriptFault};
+use crate::header::Header;
+use crate::output::Output;
+use std::io::Write;
+
+pub struct Session {
+    detector: Detector,
+    entries: u32,
+    limit: u32,
+}
+
+impl Session {
+    /// Checks the opening, and opens the detector.
+    pub fn open(header: &mut Header) -> Result<Session, ScriptFault> {
+        match header.opening.fault() {
+            Some(number) => Err(Fault::Opening(number).at(header.line)),
+            None => {
+                let chooser = header.chooser();
+                let detector = Detector::new(&header.opening, chooser);
+                Ok(Session {
+                    detector,
+                    entries: 0,
+                    limit: header.limit,
+                })
+            }
+        }
+    }
+
+    /// Plays an event, and writes its answer.
+    pub fn play<W: Write>(&mut self, event: Event, output: &mut Output<W>) {
+        let detector = &mut self.detector;
+        let reply = match event {
+            Event::Table => return output.table(detector.members()),
+            Event::Gap(id) => return output.gap(detector.gaps().widest(id)),
+            Event::Hear(_, Err(fault)) => return output.wire_fault(fault),
+            _ if self.entries == self.limit => return output.journal_full(),
+            Event::Tick => detector.tick(),
+            Event::Hear(source, Ok(message)) => detector.hear(message, source),
+            Event::Join(id, peer) => detector.join(id, peer),
+            Event::Remove(id) => detector.remove(id),
+        };
+        self.entries += 1;
+        output.reply(&reply, detector.me(), detector.relays());
+    }
+}
