@@ -99,10 +99,9 @@ impl<C: Chooser> Recorder<C> {
             choice: answer.choice,
             reply: answer.reply,
         };
-        let added = entry.copy();
-        self.journal.add(entry);
+        self.journal.add(&entry);
         self.counts[seat as usize] += 1;
-        Ok(added)
+        Ok(entry)
     }
 
     /// The change that a call would make to the member table now, if it would make one.

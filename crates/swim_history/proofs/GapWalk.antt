@@ -61,7 +61,7 @@ record WasKept (m : ℕ) (e : Entry) (last : Option LastProbe) (l : LastProbe) :
   pub was : last ≡ Some before
   pub is : with_joiner (joins e) before ≡ l
 
-was_kept : (m : ℕ) (e : Entry) (last : Option LastProbe) (l : LastProbe) → kept m e last ≡ Some l → WasKept m e last l
+was_kept : (m : ℕ) (e : Entry) (last : Option LastProbe) (l : LastProbe) → kept m e.call e.reply last ≡ Some l → WasKept m e last l
 was_kept m e last l is = by (unlists m e) refl is
   where
     by : (b : Bool) → unlists m e ≡ b → cond b None (option_map (with_joiner (joins e)) last) ≡ Some l → WasKept m e last l
@@ -84,7 +84,7 @@ still_widest o h e m g w cases = record {
 }
 
 -- an entry that doesn't probe the member
-walked_past : (o : Setting) (h : List Entry) (e : Entry) (m : ℕ) (last : Option LastProbe) (widest : Option Gap) → probed_at m e.reply ≡ None → IsWalked o h m last widest → IsWalked o (e ∷ h) m (kept m e last) widest
+walked_past : (o : Setting) (h : List Entry) (e : Entry) (m : ℕ) (last : Option LastProbe) (widest : Option Gap) → probed_at m e.reply ≡ None → IsWalked o h m last widest → IsWalked o (e ∷ h) m (kept m e.call e.reply last) widest
 walked_past o h e m last widest at w = record {
   last_is = λ l is.
       let was = was_kept m e last l is in
@@ -221,10 +221,10 @@ module _ (o : Setting) (h : List Entry) (e : Entry) (m b : ℕ) (last : Option L
 -- ---- the step of the walk
 
 pub walked_then : (o : Setting) (h : List Entry) (e : Entry) (m : ℕ) (last : Option LastProbe) (widest : Option Gap) → IsSetting o → IsRun o (e ∷ h) → IsWalked o h m last widest
-    → IsWalked o (e ∷ h) m (last_then m e (length (listed o (e ∷ h))) last) (wider widest (gap_then m e.reply last))
+    → IsWalked o (e ∷ h) m (last_then m e.call e.reply (length (listed o (e ∷ h))) last) (wider widest (gap_then m e.reply last))
 walked_then o h e m last widest s run w = by (probed_at m e.reply) refl
   where
-    by : (found : Option ℕ) → probed_at m e.reply ≡ found → IsWalked o (e ∷ h) m (last_of found (length (listed o (e ∷ h))) (kept m e last)) (wider widest (option_and_then (gap_since last) found))
+    by : (found : Option ℕ) → probed_at m e.reply ≡ found → IsWalked o (e ∷ h) m (last_of found (length (listed o (e ∷ h))) (kept m e.call e.reply last)) (wider widest (option_and_then (gap_since last) found))
     by None at = rw (wider_none widest) (walked_past o h e m last widest at w)
     by (Some b) at = walked_probe o h e m b last widest at w s run
 

@@ -1,12 +1,25 @@
 -- A walk through the entries in order: each entry follows those before it.
 use Rattle.std.proofs.Common.{◌≡◌, ℕ, ◌+◌, ◌^◌, ◌<◌, true, List, [], ◌∷◌, ◌++◌, length, get_or, take, drop, reverse, sym, ap, subst, ◌∙◌, arith}
-use Rattle.std.proofs.lemmas.List.{take_more, reverse-append, take-append-drop}
+use Rattle.std.proofs.lemmas.List.{get_or_default, take_more, reverse-append, take-append-drop}
+use Rattle.swim_history.specs.declared.calls.Call.TheVariants.{Tick}
+use Rattle.swim_history.specs.declared.replies.Reply.TheVariants.{Quiet}
+use Rattle.swim_history.specs.declared.entries.Choice.TheVariants.{Nothing}
 use Rattle.swim_history.specs.declared.entries.Entry.{Entry}
 use Rattle.swim_history.specs.Setting.{Setting}
 use Rattle.swim_history.specs.Events.{is_start}
 use Rattle.swim_history.specs.Clock.{period_number}
 use Rattle.swim_history.specs.Run.{Continues, IsRun}
 use Rattle.swim_history.specs.RunLaws.{IsRun-older, begins}
+
+-- the entry at a place, and another where there is none
+abbrev pub no_entry : Entry
+no_entry = record { seat = 0; number = 0; call = Tick; choice = Nothing; reply = Quiet }
+
+abbrev pub entry_at : List Entry → ℕ → Entry
+entry_at entries i = get_or entries i no_entry
+
+pub entry_there : (entries : List Entry) (i : ℕ) → i < length entries → entry_at entries i ≡ get_or entries i (entry_at entries i)
+entry_there entries i lt = get_or_default entries i _ _ lt
 
 -- one more entry of a list that is seen newest first
 pub past_more : {X : Type 0} (xs : List X) (i : ℕ) (d : X) → i < length xs → reverse (take (i + 1) xs) ≡ get_or xs i d ∷ reverse (take i xs)

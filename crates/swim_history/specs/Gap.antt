@@ -1,10 +1,12 @@
 -- Gaps between successive probes of a member that is listed all the time between.
 use Rattle.std.specs.Prelude.{◌≡◌, ◌+◌, ◌-◌, ◌*◌, ◌<◌, ◌≤◌, ℕ, Bool, ◌||◌, true, false, ◌==◌, List, ◌∷◌, ◌++◌, length, filter, Option, Some, None}
 use Rattle.std.specs.List.{list_any}
+use Rattle.swim_history.specs.declared.calls.Call.{Call}
+use Rattle.swim_history.specs.declared.replies.Reply.{Reply}
 use Rattle.swim_history.specs.declared.replies.Probe.{Probe}
 use Rattle.swim_history.specs.declared.entries.Entry.{Entry}
 use Rattle.swim_history.specs.Setting.{Setting}
-use Rattle.swim_history.specs.Events.{is_start, probe_in, judged_in, removes, joins}
+use Rattle.swim_history.specs.Events.{is_start, probe_in, judged_in, is_removing, joins}
 use Rattle.swim_history.specs.Rows.{is_listed}
 use Rattle.swim_history.specs.Round.{listed}
 
@@ -22,8 +24,11 @@ abbrev pub probes_member : ℕ → Entry → Bool
 probes_member m e = is_probe_of m (probe_in e.reply)
 
 -- the member is no longer listed after the entry: it is removed or judged
+abbrev pub is_unlisting : ℕ → Call → Reply → Bool
+is_unlisting m call reply = is_removing m call reply || is_member m (judged_in reply)
+
 abbrev pub unlists : ℕ → Entry → Bool
-unlists m e = removes m e || is_member m (judged_in e.reply)
+unlists m e = is_unlisting m e.call e.reply
 
 -- two probes of the member, in the periods a and b, with none between, and the member listed all the time
 -- between; n is how many were listed just after the first, and how many joined between

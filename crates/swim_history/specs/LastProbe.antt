@@ -1,14 +1,15 @@
 -- The last probe of a member since which it is listed, and its widest gap.
 use Rattle.std.specs.Prelude.{ℕ, ◌+◌, ◌-◌, ◌==◌, nat_lt, Bool, List, [], ◌∷◌, length, Option, Some, None, option_and_then, if◌then◌else◌}
 use Rattle.std.specs.Option.{option_map}
+use Rattle.swim_history.specs.declared.calls.Call.{Call}
 use Rattle.swim_history.specs.declared.replies.Reply.{Reply}
 use Rattle.swim_history.specs.declared.entries.Entry.{Entry}
 use Rattle.swim_history.specs.declared.gaps.Gap.{Gap}
 use Rattle.swim_history.specs.declared.gaps.LastProbe.{LastProbe}
 use Rattle.swim_history.specs.Setting.{Setting}
-use Rattle.swim_history.specs.Events.{probe_in, joins}
+use Rattle.swim_history.specs.Events.{probe_in, is_joining}
 use Rattle.swim_history.specs.Round.{listed}
-use Rattle.swim_history.specs.Gap.{unlists}
+use Rattle.swim_history.specs.Gap.{is_unlisting}
 
 -- the number of the period that begins with a probe of the member
 abbrev pub probed_at : ℕ → Reply → Option ℕ
@@ -19,16 +20,16 @@ abbrev pub with_joiner : Bool → LastProbe → LastProbe
 with_joiner joined last = if joined then record { number = last.number; members = last.members + 1 } else last
 
 -- what is kept after an entry that doesn't probe the member
-abbrev pub kept : ℕ → Entry → Option LastProbe → Option LastProbe
-kept m e last = if unlists m e then None else option_map (with_joiner (joins e)) last
+abbrev pub kept : ℕ → Call → Reply → Option LastProbe → Option LastProbe
+kept m call reply last = if is_unlisting m call reply then None else option_map (with_joiner (is_joining call reply)) last
 
 -- what is kept after an entry: up is how many are listed then
 abbrev pub last_of : Option ℕ → ℕ → Option LastProbe → Option LastProbe
 last_of None up last = last
 last_of (Some number) up last = Some (record { number = number; members = up })
 
-abbrev pub last_then : ℕ → Entry → ℕ → Option LastProbe → Option LastProbe
-last_then m e up last = last_of (probed_at m e.reply) up (kept m e last)
+abbrev pub last_then : ℕ → Call → Reply → ℕ → Option LastProbe → Option LastProbe
+last_then m call reply up last = last_of (probed_at m reply) up (kept m call reply last)
 
 -- the gap that a probe ends
 abbrev pub gap_since : Option LastProbe → ℕ → Option Gap
@@ -46,7 +47,7 @@ wider (Some old) (Some new) = if nat_lt (old.b - old.a) (new.b - new.a) then Som
 -- the last probe of a member since which it is listed, in a history
 abbrev pub last_probe : Setting → ℕ → List Entry → Option LastProbe
 last_probe o m [] = None
-last_probe o m (e ∷ before) = last_then m e (length (listed o (e ∷ before))) (last_probe o m before)
+last_probe o m (e ∷ before) = last_then m e.call e.reply (length (listed o (e ∷ before))) (last_probe o m before)
 
 -- the widest gap of a member, the earliest of equals
 abbrev pub widest_gap : Setting → ℕ → List Entry → Option Gap

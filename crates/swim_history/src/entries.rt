@@ -1,9 +1,6 @@
 //! Entries of a journal.
 
-ghost use Rattle.std.specs.Prelude.{◌≡◌};
-
 use crate::calls::Call;
-use crate::copies::copied;
 use crate::replies::Reply;
 use arrayvec::ArrayVec;
 use swim_wire::Id;
@@ -19,18 +16,6 @@ pub enum Choice {
     Round(Order),
 }
 
-impl Choice {
-    /// The same choice again. It takes no memory.
-    pub fn copy(&self) -> Choice
-        ensures { result ≡ self.now }
-    {
-        match self {
-            Choice::Nothing => Choice::Nothing,
-            Choice::Round(order) => Choice::Round(copied(order.as_slice())),
-        }
-    }
-}
-
 /// One call and its reply.
 #[derive(Debug, PartialEq, Eq, Drop)]
 pub struct Entry {
@@ -41,19 +26,4 @@ pub struct Entry {
     pub call: Call,
     pub choice: Choice,
     pub reply: Reply,
-}
-
-impl Entry {
-    /// The same entry again. It takes no memory.
-    pub fn copy(&self) -> Entry
-        ensures { result ≡ self.now }
-    {
-        Entry {
-            seat: self.seat,
-            number: self.number,
-            call: self.call,
-            choice: self.choice.copy(),
-            reply: self.reply.copy(),
-        }
-    }
 }

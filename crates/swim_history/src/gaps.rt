@@ -2,17 +2,17 @@
 
 ghost use Rattle.std.specs.Prelude.{◌≡◌, ◌↔◌, ◌+◌, ◌^◌, ◌<◌, ◌≤◌, length, filter, reverse, IfSome, true, false, None};
 ghost use Rattle.swim_history.specs.Setting.{IsSetting, is_state_up};
-ghost use Rattle.swim_history.specs.Events.{joins};
+ghost use Rattle.swim_history.specs.Events.{is_joining};
 ghost use Rattle.swim_history.specs.Run.{IsRun};
-ghost use Rattle.swim_history.specs.Gap.{unlists, IsWidest, HasNoGap};
+ghost use Rattle.swim_history.specs.Gap.{is_unlisting, IsWidest, HasNoGap};
 ghost use Rattle.swim_history.specs.LastProbe.{probed_at, last_then, gap_then, wider, widest_gap};
 
 use crate::calls::Call;
-use crate::entries::Entry;
 use crate::journals::{note_change, number_after};
 use crate::openings::Opening;
 use crate::replies::Reply;
 use crate::rows::{Row, RowState};
+use crate::storage::Entries;
 use crate::tables::table_of;
 use swim_wire::Id;
 
@@ -34,23 +34,25 @@ struct LastProbe {
 }
 
 /// The gap of a member with the greatest distance, the earliest of equals.
-pub(crate) fn find_widest(opening: &Opening, entries: &[Entry], member: Id) -> Option<Gap>
-    requires run { IsRun opening.now (reverse entries.now) }
-    requires count { length entries.now < 2 ^ 32 }
-    ensures exact { result ≡ widest_gap opening.now member (reverse entries.now) }
-    ensures widest { let past = reverse entries.now in
+pub(crate) fn find_widest(opening: &Opening, entries: &Entries, member: Id) -> Option<Gap>
+    requires run { IsRun opening.now (reverse entries.now.items) }
+    requires count { length entries.now.items < 2 ^ 32 }
+    ensures exact { result ≡ widest_gap opening.now member (reverse entries.now.items) }
+    ensures widest { let past = reverse entries.now.items in
         IfSome result (λ g. IsWidest opening.now past member g.a g.b g.n) }
-    ensures none { (result ≡ None) ↔ HasNoGap opening.now (reverse entries.now) member }
+    ensures none { (result ≡ None) ↔ HasNoGap opening.now (reverse entries.now.items) member }
 {
     let mut rows = table_of(opening.rows());
     let mut number = opening.last();
     let mut last = None;
     let mut widest = None;
-    for entry in entries {
-        note_change(&mut rows, entry, number);
-        number = number_after(number, &entry.reply);
-        widest = wider(widest, gap_at(member, &entry.reply, last));
-        last = last_after(member, entry, rows.as_slice(), last);
+    for place in 0..entries.len() {
+        let call = entries.call(place);
+        let reply = entries.reply(place);
+        note_change(&mut rows, call, reply, number);
+        number = number_after(number, reply);
+        widest = wider(widest, gap_at(member, reply, last));
+        last = last_after(member, call, reply, rows.as_slice(), last);
     }
     widest
 }
@@ -95,22 +97,28 @@ fn gap_at(member: Id, reply: &Reply, last: Option<LastProbe>) -> Option<Gap>
 }
 
 /// The last probe of a member after an entry; the rows are those after it.
-fn last_after(member: Id, entry: &Entry, rows: &[Row], last: Option<LastProbe>) -> Option<LastProbe>
+fn last_after(
+    member: Id,
+    call: &Call,
+    reply: &Reply,
+    rows: &[Row],
+    last: Option<LastProbe>,
+) -> Option<LastProbe>
     requires { IfSome last (λ last. last.members + 1 < 2 ^ 64) }
     ensures { let up = length (filter (λ row. is_state_up row.state) rows.now) in
-        result ≡ last_then member entry.now up last }
+        result ≡ last_then member call.now reply.now up last }
 {
-    if let Some(number) = probed_at(member, &entry.reply) {
+    if let Some(number) = probed_at(member, reply) {
         return Some(LastProbe {
             number,
             members: count_up(rows),
         });
     }
-    if unlists(member, entry) {
+    if is_unlisting(member, call, reply) {
         return None;
     }
     let last = last?;
-    let joined = u64::from(joins(entry));
+    let joined = u64::from(is_joining(call, reply));
     Some(LastProbe {
         number: last.number,
         members: last.members + joined,
@@ -118,10 +126,10 @@ fn last_after(member: Id, entry: &Entry, rows: &[Row], last: Option<LastProbe>) 
 }
 
 /// Whether a member is no longer listed after an entry: it is removed or judged.
-fn unlists(member: Id, entry: &Entry) -> bool
-    ensures { result ≡ unlists member entry.now }
+fn is_unlisting(member: Id, call: &Call, reply: &Reply) -> bool
+    ensures { result ≡ is_unlisting member call.now reply.now }
 {
-    match (&entry.call, &entry.reply) {
+    match (call, reply) {
         (Call::Remove(id), Reply::Removed) => *id == member,
         (
             _,
@@ -135,13 +143,10 @@ fn unlists(member: Id, entry: &Entry) -> bool
 }
 
 /// Whether a member joins.
-fn joins(entry: &Entry) -> bool
-    ensures { result ≡ joins entry.now }
+fn is_joining(call: &Call, reply: &Reply) -> bool
+    ensures { result ≡ is_joining call.now reply.now }
 {
-    matches!(
-        (&entry.call, &entry.reply),
-        (Call::Join(..), Reply::Joined { .. })
-    )
+    matches!((call, reply), (Call::Join(..), Reply::Joined { .. }))
 }
 
 /// How many rows are of members that are up.

@@ -1,7 +1,7 @@
 //! The journal: a run of the sequential detector, as it happened.
 
 ghost use Rattle.std.specs.Prelude.{◌≡◌, ◌↔◌, ◌+◌, ◌^◌, ◌<◌, ◌≤◌, ◌==◌, ◌∷◌, ◌++◌, [], None, length, map, reverse, IfSome, IsOk, IfOk, OnOk, slice_get, true, if◌then◌else◌};
-ghost use Rattle.std.specs.Option.{option_copied, option_to_list};
+ghost use Rattle.std.specs.Option.{option_to_list};
 ghost use Rattle.swim_history.specs.Setting.{IsSetting};
 ghost use Rattle.swim_history.specs.Events.{is_starting, judged_in};
 ghost use Rattle.swim_history.specs.Run.{Continues, IsRun};
@@ -13,6 +13,7 @@ ghost use Rattle.swim_history.specs.Clock.{period_number};
 ghost use Rattle.swim_history.specs.Rows.{row_of};
 ghost use Rattle.swim_history.specs.Changes.{table, known_count, change_by, rows_after, IsAscending};
 
+use crate::calls::Call;
 use crate::copies::copied;
 use crate::entries::Entry;
 use crate::gaps::{Gap, find_widest};
@@ -20,6 +21,7 @@ use crate::openings::Opening;
 use crate::probing::{Probed, collect_probed};
 use crate::replies::Reply;
 use crate::rows::{Row, Table};
+use crate::storage::Entries;
 use crate::tables::{apply_change, change_by, find_row, table_of};
 use std::alloc::{AllocError, Global};
 use std::marker::Model;
@@ -38,7 +40,7 @@ pub struct Judged {
 #[derive(Drop)]
 pub struct Journal {
     opening: Opening,
-    entries: Vec<Entry>,
+    entries: Entries,
     rows: Table,
     // The last period number used.
     number: u64,
@@ -46,18 +48,18 @@ pub struct Journal {
 }
 
 impl Model for Journal {
-    ghost use Rattle.std.specs.Prelude.{◌-◌, ◌^◌, ◌<◌, reverse, vec_len, vec_capacity};
+    ghost use Rattle.std.specs.Prelude.{◌^◌, ◌<◌, reverse, length};
     ghost use Rattle.swim_history.specs.Setting.{IsSetting};
     ghost use Rattle.swim_history.specs.Run.{IsRun};
     ghost use Rattle.swim_history.specs.Written.{Written, IsSummary};
 
     ghost Value = { Written };
 
-    ghost view = { λ j. record { opening = j.opening; past = reverse j.entries.items; room = vec_capacity j.entries - vec_len j.entries } };
+    ghost view = { λ j. record { opening = j.opening; past = reverse j.entries.items; room = j.entries.room } };
 
     ghost invariant = { λ j. IsSetting j.opening
         × IsRun j.opening (reverse j.entries.items)
-        × (vec_len j.entries < 2 ^ 32)
+        × (length j.entries.items < 2 ^ 32)
         × IsSummary j.opening (reverse j.entries.items) j.rows.items j.number j.judged };
 }
 
@@ -71,7 +73,7 @@ impl Journal {
         let number = opening.last();
         Journal {
             opening,
-            entries: Vec::new(alloc),
+            entries: Entries::new(alloc),
             rows,
             number,
             judged: 0,
@@ -104,8 +106,8 @@ impl Journal {
     }
 
     /// The entry at a place, counted from 0 at the oldest.
-    pub fn entry(&self, place: u32) -> Option<&Entry>
-        ensures { option_copied result ≡ slice_get (reverse self.now.past) place }
+    pub fn entry(&self, place: u32) -> Option<Entry>
+        ensures { result ≡ slice_get (reverse self.now.past) place }
     {
         self.entries.get(place as usize)
     }
@@ -118,22 +120,22 @@ impl Journal {
         ensures kept { self.old.room ≤ self.new.room }
         ensures succeeds { 0 < self.old.room → IsOk result }
     {
-        self.entries.reserve(1)
+        self.entries.reserve()
     }
 
     /// Puts an entry last. It takes no memory.
-    pub fn add(&mut self, entry: Entry)
+    pub fn add(&mut self, entry: &Entry)
         requires room { 0 < self.old.room }
         requires count { length self.old.past < 4294967295 }
-        requires continues { Continues self.old.opening self.old.past entry }
+        requires continues { Continues self.old.opening self.old.past entry.now }
         ensures opening { self.new.opening ≡ self.old.opening }
-        ensures past { self.new.past ≡ entry ∷ self.old.past }
+        ensures past { self.new.past ≡ entry.now ∷ self.old.past }
         ensures room { self.old.room ≤ self.new.room + 1 }
     {
-        note_change(&mut self.rows, &entry, self.number);
+        note_change(&mut self.rows, &entry.call, &entry.reply, self.number);
         self.judged = count_after(self.judged, &entry.reply);
         self.number = number_after(self.number, &entry.reply);
-        let _ = self.entries.push(entry);
+        self.entries.push(entry);
     }
 
     /// The member table: the rows of the known members, ascending by id.
@@ -185,11 +187,7 @@ impl Journal {
         ensures exact { IfOk result (λ judged. judged.items ≡ judgements self.now.opening self.now.past) }
         ensures rule { JudgesByRule self.now.opening self.now.past }
     {
-        collect_judged(
-            *self.entries.allocator(),
-            &self.opening,
-            self.entries.as_slice(),
-        )
+        collect_judged(self.entries.allocator(), &self.opening, &self.entries)
     }
 
     /// Who was probed, in the journal's order, with the numbers of the periods. As long as nobody joins,
@@ -199,7 +197,7 @@ impl Journal {
         ensures exact { IfOk result (λ probed. probed.items ≡ map probed_by (probes self.now.past)) }
         ensures drawn { ProbesAsDrawn self.now.opening self.now.past }
     {
-        collect_probed(*self.entries.allocator(), self.entries.as_slice())
+        collect_probed(self.entries.allocator(), &self.entries)
     }
 
     /// The gap of a member with the greatest `b - a`, the earliest of equals; `None` if there is none. No
@@ -212,7 +210,7 @@ impl Journal {
         ensures bound { AreGapsBounded self.now.opening self.now.past }
         ensures round { IsProbedInTime self.now.opening self.now.past }
     {
-        find_widest(&self.opening, self.entries.as_slice(), member)
+        find_widest(&self.opening, &self.entries, member)
     }
 }
 
@@ -235,14 +233,14 @@ fn is_start(reply: &Reply) -> bool
 
 /// Makes the change of an entry, if it makes one; number is that of the period which it ends, if it
 /// ends one.
-pub(crate) fn note_change(rows: &mut Table, entry: &Entry, number: u64)
+pub(crate) fn note_change(rows: &mut Table, call: &Call, reply: &Reply, number: u64)
     requires ascends { IsAscending rows.old.items }
-    requires fits { let change = change_by entry.now.call entry.now.reply number in
+    requires fits { let change = change_by call.now reply.now number in
         length (rows_after rows.old.items (option_to_list change)) ≤ 128 }
-    ensures { let change = change_by entry.now.call entry.now.reply number in
+    ensures { let change = change_by call.now reply.now number in
         rows.new.items ≡ rows_after rows.old.items (option_to_list change) }
 {
-    if let Some(change) = change_by(&entry.call, &entry.reply, number) {
+    if let Some(change) = change_by(call, reply, number) {
         apply_change(rows, &change);
     }
 }
@@ -263,17 +261,18 @@ fn count_after(judged: u32, reply: &Reply) -> u32
 fn collect_judged(
     alloc: Global,
     opening: &Opening,
-    entries: &[Entry],
+    entries: &Entries,
 ) -> Result<Vec<Judged>, AllocError>
-    requires { IsRun opening.now (reverse entries.now) }
-    ensures exact { IfOk result (λ judged. judged.items ≡ judgements opening.now (reverse entries.now)) }
-    ensures rule { JudgesByRule opening.now (reverse entries.now) }
+    requires { IsRun opening.now (reverse entries.now.items) }
+    ensures exact { IfOk result (λ judged. judged.items ≡ judgements opening.now (reverse entries.now.items)) }
+    ensures rule { JudgesByRule opening.now (reverse entries.now.items) }
 {
     let mut judged = Vec::new(alloc);
     let mut number = opening.last();
-    for entry in entries {
-        note_judged(&mut judged, judged_member(&entry.reply), number)?;
-        number = number_after(number, &entry.reply);
+    for place in 0..entries.len() {
+        let reply = entries.reply(place);
+        note_judged(&mut judged, judged_member(reply), number)?;
+        number = number_after(number, reply);
     }
     Ok(judged)
 }

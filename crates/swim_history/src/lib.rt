@@ -14,6 +14,7 @@ mod probing;
 mod replies;
 mod rows;
 mod sending;
+mod storage;
 mod tables;
 
 pub use calls::Call;

@@ -5,8 +5,8 @@ ghost use Rattle.std.specs.Option.{option_to_list};
 ghost use Rattle.swim_history.specs.Events.{probe_in};
 ghost use Rattle.swim_history.specs.Probes.{probes, probed_by};
 
-use crate::entries::Entry;
 use crate::replies::Reply;
+use crate::storage::Entries;
 use std::alloc::{AllocError, Global};
 use swim_wire::Id;
 
@@ -18,12 +18,12 @@ pub struct Probed {
 }
 
 /// The probes of these entries, in order.
-pub(crate) fn collect_probed(alloc: Global, entries: &[Entry]) -> Result<Vec<Probed>, AllocError>
-    ensures { IfOk result (λ probed. probed.items ≡ map probed_by (probes (reverse entries.now))) }
+pub(crate) fn collect_probed(alloc: Global, entries: &Entries) -> Result<Vec<Probed>, AllocError>
+    ensures { IfOk result (λ probed. probed.items ≡ map probed_by (probes (reverse entries.now.items))) }
 {
     let mut probed = Vec::new(alloc);
-    for entry in entries {
-        note_probed(&mut probed, &entry.reply)?;
+    for place in 0..entries.len() {
+        note_probed(&mut probed, entries.reply(place))?;
     }
     Ok(probed)
 }

@@ -8,6 +8,7 @@ mod gaps;
 mod journals;
 mod openings;
 mod replies;
+mod storage;
 
 fn id(value: u32) -> Option<Id>
     ensures { SomeIff result (0 < value) value }

@@ -1,10 +1,9 @@
 -- What a table of requests becomes, where no probe's requests wait twice.
-use Rattle.std.specs.Prelude.{◌≡◌, ℕ, ◌+◌, ◌-◌, ◌<◌, ◌≤◌, Bool, true, false, ◌||◌, ◌&&◌, not, nat_lt, List, [], ◌∷◌, ◌++◌, length, take, filter, map, remove, Some, None, zero, suc}
+use Rattle.std.specs.Prelude.{◌≡◌, ℕ, ◌-◌, ◌<◌, ◌≤◌, Bool, true, false, ◌||◌, ◌&&◌, not, nat_lt, List, [], ◌∷◌, ◌++◌, length, take, filter, remove, Some, None, zero, suc}
 use Rattle.std.specs.List.{AllByRecursion}
-use Rattle.std.proofs.Common.{cond, eqb, refl, sym, ap, subst, ◌∙◌, arith, get_or, length-append, append-nil}
-use Rattle.std.proofs.lemmas.Bool.{and_parts, or_parts, or_from, eqb-true, eq-eqb, both_ways, ltb-true, lt-ltb, le-ltb, false_from_ne_true}
-use Rattle.std.proofs.lemmas.List.{take_more, map-append}
-use Rattle.std.proofs.lemmas.List.Elements.{filter-append}
+use Rattle.std.specs.List.Retain.{RetainsInTurn}
+use Rattle.std.proofs.Common.{cond, eqb, refl, sym, ap, subst, ◌∙◌, arith, get_or, length-append}
+use Rattle.std.proofs.lemmas.Bool.{and_parts, or_parts, or_from, eqb-true, eq-eqb, both_ways, ltb-true, false_from_ne_true}
 use Rattle.std.proofs.lemmas.List.Folds.{list_any-append}
 use Rattle.swim_wire.specs.declared.messages.Key.{Key}
 use Rattle.swim_wire.specs.Address.{Address}
@@ -213,18 +212,12 @@ ages period rs kept = record {
   ticks = ticks_aged period rs kept.ticks;
 }
 
--- one more request, of those that age
-aged_more : (rs : List Request) (i : ℕ) (r : Request) → i < length rs → r ≡ get_or rs i r → aged (take (i + 1) rs) ≡ aged (take i rs) ++ aged (r ∷ [])
-aged_more rs i r lt here =
-    rw (take_more rs i r lt, ← here, map-append one_less (take i rs) (r ∷ []))
-    (filter-append (λ request. nat_lt 0 request.left) (map one_less (take i rs)) (map one_less (r ∷ [])))
-
-pub aged_kept : (rs : List Request) (i : ℕ) (r : Request) → i < length rs → r ≡ get_or rs i r → 1 < r.left → aged (take (i + 1) rs) ≡ aged (take i rs) ++ one_less r ∷ []
-aged_kept rs i r lt here left =
-    let more : nat_lt 0 (r.left - 1) ≡ true = lt-ltb 0 (r.left - 1) (omega arith) in
-    aged_more rs i r lt here ∙ (rw more refl)
-
-pub aged_out : (rs : List Request) (i : ℕ) (r : Request) → i < length rs → r ≡ get_or rs i r → r.left ≤ 1 → aged (take (i + 1) rs) ≡ aged (take i rs)
-aged_out rs i r lt here left =
-    let none : nat_lt 0 (r.left - 1) ≡ false = le-ltb 0 (r.left - 1) (omega arith) in
-    aged_more rs i r lt here ∙ (rw none (append-nil (aged (take i rs))))
+-- the requests that are left where each in turn has one tick less and stays if it has one left
+pub retained_aged : {F : Type 0} (R : F → Request → Bool → F → Request → Type 0) (f : F)
+    → ((request : Request) (stays : Bool) (f' : F) (left : Request) → R f request stays f' left → (stays ≡ nat_lt 0 (request.left - 1)) × (f' ≡ f) × (left ≡ one_less request))
+    → (rs kept : List Request) → RetainsInTurn R f rs kept → kept ≡ aged rs
+retained_aged R f says [] kept h = h
+retained_aged R f says (r ∷ rs) kept h =
+    let said = says r h.0 h.1 h.2 h.3 in
+    let rest = retained_aged R f says rs h.4 (subst (λ f'. RetainsInTurn R f' rs h.4) said.1 h.5) in
+    h.6 ∙ (λ i. cond (said.0 i) (said.2 i ∷ rest i) (rest i))

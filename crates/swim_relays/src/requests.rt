@@ -4,7 +4,7 @@ ghost use Rattle.std.specs.Prelude.{◌≡◌, ◌==◌, ◌||◌, nat_lt, ◌�
 ghost use Rattle.swim_wire.specs.Requests.{waits, forget, peer_for, aged};
 ghost use Rattle.swim_relays.specs.Waiting.{AreWaiting};
 
-use crate::waiting::{Entries, Entry, aged, place_of, take};
+use crate::waiting::{Entries, Entry, age, place_of, take};
 use std::marker::Model;
 use swim_wire::{Key, Peer};
 
@@ -86,7 +86,7 @@ impl Relays {
         ensures waiting { self.new ≡ record self.old { waiting = aged self.old.waiting } }
         ensures kept { AreWaiting self.new }
     {
-        self.entries = aged(self.entries.as_slice());
+        age(&mut self.entries);
     }
 
     /// Whether a request of that probe waits.

@@ -1,6 +1,6 @@
 //! The requests as a list.
 
-ghost use Rattle.std.specs.Prelude.{◌≡◌, ◌≤◌, false, length, MatchOption};
+ghost use Rattle.std.specs.Prelude.{◌≡◌, false, MatchOption};
 ghost use Rattle.swim_wire.specs.Requests.{waits, forget, peer_for, aged};
 ghost use Rattle.swim_relays.specs.Waiting.{IsFirstOf, waits_twice};
 
@@ -62,20 +62,12 @@ pub(crate) fn take(entries: &mut Entries, key: &Key) -> Option<Peer>
     Some(entries.remove(place).peer)
 }
 
-/// The requests after a tick.
-pub(crate) fn aged(entries: &[Entry]) -> Entries
-    requires { length entries.now ≤ 64 }
-    ensures { result.items ≡ aged entries.now }
+/// A tick passes: each request has one tick less, and one that has none left is taken out.
+pub(crate) fn age(entries: &mut Entries)
+    ensures { entries.new.items ≡ aged entries.old.items }
 {
-    let mut kept = Entries::new();
-    for entry in entries {
-        if entry.left > 1 {
-            kept.push(Entry {
-                key: entry.key,
-                peer: entry.peer,
-                left: entry.left - 1,
-            });
-        }
-    }
-    kept
+    entries.retain(|entry| {
+        entry.left = entry.left.saturating_sub(1);
+        entry.left > 0
+    });
 }

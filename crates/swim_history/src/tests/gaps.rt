@@ -58,7 +58,7 @@ fn replayed(alloc: Global, opening: Opening, entries: &[Entry]) -> Result<Journa
 {
     let mut journal = Journal::new(alloc, opening);
     for entry in entries {
-        append(&mut journal, entry.copy())?;
+        append(&mut journal, entry)?;
     }
     Ok(journal)
 }

@@ -1,15 +1,17 @@
-use Rattle.std.proofs.Common.{◌≡◌, ◌∷◌, ◌+◌, take, reverse, sym, ap, ◌∙◌}
+use Rattle.std.proofs.Common.{◌≡◌, ◌<◌, ◌∷◌, ◌+◌, length, take, reverse, sym, ap, ◌∙◌, arith}
 use Rattle.std.proofs.lemmas.List.{map-append}
 use Rattle.std.specs.Option.{option_to_list}
 use Rattle.swim_history.specs.Events.{probe_in}
 use Rattle.swim_history.specs.Probes.{probes, probed_by}
-use Rattle.swim_history.proofs.InOrder.{past_more}
+use Rattle.swim_history.proofs.InOrder.{no_entry, entry_at, entry_there, past_more}
 use Rattle.swim_history.proofs.probing.collect_probed.Goals as goal
 
-pub loop-entry-preserved : goal.loop-entry-preserved
-loop-entry-preserved c =
-    let e = c.entry-item.result in
-    let h = reverse (take c.loop-entry.entry-index c.args.entries.now) in
-    let more : reverse (take (c.loop-entry.entry-index + 1) c.args.entries.now) ≡ e ∷ h =
-    past_more c.args.entries.now c.loop-entry.entry-index e c.loop-entry-test.true ∙ ap (λ x. x ∷ h) (sym c.entry-item.is) in
-    rw (more, c.in_ok-note_probed.ensures, c.loop-entry.invariant) (sym (map-append probed_by (probes h) (option_to_list (probe_in e.reply))))
+pub loop-place-preserved : goal.loop-place-preserved
+loop-place-preserved c =
+    let entries = c.args.entries.now.items in
+    let place = c.loop-place.place in
+    let e = entry_at entries place in
+    let h = reverse (take place entries) in
+    let there : place < length entries = omega (arith, c.len-place-end.ensures, c.loop-place-test.true) in
+    let more : reverse (take (place + 1) entries) ≡ e ∷ h = past_more entries place e there ∙ ap (λ x. x ∷ h) (sym (entry_there entries place there)) in
+    rw (more, c.in_ok-note_probed.ensures, c.loop-place.invariant, c.reply.ensures no_entry) (sym (map-append probed_by (probes h) (option_to_list (probe_in e.reply))))

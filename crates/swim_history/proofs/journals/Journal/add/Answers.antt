@@ -1,4 +1,4 @@
-use Rattle.std.proofs.Common.{◌≡◌, ◌<◌, ◌-◌, [], ◌∷◌, ◌++◌, reverse, length, vec_len, vec_capacity, ap, ◌∙◌, arith}
+use Rattle.std.proofs.Common.{◌≡◌, ◌<◌, [], ◌∷◌, reverse, length, ap, ◌∙◌, arith}
 use Rattle.std.proofs.lemmas.List.{reverse-append, length-reverse}
 use Rattle.swim_history.specs.Run.{Continues}
 use Rattle.swim_history.specs.TableLaws.{table_ascends}
@@ -13,8 +13,8 @@ note_change-requires-clause-ascends c =
 pub note_change-requires-clause-fits : goal.note_change-requires-clause-fits
 note_change-requires-clause-fits c =
     let j = c.self.inside in
-    let follows : Continues j.opening (reverse j.entries.items) c.args.entry = rw (← c.self.view_is) at c.requires.continues in
-    rw (c.self.invariant.3.rows_are, c.self.invariant.3.number_is) (change_fits j.opening (reverse j.entries.items) c.args.entry c.self.invariant.0 c.self.invariant.1 follows)
+    let follows : Continues j.opening (reverse j.entries.items) c.args.entry.now = rw (← c.self.view_is) at c.requires.continues in
+    rw (c.self.invariant.3.rows_are, c.self.invariant.3.number_is) (change_fits j.opening (reverse j.entries.items) c.args.entry.now c.self.invariant.0 c.self.invariant.1 follows)
 
 pub count_after-self-inside-requires : goal.count_after-self-inside-requires
 count_after-self-inside-requires c =
@@ -25,14 +25,13 @@ count_after-self-inside-requires c =
 pub invariant_of-self : goal.invariant_of-self
 invariant_of-self c =
     let j = c.self.inside in
-    let follows : Continues j.opening (reverse j.entries.items) c.args.entry = rw (← c.self.view_is) at c.requires.continues in
-    let spare : 0 < vec_capacity j.entries - vec_len j.entries = rw (← c.self.view_is) at c.requires.room in
+    let e = c.args.entry.now in
+    let follows : Continues j.opening (reverse j.entries.items) e = rw (← c.self.view_is) at c.requires.continues in
     let count : length (reverse j.entries.items) < 4294967295 = rw (← c.self.view_is) at c.requires.count in
-    let pushed : c.push.new.self.items ≡ j.entries.items ++ c.args.entry ∷ [] = rw (c.push.ensures.succeeds (omega arith)) at c.push.ensures.items in
-    let more : reverse c.push.new.self.items ≡ c.args.entry ∷ reverse j.entries.items = ap reverse pushed ∙ reverse-append j.entries.items (c.args.entry ∷ []) in (
+    let more : reverse c.push.new.self.items ≡ e ∷ reverse j.entries.items = ap reverse c.push.ensures.items ∙ reverse-append j.entries.items (e ∷ []) in (
       c.self.invariant.0,
       rw more (follows, c.self.invariant.1),
-      omega (arith, j.entries.ok.0, length-reverse j.entries.items, c.push.ensures.upper_bound),
+      omega (arith, length-reverse c.push.new.self.items, ap length more),
       rw (more, c.note_change.ensures, c.number_after-self-inside.ensures, c.count_after-self-inside.ensures)
-          (summary_next j.opening (reverse j.entries.items) c.args.entry j.rows.items j.number j.judged c.self.invariant.0 follows c.self.invariant.3),
+          (summary_next j.opening (reverse j.entries.items) e j.rows.items j.number j.judged c.self.invariant.0 follows c.self.invariant.3),
     )

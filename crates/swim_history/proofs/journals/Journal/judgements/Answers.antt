@@ -1,4 +1,4 @@
 use Rattle.swim_history.proofs.journals.Journal.judgements.Goals as goal
 
 pub returns-clause-rule : goal.returns-clause-rule
-returns-clause-rule c = rw (← c.self.view_is) (rw c.as_slice.ensures.value at c.collect_judged.ensures.rule)
+returns-clause-rule c = rw (← c.self.view_is) c.collect_judged.ensures.rule

@@ -3,7 +3,7 @@ use Rattle.swim_history.specs.GapLaws.{gap_bound, probed_in_time}
 use Rattle.swim_history.proofs.journals.Journal.widest_gap.Goals as goal
 
 pub returns-clause-none : goal.returns-clause-none
-returns-clause-none c = rw (← c.self.view_is) (rw c.as_slice.ensures.value at c.find_widest.ensures.none)
+returns-clause-none c = rw (← c.self.view_is) c.find_widest.ensures.none
 
 pub returns-clause-bound : goal.returns-clause-bound
 returns-clause-bound c =

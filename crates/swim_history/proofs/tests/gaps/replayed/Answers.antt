@@ -11,5 +11,5 @@ append-requires-clause-count c =
 
 pub append-requires-clause-continues : goal.append-requires-clause-continues
 append-requires-clause-continues c =
-    rw (c.copy.ensures, c.loop-entry.invariant.opening_is, c.loop-entry.invariant.past_is)
+    rw (c.loop-entry.invariant.opening_is, c.loop-entry.invariant.past_is)
     (next_continues c.args.opening c.args.entries.now c.loop-entry.entry-index c.entry-item.result c.loop-entry-test.true c.entry-item.is c.requires.run)
