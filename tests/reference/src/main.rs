@@ -2,7 +2,8 @@
 //! input, its replies on standard output; a fault is one line on standard error, with status 1.
 //!
 //! It is made to be short and fast: the round is one array with a cursor, the aim and whether it was heard are kept,
-//! and gaps are counted as probes come, so it keeps no journal.
+//! and gaps are counted as probes come, so it keeps no journal. It reads its script whole before it answers, and takes
+//! it that there is memory.
 
 mod chacha;
 mod choosers;

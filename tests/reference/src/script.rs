@@ -12,9 +12,9 @@ use std::io::Write;
 pub fn run<W: Write>(input: &Input, output: &mut Output<W>) -> Result<(), ScriptFault> {
     let mut player = Player::default();
     let played = player.play(input, output);
-    // What was answered before a fault stands.
+    // What was answered before a fault stands; where it can't be handed on, that is told instead.
     let written = output.flush().map_err(|_| Fault::Write.at(player.line));
-    played.and(written)
+    written.and(played)
 }
 
 /// Where a script has come.
