@@ -55,9 +55,12 @@ fault_of_word (Header Seeded) words.Place = Some faults.Seed
 fault_of_word stage word = None
 
 -- the command, where no words are left over
+abbrev pub nothing_left : List (List ℕ) → Result (Unit {0}) LineFault
+nothing_left [] = Ok tt
+nothing_left (word ∷ after) = Err faults.Extra
+
 abbrev pub alone : Command → List (List ℕ) → Result Command LineFault
-alone command [] = Ok command
-alone command (word ∷ after) = Err faults.Extra
+alone command after = nothing_left after >>= λ done. Ok command
 
 -- what the words after the first say
 unfoldable pub command_after : Word → List (List ℕ) → Result Command LineFault

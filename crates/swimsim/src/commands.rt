@@ -1,7 +1,7 @@
 //! What a line of a script says.
 
 ghost use Rattle.std.specs.Prelude.{◌≡◌};
-ghost use Rattle.swimsim.specs.Commands.{fault_name, LineStandsAt, word_of, fault_of_word, command_after, line_read, is_skipped, words_read, alone};
+ghost use Rattle.swimsim.specs.Commands.{fault_name, LineStandsAt, word_of, fault_of_word, command_after, line_read, is_skipped, words_read, said_by, nothing_left};
 
 use crate::arguments::{
     OpenArguments, take_datagram, take_id, take_number, take_open, take_order, take_peer, take_seed,
@@ -118,7 +118,7 @@ fn read_any(stage: Stage, line: &[u8]) -> Result<Option<Command>, LineFault>
         return Ok(None);
     }
     let mut words = Words::new(line);
-    Ok(Some(read_words(stage, &mut words)?))
+    read_words(stage, &mut words)
 }
 
 /// Whether a line is empty or a comment.
@@ -132,8 +132,8 @@ fn is_skipped(line: &[u8]) -> bool
 }
 
 /// What the words of a line say.
-fn read_words(stage: Stage, words: &mut Words<'_>) -> Result<Command, LineFault>
-    ensures { result ≡ words_read stage words.old }
+fn read_words(stage: Stage, words: &mut Words<'_>) -> Result<Option<Command>, LineFault>
+    ensures { result ≡ said_by (words_read stage words.old) }
 {
     let first = words.next().ok_or(LineFault::Word)?;
     let word = first_word(first).ok_or(LineFault::Word)?;
@@ -194,60 +194,75 @@ fn fault_of_word(stage: Stage, word: Word) -> Option<LineFault>
 
 /// What the words after the first say.
 #[tactic(auto, unfolding(crate::specs::Commands::command_after))]
-fn read_command(word: Word, words: &mut Words<'_>) -> Result<Command, LineFault>
-    ensures { result ≡ command_after word words.old }
+fn read_command(word: Word, words: &mut Words<'_>) -> Result<Option<Command>, LineFault>
+    ensures { result ≡ said_by (command_after word words.old) }
 {
     match word {
         Word::Open => {
             let arguments = take_open(words)?;
-            alone(Command::Open(arguments), words)
+            nothing_left(words)?;
+            Ok(Some(Command::Open(arguments)))
         }
         Word::Row => {
             let id = take_id(words)?;
             let peer = take_peer(words)?;
-            alone(Command::Row(id, peer), words)
+            nothing_left(words)?;
+            Ok(Some(Command::Row(id, peer)))
         }
         Word::Order => {
             let order = take_order(words)?;
-            alone(Command::Order(order), words)
+            nothing_left(words)?;
+            Ok(Some(Command::Order(order)))
         }
         Word::Place => {
             let place = take_number(words)?;
-            alone(Command::Place(place), words)
+            nothing_left(words)?;
+            Ok(Some(Command::Place(place)))
         }
         Word::Seed => {
             let seed = take_seed(words)?;
-            alone(Command::Seed(seed), words)
+            nothing_left(words)?;
+            Ok(Some(Command::Seed(seed)))
         }
-        Word::Tick => alone(Command::Tick, words),
+        Word::Tick => {
+            nothing_left(words)?;
+            Ok(Some(Command::Tick))
+        }
         Word::Hear => {
             let peer = take_peer(words)?;
             let datagram = take_datagram(words)?;
-            alone(Command::Hear(peer, datagram), words)
+            nothing_left(words)?;
+            Ok(Some(Command::Hear(peer, datagram)))
         }
         Word::Join => {
             let id = take_id(words)?;
             let peer = take_peer(words)?;
-            alone(Command::Join(id, peer), words)
+            nothing_left(words)?;
+            Ok(Some(Command::Join(id, peer)))
         }
         Word::Remove => {
             let id = take_id(words)?;
-            alone(Command::Remove(id), words)
+            nothing_left(words)?;
+            Ok(Some(Command::Remove(id)))
         }
-        Word::Table => alone(Command::Table, words),
+        Word::Table => {
+            nothing_left(words)?;
+            Ok(Some(Command::Table))
+        }
         Word::Gap => {
             let id = take_id(words)?;
-            alone(Command::Gap(id), words)
+            nothing_left(words)?;
+            Ok(Some(Command::Gap(id)))
         }
     }
 }
 
-/// The command, where no words are left over.
-fn alone(command: Command, words: &Words<'_>) -> Result<Command, LineFault>
-    ensures { result ≡ alone command words.now }
+/// That no words are left over.
+fn nothing_left(words: &Words<'_>) -> Result<(), LineFault>
+    ensures { result ≡ nothing_left words.now }
 {
     if words.is_empty() {
-        Ok(command)
+        Ok(())
     } else {
         Err(LineFault::Extra)
     }
