@@ -2,8 +2,7 @@
 use Rattle.std.proofs.Common.{◌≡◌, ℕ, ◌+◌, ◌-◌, ◌^◌, ◌<◌, ◌≤◌, ◌⊎◌, ◌↔◌, inl, inr, Bool, true, false, cond, nat_lt, List, [], ◌∷◌, ◌++◌, length, Option, Some, None, refl, sym, ap, subst, ◌∙◌, arith, length-append}
 use Rattle.std.proofs.lemmas.Bool.{ltb-true, ltb-false}
 use Rattle.std.proofs.lemmas.Option.{same_Some}
-use Rattle.std.proofs.lemmas.List.Filters.{length-filter_both}
-use Rattle.std.specs.Prelude.{filter, not, option_and_then, IfSome}
+use Rattle.std.specs.Prelude.{option_and_then, IfSome}
 use Rattle.std.specs.Option.{option_map}
 use Rattle.swim_history.specs.declared.replies.Probe.{Probe}
 use Rattle.swim_history.specs.declared.entries.Entry.{Entry}
@@ -19,6 +18,7 @@ use Rattle.swim_history.specs.JudgementLaws.{started_number, map_some}
 use Rattle.swim_history.specs.ListedLaws.{listed_bound}
 use Rattle.swim_history.specs.TableLaws.{table_bound}
 use Rattle.swim_history.specs.Gap.{probes_member, unlists, IsGap, HasNoGap, IsWidest}
+use Rattle.swim_history.specs.Wait.{length-filter-le}
 use Rattle.swim_history.specs.GapLaws.{number_after, probing_starts, gap_bound}
 use Rattle.swim_history.specs.LastProbe.{probed_at, with_joiner, kept, last_of, last_then, gap_since, gap_then, wider}
 use Rattle.swim_history.proofs.LastProbes.{IsLast, no_split, ProbesIt, probes_it, probes_other, last_new, only_last, was_last, still_last, gap_older, gap_new, gap_cases}
@@ -250,9 +250,6 @@ widest_rises o h m last widest s run w = by widest refl
     by None is = tt
     by (Some g) is = omega (arith, gap_bound o h s run m g.a g.b g.n (w.widest_is g is).gap)
 
-filter_bound : (test : Entry → Bool) (h : List Entry) → length (filter test h) ≤ length h
-filter_bound test h = omega (arith, length-filter_both test (λ e. not (test e)) (λ e. refl) h)
-
 -- the count of members is no more than those who can be listed, and those who joined
 pub members_bound : (o : Setting) (h : List Entry) (m : ℕ) (last : Option LastProbe) (widest : Option Gap) → IsSetting o → IsRun o h → length h < 2 ^ 32 → IsWalked o h m last widest
     → IfSome last (λ l. l.members + 1 < 2 ^ 64)
@@ -263,7 +260,7 @@ members_bound o h m last widest s run short w = by last refl
         let probed = is.first ∷ is.before in
         let began : IsRun o probed = IsRun-older o is.between probed (subst (λ (h : List Entry). IsRun o h) is.split run) in
         let whole = ap length is.split ∙ length-append is.between probed in
-        omega (arith, is.count, listed_bound o probed s began, table_bound o probed s began, filter_bound joins is.between, whole, short)
+        omega (arith, is.count, listed_bound o probed s began, table_bound o probed s began, length-filter-le joins is.between, whole, short)
 
     by : (found : Option LastProbe) → last ≡ found → IfSome found (λ l. l.members + 1 < 2 ^ 64)
     by None is = tt

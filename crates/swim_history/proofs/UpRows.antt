@@ -1,28 +1,24 @@
 -- As many rows of the member table are up as members are listed.
-use Rattle.std.proofs.Common.{◌≡◌, ℕ, ◌<◌, false, List, [], ◌∷◌, length, refl, sym, ap, ◌∙◌, arith}
-use Rattle.std.proofs.lemmas.Bool.{or_from, ne_eqb}
+use Rattle.std.proofs.Common.{◌≡◌, ℕ, false, List, [], ◌∷◌, length, refl, sym, ap, ◌∙◌, arith}
+use Rattle.std.proofs.lemmas.Bool.{or_from}
 use Rattle.std.proofs.lemmas.List.{length-map}
-use Rattle.std.specs.Prelude.{filter}
-use Rattle.std.specs.List.{AllByRecursion}
+use Rattle.std.specs.Prelude.{filter, is_some}
 use Rattle.swim_wire.specs.Ids.{has, has_twice}
 use Rattle.swim_history.specs.declared.rows.Row.{Row}
 use Rattle.swim_history.specs.declared.entries.Entry.{Entry}
 use Rattle.swim_history.specs.Setting.{Setting, IsSetting, ids_of, is_state_up}
 use Rattle.swim_history.specs.Changes.{IsAscending, table}
-use Rattle.swim_history.specs.TableLaws.{table_ascends, table_shows}
+use Rattle.swim_history.specs.TableLaws.{none_below, table_ascends, table_shows}
 use Rattle.swim_history.specs.Rows.{is_up}
 use Rattle.swim_history.specs.Round.{listed}
 use Rattle.swim_history.specs.Run.{IsRun}
-use Rattle.swim_history.specs.ListedLaws.{listed_first, once_up, listed_is, listed_once, no_longer}
-
-none_above : (id : ℕ) (rows : List Row) → AllByRecursion (λ row. id < row.id) rows → has (ids_of rows) id ≡ false
-none_above id [] each = refl
-none_above id (row ∷ rows) each = or_from _ (has (ids_of rows) id) (ne_eqb id row.id (λ same. omega (arith, each.0))) (none_above id rows each.1)
+use Rattle.swim_history.specs.ListedLaws.{has_row, listed_first, once_up, listed_is, listed_once, no_longer}
 
 -- no id of rows that ascend stands twice
 ascending_once : (rows : List Row) → IsAscending rows → has_twice (ids_of rows) ≡ false
 ascending_once [] ascends = refl
-ascending_once (row ∷ rows) ascends = or_from (has (ids_of rows) row.id) (has_twice (ids_of rows)) (none_above row.id rows ascends.0) (ascending_once rows ascends.1)
+ascending_once (row ∷ rows) ascends =
+    or_from (has (ids_of rows) row.id) (has_twice (ids_of rows)) (has_row rows row.id ∙ ap is_some (none_below row.id rows ascends.0)) (ascending_once rows ascends.1)
 
 pub up_rows : (o : Setting) (h : List Entry) → IsSetting o → IsRun o h → length (filter (λ row. is_state_up row.state) (table o h)) ≡ length (listed o h)
 up_rows o h s run =

@@ -73,7 +73,8 @@ pub record IsStretch (o : Setting) (h : List Entry) (m n : ℕ) (stretch : List 
   pub stays : list_any (unlists m) stretch ≡ false
   pub count : n ≡ length (listed o before) + length (filter joins stretch)
 
--- each member is probed by one of 2 n - 1 starts, from the first of which until after the last it is listed
+-- where at least 2 n - 1 starts stand in such entries, as from one start until after another, one of them probes the
+-- member
 abbrev pub IsProbedInTime : Setting → List Entry → Type 0
 IsProbedInTime o h =
     (m n : ℕ) → (stretch : List Entry) → IsStretch o h m n stretch → 2 * n - 1 ≤ length (filter is_start stretch) →

@@ -158,7 +158,7 @@ put_length new (row ∷ rows) =
     cond_both (nat_lt new.id row.id) _ _ (λ (x : List Row). length x ≤ length (row ∷ rows) + 1) (λ _. omega arith)
     (λ _. cond_both (new.id == row.id) _ _ (λ (x : List Row). length x ≤ length (row ∷ rows) + 1) (λ _. omega arith) (λ _. omega arith))
 
-none_below : (id : ℕ) (rows : List Row) → AllByRecursion (λ row. id < row.id) rows → row_at rows id ≡ None
+pub none_below : (id : ℕ) (rows : List Row) → AllByRecursion (λ row. id < row.id) rows → row_at rows id ≡ None
 none_below id [] each = refl
 none_below id (row ∷ rows) each = rw (ne_eqb row.id id (λ e. omega (arith, each.0))) (none_below id rows each.1)
 

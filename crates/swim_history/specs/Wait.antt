@@ -6,7 +6,7 @@ use Rattle.std.proofs.lemmas.Cmp.{nat_eq_equiv}
 use Rattle.std.proofs.lemmas.List.Filters.{length-filter_both}
 use Rattle.std.proofs.lemmas.List.Folds.{list_any-append}
 use Rattle.std.proofs.lemmas.List.Sorted.{length_permutation, IsPermutation-insert}
-use Rattle.std.specs.Prelude.{insert}
+use Rattle.std.specs.Prelude.{filter, insert}
 use Rattle.swim_wire.specs.Ids.{has, without, front}
 use Rattle.swim_wire.specs.IdLaws.{has_part, has-IsPermutation}
 use Rattle.swim_wire.specs.Round.{Lists, all_of, leave, leave_judged, MayDraw, redraw, advanced, advance, join_at}
@@ -46,8 +46,11 @@ place-without m x (id ∷ ids) other = by (nat_eq id x) refl (place-without m x 
     by true same again = rw (eqb-true id x same, other) (omega arith)
     by false same again = at (nat_eq m id) again
 
+pub length-filter-le : {X : Type 0} (test : X → Bool) (xs : List X) → length (filter test xs) ≤ length xs
+length-filter-le test xs = omega (arith, length-filter_both test (λ x. not (test x)) (λ x. refl) xs)
+
 length-without : (x : ℕ) (ids : List ℕ) → length (without x ids) ≤ length ids
-length-without x ids = omega (arith, length-filter_both (λ id. not (nat_eq id x)) (λ id. not (not (nat_eq id x))) (λ id. refl) ids)
+length-without x ids = length-filter-le (λ id. not (nat_eq id x)) ids
 
 has-without : (m x : ℕ) (ids : List ℕ) → nat_eq m x ≡ false → has (without x ids) m ≡ has ids m
 has-without m x ids other = has_part (λ id. not (nat_eq id x)) m ids ∙ rw other (and-true (has ids m))
