@@ -27,7 +27,7 @@ use Rattle.swim_history.specs.Run.{Answers, Hears}
 use Rattle.swim_history.specs.Drawn.{DrawsEntry}
 use Rattle.swim_detector.specs.declared.states.State.{State}
 use Rattle.swim_detector.specs.declared.answers.Answer.{Answer}
-use Rattle.swim_detector.specs.Mirrors.{Mirrors, entry_of, may_draw, IsSettled, IsAnswered}
+use Rattle.swim_detector.specs.Mirrors.{Mirrors, choice_of, may_draw, IsSettled, IsAnswered}
 
 -- where the chooser isn't asked, it stays
 undrawn : {S : Type 0} (orders : S → List ℕ → List ℕ → S → Type 0) (places : S → ℕ → ℕ → S → Type 0) (o : Setting) (h : List Entry) (call : Call) (reply : Reply) (choice : Choice) (c : S) →
@@ -40,11 +40,14 @@ undrawn orders places o h call reply choice c none = refl
 -- an answer for which nothing is drawn is one of any chooser
 pub settled : {S : Type 0} (orders : S → List ℕ → List ℕ → S → Type 0) (places : S → ℕ → ℕ → S → Type 0) (o : Setting) (h : List Entry) (call : Call) (answer : Answer) (state : State) (c : S) →
     IsSettled o h call answer state → IsAnswered orders places o h call answer state c c
-settled orders places o h call answer state c s = (s.0, undrawn orders places o h call answer.reply answer.choice c s.1, s.2)
+settled orders places o h call answer state c s = (s.0, undrawn orders places o h call answer.reply (choice_of answer state) c s.1, s.2)
 
 -- the answer that says no more than the reply
 abbrev pub plain : Reply → Answer
-plain reply = record { reply = reply; choice = Nothing }
+plain reply = record { reply = reply; begins_round = false }
+
+abbrev pub plain_entry : ℕ → ℕ → Call → Reply → Entry
+plain_entry seat number call reply = record { seat = seat; number = number; call = call; choice = Nothing; reply = reply }
 
 -- an entry by which nothing changes
 stays : (o : Setting) (h : List Entry) (s : State) (e : Entry) → Mirrors o h s → is_tick e ≡ false → is_start e ≡ false → lists_then e.call e.reply e.choice (lists o h) ≡ lists o h →
@@ -69,10 +72,10 @@ no_refusal o h m source Ack why a = a
 
 -- a call is refused: nothing changes
 pub refused : (o : Setting) (h : List Entry) (s : State) (call : Call) (why : Refusal) → Mirrors o h s → Answers o h call (Refused why) Nothing → IsSettled o h call (plain (Refused why)) s
-refused o h s Tick why m fits = (fits, refl, λ seat number. stays o h s (entry_of seat number Tick (plain (Refused why))) m refl refl refl (λ n. refl) (λ n k. refl) refl refl)
+refused o h s Tick why m fits = (fits, refl, λ seat number. stays o h s (plain_entry seat number Tick (Refused why)) m refl refl refl (λ n. refl) (λ n k. refl) refl refl)
 refused o h s (Hear message source) why m fits = absurd (no_refusal o h message source message.kind why fits)
-refused o h s (Join id peer) why m fits = (fits, refl, λ seat number. stays o h s (entry_of seat number (Join id peer) (plain (Refused why))) m refl refl refl (λ n. refl) (λ n k. refl) refl refl)
-refused o h s (Remove id) why m fits = (fits, refl, λ seat number. stays o h s (entry_of seat number (Remove id) (plain (Refused why))) m refl refl refl (λ n. refl) (λ n k. refl) refl refl)
+refused o h s (Join id peer) why m fits = (fits, refl, λ seat number. stays o h s (plain_entry seat number (Join id peer) (Refused why)) m refl refl refl (λ n. refl) (λ n k. refl) refl refl)
+refused o h s (Remove id) why m fits = (fits, refl, λ seat number. stays o h s (plain_entry seat number (Remove id) (Refused why)) m refl refl refl (λ n. refl) (λ n k. refl) refl refl)
 
 -- a tick of the state: its requests age, and its phase goes on
 pub record Passes (o : Setting) (old new : State) : Type 0 where
@@ -89,11 +92,11 @@ requests_after o h e old new m aging ticking = rw (waiting_tick o h e ticking) (
 
 -- a tick within a period
 pub passed : (o : Setting) (h : List Entry) (reply : Reply) (old new : State) (seat number : ℕ) → IsSetting o → Mirrors o h old → Passes o old new → is_ticking Tick reply ≡ true → is_starting reply ≡ false → phase o h ≢ 0 →
-    Mirrors o (entry_of seat number Tick (plain reply) ∷ h) new
+    Mirrors o (plain_entry seat number Tick reply ∷ h) new
 passed o h (Started judged probe) old new seat number s m p ticking starting inside = absurd cc
 passed o h (Refused why) old new seat number s m p ticking starting inside = absurd cc
 passed o h reply old new seat number s m p ticking starting inside =
-    let e = entry_of seat number Tick (plain reply) in
+    let e = plain_entry seat number Tick reply in
     let same = period_number-within o h e s ticking inside in
     record {
       lists_are = p.targets ∙ m.lists_are;

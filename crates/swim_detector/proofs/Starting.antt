@@ -1,5 +1,5 @@
 -- Answers to ticks that begin a period.
-use Rattle.std.proofs.Common.{◌≡◌, ℕ, ◌+◌, ◌%◌, ◌<◌, true, false, List, Option, Some, None, refl, sym, ap, subst, ◌∙◌, add-one}
+use Rattle.std.proofs.Common.{◌≡◌, ℕ, ◌+◌, ◌%◌, ◌<◌, true, false, List, [], ◌∷◌, is_some, Option, Some, None, refl, sym, ap, subst, ◌∙◌, add-one}
 use Rattle.std.proofs.lemmas.Bool.{and_parts, or_right}
 use Rattle.std.proofs.lemmas.List.Folds.{list_any-append}
 use Rattle.std.specs.Prelude.{◌==◌, nat_eq, not, option_and_then, IfSome, IfNone}
@@ -11,6 +11,8 @@ use Rattle.swim_wire.specs.Round.{Lists, all_of, leave_judged, MayDraw, redraw, 
 use Rattle.swim_history.specs.declared.calls.Call.TheVariants.{Tick}
 use Rattle.swim_history.specs.declared.replies.Reply.TheVariants.{Started}
 use Rattle.swim_history.specs.declared.replies.Probe.{Probe}
+use Rattle.swim_history.specs.declared.entries.Choice.{Choice}
+use Rattle.swim_history.specs.declared.entries.Choice.TheVariants.{Nothing, Round}
 use Rattle.swim_history.specs.declared.entries.Entry.{Entry}
 use Rattle.swim_history.specs.Setting.{Setting, IsSetting}
 use Rattle.swim_history.specs.Clock.{phase, ticks, period_number}
@@ -18,11 +20,11 @@ use Rattle.swim_history.specs.Aim.{aim, was_heard, unless, unheard}
 use Rattle.swim_history.specs.Round.{lists, listed, drawn}
 use Rattle.swim_wire.specs.IdLaws.{has_part, has-IsPermutation}
 use Rattle.swim_history.specs.ListedLaws.{listed_is, has_front, all-leave, all-advanced, all-started}
-use Rattle.swim_history.specs.Run.{IsRun, IsProbe, last_number}
+use Rattle.swim_history.specs.Run.{IsRun, IsProbe, last_number, Answers}
 use Rattle.swim_history.specs.Drawn.{DrawsEntry}
 use Rattle.swim_targets.specs.Rounds.{drawn_of}
 use Rattle.swim_detector.specs.declared.states.State.{State}
-use Rattle.swim_detector.specs.Mirrors.{Mirrors, IsAnswered, IsListedNext, choice_of, entry_of}
+use Rattle.swim_detector.specs.Mirrors.{Mirrors, IsAnswered, IsListedNext, choice_after}
 use Rattle.swim_detector.proofs.Settling.{requests_after}
 
 -- the aim that no ack came of, by what the state remembers
@@ -33,10 +35,20 @@ unheard_is o h s m = rw m.aim_is (by (aim h) refl)
     by None is = refl
     by (Some n) is = ap (λ heard. unless heard n) (m.heard_is n is)
 
+-- the choice of an order, if one was drawn
+abbrev pub chosen : Option (ArrayVec ℕ) → Choice
+chosen None = Nothing
+chosen (Some order) = Round order
+
 -- the order that was drawn is that of the choice
-pub drawn_is : (d : Option (ArrayVec ℕ)) → drawn (choice_of d) ≡ drawn_of d
+pub drawn_is : (d : Option (ArrayVec ℕ)) → drawn (chosen d) ≡ drawn_of d
 drawn_is None = refl
 drawn_is (Some order) = refl
+
+-- the members stand in that order after the start
+pub chosen_is : (d : Option (ArrayVec ℕ)) (before after : Lists) → after ≡ advance (redraw (drawn_of d) before) → chosen d ≡ choice_after (is_some d) after
+chosen_is None before after begins = refl
+chosen_is (Some order) before after begins = ap (λ ids. Round (record { items = ids })) (sym (ap all_of begins ∙ all-advanced [] order.items))
 
 -- whom the probe is of
 abbrev probed : Option Probe → Option ℕ
@@ -50,7 +62,7 @@ aimed o h number (Some m) probe p = rw p.2 refl
 -- a chooser is asked for an order exactly where a round is drawn
 draws_round : {S : Type 0} (orders : S → List ℕ → List ℕ → S → Type 0) (places : S → ℕ → ℕ → S → Type 0) (o : Setting) (h : List Entry) (judged : Option ℕ) (probe : Option Probe) (d : Option (ArrayVec ℕ)) (before after : S) →
     IfSome d (λ order. orders before (leave_judged judged (lists o h)).probed order.items after) → IfNone d (after ≡ before) →
-    DrawsEntry orders places o h Tick (Started judged probe) (choice_of d) before after
+    DrawsEntry orders places o h Tick (Started judged probe) (chosen d) before after
 draws_round orders places o h judged probe None before after some none = none
 draws_round orders places o h judged probe (Some order) before after some none = some
 
@@ -95,11 +107,18 @@ left_is : {S : Type 0} (orders : S → List ℕ → List ℕ → S → Type 0) (
     Mirrors o h old → Begins orders o old new left judged next d before after → left ≡ leave_judged judged (lists o h)
 left_is orders o h old new left judged next d before after m b = b.leaves ∙ ap (leave_judged judged) m.lists_are
 
-pub started : {S : Type 0} (orders : S → List ℕ → List ℕ → S → Type 0) (places : S → ℕ → ℕ → S → Type 0) (o : Setting) (h : List Entry) (old new : State) (left : Lists) (judged next : Option ℕ) (d : Option (ArrayVec ℕ)) (probe : Option Probe) (before after : S) →
+-- what a start is answered, and what the state is after it, where this was drawn
+abbrev StartsWith : {S : Type 0} → (S → List ℕ → List ℕ → S → Type 0) → (S → ℕ → ℕ → S → Type 0) → Setting → List Entry → Option ℕ → Option Probe → State → S → S → Choice → Type 0
+StartsWith orders places o h judged probe new before after choice =
+    Answers o h Tick (Started judged probe) choice
+    × DrawsEntry orders places o h Tick (Started judged probe) choice before after
+    × ((seat number : ℕ) → Mirrors o (record { seat = seat; number = number; call = Tick; choice = choice; reply = Started judged probe } ∷ h) new)
+
+starts : {S : Type 0} (orders : S → List ℕ → List ℕ → S → Type 0) (places : S → ℕ → ℕ → S → Type 0) (o : Setting) (h : List Entry) (old new : State) (left : Lists) (judged next : Option ℕ) (d : Option (ArrayVec ℕ)) (probe : Option Probe) (before after : S) →
     Mirrors o h old → Begins orders o old new left judged next d before after → phase o h ≡ 0 → period_number o h < last_number →
     IsProbe o h (period_number o h + 1) next probe →
-    IsAnswered orders places o h Tick (record { reply = Started judged probe; choice = choice_of d }) new before after
-started orders places o h old new left judged next d probe before after m b begins unspent probes =
+    StartsWith orders places o h judged probe new before after (chosen d)
+starts orders places o h old new left judged next d probe before after m b begins unspent probes =
     let left_are = left_is orders o h old new left judged next d before after m b in (
       record {
         begins = begins;
@@ -110,7 +129,7 @@ started orders places o h old new left judged next d probe before after m b begi
       },
       draws_round orders places o h judged probe d before after (rw left_are at b.order) b.none,
       λ seat number.
-          let e = entry_of seat number Tick (record { reply = Started judged probe; choice = choice_of d }) in
+          let e : Entry = record { seat = seat; number = number; call = Tick; choice = chosen d; reply = Started judged probe } in
           record {
             lists_are = b.targets ∙ rw (left_are, drawn_is) refl;
             requests_are = requests_after o h e old new m b.requests refl;
@@ -119,3 +138,11 @@ started orders places o h old new left judged next d probe before after m b begi
             phase_is = b.phase (ticks h) m.phase_is ∙ rw add-one refl;
           },
     )
+
+pub started : {S : Type 0} (orders : S → List ℕ → List ℕ → S → Type 0) (places : S → ℕ → ℕ → S → Type 0) (o : Setting) (h : List Entry) (old new : State) (left : Lists) (judged next : Option ℕ) (d : Option (ArrayVec ℕ)) (probe : Option Probe) (before after : S) →
+    Mirrors o h old → Begins orders o old new left judged next d before after → phase o h ≡ 0 → period_number o h < last_number →
+    IsProbe o h (period_number o h + 1) next probe →
+    IsAnswered orders places o h Tick (record { reply = Started judged probe; begins_round = is_some d }) new before after
+started orders places o h old new left judged next d probe before after m b begins unspent probes =
+    subst (StartsWith orders places o h judged probe new before after) (chosen_is d left new.targets b.targets)
+    (starts orders places o h old new left judged next d probe before after m b begins unspent probes)

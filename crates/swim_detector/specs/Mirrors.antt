@@ -1,6 +1,5 @@
 -- What the fields of the detector mean, by the definitions over its journal.
 use Rattle.std.specs.Prelude.{◌≡◌, ◌≢◌, ℕ, ◌<◌, ◌≤◌, Bool, true, false, List, ◌∷◌, length, slice_index, Option, Some, None}
-use Rattle.arrayvec.specs.ArrayVec.{ArrayVec}
 use Rattle.swim_history.specs.declared.calls.Call.{Call}
 use Rattle.swim_history.specs.declared.calls.Call.TheVariants.{Tick, Join, Remove}
 use Rattle.swim_history.specs.declared.replies.Reply.{Reply}
@@ -11,6 +10,7 @@ use Rattle.swim_history.specs.declared.entries.Entry.{Entry}
 use Rattle.swim_history.specs.declared.replies.Refusal.{Refusal}
 use Rattle.swim_history.specs.declared.replies.Relay.{Relay}
 use Rattle.swim_wire.specs.Address.{Address}
+use Rattle.swim_wire.specs.Round.{Lists, all_of}
 use Rattle.swim_wire.specs.Ids.{has}
 use Rattle.swim_history.specs.Rows.{up, row_of, is_listed}
 use Rattle.swim_history.specs.Changes.{known_count}
@@ -33,14 +33,17 @@ pub record Mirrors (o : Setting) (h : List Entry) (s : State) : Type 0 where
   pub heard_is : (m : ℕ) → aim h ≡ Some m → s.heard ≡ was_heard o h m
   pub phase_is : s.phase ≡ phase o h
 
--- the choice of an order, if one was drawn
-abbrev pub choice_of : Option (ArrayVec ℕ) → Choice
-choice_of None = Nothing
-choice_of (Some order) = Round order
+-- what was drawn where these are the lists after it: the order of a round that begins is that of all members
+abbrev pub choice_after : Bool → Lists → Choice
+choice_after false r = Nothing
+choice_after true r = Round (record { items = all_of r })
 
--- the entry of a call with its answer
-abbrev pub entry_of : ℕ → ℕ → Call → Answer → Entry
-entry_of seat number call answer = record { seat = seat; number = number; call = call; choice = answer.choice; reply = answer.reply }
+abbrev pub choice_of : Answer → State → Choice
+choice_of answer state = choice_after answer.begins_round state.targets
+
+-- the entry of a call with its answer, after which this is the state
+abbrev pub entry_of : ℕ → ℕ → Call → Answer → State → Entry
+entry_of seat number call answer state = record { seat = seat; number = number; call = call; choice = choice_of answer state; reply = answer.reply }
 
 -- the chooser may have been asked for the entry
 abbrev pub may_draw : Call → Reply → Choice → Bool
@@ -53,17 +56,17 @@ may_draw call reply choice = false
 -- find in the history with its entry, whose ever the call was
 abbrev pub IsSettled : Setting → List Entry → Call → Answer → State → Type 0
 IsSettled o h call answer state =
-    Answers o h call answer.reply answer.choice
-    × (may_draw call answer.reply answer.choice ≡ false)
-    × ((seat number : ℕ) → Mirrors o (entry_of seat number call answer ∷ h) state)
+    Answers o h call answer.reply (choice_of answer state)
+    × (may_draw call answer.reply (choice_of answer state) ≡ false)
+    × ((seat number : ℕ) → Mirrors o (entry_of seat number call answer state ∷ h) state)
 
 -- the answer to a call may follow the history, its choices are the chooser's, and the state is what the
 -- definitions find in the history with its entry, whose ever the call was
 abbrev pub IsAnswered : {S : Type 0} → (S → List ℕ → List ℕ → S → Type 0) → (S → ℕ → ℕ → S → Type 0) → Setting → List Entry → Call → Answer → State → S → S → Type 0
 IsAnswered orders places o h call answer state before after =
-    Answers o h call answer.reply answer.choice
-    × DrawsEntry orders places o h call answer.reply answer.choice before after
-    × ((seat number : ℕ) → Mirrors o (entry_of seat number call answer ∷ h) state)
+    Answers o h call answer.reply (choice_of answer state)
+    × DrawsEntry orders places o h call answer.reply (choice_of answer state) before after
+    × ((seat number : ℕ) → Mirrors o (entry_of seat number call answer state ∷ h) state)
 
 -- each seat's count is how many calls of it stand in the history, which has at most so many entries
 pub record Counts (h : List Entry) (counts : List ℕ) (limit : ℕ) : Type 0 where

@@ -1,25 +1,25 @@
 //! What a call is answered.
 
-ghost use Rattle.std.specs.Prelude.{◌≡◌};
-ghost use Rattle.swim_history.specs.declared.entries.Choice.TheVariants.{Nothing};
+ghost use Rattle.std.specs.Prelude.{◌≡◌, false};
 
-use swim_history::{Choice, Reply};
+use swim_history::Reply;
 
-/// The reply to a call, and what was drawn for it.
+/// The reply to a call, and whether a round began by it. The order that was drawn is then that in which
+/// the members are listed.
 #[derive(Debug, Drop)]
 pub(crate) struct Answer {
     pub(crate) reply: Reply,
-    pub(crate) choice: Choice,
+    pub(crate) begins_round: bool,
 }
 
 impl Answer {
-    /// A reply for which no order of a round was drawn.
+    /// A reply by which no round begins.
     pub(crate) fn of(reply: Reply) -> Answer
-        ensures { result ≡ record { reply = reply; choice = Nothing } }
+        ensures { result ≡ record { reply = reply; begins_round = false } }
     {
         Answer {
             reply,
-            choice: Choice::Nothing,
+            begins_round: false,
         }
     }
 }

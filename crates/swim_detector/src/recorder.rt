@@ -7,7 +7,7 @@ ghost use Rattle.swim_detector.specs.Recording.{IsKept, Records, IsChangeOf};
 use crate::states::State;
 use std::alloc::Global;
 use std::marker::Model;
-use swim_history::{Call, Change, Entry, Journal, Opening, Table};
+use swim_history::{Call, Change, Choice, Entry, Journal, Opening, Table};
 use swim_targets::Chooser;
 
 /// Why a call got no reply. The detector, the chooser and the journal are as before.
@@ -92,13 +92,16 @@ impl<C: Chooser> Recorder<C> {
     {
         self.ready()?;
         let answer = self.state.answer(&self.journal, &mut self.chooser, &call);
-        let entry = Entry {
+        let mut entry = Entry {
             seat,
             number: self.counts[seat as usize],
             call,
-            choice: answer.choice,
+            choice: Choice::Nothing,
             reply: answer.reply,
         };
+        if answer.begins_round {
+            self.state.tell_order(&mut entry.choice);
+        }
         self.journal.add(&entry);
         self.counts[seat as usize] += 1;
         Ok(entry)

@@ -6,12 +6,12 @@ mod hearing;
 mod members;
 mod ticking;
 
-ghost use Rattle.std.specs.Prelude.{◌≡◌, ◌≤◌, [], length, filter};
+ghost use Rattle.std.specs.Prelude.{◌≡◌, ◌≤◌, [], length, filter, true};
 ghost use Rattle.swim_history.specs.Setting.{ids_of, is_state_up};
-ghost use Rattle.swim_detector.specs.Mirrors.{Mirrors, IsAnswered};
+ghost use Rattle.swim_detector.specs.Mirrors.{Mirrors, IsAnswered, choice_after};
 
 use crate::answers::Answer;
-use swim_history::{Call, Journal, Opening, Order, Row, RowState};
+use swim_history::{Call, Choice, Journal, Opening, Order, Row, RowState};
 use swim_relays::Relays;
 use swim_targets::{Chooser, Targets};
 use swim_wire::Id;
@@ -57,6 +57,13 @@ impl State {
             Call::Join(id, peer) => self.join(journal, chooser, *id, *peer),
             Call::Remove(id) => self.remove(journal, *id),
         }
+    }
+
+    /// Tells the order of the round, which just began.
+    pub(crate) fn tell_order(&self, choice: &mut Choice)
+        ensures { choice.new ≡ choice_after true self.now.targets }
+    {
+        *choice = Choice::Round(self.targets.members());
     }
 }
 

@@ -184,6 +184,14 @@ impl Targets {
         self.members.is_empty()
     }
 
+    /// The members in the order in which they are listed: those probed, then those to be probed.
+    pub fn members(&self) -> Order
+        ensures value { result.items ≡ all_of self.now }
+        ensures listing { IsListing self.now }
+    {
+        copied(self.members.as_slice())
+    }
+
     /// The members but for one, in the order in which they are listed.
     pub fn candidates(&self, except: Id) -> Order
         ensures value { result.items ≡ without except (all_of self.now) }

@@ -8,12 +8,12 @@ ghost use Rattle.swim_history.specs.declared.calls.Call.TheVariants.{Tick};
 ghost use Rattle.swim_history.specs.Clock.{phase, period_number};
 ghost use Rattle.swim_history.specs.Aim.{unless, unheard};
 ghost use Rattle.swim_history.specs.Run.{last_number};
-ghost use Rattle.swim_detector.specs.Mirrors.{Mirrors, IsAnswered, IsSettled, choice_of};
+ghost use Rattle.swim_detector.specs.Mirrors.{Mirrors, IsAnswered, IsSettled};
 
 use super::State;
 use super::addresses::{probe_of, relays_for};
 use crate::answers::Answer;
-use swim_history::{Call, Choice, Journal, Order, Refusal, Reply};
+use swim_history::{Call, Journal, Refusal, Reply};
 use swim_targets::{Chooser, Targets};
 use swim_wire::Id;
 
@@ -53,7 +53,7 @@ impl State {
         let probe = probe_of(journal, &self.aim, journal.last_number() + 1);
         Answer {
             reply: Reply::Started { judged, probe },
-            choice: choice_of(next.drawn),
+            begins_round: next.drawn.is_some(),
         }
     }
 
@@ -131,15 +131,5 @@ fn leave(targets: &mut Targets, judged: &Option<Id>)
 {
     if let Some(member) = judged {
         targets.remove(*member);
-    }
-}
-
-/// The order of a new round, if one was drawn.
-fn choice_of(drawn: Option<Order>) -> Choice
-    ensures { result ≡ choice_of drawn }
-{
-    match drawn {
-        Some(order) => Choice::Round(order),
-        None => Choice::Nothing,
     }
 }

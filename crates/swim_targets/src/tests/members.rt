@@ -104,6 +104,7 @@ fn candidates_are_the_others(rt: HostRuntime) -> Result<(), Fail> {
     let targets = Targets::open(order_of(&[5, 3, 4])?.as_slice())
         .ok()
         .ok_or("they are few")?;
+    assert_eq!(rt; targets.members(), order_of(&[5, 3, 4])?);
     for (except, expected) in [(3, [5, 4].as_slice()), (6, [5, 3, 4].as_slice())] {
         let except = Id::new(except).ok_or("an id is not 0")?;
         assert_eq!(rt; targets.candidates(except), order_of(expected)?);

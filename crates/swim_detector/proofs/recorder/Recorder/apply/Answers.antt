@@ -1,6 +1,8 @@
-use Rattle.std.proofs.Common.{arith, rules}
+use Rattle.std.proofs.Common.{◌≡◌, get_or, refl, ◌∙◌, arith, rules}
+use Rattle.swim_detector.specs.Mirrors.{entry_of}
 use Rattle.swim_detector.proofs.Counting.{calls_within, counted}
 use Rattle.swim_detector.proofs.recorder.Recorder.apply.Goals as goal
+use Rattle.swim_detector.proofs.recorder.Recorder.apply.Goals.{then-answer, else-answer}
 
 pub overflow_add-self : goal.overflow_add-self
 overflow_add-self g c =
@@ -13,4 +15,6 @@ pub invariant_of-self : goal.invariant_of-self
 invariant_of-self g c =
     let s = c.self.inside in
     let room = rw (← c.self.view_is) at c.in_ok-ready.ensures.room in
-    rw (c.add.ensures.opening, c.add.ensures.past) (c.answer-answer.ensures.2 c.args.seat _, counted s.journal.past _ s.counts s.limit c.self.invariant.1 (search rules) c.requires room.1)
+    let entry : c.if-answer.entry ≡ entry_of c.args.seat (get_or s.counts c.args.seat 0) c.args.call c.answer-answer.result c.answer-answer.new.self =
+    elim c.if-answer.branch [ then-answer w ↦ w.entry-is ∙ rw (w.if-answer.true, w.tell_order.ensures) refl | else-answer w ↦ w.entry-is ∙ rw w.if-answer.false refl ] in
+    rw (c.add.ensures.opening, c.add.ensures.past, entry) (c.answer-answer.ensures.2 c.args.seat _, counted s.journal.past _ s.counts s.limit c.self.invariant.1 (search rules) c.requires room.1)

@@ -11,7 +11,7 @@ probe_of-probe-requires g c =
 pub returns : goal.returns
 returns g c =
     let period = c.period.ensures.value ∙ ap (λ x. x.period) c.opening.ensures.value in
-    rw c.choice_of.ensures (started g.C.Chooser.orders g.C.Chooser.places c.args.journal.now.opening c.args.journal.now.past c.args.self.now _ c.leave.new.targets c.silent-judged.result c.next-next.result.member c.next-next.result.drawn c.probe_of-probe.result c.args.chooser.now c.next-next.new.chooser
+    rw c.is_some.ensures (started g.C.Chooser.orders g.C.Chooser.places c.args.journal.now.opening c.args.journal.now.past c.args.self.now _ c.leave.new.targets c.silent-judged.result c.next-next.result.member c.next-next.result.drawn c.probe_of-probe.result c.args.chooser.now c.next-next.new.chooser
     c.requires.mirrors
     (record {
       judges = c.silent-judged.ensures;
