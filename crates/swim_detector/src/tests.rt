@@ -65,9 +65,16 @@ fn message(
     })
 }
 
-// The reply to a call of seat 0.
-fn reply(recorder: &mut Recorder<Scripted>, call: Call) -> Result<Reply, Fail> {
-    Ok(recorder.apply(0, call).map_err(|_| "an entry")?.reply)
+// The reply to the last of these calls of seat 0.
+fn last_reply(recorder: &mut Recorder<Scripted>, calls: &[Call]) -> Result<Reply, Fail> {
+    let mut last = Err("a call");
+    for call in calls {
+        last = match recorder.apply(0, *call) {
+            Ok(entry) => Ok(entry.reply),
+            Err(_) => Err("an entry"),
+        };
+    }
+    Ok(last?)
 }
 
 fn started(judged: Option<u32>, probe: Option<(u8, u64)>) -> Result<Reply, Fail> {
@@ -86,7 +93,7 @@ fn started(judged: Option<u32>, probe: Option<(u8, u64)>) -> Result<Reply, Fail>
     Ok(Reply::Started { judged, probe })
 }
 
-fn asked(target: u32, number: u64, relays: &[u8]) -> Result<Reply, Fail> {
+fn asked_of(target: u32, number: u64, relays: &[u8]) -> Result<Reply, Fail> {
     let mut asked = arrayvec::ArrayVec::<Relay, 8>::new();
     for relay in relays {
         asked.try_push(Relay {

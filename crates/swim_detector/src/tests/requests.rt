@@ -20,33 +20,32 @@ fn sent(peer: Peer, kind: Kind, number: u64) -> Result<Reply, Fail> {
 #[test]
 fn an_ack_is_forwarded_once(rt: HostRuntime) -> Result<(), Fail> {
     let mut recorder = recorder(rt, 1, &[2, 3], 1000)?;
+    let pinged = last_reply(&mut recorder, &[request(9)?])?;
+    assert_eq!(rt; pinged, sent(at(3), Kind::Ping, 9)?);
+    let forwarded = last_reply(&mut recorder, &[ack(9)?])?;
+    assert_eq!(rt; forwarded, sent(at(2), Kind::Ack, 9)?);
+    let again = last_reply(&mut recorder, &[ack(9)?])?;
+    assert_eq!(rt; again, Reply::Dropped(DropReason::NoRequest));
+    Ok(())
+}
+
+#[test]
+fn a_request_waits_for_two_ticks(rt: HostRuntime) -> Result<(), Fail> {
+    let mut recorder = recorder(rt, 1, &[2, 3], 1000)?;
+    let calls = [request(9)?, Call::Tick, Call::Tick, ack(9)?];
     assert_eq!(rt;
-        reply(&mut recorder, request(9)?)?,
-        sent(at(3), Kind::Ping, 9)?
-    );
-    assert_eq!(rt; reply(&mut recorder, ack(9)?)?, sent(at(2), Kind::Ack, 9)?);
-    assert_eq!(rt;
-        reply(&mut recorder, ack(9)?)?,
-        Reply::Dropped(DropReason::NoRequest)
+        last_reply(&mut recorder, &calls)?,
+        sent(at(2), Kind::Ack, 9)?
     );
     Ok(())
 }
 
 #[test]
-fn a_request_waits_for_a_period(rt: HostRuntime) -> Result<(), Fail> {
-    for (ticks, forwarded) in [(2, true), (3, false)] {
-        let mut recorder = recorder(rt, 1, &[2, 3], 1000)?;
-        reply(&mut recorder, request(9)?)?;
-        for _tick in 0..ticks {
-            reply(&mut recorder, Call::Tick)?;
-        }
-        let expected = if forwarded {
-            sent(at(2), Kind::Ack, 9)?
-        } else {
-            Reply::Dropped(DropReason::NoRequest)
-        };
-        assert_eq!(rt; reply(&mut recorder, ack(9)?)?, expected);
-    }
+fn a_request_expires_after_three(rt: HostRuntime) -> Result<(), Fail> {
+    let mut recorder = recorder(rt, 1, &[2, 3], 1000)?;
+    let calls = [request(9)?, Call::Tick, Call::Tick, Call::Tick, ack(9)?];
+    let late = last_reply(&mut recorder, &calls)?;
+    assert_eq!(rt; late, Reply::Dropped(DropReason::NoRequest));
     Ok(())
 }
 
@@ -54,33 +53,28 @@ fn a_request_waits_for_a_period(rt: HostRuntime) -> Result<(), Fail> {
 fn at_most_64_requests_wait(rt: HostRuntime) -> Result<(), Fail> {
     let mut recorder = recorder(rt, 1, &[2, 3], 1000)?;
     for number in 1..65 {
-        assert_eq!(rt;
-            reply(&mut recorder, request(number)?)?,
-            sent(at(3), Kind::Ping, number)?
-        );
+        last_reply(&mut recorder, &[request(number)?])?;
     }
-    assert_eq!(rt;
-        reply(&mut recorder, request(65)?)?,
-        Reply::Dropped(DropReason::TableFull)
-    );
-    assert_eq!(rt;
-        reply(&mut recorder, request(1)?)?,
-        sent(at(3), Kind::Ping, 1)?
-    );
+    let full = last_reply(&mut recorder, &[request(65)?])?;
+    assert_eq!(rt; full, Reply::Dropped(DropReason::TableFull));
+    let again = last_reply(&mut recorder, &[request(1)?])?;
+    assert_eq!(rt; again, sent(at(3), Kind::Ping, 1)?);
     Ok(())
 }
 
 #[test]
 fn a_request_outlives_its_target(rt: HostRuntime) -> Result<(), Fail> {
     let mut recorder = recorder(rt, 1, &[2, 3], 1000)?;
-    reply(&mut recorder, request(9)?)?;
-    assert_eq!(rt; reply(&mut recorder, Call::Remove(id(3)?))?, Reply::Removed);
-    assert_eq!(rt; reply(&mut recorder, ack(9)?)?, sent(at(2), Kind::Ack, 9)?);
+    let calls = [request(9)?, Call::Remove(id(3)?), ack(9)?];
+    assert_eq!(rt;
+        last_reply(&mut recorder, &calls)?,
+        sent(at(2), Kind::Ack, 9)?
+    );
     Ok(())
 }
 
 #[test]
-fn requests_are_dropped(rt: HostRuntime) -> Result<(), Fail> {
+fn messages_are_dropped(rt: HostRuntime) -> Result<(), Fail> {
     let mut recorder = recorder(rt, 1, &[2, 3], 1000)?;
     let dropped = [
         (message(Kind::PingReq, 2, 3, 1, 9)?, DropReason::Borrowed),
@@ -90,14 +84,8 @@ fn requests_are_dropped(rt: HostRuntime) -> Result<(), Fail> {
         (message(Kind::Ping, 2, 2, 3, 5)?, DropReason::NotForMe),
     ];
     for (message, why) in dropped {
-        let call = Call::Hear(message, at(2));
-        assert_eq!(rt; reply(&mut recorder, call)?, Reply::Dropped(why));
+        let reply = last_reply(&mut recorder, &[Call::Hear(message, at(2))])?;
+        assert_eq!(rt; reply, Reply::Dropped(why));
     }
-    let ping = Call::Hear(message(Kind::Ping, 2, 2, 1, 5)?, at(2));
-    let ack = Reply::Send {
-        peer: at(2),
-        message: message(Kind::Ack, 1, 2, 1, 5)?,
-    };
-    assert_eq!(rt; reply(&mut recorder, ping)?, ack);
     Ok(())
 }
