@@ -45,6 +45,10 @@ choice_of answer state = choice_after answer.begins_round state.targets
 abbrev pub entry_of : ℕ → ℕ → Call → Answer → State → Entry
 entry_of seat number call answer state = record { seat = seat; number = number; call = call; choice = choice_of answer state; reply = answer.reply }
 
+-- the same where a round began by it
+abbrev pub round_entry : ℕ → ℕ → Call → Reply → State → Entry
+round_entry seat number call reply state = entry_of seat number call (record { reply = reply; begins_round = true }) state
+
 -- the chooser may have been asked for the entry
 abbrev pub may_draw : Call → Reply → Choice → Bool
 may_draw Tick (Started judged probe) (Round order) = true

@@ -32,6 +32,10 @@ Records orders places old new e =
     × DrawsEntry orders places old.opening old.past e.call e.reply e.choice old.chooser new.chooser
     × (new.past ≡ e ∷ old.past) × (new.opening ≡ old.opening) × (new.limit ≡ old.limit)
 
+-- an entry of that seat with this call and reply was added
+abbrev pub RecordsReply : {C : Type 0} → (C → List ℕ → List ℕ → C → Type 0) → (C → ℕ → ℕ → C → Type 0) → Recording C → Recording C → ℕ → Call → Reply → Type 0
+RecordsReply orders places old new seat call reply = (e : Entry) × (e.seat ≡ seat) × (e.call ≡ call) × (e.reply ≡ reply) × Records orders places old new e
+
 -- the change is the one that each entry of the call makes which may follow the history
 abbrev pub IsChangeOf : Setting → List Entry → Call → Option Change → Type 0
 IsChangeOf o h call change = (reply : Reply) → (choice : Choice) → Answers o h call reply choice → change ≡ change_by call reply (period_number o h)

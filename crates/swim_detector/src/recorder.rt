@@ -1,13 +1,16 @@
 //! The detector with its journal.
 
-ghost use Rattle.std.specs.Prelude.{◌≡◌, ◌↔◌, ◌<◌, ◌≤◌, [], length, Err, IfOk, IsOk, OnOk, OnErr};
+ghost use Rattle.std.specs.Prelude.{◌≡◌, ◌↔◌, ◌<◌, ◌≤◌, ◌∷◌, [], length, Err, IfOk, IsOk, OnOk, OnErr};
 ghost use Rattle.swim_history.specs.Changes.{table};
-ghost use Rattle.swim_detector.specs.Recording.{IsKept, Records, IsChangeOf};
+ghost use Rattle.swim_detector.specs.Recording.{IsKept, Records, RecordsReply, IsChangeOf};
+ghost use Rattle.swim_detector.specs.Mirrors.{entry_of, round_entry};
+ghost use Rattle.swim_history.specs.Run.{Continues};
 
+use crate::answers::Answer;
 use crate::states::State;
 use std::alloc::Global;
 use std::marker::Model;
-use swim_history::{Call, Change, Choice, Entry, Journal, Opening, Table};
+use swim_history::{Call, Change, Entry, Journal, Opening, Reply, Table};
 use swim_targets::Chooser;
 
 /// Why a call got no reply. The detector, the chooser and the journal are as before.
@@ -90,21 +93,29 @@ impl<C: Chooser> Recorder<C> {
         ensures full { (result ≡ Err ApplyFault.JournalFull) ↔ (length self.old.past ≡ self.old.limit) }
         ensures within { length self.old.past ≤ self.old.limit }
     {
-        self.ready()?;
-        let answer = self.state.answer(&self.journal, &mut self.chooser, &call);
-        let mut entry = Entry {
-            seat,
-            number: self.counts[seat as usize],
-            call,
-            choice: Choice::Nothing,
-            reply: answer.reply,
-        };
-        if answer.begins_round {
-            self.state.tell_order(&mut entry.choice);
+        self.answer(seat, call)?;
+        match self.journal.entry(self.journal.len() - 1) {
+            Some(entry) => Ok(entry),
+            None => unreachable!(),
         }
-        self.journal.add(&entry);
-        self.counts[seat as usize] += 1;
-        Ok(entry)
+    }
+
+    /// As `apply`, but it answers the reply of the entry alone, which is small where the order of a round
+    /// that begins makes the entry large.
+    pub fn answer(&mut self, seat: u8, call: Call) -> Result<Reply, ApplyFault>
+        requires { seat < 4 }
+        ensures ok { IfOk result (λ reply. RecordsReply C.orders C.places self.old self.new seat call reply) }
+        ensures err { OnErr result (IsKept self.old self.new) }
+        ensures ready { 0 < self.old.room → length self.old.past < self.old.limit → IsOk result }
+        ensures full { (result ≡ Err ApplyFault.JournalFull) ↔ (length self.old.past ≡ self.old.limit) }
+        ensures within { length self.old.past ≤ self.old.limit }
+    {
+        self.ready()?;
+        let number = self.counts[seat as usize];
+        let answer = self.state.answer(&self.journal, &mut self.chooser, &call);
+        let reply = add(&mut self.journal, &self.state, seat, number, call, answer);
+        self.counts[seat as usize] = number + 1;
+        Ok(reply)
     }
 
     /// The change that a call would make to the member table now, if it would make one.
@@ -136,4 +147,57 @@ impl<C: Chooser> Recorder<C> {
     {
         self.journal
     }
+}
+
+/// Adds the entry of a call, and answers its reply.
+fn add(
+    journal: &mut Journal,
+    state: &State,
+    seat: u8,
+    number: u32,
+    call: Call,
+    answer: Answer,
+) -> Reply
+    requires room { 0 < journal.old.room }
+    requires count { length journal.old.past < 4294967295 }
+    requires continues { Continues journal.old.opening journal.old.past (entry_of seat number call answer state.now) }
+    ensures opening { journal.new.opening ≡ journal.old.opening }
+    ensures past { journal.new.past ≡ entry_of seat number call answer state.now ∷ journal.old.past }
+    ensures reply { result ≡ answer.reply }
+{
+    if answer.begins_round {
+        add_start(journal, state, seat, number, call, answer.reply)
+    } else {
+        journal.add_undrawn(seat, number, &call, &answer.reply);
+        answer.reply
+    }
+}
+
+/// Adds the entry of a call by which a round began, and answers its reply.
+// A function of its own, since an entry is large, and few calls begin a round.
+#[inline(never)]
+fn add_start(
+    journal: &mut Journal,
+    state: &State,
+    seat: u8,
+    number: u32,
+    call: Call,
+    reply: Reply,
+) -> Reply
+    requires room { 0 < journal.old.room }
+    requires count { length journal.old.past < 4294967295 }
+    requires continues { Continues journal.old.opening journal.old.past (round_entry seat number call reply state.now) }
+    ensures opening { journal.new.opening ≡ journal.old.opening }
+    ensures past { journal.new.past ≡ round_entry seat number call reply state.now ∷ journal.old.past }
+    ensures reply { result ≡ reply }
+{
+    let entry = Entry {
+        seat,
+        number,
+        call,
+        choice: state.round(),
+        reply,
+    };
+    journal.add(&entry);
+    entry.reply
 }

@@ -59,11 +59,11 @@ impl State {
         }
     }
 
-    /// Tells the order of the round, which just began.
-    pub(crate) fn tell_order(&self, choice: &mut Choice)
-        ensures { choice.new ≡ choice_after true self.now.targets }
+    /// The order of the round that just began.
+    pub(crate) fn round(&self) -> Choice
+        ensures { result ≡ choice_after true self.now.targets }
     {
-        *choice = Choice::Round(self.targets.members());
+        Choice::Round(self.targets.members())
     }
 }
 

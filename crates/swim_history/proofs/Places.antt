@@ -13,12 +13,7 @@ use Rattle.swim_history.specs.declared.rows.Change.TheVariants as change
 use Rattle.swim_history.specs.Rows.{row_at, failed}
 use Rattle.swim_history.specs.Changes.{put, IsAscending, after_change}
 use Rattle.swim_history.specs.Places.{IsAt, IsGapFor}
-
--- each of the rows
-each_at : (P : Row → Type 0) (rows : List Row) (k : ℕ) (d : Row) → AllByRecursion P rows → k < length rows → P (get_or rows k d)
-each_at P [] k d each lt = absurd (omega arith)
-each_at P (row ∷ rows) zero d each lt = each.0
-each_at P (row ∷ rows) (suc k) d each lt = each_at P rows k d each.1 (omega arith)
+use Rattle.swim_history.proofs.Each.{each_at}
 
 -- in the others, a row is one place lower
 is_at_tail : (row : Row) (rows : List Row) (id place : ℕ) → IsAt (row ∷ rows) id (suc place) → IsAt rows id place

@@ -1,11 +1,15 @@
 -- What contracts see of the entries of a journal, and how those are stored.
-use Rattle.std.specs.Prelude.{ℕ, ◌+◌, ◌≤◌, List, [], length, take, drop}
+use Rattle.std.specs.Prelude.{ℕ, ◌+◌, ◌<◌, ◌≤◌, List, [], length, take, drop, slice_index_or}
 use Rattle.std.specs.List.{AllByRecursion}
+use Rattle.swim_history.specs.declared.calls.Call.TheVariants.{Tick}
+use Rattle.swim_history.specs.declared.replies.Reply.TheVariants as replies
 use Rattle.swim_history.specs.declared.entries.Choice.{Choice}
 use Rattle.swim_history.specs.declared.entries.Choice.TheVariants as choices
 use Rattle.swim_history.specs.declared.entries.Entry.{Entry}
 use Rattle.swim_history.specs.declared.storage.Drawn.{Drawn}
 use Rattle.swim_history.specs.declared.storage.Drawn.TheVariants.{Nothing, Round}
+use Rattle.swim_history.specs.declared.storage.Slot.{Slot}
+use Rattle.swim_history.specs.declared.storage.Slot.TheVariants.{Quiet, Whole}
 use Rattle.swim_history.specs.declared.storage.Stored.{Stored}
 
 pub record Storage : Type 0 where
@@ -29,7 +33,7 @@ abbrev pub choice_among : List ℕ → Drawn → Choice
 choice_among ids Nothing = choices.Nothing
 choice_among ids (Round count start) = choices.Round (record { items = take count (drop start ids) })
 
--- a stored entry, among the ids of all orders
+-- an entry that is stored whole, among the ids of all orders
 abbrev pub entry_among : List ℕ → Stored → Entry
 entry_among ids stored = record { seat = stored.seat; number = stored.number; call = stored.call; choice = choice_among ids stored.drawn; reply = stored.reply }
 
@@ -41,3 +45,21 @@ IsWithin ids (Round count start) = (count ≤ 128) × (start + count ≤ ids)
 -- so it is of all stored entries
 abbrev pub AreWithin : ℕ → List Stored → Type 0
 AreWithin ids entries = AllByRecursion (λ stored. IsWithin ids stored.drawn) entries
+
+-- some stored entry, for a place where there is none
+abbrev pub no_stored : Stored
+no_stored = record { seat = 0; number = 0; drawn = Nothing; call = Tick; reply = replies.Quiet }
+
+-- an entry, among those that are stored whole
+abbrev pub entry_in : List ℕ → List Stored → Slot → Entry
+entry_in ids whole (Quiet seat number) = record { seat = seat; number = number; call = Tick; choice = choices.Nothing; reply = replies.Quiet }
+entry_in ids whole (Whole place) = entry_among ids (slice_index_or whole place no_stored)
+
+-- an entry that is stored whole stands among so many of them
+abbrev pub IsPlaced : ℕ → Slot → Type 0
+IsPlaced count (Quiet seat number) = Unit {0}
+IsPlaced count (Whole place) = place < count
+
+-- so does each of them
+abbrev pub ArePlaced : ℕ → List Slot → Type 0
+ArePlaced count slots = AllByRecursion (IsPlaced count) slots

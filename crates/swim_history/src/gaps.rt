@@ -8,11 +8,11 @@ ghost use Rattle.swim_history.specs.Gap.{is_unlisting, IsWidest, HasNoGap};
 ghost use Rattle.swim_history.specs.LastProbe.{probed_at, last_then, gap_then, wider, widest_gap};
 
 use crate::calls::Call;
-use crate::journals::{note_change, number_after};
 use crate::openings::Opening;
 use crate::replies::Reply;
 use crate::rows::{Row, RowState};
 use crate::storage::Entries;
+use crate::summaries::{note_change, number_after};
 use crate::tables::table_of;
 use swim_wire::Id;
 

@@ -4,6 +4,7 @@ ghost use Rattle.std.specs.Prelude.{◌≡◌, ◌↔◌, ◌+◌, ◌^◌, ◌<
 ghost use Rattle.std.specs.Option.{option_to_list};
 ghost use Rattle.swim_history.specs.Setting.{IsSetting};
 ghost use Rattle.swim_history.specs.Events.{is_starting, judged_in};
+ghost use Rattle.swim_history.specs.Written.{undrawn};
 ghost use Rattle.swim_history.specs.Run.{Continues, IsRun};
 ghost use Rattle.swim_history.specs.Judgement.{judgements, judgement, JudgesByRule};
 ghost use Rattle.swim_history.specs.Probes.{probes, probed_by, ProbesAsDrawn};
@@ -22,7 +23,8 @@ use crate::probing::{Probed, collect_probed};
 use crate::replies::Reply;
 use crate::rows::{Row, Table};
 use crate::storage::Entries;
-use crate::tables::{apply_change, change_by, find_row, table_of};
+use crate::summaries::{Summary, judged_member, number_after};
+use crate::tables::find_row;
 use std::alloc::{AllocError, Global};
 use std::marker::Model;
 use swim_wire::Id;
@@ -41,10 +43,7 @@ pub struct Judged {
 pub struct Journal {
     opening: Opening,
     entries: Entries,
-    rows: Table,
-    // The last period number used.
-    number: u64,
-    judged: u32,
+    summary: Summary,
 }
 
 impl Model for Journal {
@@ -60,7 +59,7 @@ impl Model for Journal {
     ghost invariant = { λ j. IsSetting j.opening
         × IsRun j.opening (reverse j.entries.items)
         × (length j.entries.items < 2 ^ 32)
-        × IsSummary j.opening (reverse j.entries.items) j.rows.items j.number j.judged };
+        × IsSummary j.opening (reverse j.entries.items) j.summary };
 }
 
 impl Journal {
@@ -69,14 +68,11 @@ impl Journal {
         ensures opening { result.opening ≡ opening }
         ensures empty { result.past ≡ [] }
     {
-        let rows = table_of(opening.rows());
-        let number = opening.last();
+        let summary = Summary::new(&opening);
         Journal {
             opening,
             entries: Entries::new(alloc),
-            rows,
-            number,
-            judged: 0,
+            summary,
         }
     }
 
@@ -132,10 +128,21 @@ impl Journal {
         ensures past { self.new.past ≡ entry.now ∷ self.old.past }
         ensures room { self.old.room ≤ self.new.room + 1 }
     {
-        note_change(&mut self.rows, &entry.call, &entry.reply, self.number);
-        self.judged = count_after(self.judged, &entry.reply);
-        self.number = number_after(self.number, &entry.reply);
+        self.summary.note(&entry.call, &entry.reply);
         self.entries.push(entry);
+    }
+
+    /// Puts an entry last for which nothing was drawn. It takes no memory.
+    pub fn add_undrawn(&mut self, seat: u8, number: u32, call: &Call, reply: &Reply)
+        requires room { 0 < self.old.room }
+        requires count { length self.old.past < 4294967295 }
+        requires continues { Continues self.old.opening self.old.past (undrawn seat number call.now reply.now) }
+        ensures opening { self.new.opening ≡ self.old.opening }
+        ensures past { self.new.past ≡ undrawn seat number call.now reply.now ∷ self.old.past }
+        ensures room { self.old.room ≤ self.new.room + 1 }
+    {
+        self.summary.note(call, reply);
+        self.entries.push_undrawn(seat, number, call, reply);
     }
 
     /// The member table: the rows of the known members, ascending by id.
@@ -144,7 +151,7 @@ impl Journal {
         ensures run { IsRun self.now.opening self.now.past }
         ensures limits { IsSetting self.now.opening }
     {
-        copied(self.rows.as_slice())
+        copied(self.summary.rows.as_slice())
     }
 
     /// The row of a member, if it is known.
@@ -153,7 +160,7 @@ impl Journal {
         ensures run { IsRun self.now.opening self.now.past }
         ensures limits { IsSetting self.now.opening }
     {
-        find_row(self.rows.as_slice(), id)
+        find_row(self.summary.rows.as_slice(), id)
     }
 
     /// How many members are known.
@@ -162,7 +169,7 @@ impl Journal {
         ensures run { IsRun self.now.opening self.now.past }
         ensures limits { IsSetting self.now.opening }
     {
-        self.rows.len()
+        self.summary.rows.len()
     }
 
     /// The last period number that was used: that of the period that runs, if any.
@@ -171,14 +178,14 @@ impl Journal {
         ensures run { IsRun self.now.opening self.now.past }
         ensures limits { IsSetting self.now.opening }
     {
-        self.number
+        self.summary.number
     }
 
     /// How many members were judged failed, each time counted.
     pub fn judged_count(&self) -> u32
         ensures { result ≡ length (judgements self.now.opening self.now.past) }
     {
-        self.judged
+        self.summary.judged
     }
 
     /// Who was judged failed, in the journal's order. Each judgement is one by the rule, and each case of
@@ -214,49 +221,6 @@ impl Journal {
     }
 }
 
-/// Whom a start judged.
-fn judged_member(reply: &Reply) -> Option<Id>
-    ensures { result ≡ judged_in reply.now }
-{
-    match reply {
-        Reply::Started { judged, .. } => *judged,
-        _ => None,
-    }
-}
-
-/// Whether a period begins.
-fn is_start(reply: &Reply) -> bool
-    ensures { result ≡ is_starting reply.now }
-{
-    matches!(reply, Reply::Started { .. })
-}
-
-/// Makes the change of an entry, if it makes one; number is that of the period which it ends, if it
-/// ends one.
-pub(crate) fn note_change(rows: &mut Table, call: &Call, reply: &Reply, number: u64)
-    requires ascends { IsAscending rows.old.items }
-    requires fits { let change = change_by call.now reply.now number in
-        length (rows_after rows.old.items (option_to_list change)) ≤ 128 }
-    ensures { let change = change_by call.now reply.now number in
-        rows.new.items ≡ rows_after rows.old.items (option_to_list change) }
-{
-    if let Some(change) = change_by(call, reply, number) {
-        apply_change(rows, &change);
-    }
-}
-
-/// How many members were judged after a reply.
-fn count_after(judged: u32, reply: &Reply) -> u32
-    requires { judged + 1 < 2 ^ 32 }
-    ensures { result ≡ judged + length (option_to_list (judged_in reply.now)) }
-{
-    if judged_member(reply).is_some() {
-        judged + 1
-    } else {
-        judged
-    }
-}
-
 /// The judgements of a run, with the numbers of the periods that they end.
 fn collect_judged(
     alloc: Global,
@@ -285,12 +249,4 @@ fn note_judged(judged: &mut Vec<Judged>, member: Option<Id>, number: u64) -> Res
         Some(member) => Ok(judged.push(Judged { member, number })?),
         None => Ok(()),
     }
-}
-
-/// The last period number used after an entry.
-pub(crate) fn number_after(number: u64, reply: &Reply) -> u64
-    requires { is_starting reply.now ≡ true → number + 1 < 2 ^ 64 }
-    ensures { result ≡ (if is_starting reply.now then number + 1 else number) }
-{
-    if is_start(reply) { number + 1 } else { number }
 }

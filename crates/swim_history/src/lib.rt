@@ -15,6 +15,7 @@ mod replies;
 mod rows;
 mod sending;
 mod storage;
+mod summaries;
 mod tables;
 
 pub use calls::Call;

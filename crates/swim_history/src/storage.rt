@@ -2,7 +2,9 @@
 
 ghost use Rattle.std.specs.Prelude.{◌≡◌, ◌+◌, ◌<◌, ◌≤◌, ◌==◌, ◌++◌, ◌∷◌, [], length, vec_len, vec_capacity, slice_get, slice_index_or, OnOk, IsOk};
 ghost use Rattle.swim_history.specs.declared.entries.Entry.{Entry};
-ghost use Rattle.swim_history.specs.Storage.{ids_in, drawn_at, choice_among, IsWithin};
+ghost use Rattle.swim_history.specs.declared.storage.Slot.TheVariants.{Whole};
+ghost use Rattle.swim_history.specs.Storage.{ids_in, drawn_at, choice_among, entry_among, IsWithin};
+ghost use Rattle.swim_history.specs.Written.{undrawn};
 
 use crate::calls::Call;
 use crate::copies::copied;
@@ -12,6 +14,17 @@ use crate::rows::KNOWN_MEMBERS;
 use std::alloc::{AllocError, Global};
 use std::marker::Model;
 use swim_wire::Id;
+
+/// What is stored for each entry, in 16 bytes.
+#[derive(Drop)]
+enum Slot {
+    /// A tick in which nothing was to be done, as most ticks are.
+    Quiet { seat: u8, number: u32 },
+    /// Any entry, which stands at this place among those that are stored whole.
+    Whole { place: usize },
+}
+
+const _: () = prove!(size_of::<Slot>() == 16);
 
 /// An entry, but for the ids that were drawn for it. It takes 184 bytes, where an `Entry` takes 696.
 #[derive(Drop)]
@@ -32,26 +45,34 @@ enum Drawn {
     Round { count: u8, start: usize },
 }
 
-/// Entries in order. Few of them begin a round, so the ids of drawn orders stand apart, one order after
-/// the other. A contract sees the entries, oldest first, and how many more take no memory.
+/// Entries in order. Most of them are quiet ticks, and few begin a round: so the others stand apart, and so do
+/// the ids of drawn orders, one order after the other. A contract sees the entries, oldest first, and how
+/// many more take no memory.
 #[derive(Drop)]
 pub(crate) struct Entries {
-    stored: Vec<Stored>,
+    slots: Vec<Slot>,
+    whole: Vec<Stored>,
     ids: Vec<Id>,
+    // The call and the reply of a quiet tick, to be lent.
+    quiet: (Call, Reply),
 }
 
 impl Model for Entries {
-    ghost use Rattle.std.specs.Prelude.{◌-◌, ◌/◌, map, min, length, vec_len, vec_capacity};
-    ghost use Rattle.swim_history.specs.Storage.{Storage, entry_among, AreWithin};
+    ghost use Rattle.std.specs.Prelude.{◌≡◌, ◌-◌, ◌/◌, map, min, length, vec_len, vec_capacity};
+    ghost use Rattle.swim_history.specs.declared.calls.Call.TheVariants.{Tick};
+    ghost use Rattle.swim_history.specs.declared.replies.Reply.TheVariants.{Quiet};
+    ghost use Rattle.swim_history.specs.Storage.{Storage, entry_in, ArePlaced, AreWithin};
 
     ghost Value = { Storage };
 
     ghost view = { λ e. record {
-      items = map (entry_among e.ids.items) e.stored.items;
-      room = min (vec_capacity e.stored - vec_len e.stored) ((vec_capacity e.ids - vec_len e.ids) / 128);
+      items = map (entry_in e.ids.items e.whole.items) e.slots.items;
+      room = min (vec_capacity e.slots - vec_len e.slots) (min (vec_capacity e.whole - vec_len e.whole) ((vec_capacity e.ids - vec_len e.ids) / 128));
     } };
 
-    ghost invariant = { λ e. AreWithin (length e.ids.items) e.stored.items };
+    ghost invariant = { λ e. ArePlaced (length e.whole.items) e.slots.items
+        × AreWithin (length e.ids.items) e.whole.items
+        × (e.quiet ≡ (Tick, Quiet)) };
 }
 
 impl Entries {
@@ -60,25 +81,27 @@ impl Entries {
         ensures { result.items ≡ [] }
     {
         Entries {
-            stored: Vec::new(alloc),
+            slots: Vec::new(alloc),
+            whole: Vec::new(alloc),
             ids: Vec::new(alloc),
+            quiet: (Call::Tick, Reply::Quiet),
         }
     }
 
     pub(crate) fn allocator(&self) -> Global {
-        *self.stored.allocator()
+        *self.slots.allocator()
     }
 
     pub(crate) fn len(&self) -> usize
         ensures { result ≡ length self.now.items }
     {
-        self.stored.len()
+        self.slots.len()
     }
 
     pub(crate) fn is_empty(&self) -> bool
         ensures { result ≡ (length self.now.items == 0) }
     {
-        self.stored.is_empty()
+        self.slots.is_empty()
     }
 
     /// Makes room for one more entry. `Err` only where the memory for it was refused.
@@ -88,7 +111,8 @@ impl Entries {
         ensures kept { self.old.room ≤ self.new.room }
         ensures succeeds { 0 < self.old.room → IsOk result }
     {
-        self.stored.reserve(1)?;
+        self.slots.reserve(1)?;
+        self.whole.reserve(1)?;
         self.ids.reserve(KNOWN_MEMBERS)
     }
 
@@ -99,27 +123,51 @@ impl Entries {
         ensures room { self.old.room ≤ self.new.room + 1 }
     {
         let drawn = store_ids(&mut self.ids, &entry.choice);
-        let _ = self.stored.push(Stored {
+        let stored = Stored {
             seat: entry.seat,
             number: entry.number,
             drawn,
             call: entry.call,
             reply: entry.reply.copy(),
-        });
+        };
+        store_whole(&mut self.slots, &mut self.whole, stored);
+    }
+
+    /// Puts an entry last for which nothing was drawn. It takes no memory.
+    pub(crate) fn push_undrawn(&mut self, seat: u8, number: u32, call: &Call, reply: &Reply)
+        requires { 0 < self.old.room }
+        ensures items { self.new.items ≡ self.old.items
+            ++ undrawn seat number call.now reply.now ∷ [] }
+        ensures room { self.old.room ≤ self.new.room + 1 }
+    {
+        if let (Call::Tick, Reply::Quiet) = (call, reply) {
+            let _ = self.slots.push(Slot::Quiet { seat, number });
+            return;
+        }
+        let stored = Stored {
+            seat,
+            number,
+            drawn: Drawn::Nothing,
+            call: *call,
+            reply: reply.copy(),
+        };
+        store_whole(&mut self.slots, &mut self.whole, stored);
     }
 
     /// The entry at a place, counted from 0 at the oldest.
     pub(crate) fn get(&self, place: usize) -> Option<Entry>
         ensures { result ≡ slice_get self.now.items place }
     {
-        let stored = self.stored.as_slice().get(place)?;
-        Some(Entry {
-            seat: stored.seat,
-            number: stored.number,
-            call: stored.call,
-            choice: choice_among(self.ids.as_slice(), &stored.drawn),
-            reply: stored.reply.copy(),
-        })
+        match self.slots.as_slice().get(place)? {
+            Slot::Quiet { seat, number } => Some(Entry {
+                seat: *seat,
+                number: *number,
+                call: Call::Tick,
+                choice: Choice::Nothing,
+                reply: Reply::Quiet,
+            }),
+            Slot::Whole { place } => Some(entry_among(self.ids.as_slice(), &self.whole[*place])),
+        }
     }
 
     /// The call of the entry at a place.
@@ -127,7 +175,10 @@ impl Entries {
         requires { place < length self.now.items }
         ensures { (e : Entry) → result.now ≡ (slice_index_or self.now.items place e).call }
     {
-        &self.stored[place].call
+        match &self.slots[place] {
+            Slot::Quiet { .. } => &self.quiet.0,
+            Slot::Whole { place } => &self.whole[*place].call,
+        }
     }
 
     /// The reply of the entry at a place.
@@ -135,7 +186,37 @@ impl Entries {
         requires { place < length self.now.items }
         ensures { (e : Entry) → result.now ≡ (slice_index_or self.now.items place e).reply }
     {
-        &self.stored[place].reply
+        match &self.slots[place] {
+            Slot::Quiet { .. } => &self.quiet.1,
+            Slot::Whole { place } => &self.whole[*place].reply,
+        }
+    }
+}
+
+/// Puts an entry behind those that are stored whole, and its place behind the slots. It takes no memory.
+fn store_whole(slots: &mut Vec<Slot>, whole: &mut Vec<Stored>, stored: Stored)
+    requires slots { vec_len slots.old < vec_capacity slots.old }
+    requires whole { vec_len whole.old < vec_capacity whole.old }
+    ensures slots { slots.new.items ≡ slots.old.items ++ Whole (length whole.old.items) ∷ [] }
+    ensures whole { whole.new.items ≡ whole.old.items ++ stored ∷ [] }
+    ensures capacity { (vec_capacity slots.old ≤ vec_capacity slots.new) × (vec_capacity whole.old ≤ vec_capacity whole.new) }
+{
+    let place = whole.len();
+    let _ = slots.push(Slot::Whole { place });
+    let _ = whole.push(stored);
+}
+
+/// An entry, from how it is stored.
+fn entry_among(ids: &[Id], stored: &Stored) -> Entry
+    requires { IsWithin (length ids.now) stored.now.drawn }
+    ensures { result ≡ entry_among ids.now stored.now }
+{
+    Entry {
+        seat: stored.seat,
+        number: stored.number,
+        call: stored.call,
+        choice: choice_among(ids, &stored.drawn),
+        reply: stored.reply.copy(),
     }
 }
 

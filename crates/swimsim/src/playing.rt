@@ -15,8 +15,8 @@ pub fn play<W: Sink>(recorder: &mut Recorder<Drawer>, call: Call, writer: &mut W
     ensures told { Answers recorder.old recorder.new call (W.written writer.old) (W.written writer.new) result }
     ensures failures { W.failures writer.new ≡ failures_if (W.failures writer.old) result }
 {
-    match recorder.apply(0, call) {
-        Ok(entry) => put_answer(writer, &entry.reply, recorder.journal().opening()),
+    match recorder.answer(0, call) {
+        Ok(reply) => put_answer(writer, &reply, recorder.journal().opening()),
         Err(ApplyFault::JournalFull) => writer.put(b"journal full\n"),
         Err(ApplyFault::NoMemory) => writer.put(b"no memory\n"),
     }

@@ -4,7 +4,7 @@ use Rattle.swim_history.specs.Changes.{ascending, table}
 use Rattle.swim_history.specs.TableLaws.{table_ascends, table_next}
 use Rattle.swim_history.specs.RunLaws.{number_then}
 use Rattle.swim_history.proofs.InOrder.{no_entry, entry_at, entry_there, past_more, run_so_far, next_run, unspent_at}
-use Rattle.swim_history.proofs.Summaries.{change_fits}
+use Rattle.swim_history.proofs.Summing.{change_fits}
 use Rattle.swim_history.proofs.UpRows.{up_rows}
 use Rattle.swim_history.proofs.GapWalk.{walked_none, walked_then, gap_rises, widest_rises, members_bound, walked_widest, walked_none_left}
 use Rattle.swim_history.proofs.gaps.find_widest.Goals as goal

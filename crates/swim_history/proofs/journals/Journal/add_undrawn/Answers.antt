@@ -1,0 +1,21 @@
+use Rattle.std.proofs.Common.{◌<◌, reverse, length}
+use Rattle.swim_history.specs.Run.{Continues}
+use Rattle.swim_history.specs.Written.{undrawn}
+use Rattle.swim_history.proofs.Summing.{has_room, run_longer}
+use Rattle.swim_history.proofs.journals.Journal.add_undrawn.Goals as goal
+
+pub note-requires : goal.note-requires
+note-requires c =
+    let j = c.self.inside in
+    let e = (undrawn c.args.seat c.args.number c.args.call.now c.args.reply.now) in
+    let follows : Continues j.opening (reverse j.entries.items) e = rw (← c.self.view_is) at c.requires.continues in
+    let count : length (reverse j.entries.items) < 4294967295 = rw (← c.self.view_is) at c.requires.count in
+    has_room j.opening (reverse j.entries.items) e j.summary c.self.invariant.0 c.self.invariant.1 follows count c.self.invariant.3
+
+pub invariant_of-self : goal.invariant_of-self
+invariant_of-self c =
+    let j = c.self.inside in
+    let e = (undrawn c.args.seat c.args.number c.args.call.now c.args.reply.now) in
+    let follows : Continues j.opening (reverse j.entries.items) e = rw (← c.self.view_is) at c.requires.continues in
+    let count : length (reverse j.entries.items) < 4294967295 = rw (← c.self.view_is) at c.requires.count in
+    run_longer j.opening j.entries.items c.push_undrawn.new.self.items e j.summary c.note.new.self c.self.invariant.0 c.self.invariant.1 count c.self.invariant.3 follows c.note.ensures c.push_undrawn.ensures.items
