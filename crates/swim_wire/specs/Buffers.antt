@@ -1,8 +1,8 @@
 -- What contracts see of a source and a sink that stand over std's readers and writers.
-use Rattle.std.specs.Prelude.{◌≡◌, ℕ, ◌+◌, ◌-◌, ◌≤◌, List, ◌++◌, length, drop, slice_range, Option, refl}
-use Rattle.std.proofs.Common.{arith}
+use Rattle.std.specs.Prelude.{◌≡◌, ℕ, ◌+◌, ◌-◌, ◌≤◌, List, ◌++◌, length, take, drop, slice_range, Option, None, Some, refl}
+use Rattle.std.proofs.Common.{sym, ap, ◌∙◌, append_assoc, take-append-drop, arith}
 use Rattle.std.proofs.lemmas.List.{drop-take, drop-drop}
-use Rattle.std.specs.Io.KnownBytes.{prepend_known, append_known}
+use Rattle.std.specs.Io.KnownBytes.{Consumes, prepend_known, append_known}
 
 -- the bytes that wait in a buffer, and how many more there is room for
 pub record Waiting : Type 0 where
@@ -41,3 +41,8 @@ pub drop_range : (xs : List ℕ) (start end count : ℕ) → start + count ≤ e
 drop_range xs start end count fits =
     let e : end - start ≡ count + (end - (start + count)) = omega arith in
     rw (e, drop-take, drop-drop) refl
+
+-- the first of the buffered bytes are taken, and the reader is let be
+pub skips : (remaining : Option (List ℕ)) (held : List ℕ) (count : ℕ) → Consumes (prepend_known held remaining) (prepend_known (drop count held) remaining) (take count held)
+skips None held count = tt
+skips (Some rest) held count = ap (λ l. l ++ rest) (sym (take-append-drop count held)) ∙ append_assoc (take count held) (drop count held) rest

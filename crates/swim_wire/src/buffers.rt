@@ -89,7 +89,7 @@ impl Buffer {
     }
 
     /// Drops the first bytes that wait, and makes room where none is left.
-    fn advance(&mut self, count: usize)
+    pub fn advance(&mut self, count: usize)
         requires { count ≤ length self.old.held }
         ensures held { self.new.held ≡ drop count self.old.held }
         ensures room { self.new.held ≡ [] → self.new.room ≡ 4096 }

@@ -1,15 +1,19 @@
 //! A source and a sink in memory, for tests: each can be told to fail once.
 
-ghost use Rattle.std.specs.Prelude.{◌≡◌, ◌↔◌, ℕ, List, Option, [], Some, None, false, IsTrue};
-ghost use Rattle.std.specs.Io.KnownBytes.{Keeps};
+ghost use Rattle.std.specs.Prelude.{◌≡◌, ◌↔◌, ℕ, ◌≤◌, List, Option, [], length, take, drop, Some, None, false, IsTrue, IfSome};
+ghost use Rattle.std.specs.Io.{StartsWith};
+ghost use Rattle.std.specs.Io.BufRead.{take_through};
+ghost use Rattle.std.specs.Io.KnownBytes.{Keeps, Consumes};
 ghost use Rattle.swim_wire.specs.Streams.{Gives, Puts, failures_then, failures_if};
-ghost use Rattle.swim_wire.specs.Memory.{counted_down, is_in_line};
+ghost use Rattle.swim_wire.specs.Memory.{counted_down, is_in_line, ready_of};
 
+use crate::parts::cut;
 use crate::streams::{Byte, Sink, Source};
 use std::alloc::Global;
 use std::marker::Model;
 
-/// A source over bytes in memory. Like a terminal, it is ready within a line, and not where one begins.
+/// A source over bytes in memory. Like a terminal, it is ready within a line, and not where one begins: it gives the rest of
+/// the line at once. While it is yet to fail it is never ready, so that its bytes are read one by one up to the failure.
 #[derive(Drop)]
 pub struct Text<'a> {
     left: &'a [u8],
@@ -39,7 +43,7 @@ impl<'a> Text<'a> {
         }
     }
 
-    /// A source of these bytes that gives `calls` answers, fails once, and then goes on.
+    /// A source of these bytes that answers so many calls of `byte`, fails once, and then goes on.
     pub fn failing_after(bytes: &'a [u8], calls: u32) -> Text<'a>
         ensures { result ≡ record { left = bytes.now; in_line = false; fails_in = Some calls; failures = 0 } }
     {
@@ -54,6 +58,8 @@ impl<'a> Text<'a> {
 
 impl<'a> Source for Text<'a> {
     ghost left = { λ t. Some t.left };
+
+    ghost ready = { λ t. ready_of t };
 
     ghost failures = { λ t. t.failures };
 
@@ -79,10 +85,37 @@ impl<'a> Source for Text<'a> {
         }
     }
 
-    fn is_ready(&self) -> bool
-        ensures { result ≡ self.now.in_line }
+    fn ready(&self) -> &[u8]
+        ensures bytes { result.now ≡ ready_of self.now }
+        ensures front { IfSome (Some self.now.left) (λ bytes. StartsWith bytes result.now) }
     {
-        self.is_in_line
+        if !self.is_in_line || self.fails_in.is_some() {
+            return &[];
+        }
+        line_of(self.left)
+    }
+
+    fn skip(&mut self, count: usize)
+        requires { count ≤ length (ready_of self.old) }
+        ensures bytes { Consumes (Some self.old.left) (Some self.new.left) (take count (ready_of self.old)) }
+        ensures ready { ready_of self.new ≡ drop count (ready_of self.old) }
+        ensures failures { self.new.failures ≡ self.old.failures }
+    {
+        if count > 0 {
+            let (_, left) = self.left.split_at(count);
+            self.is_in_line = self.left[count - 1] != b'\n';
+            self.left = left;
+        }
+    }
+}
+
+/// The first line of a text, with its line feed if it has one.
+fn line_of(text: &[u8]) -> &[u8]
+    ensures { result.now ≡ take_through 10 text.now }
+{
+    match cut(text, b'\n') {
+        Some((line, _)) => &text[..line.len() + 1],
+        None => text,
     }
 }
 

@@ -1,8 +1,9 @@
 //! Sources and sinks over std's readers and writers, each with a buffer of its own, so that a byte is no system call.
 
-ghost use Rattle.std.specs.Prelude.{◌≡◌, ℕ, ◌<◌, ◌≤◌, ◌==◌, true, not, List, [], ◌∷◌, length};
+ghost use Rattle.std.specs.Prelude.{◌≡◌, ℕ, ◌<◌, ◌≤◌, true, List, [], ◌∷◌, length, take, drop, IfSome};
 ghost use Rattle.std.specs.Bool.{MatchBool};
-ghost use Rattle.std.specs.Io.KnownBytes.{Keeps, Appends};
+ghost use Rattle.std.specs.Io.{StartsWith};
+ghost use Rattle.std.specs.Io.KnownBytes.{Keeps, Appends, Consumes};
 ghost use Rattle.swim_wire.specs.Streams.{Gives, Puts, failures_then, failures_if};
 ghost use Rattle.swim_wire.specs.Buffers.{left_of, written_of, with_text};
 
@@ -44,6 +45,8 @@ impl<R: Read> ReadSource<R> {
 impl<R: Read> Source for ReadSource<R> {
     ghost left = { λ s. left_of R.remaining s };
 
+    ghost ready = { λ s. s.buffered };
+
     ghost failures = { λ s. s.failures };
 
     fn byte(&mut self) -> Byte
@@ -64,10 +67,20 @@ impl<R: Read> Source for ReadSource<R> {
         }
     }
 
-    fn is_ready(&self) -> bool
-        ensures { result ≡ not (length self.now.buffered == 0) }
+    fn ready(&self) -> &[u8]
+        ensures bytes { result.now ≡ self.now.buffered }
+        ensures front { IfSome (left_of R.remaining self.now) (λ bytes. StartsWith bytes result.now) }
     {
-        !self.buffer.is_empty()
+        self.buffer.as_slice()
+    }
+
+    fn skip(&mut self, count: usize)
+        requires { count ≤ length self.old.buffered }
+        ensures bytes { Consumes (left_of R.remaining self.old) (left_of R.remaining self.new) (take count self.old.buffered) }
+        ensures ready { self.new.buffered ≡ drop count self.old.buffered }
+        ensures failures { self.new.failures ≡ self.old.failures }
+    {
+        self.buffer.advance(count);
     }
 }
 

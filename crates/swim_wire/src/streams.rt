@@ -1,7 +1,8 @@
 //! Bytes in and bytes out: what a program that answers line by line reads from and writes to.
 
-ghost use Rattle.std.specs.Prelude.{◌≡◌, ℕ, List, Option};
-ghost use Rattle.std.specs.Io.KnownBytes.{Keeps};
+ghost use Rattle.std.specs.Prelude.{◌≡◌, ℕ, ◌≤◌, List, length, take, drop, Option, IfSome};
+ghost use Rattle.std.specs.Io.{StartsWith};
+ghost use Rattle.std.specs.Io.KnownBytes.{Keeps, Consumes};
 ghost use Rattle.swim_wire.specs.Streams.{Gives, Puts, failures_then, failures_if};
 
 /// What a read of one byte gave.
@@ -15,10 +16,13 @@ pub enum Byte {
     Fault,
 }
 
-/// Bytes, read one by one.
+/// Bytes, read one by one, or as many at once as there are without waiting for more.
 pub trait Source {
     // The bytes left; `None` where they are not known, as those of a terminal.
     ghost left: { Self → Option (List ℕ) };
+
+    // The first of them, that can be had without waiting for the outside.
+    ghost ready: { Self → List ℕ };
 
     // How many reads failed; the count stops at 2^64-1.
     ghost failures: { Self → ℕ };
@@ -28,8 +32,17 @@ pub trait Source {
         ensures bytes { Gives (left self.old) (left self.new) result }
         ensures failures { failures self.new ≡ failures_then (failures self.old) result };
 
-    /// Whether the next call of `byte` answers without waiting for the outside.
-    fn is_ready(&self) -> bool;
+    /// The next bytes, as many as can be had without waiting for the outside. They are not taken yet.
+    fn ready(&self) -> &[u8]
+        ensures bytes { result.now ≡ ready self.now }
+        ensures front { IfSome (left self.now) (λ bytes. StartsWith bytes result.now) };
+
+    /// Takes the first `count` of the bytes that `ready` gives.
+    fn skip(&mut self, count: usize)
+        requires { count ≤ length (ready self.old) }
+        ensures bytes { Consumes (left self.old) (left self.new) (take count (ready self.old)) }
+        ensures ready { ready self.new ≡ drop count (ready self.old) }
+        ensures failures { failures self.new ≡ failures self.old };
 }
 
 /// Bytes, written. A sink may hold bytes back until it is flushed.

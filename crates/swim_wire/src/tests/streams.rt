@@ -104,7 +104,7 @@ fn refuses_lines(rt: HostRuntime) {
 #[test]
 fn tells_failures_in_mid_stream(rt: HostRuntime) {
     let mut source = Text::failing_after(b"ab\ncd", 4);
-    let mut page = Page::failing_after(rt.alloc(), None, Some(2));
+    let mut page = Page::failing_after(rt.alloc(), None, Some(5));
     let mut line = ArrayVec::<u8, 4>::new();
     let mut budget = 99;
     let table = [
@@ -151,16 +151,37 @@ fn reads_through_interruptions(rt: HostRuntime) {
             left: b"ab",
             interruptions,
         });
-        assert!(rt; !source.is_ready());
+        assert!(rt; source.ready().is_empty());
         assert_eq!(rt; source.byte(), first);
         if first == Byte::Fault {
             assert_eq!(rt; source.byte(), Byte::One(b'a'));
         }
-        assert!(rt; source.is_ready());
+        assert_eq!(rt; source.ready(), b"b".as_slice());
         assert_eq!(rt; source.byte(), Byte::One(b'b'));
         assert_eq!(rt; source.byte(), Byte::End);
         assert_eq!(rt; source.byte(), Byte::End);
     }
+}
+
+#[test]
+fn gives_what_is_ready(rt: HostRuntime) {
+    let mut source = ReadSource::new(b"abcd".as_slice());
+    assert_eq!(rt; source.byte(), Byte::One(b'a'));
+    assert_eq!(rt; source.ready(), b"bcd".as_slice());
+    source.skip(2);
+    assert_eq!(rt; source.ready(), b"d".as_slice());
+    source.skip(1);
+    assert_eq!(rt; source.byte(), Byte::End);
+
+    let mut text = Text::new(b"ab\ncd");
+    assert!(rt; text.ready().is_empty());
+    assert_eq!(rt; text.byte(), Byte::One(b'a'));
+    assert_eq!(rt; text.ready(), b"b\n".as_slice());
+    text.skip(1);
+    assert_eq!(rt; text.ready(), b"\n".as_slice());
+    text.skip(1);
+    assert!(rt; text.ready().is_empty());
+    assert_eq!(rt; text.byte(), Byte::One(b'c'));
 }
 
 #[test]

@@ -4,8 +4,8 @@ use Rattle.std.specs.Io.KnownBytes.{Keeps}
 use Rattle.swim_wire.specs.Cutting.{TakingKnown}
 use Rattle.swim_wire.proofs.lines.next_line.Given as goal
 
-abbrev pub invariant-loop-byte : goal.invariant-loop-byte
-invariant-loop-byte g l = record {
+abbrev pub invariant-loop-reader : goal.invariant-loop-reader
+invariant-loop-reader g l = record {
   taking : TakingKnown (g.R.Source.left l.initial.reader) (g.R.Source.left l.reader) l.line.items g.row.LIMIT l.start l.budget l.is_long;
   within : l.budget ≤ l.start;
   kept : Keeps (g.W.Sink.written l.initial.writer) (g.W.Sink.written l.writer);
@@ -13,5 +13,5 @@ invariant-loop-byte g l = record {
   writes : g.W.Sink.failures l.writer ≡ g.W.Sink.failures l.initial.writer;
 }
 
-abbrev pub decreases-loop-byte : goal.decreases-loop-byte
-decreases-loop-byte g l = l.budget
+abbrev pub decreases-loop-reader : goal.decreases-loop-reader
+decreases-loop-reader g l = l.budget
