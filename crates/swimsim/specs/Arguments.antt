@@ -57,6 +57,11 @@ order_within (Some ids) = if nat_lt 128 (length ids) then Err Order else Ok (rec
 abbrev pub order_of : List ℕ → Result (ArrayVec ℕ) LineFault
 order_of text = order_within (ids_of (words_by 44 text))
 
+-- the order that was read, and an empty one where it was not
+abbrev pub order_read : Result (ArrayVec ℕ) LineFault → ArrayVec ℕ
+order_read (Ok order) = order
+order_read (Err fault) = record { items = [] }
+
 -- an id, numbers of 32 and 64 bits, an address, a datagram, a seed
 abbrev pub take_id : List (List ℕ) → Result (ℕ × List (List ℕ)) LineFault
 take_id = argument Number id_of

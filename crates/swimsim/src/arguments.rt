@@ -5,6 +5,7 @@ ghost use Rattle.swimsim.specs.Arguments.{TakesFrom, open_arguments, take_id, ta
 
 use crate::commands::LineFault;
 use crate::datagrams::read_datagram;
+use std::marker::Model;
 use swim_targets::Order;
 use swim_wire::{Id, Message, Peer, WireFault, Words, read_number};
 
@@ -26,7 +27,37 @@ pub struct Opened {
     pub arguments: OpenArguments,
 }
 
+/// The text of an order, as large as a slice where the order itself would be moved with each command. A
+/// contract sees the order.
+#[derive(Debug, Drop)]
+pub struct OrderText<'a> {
+    text: &'a [u8],
+}
+
+impl<'a> Model for OrderText<'a> {
+    ghost use Rattle.std.specs.Prelude.{ℕ};
+    ghost use Rattle.arrayvec.specs.ArrayVec.{ArrayVec};
+    ghost use Rattle.swimsim.specs.Arguments.{order_of, order_read};
+
+    ghost Value = { ArrayVec ℕ };
+
+    ghost view = { λ order. order_read (order_of order.text.now) };
+}
+
+impl<'a> OrderText<'a> {
+    /// The order.
+    pub fn read(&self) -> Order
+        ensures { result ≡ self.now }
+    {
+        match read_order(self.text) {
+            Ok(order) => order,
+            Err(_) => Order::new(),
+        }
+    }
+}
+
 #[tactic(auto, unfolding(crate::specs::Arguments::open_arguments))]
+#[inline(never)]
 pub fn take_open(words: &mut Words<'_>) -> Result<OpenArguments, LineFault>
     ensures { TakesFrom result words.new (open_arguments words.old) }
 {
@@ -100,11 +131,13 @@ fn read_seed(text: &[u8]) -> Option<[u8; 32]>
     }
 }
 
-pub fn take_order(words: &mut Words<'_>) -> Result<Order, LineFault>
+#[inline(never)]
+pub fn take_order<'a>(words: &mut Words<'a>) -> Result<OrderText<'a>, LineFault>
     ensures { TakesFrom result words.new (take_order words.old) }
 {
-    let word = words.next().ok_or(LineFault::Number)?;
-    read_order(word)
+    let text = words.next().ok_or(LineFault::Number)?;
+    let _ = read_order(text)?;
+    Ok(OrderText { text })
 }
 
 /// The ids of an order, with commas between. Where one is no id that is told, and else where they are too

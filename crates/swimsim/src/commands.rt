@@ -4,9 +4,9 @@ ghost use Rattle.std.specs.Prelude.{◌≡◌};
 ghost use Rattle.swimsim.specs.Commands.{fault_name, LineStandsAt, word_of, fault_of_word, command_after, line_read, is_skipped, words_read, said_by, nothing_left};
 
 use crate::arguments::{
-    OpenArguments, take_datagram, take_id, take_number, take_open, take_order, take_peer, take_seed,
+    OpenArguments, OrderText, take_datagram, take_id, take_number, take_open, take_order,
+    take_peer, take_seed,
 };
-use swim_targets::Order;
 use swim_wire::{Id, Message, Peer, WireFault, Words};
 
 /// The longest line of a script, in bytes without its line feed.
@@ -88,10 +88,10 @@ pub enum Word {
 
 /// What a line says.
 #[derive(Debug, Drop)]
-pub enum Command {
+pub enum Command<'a> {
     Open(OpenArguments),
     Row(Id, Peer),
-    Order(Order),
+    Order(OrderText<'a>),
     Place(u32),
     Seed([u8; 32]),
     Tick,
@@ -104,14 +104,14 @@ pub enum Command {
 
 /// What a line says at that stage of its script: nothing where it is skipped, else a command, or the first
 /// fault of its words.
-pub fn read_line(stage: Stage, line: &[u8]) -> Result<Option<Command>, LineFault>
+pub fn read_line<'a>(stage: Stage, line: &'a [u8]) -> Result<Option<Command<'a>>, LineFault>
     ensures exact { result ≡ line_read stage line.now }
     ensures stands { LineStandsAt stage result }
 {
     read_any(stage, line)
 }
 
-fn read_any(stage: Stage, line: &[u8]) -> Result<Option<Command>, LineFault>
+fn read_any<'a>(stage: Stage, line: &'a [u8]) -> Result<Option<Command<'a>>, LineFault>
     ensures { result ≡ line_read stage line.now }
 {
     if is_skipped(line) {
@@ -132,7 +132,7 @@ fn is_skipped(line: &[u8]) -> bool
 }
 
 /// What the words of a line say.
-fn read_words(stage: Stage, words: &mut Words<'_>) -> Result<Option<Command>, LineFault>
+fn read_words<'a>(stage: Stage, words: &mut Words<'a>) -> Result<Option<Command<'a>>, LineFault>
     ensures { result ≡ said_by (words_read stage words.old) }
 {
     let first = words.next().ok_or(LineFault::Word)?;
@@ -194,7 +194,7 @@ fn fault_of_word(stage: Stage, word: Word) -> Option<LineFault>
 
 /// What the words after the first say.
 #[tactic(auto, unfolding(crate::specs::Commands::command_after))]
-fn read_command(word: Word, words: &mut Words<'_>) -> Result<Option<Command>, LineFault>
+fn read_command<'a>(word: Word, words: &mut Words<'a>) -> Result<Option<Command<'a>>, LineFault>
     ensures { result ≡ said_by (command_after word words.old) }
 {
     match word {

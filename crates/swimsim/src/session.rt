@@ -12,7 +12,7 @@ ghost use Rattle.swimsim.specs.Script.{Turn, is_write, result_kind};
 ghost use Rattle.swimsim.specs.Holds.{Done, Holds, Turned, Started, Called, Showed, table_of, gap_of, PlaysLine, ShowsLine, HearsLine, kept, ending, stage_in};
 
 use crate::answers::put_wire_fault;
-use crate::arguments::OpenArguments;
+use crate::arguments::{OpenArguments, OrderText};
 use crate::choosers::Drawer;
 use crate::commands::{Command, Stage, read_line};
 use crate::faults::{FaultKind, ScriptFault};
@@ -25,7 +25,6 @@ use std::marker::Model;
 use std::mem;
 use swim_detector::Recorder;
 use swim_history::Call;
-use swim_targets::Order;
 use swim_wire::{Id, Message, Peer, Sink, WireFault};
 
 /// Where a script has come: its header, and the recorder once an event line was met.
@@ -104,9 +103,13 @@ impl Session {
     }
 
     /// Does what a line says.
-    fn carry_out<W: Sink>(&mut self, command: Command, writer: &mut W) -> Result<(), ScriptFault>
+    fn carry_out<W: Sink>(
+        &mut self,
+        command: Command<'_>,
+        writer: &mut W,
+    ) -> Result<(), ScriptFault>
         requires { self.old.lines < 4294967295 }
-        ensures done { Done self.old self.new command (W.written writer.old) (W.written writer.new) result }
+        ensures done { Done self.old self.new command.entry (W.written writer.old) (W.written writer.new) result }
         ensures count { OnOk result (self.new.lines ≡ self.old.lines + 1) }
         ensures unread { result_kind result ≢ Some FaultKind.Read }
         ensures failures { W.failures writer.new ≡ failures_if (W.failures writer.old) (not (is_write result)) }
@@ -159,14 +162,16 @@ impl Session {
         self.header.add_row(id, peer);
     }
 
-    fn add_order(&mut self, order: Order) -> Result<(), ScriptFault>
+    // A function of its own, since the order is large.
+    #[inline(never)]
+    fn add_order(&mut self, order: OrderText<'_>) -> Result<(), ScriptFault>
         requires { self.old.lines < 4294967295 }
         ensures { MatchResult result
-            (λ done. self.new ≡ record { lines = self.old.lines + 1; header = told_then (self.old.lines + 1) (commands.Order order) self.old.header; recorded = self.old.recorded })
+            (λ done. self.new ≡ record { lines = self.old.lines + 1; header = told_then (self.old.lines + 1) (commands.Order order.entry) self.old.header; recorded = self.old.recorded })
             (λ fault. fault ≡ record { line = self.old.lines + 1; kind = FaultKind.Memory }) }
     {
         self.lines += 1;
-        match self.header.add_order(order) {
+        match self.header.add_order(order.read()) {
             Ok(()) => Ok(()),
             Err(_) => Err(self.stopped(FaultKind::Memory)),
         }
