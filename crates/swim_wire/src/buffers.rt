@@ -88,6 +88,24 @@ impl Buffer {
         self.end += 1;
     }
 
+    /// How many bytes there is room for.
+    pub fn room(&self) -> usize
+        ensures { result ≡ self.now.room }
+    {
+        BUFFER_BYTES - self.end
+    }
+
+    /// Puts a text behind the bytes that wait.
+    pub fn append(&mut self, text: &[u8])
+        requires { length text.now ≤ self.old.room }
+        ensures held { self.new.held ≡ self.old.held ++ text.now }
+        ensures room { self.new.room ≡ self.old.room - length text.now }
+    {
+        let end = self.end + text.len();
+        self.bytes[self.end..end].copy_from_slice(text);
+        self.end = end;
+    }
+
     /// Drops the first bytes that wait, and makes room where none is left.
     pub fn advance(&mut self, count: usize)
         requires { count ≤ length self.old.held }

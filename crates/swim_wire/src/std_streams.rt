@@ -114,13 +114,26 @@ impl<W: Write> WriteSink<W> {
         }
     }
 
+    /// Takes the bytes of a text one by one, for which there may be no room at once.
+    fn put_each(&mut self, text: &[u8]) -> bool
+        ensures bytes { Puts (written_of W.contents self.old) (written_of W.contents self.new) text.now result }
+        ensures failures { self.new.failures ≡ failures_if self.old.failures result }
+    {
+        for byte in text {
+            if !self.put_byte(*byte) {
+                self.failures = self.failures.saturating_add(1);
+                return false;
+            }
+        }
+        true
+    }
+
     /// Takes one byte; where there is no room, it first writes what it holds back.
     fn put_byte(&mut self, byte: u8) -> bool
         ensures bytes { MatchBool result
             (Appends (written_of W.contents self.old) (written_of W.contents self.new) (byte ∷ []))
             (Keeps (written_of W.contents self.old) (written_of W.contents self.new)) }
         ensures failures { self.new.failures ≡ self.old.failures }
-        ensures fits { 0 < self.old.room → (result ≡ true) × (self.new ≡ with_text self.old (byte ∷ [])) }
     {
         if self.buffer.is_full() && !self.buffer.send(&mut self.writer) {
             return false;
@@ -142,13 +155,11 @@ impl<W: Write> Sink for WriteSink<W> {
         // A text for which there is room is held back.
         ensures fits { length text.now ≤ self.old.room → (result ≡ true) × (self.new ≡ with_text self.old text.now) }
     {
-        for byte in text {
-            if !self.put_byte(*byte) {
-                self.failures = self.failures.saturating_add(1);
-                return false;
-            }
+        if text.len() <= self.buffer.room() {
+            self.buffer.append(text);
+            return true;
         }
-        true
+        self.put_each(text)
     }
 
     fn flush(&mut self) -> bool

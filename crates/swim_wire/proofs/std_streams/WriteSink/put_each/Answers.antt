@@ -1,5 +1,5 @@
 use Rattle.swim_wire.specs.Streams.{front_put}
-use Rattle.swim_wire.proofs.std_streams.WriteSinkSink.put.Goals as goal
+use Rattle.swim_wire.proofs.std_streams.WriteSink.put_each.Goals as goal
 
 pub returns-then-not-put_byte-clause-bytes : goal.returns-then-not-put_byte-clause-bytes
 returns-then-not-put_byte-clause-bytes g c =

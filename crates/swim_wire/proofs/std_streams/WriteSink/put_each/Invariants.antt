@@ -1,12 +1,11 @@
 -- The bytes so far were taken, and nothing failed.
-use Rattle.std.proofs.Common.{◌≡◌, ◌≤◌, length, take}
+use Rattle.std.proofs.Common.{◌≡◌, take}
 use Rattle.std.specs.Io.KnownBytes.{Appends}
-use Rattle.swim_wire.specs.Buffers.{written_of, with_text}
-use Rattle.swim_wire.proofs.std_streams.WriteSinkSink.put.Given as goal
+use Rattle.swim_wire.specs.Buffers.{written_of}
+use Rattle.swim_wire.proofs.std_streams.WriteSink.put_each.Given as goal
 
 abbrev pub invariant-loop-byte : goal.invariant-loop-byte
 invariant-loop-byte g l = record {
   written : Appends (written_of g.W.Write.contents l.initial.self) (written_of g.W.Write.contents l.self) (take l.byte-index l.text);
-  fits : length l.text ≤ l.initial.self.room → l.self ≡ with_text l.initial.self (take l.byte-index l.text);
   unfailed : l.self.failures ≡ l.initial.self.failures;
 }
