@@ -1,15 +1,14 @@
 //! The texts of answers, written to a sink. Each function answers whether the sink took its text.
 
-ghost use Rattle.std.specs.Prelude.{◌≡◌, ◌++◌, codes, decimal};
-ghost use Rattle.hex.specs.Hex.{encode_lower};
-ghost use Rattle.swim_wire.specs.Layout.{text_of};
+ghost use Rattle.std.specs.Prelude.{◌≡◌, ◌++◌, codes, decimal, map};
 ghost use Rattle.swim_wire.specs.Address.{address_text};
 ghost use Rattle.swim_wire.specs.Streams.{Puts, failures_if};
-ghost use Rattle.swimsim.specs.Texts.{feed, answer_text, reply_text, id_text, probe_text, relays_text, more_relays_text, send_text, sends_text, wire_text};
+ghost use Rattle.swim_history.specs.Sends.{sends_of, to_each};
+ghost use Rattle.swimsim.specs.Texts.{feed, answer_text, reply_text, id_text, probe_text, relays_text, more_relays_text, datagram_text, line_text, lines_text, sends_text, wire_text};
 
 use itoa::Buffer;
-use swim_history::{Opening, Probe, Relay, Reply, sends};
-use swim_wire::{DATAGRAM_BYTES, Id, Message, Peer, Sink, WireFault, encode};
+use swim_history::{Opening, Probe, Relay, Reply};
+use swim_wire::{DATAGRAM_BYTES, Id, Kind, Message, Peer, PeriodNumber, Sink, WireFault, encode};
 
 /// The lines of a reply: its text, and a line for each message that it sends.
 pub fn put_answer<W: Sink>(writer: &mut W, reply: &Reply, opening: &Opening) -> bool
@@ -19,19 +18,19 @@ pub fn put_answer<W: Sink>(writer: &mut W, reply: &Reply, opening: &Opening) -> 
     if !put_reply(writer, reply) {
         return false;
     }
-    put_end_and_sends(writer, sends(reply, opening).as_slice())
+    put_end_and_sends(writer, reply, opening)
 }
 
-/// The end of a reply's line, and a line for each message.
-fn put_end_and_sends<W: Sink>(writer: &mut W, sent: &[(Peer, Message)]) -> bool
+/// The end of a reply's line, and a line for each message that it sends.
+fn put_end_and_sends<W: Sink>(writer: &mut W, reply: &Reply, opening: &Opening) -> bool
     ensures bytes { Puts (W.written writer.old) (W.written writer.new)
-        (feed ++ sends_text sent.now) result }
+        (feed ++ sends_text (sends_of reply.now opening.now)) result }
     ensures failures { W.failures writer.new ≡ failures_if (W.failures writer.old) result }
 {
     if !writer.put(b"\n") {
         return false;
     }
-    put_sends(writer, sent)
+    put_sends(writer, reply, opening)
 }
 
 /// The line of a datagram that is none.
@@ -218,30 +217,103 @@ fn put_more_relays<W: Sink>(writer: &mut W, relays: &[Relay]) -> bool
     put_more_relays(writer, others)
 }
 
-/// A line for each message.
-fn put_sends<W: Sink>(writer: &mut W, sent: &[(Peer, Message)]) -> bool
-    ensures bytes { Puts (W.written writer.old) (W.written writer.new) (sends_text sent.now) result }
+/// A line for each message that a reply sends.
+fn put_sends<W: Sink>(writer: &mut W, reply: &Reply, opening: &Opening) -> bool
+    ensures bytes { Puts (W.written writer.old) (W.written writer.new)
+        (sends_text (sends_of reply.now opening.now)) result }
     ensures failures { W.failures writer.new ≡ failures_if (W.failures writer.old) result }
 {
-    let [first, others @ ..] = sent else {
+    let me = opening.me();
+    match reply {
+        Reply::Started {
+            probe: Some(probe),
+            ..
+        } => {
+            let to = Relay {
+                id: probe.target,
+                peer: probe.peer,
+            };
+            put_own(writer, Kind::Ping, me, probe.target, probe.number, &[to])
+        }
+        Reply::Asked {
+            target,
+            number,
+            relays,
+        } => put_own(
+            writer,
+            Kind::PingReq,
+            me,
+            *target,
+            *number,
+            relays.as_slice(),
+        ),
+        Reply::Send { peer, message } => put_line(writer, peer, &datagram_of(message)),
+        _ => true,
+    }
+}
+
+/// The lines of the same message of this member's own probe to each of them.
+fn put_own<W: Sink>(
+    writer: &mut W,
+    kind: Kind,
+    me: Id,
+    target: Id,
+    number: u64,
+    to: &[Relay],
+) -> bool
+    ensures bytes { Puts (W.written writer.old) (W.written writer.new)
+        (sends_text (to_each kind me target number (map (λ relay. relay.peer) to.now))) result }
+    ensures failures { W.failures writer.new ≡ failures_if (W.failures writer.old) result }
+{
+    let Some(number) = PeriodNumber::new(number) else {
         return true;
     };
-    if !put_send(writer, &first.0, &first.1) {
+    let message = Message {
+        kind,
+        sender: me,
+        initiator: me,
+        target,
+        number,
+    };
+    put_lines(writer, to, &datagram_of(&message))
+}
+
+/// A line with the same datagram to each of them.
+fn put_lines<W: Sink>(writer: &mut W, to: &[Relay], datagram: &[u8]) -> bool
+    ensures bytes { Puts (W.written writer.old) (W.written writer.new)
+        (lines_text to.now datagram.now) result }
+    ensures failures { W.failures writer.new ≡ failures_if (W.failures writer.old) result }
+{
+    let [first, others @ ..] = to else {
+        return true;
+    };
+    if !put_line(writer, &first.peer, datagram) {
         return false;
     }
-    put_sends(writer, others)
+    put_lines(writer, others, datagram)
 }
 
 /// The line of a message: its address and its datagram.
-fn put_send<W: Sink>(writer: &mut W, peer: &Peer, message: &Message) -> bool
+fn put_line<W: Sink>(writer: &mut W, peer: &Peer, datagram: &[u8]) -> bool
     ensures bytes { Puts (W.written writer.old) (W.written writer.new)
-        (send_text (peer.now, message.now)) result }
+        (line_text peer.now datagram.now) result }
     ensures failures { W.failures writer.new ≡ failures_if (W.failures writer.old) result }
 {
     if !put_address(writer, b"> ", peer) {
         return false;
     }
-    put_datagram(writer, message)
+    writer.put(datagram)
+}
+
+/// A space, the datagram of a message in hexadecimal digits, and the end of the line.
+fn datagram_of(message: &Message) -> [u8; 2 * DATAGRAM_BYTES + 2]
+    ensures { result ≡ datagram_text message.now }
+{
+    let bytes = encode(message);
+    let mut text = [b'\n'; 2 * DATAGRAM_BYTES + 2];
+    text[0] = b' ';
+    let _ = hex::encode_to_slice(bytes.as_slice(), &mut text[1..=2 * DATAGRAM_BYTES]);
+    text
 }
 
 /// A word and an address.
@@ -255,38 +327,4 @@ pub fn put_address<W: Sink>(writer: &mut W, word: &[u8], peer: &Peer) -> bool
     }
     let text = peer.write();
     writer.put(text.as_str().as_bytes())
-}
-
-/// A space, the datagram of a message in hexadecimal digits, and the end of the line.
-fn put_datagram<W: Sink>(writer: &mut W, message: &Message) -> bool
-    ensures bytes { Puts (W.written writer.old) (W.written writer.new)
-        (codes " " ++ (encode_lower (text_of message.now) ++ feed)) result }
-    ensures failures { W.failures writer.new ≡ failures_if (W.failures writer.old) result }
-{
-    if !writer.put(b" ") {
-        return false;
-    }
-    put_digits(writer, message)
-}
-
-fn put_digits<W: Sink>(writer: &mut W, message: &Message) -> bool
-    ensures bytes { Puts (W.written writer.old) (W.written writer.new)
-        (encode_lower (text_of message.now) ++ feed) result }
-    ensures failures { W.failures writer.new ≡ failures_if (W.failures writer.old) result }
-{
-    let digits = digits_of(message);
-    if !writer.put(&digits) {
-        return false;
-    }
-    writer.put(b"\n")
-}
-
-/// The datagram of a message, in hexadecimal digits.
-fn digits_of(message: &Message) -> [u8; 48]
-    ensures { result ≡ encode_lower (text_of message.now) }
-{
-    let datagram = encode(message);
-    let mut digits = [0; 2 * DATAGRAM_BYTES];
-    let _ = hex::encode_to_slice(datagram.as_slice(), &mut digits);
-    digits
 }

@@ -212,6 +212,7 @@ impl Session {
     }
 
     // A function of its own, since its locals are large and `start` runs at each event line.
+    #[inline(never)]
     fn open_recorder(&mut self) -> Result<(), ScriptFault>
         requires { self.old.recorded ≡ None }
         ensures started { Started self.old self.new result }
