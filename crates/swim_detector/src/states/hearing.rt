@@ -20,6 +20,7 @@ use swim_wire::{Kind, Message, Peer};
 
 impl State {
     /// A message came from this address.
+    #[inline(never)]
     pub(super) fn hear(&mut self, journal: &Journal, message: &Message, source: Peer) -> Answer
         requires { Mirrors journal.now.opening journal.now.past self.old }
         ensures { IsSettled journal.now.opening journal.now.past (Hear message.now source) result self.new }

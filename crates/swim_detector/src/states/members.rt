@@ -17,6 +17,7 @@ use swim_wire::{Id, Peer};
 
 impl State {
     /// A member is to be listed.
+    #[inline(never)]
     pub(super) fn join<C: Chooser>(
         &mut self,
         journal: &Journal,
@@ -52,6 +53,7 @@ impl State {
     }
 
     /// A member is to be forgotten.
+    #[inline(never)]
     pub(super) fn remove(&mut self, journal: &Journal, id: Id) -> Answer
         requires { Mirrors journal.now.opening journal.now.past self.old }
         ensures { IsSettled journal.now.opening journal.now.past (Remove id) result self.new }

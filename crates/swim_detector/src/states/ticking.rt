@@ -19,6 +19,7 @@ use swim_wire::Id;
 
 impl State {
     /// One tick passes.
+    #[inline(never)]
     pub(super) fn tick<C: Chooser>(&mut self, journal: &Journal, chooser: &mut C) -> Answer
         requires { Mirrors journal.now.opening journal.now.past self.old }
         ensures { IsAnswered C.orders C.places journal.now.opening journal.now.past Tick result self.new chooser.old chooser.new }
@@ -38,6 +39,7 @@ impl State {
 
     /// A period ends, and the next begins: an aim that no ack came of is judged failed, and the next
     /// member is probed.
+    #[inline(never)]
     fn start<C: Chooser>(&mut self, journal: &Journal, chooser: &mut C) -> Answer
         requires mirrors { Mirrors journal.now.opening journal.now.past self.old }
         requires begins { phase journal.now.opening journal.now.past ≡ 0 }
@@ -70,6 +72,7 @@ impl State {
         }
     }
 
+    #[inline(never)]
     fn ask<C: Chooser>(&mut self, journal: &Journal, chooser: &mut C, target: Id) -> Answer
         requires mirrors { Mirrors journal.now.opening journal.now.past self.old }
         requires timeout { phase journal.now.opening journal.now.past ≡ journal.now.opening.rtt }
