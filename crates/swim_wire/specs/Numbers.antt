@@ -1,5 +1,5 @@
 -- Numbers in text: decimal, with no sign and no zero in front.
-use Rattle.std.specs.Prelude.{◌≡◌, ℕ, ◌≤◌, ◌<◌, ◌^◌, Bool, true, false, ◌&&◌, nat_lt, nat_le, List, Option, Some, None, if◌then◌else◌, decimal}
+use Rattle.std.specs.Prelude.{◌≡◌, ◌≢◌, ℕ, ◌≤◌, ◌<◌, ◌^◌, Bool, true, false, ◌&&◌, nat_lt, nat_le, List, length, slice_index, Option, Some, None, if◌then◌else◌, decimal}
 use Rattle.std.specs.Option.{option_and_then}
 use Rattle.std.specs.Str.{bytes_eq}
 use Rattle.std.specs.Str.Parse.{digits_value}
@@ -12,7 +12,11 @@ use Rattle.std.proofs.lemmas.Slice.Eq.{bytes_eq-Decides}
 abbrev pub number_of : ℕ → List ℕ → Option ℕ
 number_of limit text = let n = digits_value 10 text in if bytes_eq (decimal n) text && nat_le n limit then Some n else None
 
--- the same without 0
+-- digits with no sign in front, and no zero in front of another digit
+abbrev pub IsPlain : List ℕ → Type 0
+IsPlain text = (slice_index text 0 ≢ 43) × (slice_index text 0 ≡ 48 → length text ≡ 1)
+
+-- the same number, without 0
 abbrev pub positive_of : ℕ → List ℕ → Option ℕ
 positive_of limit text = option_and_then (λ n. if nat_lt 0 n then Some n else None) (number_of limit text)
 

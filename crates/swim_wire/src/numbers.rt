@@ -1,9 +1,7 @@
 //! Numbers in text.
 
 ghost use Rattle.std.specs.Prelude.{◌≡◌, ℕ, ◌<◌, ◌≤◌, ◌^◌, ◌↔◌, Some, IfSome, IsTrue, decimal};
-ghost use Rattle.swim_wire.specs.Numbers.{number_of};
-
-use itoa::Buffer;
+ghost use Rattle.swim_wire.specs.Numbers.{number_of, IsPlain};
 
 /// The number from 0 to `limit` that the text is in decimal, with no sign and no zero in front. `None` for
 /// any other text.
@@ -22,22 +20,31 @@ pub fn read_number(text: &[u8], limit: u64) -> Option<u64>
 fn parse(text: &[u8], limit: u64) -> Option<u64>
     ensures { result ≡ number_of limit text.now }
 {
+    if !is_plain(text) {
+        return None;
+    }
     let number = parsed(text)?;
-    if number > limit || !is_written(number, text) {
+    if number > limit {
         return None;
     }
     Some(number)
 }
 
-// What std reads, which is more than the canonical texts.
-fn parsed(text: &[u8]) -> Option<u64>
-    ensures { (n : ℕ) → n < 2 ^ 64 → text.now ≡ decimal n → result ≡ Some n }
+// Whether the text, where std reads a number in it, is how that number is written: std also takes a `+` and zeros in front.
+fn is_plain(text: &[u8]) -> bool
+    ensures { IsTrue result ↔ IsPlain text.now }
 {
-    str::from_utf8(text).ok()?.parse().ok()
+    match text.first() {
+        Some(b'0') => text.len() == 1,
+        Some(first) => *first != b'+',
+        None => true,
+    }
 }
 
-fn is_written(number: u64, text: &[u8]) -> bool
-    ensures { IsTrue result ↔ (text.now ≡ decimal number) }
+// What std reads, which is more than the canonical texts.
+fn parsed(text: &[u8]) -> Option<u64>
+    ensures found { IfSome result (λ n. IsPlain text.now → text.now ≡ decimal n) }
+    ensures only { (n : ℕ) → n < 2 ^ 64 → text.now ≡ decimal n → result ≡ Some n }
 {
-    Buffer::new().format(number).as_bytes() == text
+    str::from_utf8(text).ok()?.parse().ok()
 }
