@@ -32,9 +32,9 @@ Records orders places old new e =
     × DrawsEntry orders places old.opening old.past e.call e.reply e.choice old.chooser new.chooser
     × (new.past ≡ e ∷ old.past) × (new.opening ≡ old.opening) × (new.limit ≡ old.limit)
 
--- an entry of that seat with this call and reply was added
-abbrev pub RecordsReply : {C : Type 0} → (C → List ℕ → List ℕ → C → Type 0) → (C → ℕ → ℕ → C → Type 0) → Recording C → Recording C → ℕ → Call → Reply → Type 0
-RecordsReply orders places old new seat call reply = (e : Entry) × (e.seat ≡ seat) × (e.call ≡ call) × (e.reply ≡ reply) × Records orders places old new e
+-- an entry of that seat with this call was added
+abbrev pub RecordsCall : {C : Type 0} → (C → List ℕ → List ℕ → C → Type 0) → (C → ℕ → ℕ → C → Type 0) → Recording C → Recording C → ℕ → Call → Type 0
+RecordsCall orders places old new seat call = (e : Entry) × (e.seat ≡ seat) × (e.call ≡ call) × Records orders places old new e
 
 -- the change is the one that each entry of the call makes which may follow the history
 abbrev pub IsChangeOf : Setting → List Entry → Call → Option Change → Type 0

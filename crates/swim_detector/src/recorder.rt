@@ -2,7 +2,7 @@
 
 ghost use Rattle.std.specs.Prelude.{◌≡◌, ◌↔◌, ◌<◌, ◌≤◌, ◌∷◌, [], length, Err, IfOk, IsOk, OnOk, OnErr};
 ghost use Rattle.swim_history.specs.Changes.{table};
-ghost use Rattle.swim_detector.specs.Recording.{IsKept, Records, RecordsReply, IsChangeOf};
+ghost use Rattle.swim_detector.specs.Recording.{IsKept, Records, RecordsCall, IsChangeOf};
 ghost use Rattle.swim_detector.specs.Mirrors.{entry_of, round_entry};
 ghost use Rattle.swim_history.specs.Run.{Continues};
 
@@ -93,18 +93,18 @@ impl<C: Chooser> Recorder<C> {
         ensures full { (result ≡ Err ApplyFault.JournalFull) ↔ (length self.old.past ≡ self.old.limit) }
         ensures within { length self.old.past ≤ self.old.limit }
     {
-        self.answer(seat, call)?;
+        self.record(seat, call)?;
         match self.journal.entry(self.journal.len() - 1) {
             Some(entry) => Ok(entry),
             None => unreachable!(),
         }
     }
 
-    /// As `apply`, but it answers the reply of the entry alone, which is small where the order of a round
-    /// that begins makes the entry large.
-    pub fn answer(&mut self, seat: u8, call: Call) -> Result<Reply, ApplyFault>
+    /// As `apply`, but it answers nothing: the reply is that of the newest entry of the journal, which can
+    /// be read there without being moved.
+    pub fn record(&mut self, seat: u8, call: Call) -> Result<(), ApplyFault>
         requires { seat < 4 }
-        ensures ok { IfOk result (λ reply. RecordsReply C.orders C.places self.old self.new seat call reply) }
+        ensures ok { OnOk result (RecordsCall C.orders C.places self.old self.new seat call) }
         ensures err { OnErr result (IsKept self.old self.new) }
         ensures ready { 0 < self.old.room → length self.old.past < self.old.limit → IsOk result }
         ensures full { (result ≡ Err ApplyFault.JournalFull) ↔ (length self.old.past ≡ self.old.limit) }
@@ -113,9 +113,9 @@ impl<C: Chooser> Recorder<C> {
         self.ready()?;
         let number = self.counts[seat as usize];
         let answer = self.state.answer(&self.journal, &mut self.chooser, &call);
-        let reply = add(&mut self.journal, &self.state, seat, number, call, answer);
+        add(&mut self.journal, &self.state, seat, number, call, answer);
         self.counts[seat as usize] = number + 1;
-        Ok(reply)
+        Ok(())
     }
 
     /// The change that a call would make to the member table now, if it would make one.
@@ -149,55 +149,36 @@ impl<C: Chooser> Recorder<C> {
     }
 }
 
-/// Adds the entry of a call, and answers its reply.
-fn add(
-    journal: &mut Journal,
-    state: &State,
-    seat: u8,
-    number: u32,
-    call: Call,
-    answer: Answer,
-) -> Reply
+/// Adds the entry of a call.
+fn add(journal: &mut Journal, state: &State, seat: u8, number: u32, call: Call, answer: Answer)
     requires room { 0 < journal.old.room }
     requires count { length journal.old.past < 4294967295 }
     requires continues { Continues journal.old.opening journal.old.past (entry_of seat number call answer state.now) }
     ensures opening { journal.new.opening ≡ journal.old.opening }
     ensures past { journal.new.past ≡ entry_of seat number call answer state.now ∷ journal.old.past }
-    ensures reply { result ≡ answer.reply }
 {
     if answer.begins_round {
-        add_start(journal, state, seat, number, call, answer.reply)
+        add_start(journal, state, seat, number, call, answer.reply);
     } else {
         journal.add_undrawn(seat, number, &call, &answer.reply);
-        answer.reply
     }
 }
 
-/// Adds the entry of a call by which a round began, and answers its reply.
+/// Adds the entry of a call by which a round began.
 // A function of its own, since an entry is large, and few calls begin a round.
 #[inline(never)]
-fn add_start(
-    journal: &mut Journal,
-    state: &State,
-    seat: u8,
-    number: u32,
-    call: Call,
-    reply: Reply,
-) -> Reply
+fn add_start(journal: &mut Journal, state: &State, seat: u8, number: u32, call: Call, reply: Reply)
     requires room { 0 < journal.old.room }
     requires count { length journal.old.past < 4294967295 }
     requires continues { Continues journal.old.opening journal.old.past (round_entry seat number call reply state.now) }
     ensures opening { journal.new.opening ≡ journal.old.opening }
     ensures past { journal.new.past ≡ round_entry seat number call reply state.now ∷ journal.old.past }
-    ensures reply { result ≡ reply }
 {
-    let entry = Entry {
+    journal.add(&Entry {
         seat,
         number,
         call,
         choice: state.round(),
         reply,
-    };
-    journal.add(&entry);
-    entry.reply
+    });
 }
