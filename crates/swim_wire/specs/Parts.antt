@@ -1,9 +1,9 @@
 -- A text cut in two at a byte.
-use Rattle.std.specs.Prelude.{◌≡◌, ℕ, Bool, true, false, ◌==◌, List, [], ◌∷◌, ◌++◌, length, take, ◌||◌, Option, Some, None, MatchOption, if◌then◌else◌}
+use Rattle.std.specs.Prelude.{◌≡◌, ℕ, zero, suc, ◌<◌, ◌≤◌, Bool, true, false, ◌==◌, List, [], ◌∷◌, ◌++◌, length, take, slice_index, ◌||◌, Option, Some, None, MatchOption, if◌then◌else◌}
 use Rattle.std.specs.List.{list_any}
 use Rattle.std.specs.Option.{option_map}
 use Rattle.std.specs.Io.BufRead.{take_through}
-use Rattle.std.proofs.Common.{cond, eqb, refl, sym, ap, ◌∙◌, append_assoc}
+use Rattle.std.proofs.Common.{cond, eqb, refl, sym, ap, ◌∙◌, append_assoc, arith}
 use Rattle.std.proofs.Math.Seq.{take-append_seam}
 use Rattle.std.proofs.lemmas.Bool.{or_parts, eq-eqb, eqb-true}
 
@@ -15,6 +15,16 @@ has byte text = list_any (λ b. b == byte) text
 abbrev pub cut : ℕ → List ℕ → Option (List ℕ × List ℕ)
 cut byte [] = None
 cut byte (b ∷ text) = if b == byte then Some ([], text) else option_map (λ parts. (b ∷ parts.0, parts.1)) (cut byte text)
+
+-- the byte is not in a front of the text where it is at none of its places
+pub has_none : (byte : ℕ) (text : List ℕ) (count : ℕ) → ((k : ℕ) → k < count → eqb (slice_index text k) byte ≡ true → ⊥) → count ≤ length text → has byte (take count text) ≡ false
+has_none byte text zero none fits = refl
+has_none byte [] (suc count) none fits = absurd (omega arith)
+has_none byte (b ∷ text) (suc count) none fits =
+    by (eqb b byte) (none 0 (omega arith)) (has_none byte text count (λ k below. none (suc k) (omega arith)) (omega arith)) where
+      by : (here : Bool) → (here ≡ true → ⊥) → has byte (take count text) ≡ false → (here || has byte (take count text)) ≡ false
+      by true never rest = absurd (never refl)
+      by false never rest = rest
 
 -- the first such byte is the one that no other stands before
 pub cut_at : (byte : ℕ) (before after : List ℕ) → has byte before ≡ false → cut byte (before ++ byte ∷ after) ≡ Some (before, after)
