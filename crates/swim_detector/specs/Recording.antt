@@ -1,5 +1,5 @@
 -- What contracts see of a `Recorder`, and what a call does to it.
-use Rattle.std.specs.Prelude.{◌≡◌, ℕ, List, ◌∷◌, Option}
+use Rattle.std.specs.Prelude.{◌≡◌, ℕ, List, [], ◌∷◌, Option}
 use Rattle.swim_history.specs.declared.calls.Call.{Call}
 use Rattle.swim_history.specs.declared.replies.Reply.{Reply}
 use Rattle.swim_history.specs.declared.rows.Change.{Change}
@@ -20,6 +20,11 @@ pub record Recording (C : Type 0) : Type 0 where
   -- how many more entries take no memory
   pub room : ℕ
   pub chooser : C
+
+-- the reply is that of the newest entry, if there is one
+abbrev pub IsLatest : List Entry → Reply → Type 0
+IsLatest [] reply = Unit {0}
+IsLatest (e ∷ h) reply = reply ≡ e.reply
 
 -- nothing changed but the room for more entries
 abbrev pub IsKept : {C : Type 0} → Recording C → Recording C → Type 0

@@ -2,7 +2,7 @@
 
 ghost use Rattle.std.specs.Prelude.{◌≡◌, ◌↔◌, ◌<◌, ◌≤◌, ◌∷◌, [], length, Err, IfOk, IsOk, OnOk, OnErr};
 ghost use Rattle.swim_history.specs.Changes.{table};
-ghost use Rattle.swim_detector.specs.Recording.{IsKept, Records, RecordsCall, IsChangeOf};
+ghost use Rattle.swim_detector.specs.Recording.{IsKept, IsLatest, Records, RecordsCall, IsChangeOf};
 ghost use Rattle.swim_detector.specs.Mirrors.{entry_of, round_entry};
 ghost use Rattle.swim_history.specs.Run.{Continues};
 
@@ -29,6 +29,8 @@ pub enum ApplyFault {
 pub struct Recorder<C: Chooser> {
     journal: Journal,
     state: State,
+    // The answer to the newest call, which stands here so that its reply can be lent.
+    answer: Answer,
     // How many calls each seat made.
     counts: [u32; 4],
     chooser: C,
@@ -37,14 +39,15 @@ pub struct Recorder<C: Chooser> {
 
 impl<C: Chooser> Model for Recorder<C> {
     ghost use Rattle.std.specs.Prelude.{length};
-    ghost use Rattle.swim_detector.specs.Recording.{Recording};
+    ghost use Rattle.swim_detector.specs.Recording.{Recording, IsLatest};
     ghost use Rattle.swim_detector.specs.Mirrors.{Mirrors, Counts};
 
     ghost Value = { Recording C };
 
     ghost view = { λ r. record { opening = r.journal.opening; past = r.journal.past; limit = r.limit; room = r.journal.room; chooser = r.chooser } };
 
-    ghost invariant = { λ r. Mirrors r.journal.opening r.journal.past r.state × Counts r.journal.past r.counts r.limit };
+    ghost invariant = { λ r. Mirrors r.journal.opening r.journal.past r.state × Counts r.journal.past r.counts r.limit
+        × IsLatest r.journal.past r.answer.reply };
 }
 
 impl<C: Chooser> Recorder<C> {
@@ -59,6 +62,7 @@ impl<C: Chooser> Recorder<C> {
         Recorder {
             journal: Journal::new(alloc, opening),
             state,
+            answer: Answer::of(Reply::Quiet),
             counts: [0; 4],
             chooser,
             limit,
@@ -100,8 +104,7 @@ impl<C: Chooser> Recorder<C> {
         }
     }
 
-    /// As `apply`, but it answers nothing: the reply is that of the newest entry of the journal, which can
-    /// be read there without being moved.
+    /// As `apply`, but it answers nothing: `reply` lends the reply, which takes less than an entry.
     pub fn record(&mut self, seat: u8, call: Call) -> Result<(), ApplyFault>
         requires { seat < 4 }
         ensures ok { OnOk result (RecordsCall C.orders C.places self.old self.new seat call) }
@@ -112,10 +115,24 @@ impl<C: Chooser> Recorder<C> {
     {
         self.ready()?;
         let number = self.counts[seat as usize];
-        let answer = self.state.answer(&self.journal, &mut self.chooser, &call);
-        add(&mut self.journal, &self.state, seat, number, call, answer);
+        self.answer = self.state.answer(&self.journal, &mut self.chooser, &call);
+        add(
+            &mut self.journal,
+            &self.state,
+            seat,
+            number,
+            call,
+            &self.answer,
+        );
         self.counts[seat as usize] = number + 1;
         Ok(())
+    }
+
+    /// The reply of the newest entry; `Quiet` where there is none.
+    pub fn reply(&self) -> &Reply
+        ensures { IsLatest self.now.past result.now }
+    {
+        &self.answer.reply
     }
 
     /// The change that a call would make to the member table now, if it would make one.
@@ -150,15 +167,15 @@ impl<C: Chooser> Recorder<C> {
 }
 
 /// Adds the entry of a call.
-fn add(journal: &mut Journal, state: &State, seat: u8, number: u32, call: Call, answer: Answer)
+fn add(journal: &mut Journal, state: &State, seat: u8, number: u32, call: Call, answer: &Answer)
     requires room { 0 < journal.old.room }
     requires count { length journal.old.past < 4294967295 }
-    requires continues { Continues journal.old.opening journal.old.past (entry_of seat number call answer state.now) }
+    requires continues { Continues journal.old.opening journal.old.past (entry_of seat number call answer.now state.now) }
     ensures opening { journal.new.opening ≡ journal.old.opening }
-    ensures past { journal.new.past ≡ entry_of seat number call answer state.now ∷ journal.old.past }
+    ensures past { journal.new.past ≡ entry_of seat number call answer.now state.now ∷ journal.old.past }
 {
     if answer.begins_round {
-        add_start(journal, state, seat, number, call, answer.reply);
+        add_start(journal, state, seat, number, call, &answer.reply);
     } else {
         journal.add_undrawn(seat, number, &call, &answer.reply);
     }
@@ -167,18 +184,18 @@ fn add(journal: &mut Journal, state: &State, seat: u8, number: u32, call: Call, 
 /// Adds the entry of a call by which a round began.
 // A function of its own, since an entry is large, and few calls begin a round.
 #[inline(never)]
-fn add_start(journal: &mut Journal, state: &State, seat: u8, number: u32, call: Call, reply: Reply)
+fn add_start(journal: &mut Journal, state: &State, seat: u8, number: u32, call: Call, reply: &Reply)
     requires room { 0 < journal.old.room }
     requires count { length journal.old.past < 4294967295 }
-    requires continues { Continues journal.old.opening journal.old.past (round_entry seat number call reply state.now) }
+    requires continues { Continues journal.old.opening journal.old.past (round_entry seat number call reply.now state.now) }
     ensures opening { journal.new.opening ≡ journal.old.opening }
-    ensures past { journal.new.past ≡ round_entry seat number call reply state.now ∷ journal.old.past }
+    ensures past { journal.new.past ≡ round_entry seat number call reply.now state.now ∷ journal.old.past }
 {
     journal.add(&Entry {
         seat,
         number,
         call,
         choice: state.round(),
-        reply,
+        reply: reply.copy(),
     });
 }

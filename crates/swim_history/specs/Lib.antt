@@ -22,6 +22,7 @@ pub mod Worked
 pub mod WorkedGaps
 pub mod Sends
 pub mod CheckLaws
+pub mod StoredReplies
 pub mod Storage
 pub mod Written
 pub mod ClockLaws

@@ -11,6 +11,9 @@ use Rattle.swim_history.specs.declared.storage.Drawn.TheVariants.{Nothing, Round
 use Rattle.swim_history.specs.declared.storage.Slot.{Slot}
 use Rattle.swim_history.specs.declared.storage.Slot.TheVariants.{Quiet, Whole}
 use Rattle.swim_history.specs.declared.storage.Stored.{Stored}
+use Rattle.swim_history.specs.declared.stored_replies.StoredReply.TheVariants as stored_replies
+use Rattle.swim_history.specs.declared.replies.Relay.{Relay}
+use Rattle.swim_history.specs.StoredReplies.{reply_among, IsAskedWithin}
 
 pub record Storage : Type 0 where
   -- oldest first
@@ -33,27 +36,30 @@ abbrev pub choice_among : List ℕ → Drawn → Choice
 choice_among ids Nothing = choices.Nothing
 choice_among ids (Round count start) = choices.Round (record { items = take count (drop start ids) })
 
--- an entry that is stored whole, among the ids of all orders
-abbrev pub entry_among : List ℕ → Stored → Entry
-entry_among ids stored = record { seat = stored.seat; number = stored.number; call = stored.call; choice = choice_among ids stored.drawn; reply = stored.reply }
+-- an entry that is stored whole, among the ids of all orders and all relays
+abbrev pub entry_among : List ℕ → List Relay → Stored → Entry
+entry_among ids relays stored = record { seat = stored.seat; number = stored.number; call = stored.call; choice = choice_among ids stored.drawn; reply = reply_among relays stored.reply }
 
 -- what was drawn stands within so many ids, and an order has room for it
 abbrev pub IsWithin : ℕ → Drawn → Type 0
 IsWithin ids Nothing = Unit {0}
 IsWithin ids (Round count start) = (count ≤ 128) × (start + count ≤ ids)
 
--- so it is of all stored entries
-abbrev pub AreWithin : ℕ → List Stored → Type 0
-AreWithin ids entries = AllByRecursion (λ stored. IsWithin ids stored.drawn) entries
+-- so it is of all stored entries, and of the relays that they ask
+abbrev pub IsStoredWithin : ℕ → ℕ → Stored → Type 0
+IsStoredWithin ids relays stored = IsWithin ids stored.drawn × IsAskedWithin relays stored.reply
+
+abbrev pub AreWithin : ℕ → ℕ → List Stored → Type 0
+AreWithin ids relays entries = AllByRecursion (IsStoredWithin ids relays) entries
 
 -- some stored entry, for a place where there is none
 abbrev pub no_stored : Stored
-no_stored = record { seat = 0; number = 0; drawn = Nothing; call = Tick; reply = replies.Quiet }
+no_stored = record { seat = 0; number = 0; drawn = Nothing; call = Tick; reply = stored_replies.Quiet }
 
 -- an entry, among those that are stored whole
-abbrev pub entry_in : List ℕ → List Stored → Slot → Entry
-entry_in ids whole (Quiet seat number) = record { seat = seat; number = number; call = Tick; choice = choices.Nothing; reply = replies.Quiet }
-entry_in ids whole (Whole place) = entry_among ids (slice_index_or whole place no_stored)
+abbrev pub entry_in : List ℕ → List Relay → List Stored → Slot → Entry
+entry_in ids relays whole (Quiet seat number) = record { seat = seat; number = number; call = Tick; choice = choices.Nothing; reply = replies.Quiet }
+entry_in ids relays whole (Whole place) = entry_among ids relays (slice_index_or whole place no_stored)
 
 -- an entry that is stored whole stands among so many of them
 abbrev pub IsPlaced : ℕ → Slot → Type 0

@@ -49,10 +49,10 @@ pub(crate) fn find_widest(opening: &Opening, entries: &Entries, member: Id) -> O
     for place in 0..entries.len() {
         let call = entries.call(place);
         let reply = entries.reply(place);
-        note_change(&mut rows, call, reply, number);
-        number = number_after(number, reply);
-        widest = wider(widest, gap_at(member, reply, last));
-        last = last_after(member, call, reply, rows.as_slice(), last);
+        note_change(&mut rows, &call, &reply, number);
+        number = number_after(number, &reply);
+        widest = wider(widest, gap_at(member, &reply, last));
+        last = last_after(member, &call, &reply, rows.as_slice(), last);
     }
     widest
 }

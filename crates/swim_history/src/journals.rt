@@ -1,7 +1,7 @@
 //! The journal: a run of the sequential detector, as it happened.
 
 ghost use Rattle.std.specs.Prelude.{◌≡◌, ◌↔◌, ◌+◌, ◌^◌, ◌<◌, ◌≤◌, ◌==◌, ◌∷◌, ◌++◌, [], None, length, map, reverse, IfSome, IsOk, IfOk, OnOk, slice_get, true, if◌then◌else◌};
-ghost use Rattle.std.specs.Option.{option_to_list, option_map, option_copied};
+ghost use Rattle.std.specs.Option.{option_to_list};
 ghost use Rattle.swim_history.specs.Setting.{IsSetting};
 ghost use Rattle.swim_history.specs.Events.{is_starting, judged_in};
 ghost use Rattle.swim_history.specs.Written.{undrawn};
@@ -106,16 +106,6 @@ impl Journal {
         ensures { result ≡ slice_get (reverse self.now.past) place }
     {
         self.entries.get(place as usize)
-    }
-
-    /// The reply of the newest entry.
-    pub fn last_reply(&self) -> Option<&Reply>
-        ensures { option_copied result ≡ option_map (λ e. e.reply) (slice_get self.now.past 0) }
-    {
-        match self.entries.len() {
-            0 => None,
-            count => Some(self.entries.reply(count - 1)),
-        }
     }
 
     /// Makes room for one more entry. `Err` only where the memory for it was refused.
@@ -245,8 +235,8 @@ fn collect_judged(
     let mut number = opening.last();
     for place in 0..entries.len() {
         let reply = entries.reply(place);
-        note_judged(&mut judged, judged_member(reply), number)?;
-        number = number_after(number, reply);
+        note_judged(&mut judged, judged_member(&reply), number)?;
+        number = number_after(number, &reply);
     }
     Ok(judged)
 }

@@ -15,6 +15,7 @@ mod replies;
 mod rows;
 mod sending;
 mod storage;
+mod stored_replies;
 mod summaries;
 mod tables;
 

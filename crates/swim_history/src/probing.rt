@@ -23,7 +23,7 @@ pub(crate) fn collect_probed(alloc: Global, entries: &Entries) -> Result<Vec<Pro
 {
     let mut probed = Vec::new(alloc);
     for place in 0..entries.len() {
-        note_probed(&mut probed, entries.reply(place))?;
+        note_probed(&mut probed, &entries.reply(place))?;
     }
     Ok(probed)
 }

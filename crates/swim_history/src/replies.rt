@@ -128,7 +128,7 @@ pub enum Reply {
 
 impl Reply {
     /// The same reply again. It takes no memory.
-    pub(crate) fn copy(&self) -> Reply
+    pub fn copy(&self) -> Reply
         ensures { result ≡ self.now }
     {
         match self {

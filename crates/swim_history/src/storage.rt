@@ -4,19 +4,23 @@ ghost use Rattle.std.specs.Prelude.{◌≡◌, ◌+◌, ◌<◌, ◌≤◌, ◌=
 ghost use Rattle.swim_history.specs.declared.entries.Entry.{Entry};
 ghost use Rattle.swim_history.specs.declared.storage.Slot.TheVariants.{Whole};
 ghost use Rattle.swim_history.specs.Storage.{ids_in, drawn_at, choice_among, entry_among, IsWithin};
+ghost use Rattle.swim_history.specs.StoredReplies.{IsAskedWithin};
 ghost use Rattle.swim_history.specs.Written.{undrawn};
 
 use crate::calls::Call;
 use crate::copies::copied;
 use crate::entries::{Choice, Entry};
-use crate::replies::Reply;
+use crate::openings::MOST_RELAYS;
+use crate::replies::{Relay, Reply};
 use crate::rows::KNOWN_MEMBERS;
+use crate::stored_replies::{StoredReply, reply_among, store_reply};
 use std::alloc::{AllocError, Global};
 use std::marker::Model;
+use std::slice;
 use swim_wire::Id;
 
 /// What is stored for each entry, in 16 bytes.
-#[derive(Drop)]
+#[derive(Clone, Copy)]
 enum Slot {
     /// A tick in which nothing was to be done, as most ticks are.
     Quiet { seat: u8, number: u32 },
@@ -26,53 +30,51 @@ enum Slot {
 
 const _: () = prove!(size_of::<Slot>() == 16);
 
-/// An entry, but for the ids that were drawn for it. It takes 184 bytes, where an `Entry` takes 696.
-#[derive(Drop)]
+/// An entry, but for the ids that were drawn for it and the relays that it asks. It takes 112 bytes, where an `Entry`
+/// takes 696.
+#[derive(Clone, Copy)]
 struct Stored {
     seat: u8,
     number: u32,
     drawn: Drawn,
     call: Call,
-    reply: Reply,
+    reply: StoredReply,
 }
 
-const _: () = prove!(size_of::<Stored>() == 184);
+const _: () = prove!(size_of::<Stored>() == 112);
 
 /// Where the ids that were drawn for an entry stand among those of all entries.
-#[derive(Drop)]
+#[derive(Clone, Copy)]
 enum Drawn {
     Nothing,
     Round { count: u8, start: usize },
 }
 
-/// Entries in order. Most of them are quiet ticks, and few begin a round: so the others stand apart, and so do
-/// the ids of drawn orders, one order after the other. A contract sees the entries, oldest first, and how
-/// many more take no memory.
+/// Entries in order. Most of them are quiet ticks, and few begin a round or ask relays: so the others stand
+/// apart, and so do the ids of drawn orders and the relays, one list after the other. A contract sees the
+/// entries, oldest first, and how many more take no memory.
 #[derive(Drop)]
 pub(crate) struct Entries {
     slots: Vec<Slot>,
     whole: Vec<Stored>,
+    relays: Vec<Relay>,
     ids: Vec<Id>,
-    // The call and the reply of a quiet tick, to be lent.
-    quiet: (Call, Reply),
 }
 
 impl Model for Entries {
-    ghost use Rattle.std.specs.Prelude.{◌≡◌, ◌-◌, ◌/◌, map, min, length, vec_len, vec_capacity};
-    ghost use Rattle.swim_history.specs.declared.calls.Call.TheVariants.{Tick};
-    ghost use Rattle.swim_history.specs.declared.replies.Reply.TheVariants.{Quiet};
+    ghost use Rattle.std.specs.Prelude.{◌-◌, ◌/◌, map, min, length, vec_len, vec_capacity};
     ghost use Rattle.swim_history.specs.Storage.{Storage, entry_in, ArePlaced, AreWithin};
 
     ghost Value = { Storage };
 
     ghost view = { λ e. record {
-      items = map (entry_in e.ids.items e.whole.items) e.slots.items;
-      room = min (vec_capacity e.slots - vec_len e.slots) (min (vec_capacity e.whole - vec_len e.whole) ((vec_capacity e.ids - vec_len e.ids) / 128));
+      items = map (entry_in e.ids.items e.relays.items e.whole.items) e.slots.items;
+      room = min (min (vec_capacity e.slots - vec_len e.slots) (vec_capacity e.whole - vec_len e.whole))
+          (min ((vec_capacity e.relays - vec_len e.relays) / 8) ((vec_capacity e.ids - vec_len e.ids) / 128));
     } };
 
     ghost invariant = { λ e. ArePlaced (length e.whole.items) e.slots.items
-        × AreWithin (length e.ids.items) e.whole.items
-        × (e.quiet ≡ (Tick, Quiet)) };
+        × AreWithin (length e.ids.items) (length e.relays.items) e.whole.items };
 }
 
 impl Entries {
@@ -83,8 +85,8 @@ impl Entries {
         Entries {
             slots: Vec::new(alloc),
             whole: Vec::new(alloc),
+            relays: Vec::new(alloc),
             ids: Vec::new(alloc),
-            quiet: (Call::Tick, Reply::Quiet),
         }
     }
 
@@ -113,6 +115,7 @@ impl Entries {
     {
         self.slots.reserve(1)?;
         self.whole.reserve(1)?;
+        self.relays.reserve(MOST_RELAYS as usize)?;
         self.ids.reserve(KNOWN_MEMBERS)
     }
 
@@ -122,22 +125,20 @@ impl Entries {
         ensures items { self.new.items ≡ self.old.items ++ entry.now ∷ [] }
         ensures room { self.old.room ≤ self.new.room + 1 }
     {
-        let drawn = store_ids(&mut self.ids, &entry.choice);
         let stored = Stored {
             seat: entry.seat,
             number: entry.number,
-            drawn,
+            drawn: store_ids(&mut self.ids, &entry.choice),
             call: entry.call,
-            reply: entry.reply.copy(),
+            reply: store_reply(&mut self.relays, &entry.reply),
         };
-        store_whole(&mut self.slots, &mut self.whole, stored);
+        store_whole(&mut self.slots, &mut self.whole, &stored);
     }
 
     /// Puts an entry last for which nothing was drawn. It takes no memory.
     pub(crate) fn push_undrawn(&mut self, seat: u8, number: u32, call: &Call, reply: &Reply)
         requires { 0 < self.old.room }
-        ensures items { self.new.items ≡ self.old.items
-            ++ undrawn seat number call.now reply.now ∷ [] }
+        ensures items { self.new.items ≡ self.old.items ++ undrawn seat number call.now reply.now ∷ [] }
         ensures room { self.old.room ≤ self.new.room + 1 }
     {
         if let (Call::Tick, Reply::Quiet) = (call, reply) {
@@ -149,9 +150,9 @@ impl Entries {
             number,
             drawn: Drawn::Nothing,
             call: *call,
-            reply: reply.copy(),
+            reply: store_reply(&mut self.relays, reply),
         };
-        store_whole(&mut self.slots, &mut self.whole, stored);
+        store_whole(&mut self.slots, &mut self.whole, &stored);
     }
 
     /// The entry at a place, counted from 0 at the oldest.
@@ -166,57 +167,62 @@ impl Entries {
                 choice: Choice::Nothing,
                 reply: Reply::Quiet,
             }),
-            Slot::Whole { place } => Some(entry_among(self.ids.as_slice(), &self.whole[*place])),
+            Slot::Whole { place } => Some(entry_among(
+                self.ids.as_slice(),
+                self.relays.as_slice(),
+                &self.whole[*place],
+            )),
         }
     }
 
     /// The call of the entry at a place.
-    pub(crate) fn call(&self, place: usize) -> &Call
+    pub(crate) fn call(&self, place: usize) -> Call
         requires { place < length self.now.items }
-        ensures { (e : Entry) → result.now ≡ (slice_index_or self.now.items place e).call }
+        ensures { (e : Entry) → result ≡ (slice_index_or self.now.items place e).call }
     {
         match &self.slots[place] {
-            Slot::Quiet { .. } => &self.quiet.0,
-            Slot::Whole { place } => &self.whole[*place].call,
+            Slot::Quiet { .. } => Call::Tick,
+            Slot::Whole { place } => self.whole[*place].call,
         }
     }
 
     /// The reply of the entry at a place.
-    pub(crate) fn reply(&self, place: usize) -> &Reply
+    pub(crate) fn reply(&self, place: usize) -> Reply
         requires { place < length self.now.items }
-        ensures { (e : Entry) → result.now ≡ (slice_index_or self.now.items place e).reply }
+        ensures { (e : Entry) → result ≡ (slice_index_or self.now.items place e).reply }
     {
         match &self.slots[place] {
-            Slot::Quiet { .. } => &self.quiet.1,
-            Slot::Whole { place } => &self.whole[*place].reply,
+            Slot::Quiet { .. } => Reply::Quiet,
+            Slot::Whole { place } => reply_among(self.relays.as_slice(), &self.whole[*place].reply),
         }
     }
 }
 
 /// Puts an entry behind those that are stored whole, and its place behind the slots. It takes no memory.
-fn store_whole(slots: &mut Vec<Slot>, whole: &mut Vec<Stored>, stored: Stored)
+fn store_whole(slots: &mut Vec<Slot>, whole: &mut Vec<Stored>, stored: &Stored)
     requires slots { vec_len slots.old < vec_capacity slots.old }
     requires whole { vec_len whole.old < vec_capacity whole.old }
     ensures slots { slots.new.items ≡ slots.old.items ++ Whole (length whole.old.items) ∷ [] }
-    ensures whole { whole.new.items ≡ whole.old.items ++ stored ∷ [] }
+    ensures whole { whole.new.items ≡ whole.old.items ++ stored.now ∷ [] }
     ensures capacity { (vec_capacity slots.old ≤ vec_capacity slots.new) × (vec_capacity whole.old ≤ vec_capacity whole.new) }
 {
     let place = whole.len();
     let _ = slots.push(Slot::Whole { place });
-    let _ = whole.push(stored);
+    let _ = whole.extend_from_slice(slice::from_ref(stored));
 }
 
 /// An entry, from how it is stored.
-fn entry_among(ids: &[Id], stored: &Stored) -> Entry
-    requires { IsWithin (length ids.now) stored.now.drawn }
-    ensures { result ≡ entry_among ids.now stored.now }
+fn entry_among(ids: &[Id], relays: &[Relay], stored: &Stored) -> Entry
+    requires drawn { IsWithin (length ids.now) stored.now.drawn }
+    requires asked { IsAskedWithin (length relays.now) stored.now.reply }
+    ensures { result ≡ entry_among ids.now relays.now stored.now }
 {
     Entry {
         seat: stored.seat,
         number: stored.number,
         call: stored.call,
         choice: choice_among(ids, &stored.drawn),
-        reply: stored.reply.copy(),
+        reply: reply_among(relays, &stored.reply),
     }
 }
 

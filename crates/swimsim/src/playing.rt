@@ -1,15 +1,13 @@
 //! Calls of the detector, with their answers.
 
 ghost use Rattle.swim_wire.specs.Streams.{Puts, failures_if};
-ghost use Rattle.std.specs.Prelude.{◌≡◌, Some, slice_get};
-ghost use Rattle.swim_history.specs.declared.entries.Entry.{Entry};
-ghost use Rattle.swimsim.specs.Texts.{answer_text};
+ghost use Rattle.std.specs.Prelude.{◌≡◌};
 ghost use Rattle.swimsim.specs.Holds.{Answers};
 
 use crate::answers::put_answer;
 use crate::choosers::Drawer;
 use swim_detector::{ApplyFault, Recorder};
-use swim_history::{Call, Journal};
+use swim_history::Call;
 use swim_wire::Sink;
 
 /// Makes a call, and writes its answer. It answers whether the sink took all of it.
@@ -18,19 +16,8 @@ pub fn play<W: Sink>(recorder: &mut Recorder<Drawer>, call: Call, writer: &mut W
     ensures failures { W.failures writer.new ≡ failures_if (W.failures writer.old) result }
 {
     match recorder.record(0, call) {
-        Ok(()) => put_last(recorder.journal(), writer),
+        Ok(()) => put_answer(writer, recorder.reply(), recorder.journal().opening()),
         Err(ApplyFault::JournalFull) => writer.put(b"journal full\n"),
         Err(ApplyFault::NoMemory) => writer.put(b"no memory\n"),
-    }
-}
-
-/// Writes the answer that the newest entry holds.
-fn put_last<W: Sink>(journal: &Journal, writer: &mut W) -> bool
-    ensures told { (e : Entry) → slice_get journal.now.past 0 ≡ Some e → Puts (W.written writer.old) (W.written writer.new) (answer_text journal.now.opening e.reply) result }
-    ensures failures { W.failures writer.new ≡ failures_if (W.failures writer.old) result }
-{
-    match journal.last_reply() {
-        Some(reply) => put_answer(writer, reply, journal.opening()),
-        None => true,
     }
 }
