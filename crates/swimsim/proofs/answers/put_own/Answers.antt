@@ -1,4 +1,4 @@
-use Rattle.std.proofs.Common.{ℕ, List, sym, ap, subst, ◌∙◌}
+use Rattle.std.proofs.Common.{ℕ, List, ap, subst, ◌∙◌}
 use Rattle.swim_wire.specs.Streams.{Puts}
 use Rattle.swim_history.specs.Sends.{own}
 use Rattle.swimsim.specs.Texts.{datagram_text, lines_text}
