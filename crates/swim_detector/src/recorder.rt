@@ -116,14 +116,8 @@ impl<C: Chooser> Recorder<C> {
         self.ready()?;
         let number = self.counts[seat as usize];
         self.answer = self.state.answer(&self.journal, &mut self.chooser, &call);
-        add(
-            &mut self.journal,
-            &self.state,
-            seat,
-            number,
-            call,
-            &self.answer,
-        );
+        let (journal, state) = (&mut self.journal, &self.state);
+        add(journal, state, seat, number, call, &self.answer);
         self.counts[seat as usize] = number + 1;
         Ok(())
     }
