@@ -115,6 +115,9 @@ impl<W: Write> WriteSink<W> {
     }
 
     /// Takes the bytes of a text one by one, for which there may be no room at once.
+    // Few texts come here, and its loop would be unrolled for each text that is told by the code.
+    #[cold]
+    #[inline(never)]
     fn put_each(&mut self, text: &[u8]) -> bool
         ensures bytes { Puts (written_of W.contents self.old) (written_of W.contents self.new) text.now result }
         ensures failures { self.new.failures ≡ failures_if self.old.failures result }

@@ -27,8 +27,8 @@ pub struct Opened {
     pub arguments: OpenArguments,
 }
 
-/// The text of an order, as large as a slice where the order itself would be moved with each command. A
-/// contract sees the order.
+/// The text of an order. An order is large, and would be moved with each command; so it is read again where it
+/// is carried out. A contract sees the order.
 #[derive(Debug, Drop)]
 pub struct OrderText<'a> {
     text: &'a [u8],
