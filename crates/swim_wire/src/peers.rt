@@ -48,16 +48,17 @@ impl Peer {
         ensures text { result.bytes ≡ address_text self.now }
         ensures address { IsAddress self.now }
     {
+        let mut digits = Buffer::new();
         let mut text = ArrayString::new();
-        put_octet(&mut text, self.ip[0]);
+        put_octet(&mut text, &mut digits, self.ip[0]);
         text.push('.');
-        put_octet(&mut text, self.ip[1]);
+        put_octet(&mut text, &mut digits, self.ip[1]);
         text.push('.');
-        put_octet(&mut text, self.ip[2]);
+        put_octet(&mut text, &mut digits, self.ip[2]);
         text.push('.');
-        put_octet(&mut text, self.ip[3]);
+        put_octet(&mut text, &mut digits, self.ip[3]);
         text.push(':');
-        text.push_str(Buffer::new().format(self.port));
+        text.push_str(digits.format(self.port));
         text
     }
 }
@@ -114,10 +115,10 @@ fn port_of(text: &[u8]) -> Option<u16>
     Some(number as u16)
 }
 
-fn put_octet(text: &mut ArrayString<21>, octet: u8)
+fn put_octet(text: &mut ArrayString<21>, digits: &mut Buffer, octet: u8)
     requires { array_string_len text.old + 3 ≤ 21 }
     ensures bytes { text.new.bytes ≡ text.old.bytes ++ decimal octet }
     ensures len { array_string_len text.new ≤ array_string_len text.old + 3 }
 {
-    text.push_str(Buffer::new().format(octet));
+    text.push_str(digits.format(octet));
 }
