@@ -69,8 +69,8 @@ impl<C: Chooser> Recorder<C> {
         }
     }
 
-    /// Makes room for one entry, so that the next `apply` succeeds and takes no memory. `JournalFull`
-    /// exactly where the journal has as many entries as it may have.
+    /// Makes room for one entry, so that the next `apply` or `record` succeeds and takes no memory.
+    /// `JournalFull` exactly where the journal has as many entries as it may have.
     pub fn ready(&mut self) -> Result<(), ApplyFault>
         ensures same { IsKept self.old self.new }
         ensures room { OnOk result ((0 < self.new.room) × (length self.new.past < self.new.limit)) }
@@ -104,7 +104,7 @@ impl<C: Chooser> Recorder<C> {
         }
     }
 
-    /// As `apply`, but it answers nothing: `reply` lends the reply, which takes less than an entry.
+    /// As `apply`, but it answers no entry, which is large: `reply` lends the reply.
     pub fn record(&mut self, seat: u8, call: Call) -> Result<(), ApplyFault>
         requires { seat < 4 }
         ensures ok { OnOk result (RecordsCall C.orders C.places self.old self.new seat call) }

@@ -208,6 +208,7 @@ fn store_whole(slots: &mut Vec<Slot>, whole: &mut Vec<Stored>, stored: &Stored)
 {
     let place = whole.len();
     let _ = slots.push(Slot::Whole { place });
+    // As a slice of one: the prover has no plan for the move of a value with so many types in it.
     let _ = whole.extend_from_slice(slice::from_ref(stored));
 }
 

@@ -32,3 +32,17 @@ fn seats_count_their_calls(rt: HostRuntime) -> Result<(), Fail> {
     }
     Ok(())
 }
+
+#[test]
+fn a_reply_is_lent_until_the_next(rt: HostRuntime) -> Result<(), Fail> {
+    let mut recorder = recorder(rt, 0, &[2], 1)?;
+    assert_eq!(rt; recorder.reply(), &Reply::Quiet);
+    assert_eq!(rt; recorder.record(2, Call::Tick), Ok(()));
+    assert_eq!(rt; recorder.reply(), &started(None, Some((2, 1)))?);
+    assert_eq!(rt;
+        recorder.record(2, Call::Tick),
+        Err(ApplyFault::JournalFull)
+    );
+    assert_eq!(rt; recorder.reply(), &started(None, Some((2, 1)))?);
+    Ok(())
+}
