@@ -2,6 +2,7 @@
 use Rattle.std.specs.Prelude.{◌≡◌, ℕ, List, [], ◌∷◌, Option}
 use Rattle.swim_history.specs.declared.calls.Call.{Call}
 use Rattle.swim_history.specs.declared.replies.Reply.{Reply}
+use Rattle.swim_history.specs.declared.replies.Reply.TheVariants.{Quiet}
 use Rattle.swim_history.specs.declared.rows.Change.{Change}
 use Rattle.swim_history.specs.declared.entries.Choice.{Choice}
 use Rattle.swim_history.specs.declared.entries.Entry.{Entry}
@@ -21,9 +22,9 @@ pub record Recording (C : Type 0) : Type 0 where
   pub room : ℕ
   pub chooser : C
 
--- the reply is that of the newest entry, if there is one
+-- the reply is that of the newest entry; where there is none, that nothing is to be done
 abbrev pub IsLatest : List Entry → Reply → Type 0
-IsLatest [] reply = Unit {0}
+IsLatest [] reply = reply ≡ Quiet
 IsLatest (e ∷ h) reply = reply ≡ e.reply
 
 -- nothing changed but the room for more entries
