@@ -37,7 +37,7 @@ counts o h target m source = is_acking o.me target (period_number o h) (Hear m s
 -- a message was answered: only the requests that wait and what was heard may have changed
 hears : (o : Setting) (h : List Entry) (m : Message) (source : Address) (reply : Reply) (old new : State) → Mirrors o h old → Hears o h m source m.kind reply →
     new.targets ≡ old.targets → new.aim ≡ old.aim → new.phase ≡ old.phase →
-    ((seat number : ℕ) → new.relays ≡ record { period = o.period; waiting = waiting o (plain_entry seat number (Hear m source) reply ∷ h) }) →
+    ((seat number : ℕ) → new.requests ≡ record { period = o.period; waiting = waiting o (plain_entry seat number (Hear m source) reply ∷ h) }) →
     ((target : ℕ) → aim h ≡ Some target → new.heard ≡ (counts o h target m source || was_heard o h target)) →
     IsSettled o h (Hear m source) (plain reply) new
 hears o h m source reply old new mirrors fits targets aims phases requests heard = (
@@ -90,7 +90,7 @@ request_dropped o h m source why s mirrors is fits =
 
 -- 64 others wait
 pub request_full : (o : Setting) (h : List Entry) (m : Message) (source peer : Address) (s : State) → Mirrors o h s → m.kind ≡ PingReq → IsRequest o.me m → m.target ≢ o.me → row_of o h m.target ≡ Some (up m.target peer) →
-    waits (key_of m) s.relays.waiting ≡ false → length s.relays.waiting ≡ 64 → IsSettled o h (Hear m source) (plain (Dropped TableFull)) s
+    waits (key_of m) s.requests.waiting ≡ false → length s.requests.waiting ≡ 64 → IsSettled o h (Hear m source) (plain (Dropped TableFull)) s
 request_full o h m source peer s mirrors is own other listed none full =
     request_dropped o h m source TableFull s mirrors is (own, other, rw listed refl, rw mirrors.requests_are at none, omega (arith, rw mirrors.requests_are at full))
 
@@ -103,12 +103,12 @@ room_for key rs new r is bound none =
 -- a request waits
 pub request_taken : (o : Setting) (h : List Entry) (m : Message) (source peer : Address) (old new : State) → IsSetting o → Mirrors o h old → m.kind ≡ PingReq → IsRequest o.me m → m.target ≢ o.me → row_of o h m.target ≡ Some (up m.target peer) →
     new.targets ≡ old.targets → new.aim ≡ old.aim → new.phase ≡ old.phase → new.heard ≡ old.heard →
-    new.relays ≡ record old.relays { waiting = forget (key_of m) old.relays.waiting ++ record { key = key_of m; peer = source; left = old.relays.period } ∷ [] } → length new.relays.waiting ≤ 64 →
+    new.requests ≡ record old.requests { waiting = forget (key_of m) old.requests.waiting ++ record { key = key_of m; peer = source; left = old.requests.period } ∷ [] } → length new.requests.waiting ≤ 64 →
     IsSettled o h (Hear m source) (plain (Send peer (passed_on Ping o.me m))) new
 request_taken o h m source peer old new setting mirrors is own other listed targets aims phases heard asked bound =
     let reply = Send peer (passed_on Ping o.me m) in
     let r : Request = record { key = key_of m; peer = source; left = o.period } in
-    let room : is_waiting o h m ≡ false → length (waiting o h) < most_waiting = λ none. room_for (key_of m) (waiting o h) new.relays.waiting r (rw mirrors.requests_are at (ap (λ w. w.waiting) asked)) bound none in
+    let room : is_waiting o h m ≡ false → length (waiting o h) < most_waiting = λ none. room_for (key_of m) (waiting o h) new.requests.waiting r (rw mirrors.requests_are at (ap (λ w. w.waiting) asked)) bound none in
     hears o h m source reply old new mirrors (rw is (own, other, listed, room, refl)) targets aims phases
     (λ seat number. rw (waiting_asked o h (plain_entry seat number (Hear m source) reply) m source peer (passed_on Ping o.me m) (omega (arith, setting.timing.0, setting.timing.1)) refl is refl) (rw mirrors.requests_are at asked))
     (λ target aimed. heard ∙ mirrors.heard_is target aimed ∙ rw (no_ack o h m source PingReq target is (λ e. absurd (cc e))) refl)
@@ -119,9 +119,9 @@ not_own : (o : Setting) (h : List Entry) (m : Message) (source : Address) (targe
 not_own o h m source target is other = rw (is, ne_eqb m.initiator o.me other) refl
 
 -- an ack is sent on
-pub ack_forwarded : (o : Setting) (h : List Entry) (m : Message) (source peer : Address) (old new : State) → Mirrors o h old → m.kind ≡ Ack → m.initiator ≢ o.me → Some peer ≡ peer_for (key_of m) old.relays.waiting →
+pub ack_forwarded : (o : Setting) (h : List Entry) (m : Message) (source peer : Address) (old new : State) → Mirrors o h old → m.kind ≡ Ack → m.initiator ≢ o.me → Some peer ≡ peer_for (key_of m) old.requests.waiting →
     new.targets ≡ old.targets → new.aim ≡ old.aim → new.phase ≡ old.phase → new.heard ≡ old.heard →
-    new.relays ≡ record old.relays { waiting = forget (key_of m) old.relays.waiting } →
+    new.requests ≡ record old.requests { waiting = forget (key_of m) old.requests.waiting } →
     IsSettled o h (Hear m source) (plain (Send peer (passed_on Ack o.me m))) new
 ack_forwarded o h m source peer old new mirrors is other waits targets aims phases heard answered =
     let reply = Send peer (passed_on Ack o.me m) in
@@ -130,20 +130,20 @@ ack_forwarded o h m source peer old new mirrors is other waits targets aims phas
     (λ target aimed. heard ∙ mirrors.heard_is target aimed ∙ rw (not_own o h m source target is other) refl)
 
 -- nobody waits for the ack
-pub ack_unasked : (o : Setting) (h : List Entry) (m : Message) (source : Address) (old new : State) → Mirrors o h old → m.kind ≡ Ack → m.initiator ≢ o.me → None ≡ peer_for (key_of m) old.relays.waiting →
+pub ack_unasked : (o : Setting) (h : List Entry) (m : Message) (source : Address) (old new : State) → Mirrors o h old → m.kind ≡ Ack → m.initiator ≢ o.me → None ≡ peer_for (key_of m) old.requests.waiting →
     new.targets ≡ old.targets → new.aim ≡ old.aim → new.phase ≡ old.phase → new.heard ≡ old.heard →
-    new.relays ≡ record old.relays { waiting = forget (key_of m) old.relays.waiting } →
+    new.requests ≡ record old.requests { waiting = forget (key_of m) old.requests.waiting } →
     IsSettled o h (Hear m source) (plain (Dropped NoRequest)) new
 ack_unasked o h m source old new mirrors is other waits targets aims phases heard answered =
     let reply = Dropped NoRequest in
     hears o h m source reply old new mirrors (rw is (other, sym (rw mirrors.requests_are at waits))) targets aims phases
-    (λ seat number. rw (waiting_same o h (plain_entry seat number (Hear m source) reply) refl refl refl) (answered ∙ rw (forget_none (key_of m) old.relays.waiting (waits_none (key_of m) old.relays.waiting (sym waits))) mirrors.requests_are))
+    (λ seat number. rw (waiting_same o h (plain_entry seat number (Hear m source) reply) refl refl refl) (answered ∙ rw (forget_none (key_of m) old.requests.waiting (waits_none (key_of m) old.requests.waiting (sym waits))) mirrors.requests_are))
     (λ target aimed. heard ∙ mirrors.heard_is target aimed ∙ rw (not_own o h m source target is other) refl)
 
 -- ---- acks of this member's own probe
 
 pub ack_heard : (o : Setting) (h : List Entry) (m : Message) (source : Address) (old new : State) → Mirrors o h old → m.kind ≡ Ack → m.initiator ≡ o.me → aim h ≡ Some m.target → m.number ≡ period_number o h →
-    new.targets ≡ old.targets → new.aim ≡ old.aim → new.phase ≡ old.phase → new.relays ≡ old.relays → new.heard ≡ true →
+    new.targets ≡ old.targets → new.aim ≡ old.aim → new.phase ≡ old.phase → new.requests ≡ old.requests → new.heard ≡ true →
     IsSettled o h (Hear m source) (plain Heard) new
 ack_heard o h m source old new mirrors is own aimed now targets aims phases relays heard =
     hears o h m source Heard old new mirrors (rw is (own, aimed, now)) targets aims phases

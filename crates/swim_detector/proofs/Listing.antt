@@ -46,7 +46,7 @@ no_fault o h s id Full m may is_on is_full =
 pub joined : {S : Type 0} (orders : S → List ℕ → List ℕ → S → Type 0) (places : S → ℕ → ℕ → S → Type 0) (o : Setting) (h : List Entry) (id place : ℕ) (peer : Address) (old new : State) (before after : S) →
     Mirrors o h old → MayList o h id →
     place ≤ length (all_of old.targets) → places before (length (all_of old.targets)) place after → new.targets ≡ join_at id place old.targets →
-    new.relays ≡ old.relays → new.aim ≡ old.aim → new.heard ≡ old.heard → new.phase ≡ old.phase →
+    new.requests ≡ old.requests → new.aim ≡ old.aim → new.heard ≡ old.heard → new.phase ≡ old.phase →
     IsAnswered orders places o h (Join id peer) (plain (Joined place)) new before after
 joined orders places o h id place peer old new before after m may within drawn listing relays aims heard phases = (
   (may.other, may.down, may.known, rw m.lists_are at within),
@@ -81,7 +81,7 @@ still gone (Some m) target is = by (gone m) is
 
 -- the member is forgotten
 pub forgotten : (o : Setting) (h : List Entry) (id : ℕ) (old new : State) → Mirrors o h old → id ≢ o.me → row_of o h id ≢ None → new.targets ≡ leave id old.targets → new.aim ≡ option_and_then (λ m. unless (id == m) m) old.aim →
-    new.relays ≡ old.relays → new.heard ≡ old.heard → new.phase ≡ old.phase → IsSettled o h (Remove id) (plain Removed) new
+    new.requests ≡ old.requests → new.heard ≡ old.heard → new.phase ≡ old.phase → IsSettled o h (Remove id) (plain Removed) new
 forgotten o h id old new m other known leaves aims relays heard phases = (
   (other, known),
   refl,

@@ -82,12 +82,12 @@ pub record Passes (o : Setting) (old new : State) : Type 0 where
   pub targets : new.targets ≡ old.targets
   pub aim : new.aim ≡ old.aim
   pub heard : new.heard ≡ old.heard
-  pub requests : new.relays ≡ record old.relays { waiting = aged old.relays.waiting }
+  pub requests : new.requests ≡ record old.requests { waiting = aged old.requests.waiting }
   pub phase : (t : ℕ) → old.phase ≡ t % o.period → new.phase ≡ (t + 1) % o.period
 
 -- the requests after a tick
-pub requests_after : (o : Setting) (h : List Entry) (e : Entry) (old new : State) → Mirrors o h old → new.relays ≡ record old.relays { waiting = aged old.relays.waiting } → is_ticking e.call e.reply ≡ true →
-    new.relays ≡ record { period = o.period; waiting = waiting o (e ∷ h) }
+pub requests_after : (o : Setting) (h : List Entry) (e : Entry) (old new : State) → Mirrors o h old → new.requests ≡ record old.requests { waiting = aged old.requests.waiting } → is_ticking e.call e.reply ≡ true →
+    new.requests ≡ record { period = o.period; waiting = waiting o (e ∷ h) }
 requests_after o h e old new m aging ticking = rw (waiting_tick o h e ticking) (rw m.requests_are at aging)
 
 -- a tick within a period

@@ -28,7 +28,7 @@ use Rattle.swim_detector.specs.declared.answers.Answer.{Answer}
 -- the state is what the definitions find in the history
 pub record Mirrors (o : Setting) (h : List Entry) (s : State) : Type 0 where
   pub lists_are : s.targets ≡ lists o h
-  pub requests_are : s.relays ≡ record { period = o.period; waiting = waiting o h }
+  pub requests_are : s.requests ≡ record { period = o.period; waiting = waiting o h }
   pub aim_is : s.aim ≡ aim h
   pub heard_is : (m : ℕ) → aim h ≡ Some m → s.heard ≡ was_heard o h m
   pub phase_is : s.phase ≡ phase o h

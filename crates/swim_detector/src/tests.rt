@@ -1,4 +1,5 @@
 mod limits;
+mod long_journals;
 mod members;
 mod periods;
 mod requests;

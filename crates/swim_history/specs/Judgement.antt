@@ -23,7 +23,7 @@ pub record EndsUnheard (o : Setting) (h : List Entry) (m : ℕ) : Type 0 where
   pub probes : probe_in start.reply ≡ Some probe
   pub aimed : probe.target ≡ m
   pub stays : list_any (removes m) period ≡ false
-  pub silent : list_any (acks o.me m probe.number) period ≡ false
+  pub unheard : list_any (acks o.me m probe.number) period ≡ false
 
 -- what a start judges, with the number of the period that it ends
 abbrev pub judgement : ℕ → Option ℕ → Option Judged

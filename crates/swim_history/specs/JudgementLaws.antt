@@ -95,7 +95,7 @@ unheard-by_rule o h m s run judged =
       probes = start.2;
       aimed = probed.2 ∙ target;
       stays = ap (λ m. list_any (removes m) period) (sym target) ∙ stays.0;
-      silent = ap (λ n. list_any (acks o.me m n) period) number ∙ (ap (λ m. was_heard o h m) (sym quiet.1) ∙ quiet.0);
+      unheard = ap (λ n. list_any (acks o.me m n) period) number ∙ (ap (λ m. was_heard o h m) (sym quiet.1) ∙ quiet.0);
     }
 
 -- whom the rule judges, a run judges at its next start
@@ -109,7 +109,7 @@ unheard_from_rule o h m s run r =
     let probed : last_probed h ≡ Some m = rw (found, r.probes, r.aimed) refl in
     let stays : list_any (removes m) (since is_start h) ≡ false = rw period r.stays in
     let aimed : aim h ≡ Some m = rw (probed, stays) refl in
-    let silent : was_heard o h m ≡ false = rw (period, ← number) r.silent in
+    let silent : was_heard o h m ≡ false = rw (period, ← number) r.unheard in
     rw (aimed, silent) refl
 
 pub judges_by_rule : (o : Setting) (h : List Entry) → IsSetting o → IsRun o h → JudgesByRule o h

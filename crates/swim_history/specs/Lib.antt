@@ -21,6 +21,8 @@ pub mod Determined
 pub mod Worked
 pub mod WorkedGaps
 pub mod Sends
+pub mod Unchanged
+pub mod UnchangedLaws
 pub mod CheckLaws
 pub mod StoredReplies
 pub mod Storage
@@ -31,7 +33,7 @@ pub mod JudgementLaws
 pub mod ProbeLaws
 pub mod WaitingLaws
 pub mod ListedLaws
-pub mod Wait
+pub mod UntilProbed
 pub mod GapLaws
 pub mod DrawnLaws
 pub mod DrawnRuns
