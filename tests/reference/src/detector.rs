@@ -3,6 +3,7 @@
 use crate::choosers::Chooser;
 use crate::gaps::Gaps;
 use crate::header::Opening;
+use crate::journal::Drawn;
 use crate::members::Members;
 use crate::replies::{DropReason, Probe, Refusal, Reply};
 use crate::requests::Requests;
@@ -65,6 +66,19 @@ impl Detector {
     /// The relays of the last ask.
     pub fn relays(&self) -> &[(u32, Peer)] {
         &self.relays
+    }
+
+    /// What was drawn for the last reply: the round that began with it, or its relays.
+    pub fn drawn(&self, reply: &Reply) -> Drawn {
+        match reply {
+            Reply::Started { probe: Some(_), .. } if self.round.is_new() => {
+                Drawn::Round(self.round.ids().into())
+            }
+            Reply::Asked { .. } if !self.relays.is_empty() => {
+                Drawn::Relays(self.relays.as_slice().into())
+            }
+            _ => Drawn::Nothing,
+        }
     }
 
     pub fn me(&self) -> u32 {

@@ -6,6 +6,8 @@ use crate::choosers::Chooser;
 pub struct Round {
     ids: Vec<u32>,
     cursor: usize,
+    /// Whether the last call of `next` drew a round.
+    new: bool,
 }
 
 impl Round {
@@ -14,7 +16,13 @@ impl Round {
         Round {
             cursor: ids.len(),
             ids,
+            new: false,
         }
+    }
+
+    /// Whether the member that `next` gave last is the first of a round.
+    pub fn is_new(&self) -> bool {
+        self.new
     }
 
     pub fn ids(&self) -> &[u32] {
@@ -23,7 +31,8 @@ impl Round {
 
     /// The next member to be probed. Where all were, a new round is drawn.
     pub fn next(&mut self, chooser: &mut Chooser) -> Option<u32> {
-        if self.cursor == self.ids.len() && self.cursor > 0 {
+        self.new = self.cursor == self.ids.len() && self.cursor > 0;
+        if self.new {
             chooser.order(&mut self.ids);
             self.cursor = 0;
         }

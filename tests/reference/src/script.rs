@@ -9,8 +9,16 @@ use crate::output::Output;
 use crate::session::Session;
 use std::io::Write;
 
-pub fn run<W: Write>(input: &Input, output: &mut Output<W>) -> Result<(), ScriptFault> {
-    let mut player = Player::default();
+/// Plays a script. Its calls and replies are kept as a journal where `keeps_journal`.
+pub fn run<W: Write>(
+    input: &Input,
+    output: &mut Output<W>,
+    keeps_journal: bool,
+) -> Result<(), ScriptFault> {
+    let mut player = Player {
+        keeps_journal,
+        ..Player::default()
+    };
     let played = player.play(input, output);
     // What was answered before a fault stands; where it can't be handed on, that is told instead.
     let written = output.flush().map_err(|_| Fault::Write.at(player.line));
@@ -20,6 +28,7 @@ pub fn run<W: Write>(input: &Input, output: &mut Output<W>) -> Result<(), Script
 /// Where a script has come.
 #[derive(Default)]
 struct Player {
+    keeps_journal: bool,
     line: u32,
     header: Option<Header>,
     session: Option<Session>,
@@ -65,7 +74,7 @@ impl Player {
             Some(session) => Ok(session),
             none => {
                 let header = self.header.as_mut().ok_or(Fault::Word.at(0))?;
-                Ok(none.insert(Session::open(header)?))
+                Ok(none.insert(Session::open(header, self.keeps_journal)?))
             }
         }
     }

@@ -4,6 +4,7 @@ use crate::detector::Detector;
 use crate::events::Event;
 use crate::faults::{Fault, ScriptFault};
 use crate::header::Header;
+use crate::journal::{Entry, Journal};
 use crate::output::Output;
 use std::io::Write;
 
@@ -11,11 +12,12 @@ pub struct Session {
     detector: Detector,
     entries: u32,
     limit: u32,
+    journal: Option<Journal>,
 }
 
 impl Session {
-    /// Checks the opening, and opens the detector.
-    pub fn open(header: &mut Header) -> Result<Session, ScriptFault> {
+    /// Checks the opening, and opens the detector, with a journal or without one.
+    pub fn open(header: &mut Header, keeps_journal: bool) -> Result<Session, ScriptFault> {
         match header.opening.fault() {
             Some(number) => Err(Fault::Opening(number).at(header.line)),
             None => {
@@ -25,6 +27,7 @@ impl Session {
                     detector,
                     entries: 0,
                     limit: header.limit,
+                    journal: keeps_journal.then(Journal::default),
                 })
             }
         }
@@ -33,17 +36,25 @@ impl Session {
     /// Plays an event, and writes its answer.
     pub fn play<W: Write>(&mut self, event: Event, output: &mut Output<W>) {
         let detector = &mut self.detector;
-        let reply = match event {
+        let reply = match &event {
             Event::Table => return output.table(detector.members()),
-            Event::Gap(id) => return output.gap(detector.gaps().widest(id)),
-            Event::Hear(_, Err(fault)) => return output.wire_fault(fault),
+            Event::Gap(id) => return output.gap(detector.gaps().widest(*id)),
+            Event::Hear(_, Err(fault)) => return output.wire_fault(*fault),
             _ if self.entries == self.limit => return output.journal_full(),
             Event::Tick => detector.tick(),
-            Event::Hear(source, Ok(message)) => detector.hear(message, source),
-            Event::Join(id, peer) => detector.join(id, peer),
-            Event::Remove(id) => detector.remove(id),
+            Event::Hear(source, Ok(message)) => detector.hear(*message, *source),
+            Event::Join(id, peer) => detector.join(*id, *peer),
+            Event::Remove(id) => detector.remove(*id),
         };
         self.entries += 1;
         output.reply(&reply, detector.me(), detector.relays());
+        if let Some(journal) = &mut self.journal {
+            let drawn = detector.drawn(&reply);
+            journal.add(Entry {
+                event,
+                reply,
+                drawn,
+            });
+        }
     }
 }

@@ -1,0 +1,75 @@
+"""What a run of a program costs: processor time, memory and instructions."""
+
+import filecmp
+import os
+import re
+import shutil
+import subprocess
+from typing import NamedTuple
+
+
+class Cost(NamedTuple):
+    seconds: float
+    peak_bytes: int
+
+
+class BenchFault(Exception):
+    pass
+
+
+def run(words, script, output=os.devnull):
+    """Runs a program on a script, and says what it cost. The child's own resources are asked for."""
+    with open(script, "rb") as source, open(output, "wb") as sink:
+        child = subprocess.Popen(words, stdin=source, stdout=sink)
+        _, status, usage = os.wait4(child.pid, 0)
+        child.returncode = os.waitstatus_to_exitcode(status) if hasattr(os, "waitstatus_to_exitcode") else status
+    if child.returncode:
+        raise BenchFault(f"{' '.join(words)} ended with status {child.returncode} on {os.path.basename(script)}")
+    return Cost(usage.ru_utime + usage.ru_stime, usage.ru_maxrss * 1024)
+
+
+def least(runs, rounds):
+    """The least costs of each run, which is a program's words and a script. They take turns, and so share what else
+    goes on."""
+    costs = [[run(words, script) for words, script in runs] for _ in range(rounds)]
+    return [Cost(*(min(kind) for kind in zip(*(turn[place] for turn in costs)))) for place in range(len(runs))]
+
+
+def must_agree(programs, script, folder):
+    """All programs write the same answers to the script."""
+    outputs = [f"{folder}/{place}.stdout" for place in range(len(programs))]
+    for words, output in zip(programs, outputs):
+        run(words, script, output)
+    if not all(filecmp.cmp(outputs[0], output, shallow=False) for output in outputs[1:]):
+        raise BenchFault(f"swimsim and the reference write different answers to {os.path.basename(script)}")
+    for output in outputs:
+        os.remove(output)
+
+
+class Counter(NamedTuple):
+    """A command that counts the instructions of a program, and how the count is found in what it writes."""
+
+    words: list
+    pattern: str
+
+    def count(self, words, script):
+        with open(script, "rb") as source:
+            ran = subprocess.run(
+                [*self.words, *words], stdin=source, stdout=subprocess.DEVNULL, stderr=subprocess.PIPE, text=True
+            )
+        found = re.search(self.pattern, ran.stderr, re.MULTILINE)
+        if ran.returncode or not found:
+            raise BenchFault(f"{self.words[0]} counted no instructions of {words[0]}")
+        return int(found[1])
+
+
+def counter():
+    """How instructions are counted here; None where they can't be."""
+    perf = Counter(["perf", "stat", "-x,", "-e", "instructions:u", "--"], r"^(\d+),")
+    if shutil.which("perf"):
+        tried = subprocess.run([*perf.words, "true"], capture_output=True, text=True)
+        if re.match(r"\d+,", tried.stderr):
+            return perf
+    if shutil.which("valgrind"):
+        return Counter(["valgrind", "--tool=callgrind", "--callgrind-out-file=/dev/null"], r"Collected : (\d+)")
+    return None
