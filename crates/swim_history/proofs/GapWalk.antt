@@ -1,5 +1,5 @@
 -- A walk through a run in order: after each entry the last probe of a member is kept, and its widest gap.
-use Rattle.std.proofs.Common.{◌≡◌, ℕ, ◌+◌, ◌-◌, ◌^◌, ◌<◌, ◌≤◌, ◌⊎◌, ◌↔◌, inl, inr, Bool, true, false, cond, nat_lt, List, [], ◌∷◌, ◌++◌, length, Option, Some, None, refl, sym, ap, subst, ◌∙◌, arith, length-append}
+use Rattle.std.proofs.Common.{◌≡◌, ℕ, ◌+◌, ◌-◌, ◌<◌, ◌≤◌, ◌⊎◌, ◌↔◌, inl, inr, Bool, true, false, cond, nat_lt, List, [], ◌∷◌, ◌++◌, length, Option, Some, None, refl, sym, ap, subst, ◌∙◌, arith}
 use Rattle.std.proofs.lemmas.Bool.{ltb-true, ltb-false}
 use Rattle.std.proofs.lemmas.Option.{same_Some}
 use Rattle.std.specs.Prelude.{option_and_then, IfSome}
@@ -15,12 +15,9 @@ use Rattle.swim_history.specs.Round.{listed}
 use Rattle.swim_history.specs.Run.{IsRun}
 use Rattle.swim_history.specs.RunLaws.{IsRun-older}
 use Rattle.swim_history.specs.JudgementLaws.{started_number, map_some}
-use Rattle.swim_history.specs.ListedLaws.{listed_bound}
-use Rattle.swim_history.specs.TableLaws.{table_bound}
 use Rattle.swim_history.specs.Gap.{probes_member, unlists, IsGap, HasNoGap, IsWidest}
-use Rattle.swim_history.specs.UntilProbed.{length-filter-le}
 use Rattle.swim_history.specs.GapLaws.{number_after, probing_starts, gap_bound}
-use Rattle.swim_history.specs.LastProbe.{probed_at, with_joiner, kept, last_of, last_then, gap_since, gap_then, wider}
+use Rattle.swim_history.specs.LastProbe.{probed_at, with_joiner, kept, last_of, last_then, gap_since, gap_then, wider, last_probe, widest_gap}
 use Rattle.swim_history.proofs.LastProbes.{IsLast, no_split, ProbesIt, probes_it, probes_other, last_new, only_last, was_last, still_last, gap_older, gap_new, gap_cases}
 
 -- what the walk keeps
@@ -70,7 +67,7 @@ was_kept m e last l is = by (unlists m e) refl is
         let found = map_some (with_joiner (joins e)) last l is in
         record { stays = stays; before = found.0; was = found.1; is = found.2 }
 
-wider_none : (widest : Option Gap) → wider widest None ≡ widest
+pub wider_none : (widest : Option Gap) → wider widest None ≡ widest
 wider_none None = refl
 wider_none (Some g) = refl
 
@@ -250,21 +247,10 @@ widest_rises o h m last widest s run w = by widest refl
     by None is = tt
     by (Some g) is = omega (arith, gap_bound o h s run m g.a g.b g.n (w.widest_is g is).gap)
 
--- the count of members is no more than those who can be listed, and those who joined
-pub members_bound : (o : Setting) (h : List Entry) (m : ℕ) (last : Option LastProbe) (widest : Option Gap) → IsSetting o → IsRun o h → length h < 2 ^ 32 → IsWalked o h m last widest
-    → IfSome last (λ l. l.members + 1 < 2 ^ 64)
-members_bound o h m last widest s run short w = by last refl
-  where
-    here : (l : LastProbe) → IsLast o h m l.number l.members → l.members + 1 < 2 ^ 64
-    here l is =
-        let probed = is.first ∷ is.before in
-        let began : IsRun o probed = IsRun-older o is.between probed (subst (λ (h : List Entry). IsRun o h) is.split run) in
-        let whole = ap length is.split ∙ length-append is.between probed in
-        omega (arith, is.count, listed_bound o probed s began, table_bound o probed s began, length-filter-le joins is.between, whole, short)
-
-    by : (found : Option LastProbe) → last ≡ found → IfSome found (λ l. l.members + 1 < 2 ^ 64)
-    by None is = tt
-    by (Some l) is = here l (w.last_is l is)
+-- so after each run
+pub walked : (o : Setting) (h : List Entry) (m : ℕ) → IsSetting o → IsRun o h → IsWalked o h m (last_probe o m h) (widest_gap o m h)
+walked o [] m s run = walked_none o m
+walked o (e ∷ h) m s run = walked_then o h e m (last_probe o m h) (widest_gap o m h) s run (walked o h m s run.1)
 
 -- what the walk kept in the end
 pub walked_widest : (o : Setting) (h : List Entry) (m : ℕ) (last : Option LastProbe) (widest : Option Gap) → IsWalked o h m last widest → IfSome widest (λ g. IsWidest o h m g.a g.b g.n)

@@ -65,7 +65,7 @@ probes_other m e at = by (probe_in e.reply) at
     by None at = refl
     by (Some probe) at = here (nat_eq probe.target m) probe.number at
 
-probing : (m : ℕ) (e : Entry) (probe : Probe) → probe_in e.reply ≡ Some probe → probe.target ≡ m → (probes_member m e ≡ true) × (probed_at m e.reply ≡ Some probe.number)
+pub probing : (m : ℕ) (e : Entry) (probe : Probe) → probe_in e.reply ≡ Some probe → probe.target ≡ m → (probes_member m e ≡ true) × (probed_at m e.reply ≡ Some probe.number)
 probing m e probe is same = let it = eq-eqb probe.target m same in (rw (is, it) refl, rw (is, it) refl)
 
 -- ---- the last probe after one more entry

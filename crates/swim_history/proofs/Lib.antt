@@ -1,5 +1,6 @@
 pub mod Each
 pub mod GapWalk
+pub mod GapsKept
 pub mod InOrder
 pub mod LastProbes
 pub mod Places

@@ -15,11 +15,13 @@ pub mod Judgement
 pub mod Probes
 pub mod Gap
 pub mod LastProbe
+pub mod MemberGaps
 pub mod Seats
 pub mod Reasons
 pub mod Determined
 pub mod Worked
 pub mod WorkedGaps
+pub mod WorkedReturns
 pub mod Sends
 pub mod Unchanged
 pub mod UnchangedLaws

@@ -1,8 +1,9 @@
 -- How a reply is stored: the relays that it asks stand apart.
-use Rattle.std.specs.Prelude.{ℕ, ◌+◌, ◌≤◌, List, [], length, take, drop}
+use Rattle.std.specs.Prelude.{ℕ, ◌+◌, ◌≤◌, List, [], length, take, drop, Option, Some, None}
 use Rattle.swim_history.specs.declared.replies.Relay.{Relay}
 use Rattle.swim_history.specs.declared.replies.Reply.{Reply}
 use Rattle.swim_history.specs.declared.replies.Reply.TheVariants as replies
+use Rattle.swim_history.specs.declared.stored_replies.Start.{Start}
 use Rattle.swim_history.specs.declared.stored_replies.StoredReply.{StoredReply}
 use Rattle.swim_history.specs.declared.stored_replies.StoredReply.TheVariants as stored
 
@@ -34,6 +35,11 @@ reply_among relays (stored.Dropped reason) = replies.Dropped reason
 reply_among relays (stored.Joined place) = replies.Joined place
 reply_among relays stored.Removed = replies.Removed
 reply_among relays (stored.Refused reason) = replies.Refused reason
+
+-- what a reply begins, if a period
+abbrev pub start_in : Reply → Option Start
+start_in (replies.Started judged probe) = Some (record { judged = judged; probe = probe })
+start_in reply = None
 
 -- its relays stand within so many, and a reply has room for them
 abbrev pub IsAskedWithin : ℕ → StoredReply → Type 0

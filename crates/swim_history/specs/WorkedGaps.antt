@@ -23,10 +23,10 @@ heard place target number = entry place (Hear (record { kind = Ack; sender = tar
 abbrev pub quiet : ℕ → Entry
 quiet place = entry place Tick Quiet Nothing
 
-abbrev acked : ℕ → ℕ → ℕ → List Entry → List Entry
+abbrev pub acked : ℕ → ℕ → ℕ → List Entry → List Entry
 acked place target number before = quiet (place + 2) ∷ quiet (place + 1) ∷ heard place target number ∷ before
 
-acked_is_run : (o : Setting) (place target number : ℕ) (before : List Entry) → o.me ≡ 1 → place ≡ calls_of 0 before → aim before ≡ Some target → number ≡ period_number o before
+pub acked_is_run : (o : Setting) (place target number : ℕ) (before : List Entry) → o.me ≡ 1 → place ≡ calls_of 0 before → aim before ≡ Some target → number ≡ period_number o before
     → phase o before ≢ 0 → phase o (quiet (place + 1) ∷ heard place target number ∷ before) ≢ 0
     → unheard o (heard place target number ∷ before) ≡ None → unheard o (quiet (place + 1) ∷ heard place target number ∷ before) ≡ None → IsRun o before → IsRun o (acked place target number before)
 acked_is_run o place target number before me calls aimed now first second none still run = (

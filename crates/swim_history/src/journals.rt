@@ -17,13 +17,13 @@ ghost use Rattle.swim_history.specs.Changes.{table, known_count, change_by, rows
 use crate::calls::Call;
 use crate::copies::copied;
 use crate::entries::Entry;
-use crate::gaps::{Gap, find_widest};
+use crate::gaps::Gap;
 use crate::openings::Opening;
 use crate::probing::{Probed, collect_probed};
 use crate::replies::Reply;
 use crate::rows::{Row, Table};
 use crate::storage::Entries;
-use crate::summaries::{Summary, judged_member, number_after};
+use crate::summaries::Summary;
 use crate::tables::find_row;
 use std::alloc::{AllocError, Global};
 use std::marker::Model;
@@ -47,14 +47,19 @@ pub struct Journal {
 }
 
 impl Model for Journal {
-    ghost use Rattle.std.specs.Prelude.{◌^◌, ◌<◌, reverse, length};
+    ghost use Rattle.std.specs.Prelude.{◌^◌, ◌<◌, min, reverse, length};
+    ghost use Rattle.std.specs.HashMap.{spare};
     ghost use Rattle.swim_history.specs.Setting.{IsSetting};
     ghost use Rattle.swim_history.specs.Run.{IsRun};
     ghost use Rattle.swim_history.specs.Written.{Written, IsSummary};
 
     ghost Value = { Written };
 
-    ghost view = { λ j. record { opening = j.opening; past = reverse j.entries.items; room = j.entries.room } };
+    ghost view = { λ j. record {
+      opening = j.opening;
+      past = reverse j.entries.items;
+      room = min j.entries.room (spare j.summary.gaps);
+    } };
 
     ghost invariant = { λ j. IsSetting j.opening
         × IsRun j.opening (reverse j.entries.items)
@@ -68,7 +73,7 @@ impl Journal {
         ensures opening { result.opening ≡ opening }
         ensures empty { result.past ≡ [] }
     {
-        let summary = Summary::new(&opening);
+        let summary = Summary::new(alloc, &opening);
         Journal {
             opening,
             entries: Entries::new(alloc),
@@ -116,6 +121,7 @@ impl Journal {
         ensures kept { self.old.room ≤ self.new.room }
         ensures succeeds { 0 < self.old.room → IsOk result }
     {
+        self.summary.reserve()?;
         self.entries.reserve()
     }
 
@@ -217,7 +223,7 @@ impl Journal {
         ensures bound { AreGapsBounded self.now.opening self.now.past }
         ensures round { IsProbedInTime self.now.opening self.now.past }
     {
-        find_widest(&self.opening, &self.entries, member)
+        self.summary.widest_gap(member)
     }
 }
 
@@ -234,9 +240,10 @@ fn collect_judged(
     let mut judged = Vec::new(alloc);
     let mut number = opening.last();
     for place in 0..entries.len() {
-        let reply = entries.reply(place);
-        note_judged(&mut judged, judged_member(&reply), number)?;
-        number = number_after(number, &reply);
+        if let Some(start) = entries.start(place) {
+            note_judged(&mut judged, start.judged, number)?;
+            number += 1;
+        }
     }
     Ok(judged)
 }

@@ -2,10 +2,9 @@
 
 ghost use Rattle.std.specs.Prelude.{◌≡◌, ◌++◌, map, reverse, IfOk, OnOk};
 ghost use Rattle.std.specs.Option.{option_to_list};
-ghost use Rattle.swim_history.specs.Events.{probe_in};
 ghost use Rattle.swim_history.specs.Probes.{probes, probed_by};
 
-use crate::replies::Reply;
+use crate::replies::Probe;
 use crate::storage::Entries;
 use std::alloc::{AllocError, Global};
 use swim_wire::Id;
@@ -23,23 +22,22 @@ pub(crate) fn collect_probed(alloc: Global, entries: &Entries) -> Result<Vec<Pro
 {
     let mut probed = Vec::new(alloc);
     for place in 0..entries.len() {
-        note_probed(&mut probed, &entries.reply(place))?;
+        if let Some(start) = entries.start(place) {
+            note_probed(&mut probed, start.probe)?;
+        }
     }
     Ok(probed)
 }
 
 /// Adds the probe of a start, if it makes one.
-fn note_probed(probed: &mut Vec<Probed>, reply: &Reply) -> Result<(), AllocError>
-    ensures { OnOk result (probed.new.items ≡ probed.old.items ++ map probed_by (option_to_list (probe_in reply.now))) }
+fn note_probed(probed: &mut Vec<Probed>, probe: Option<Probe>) -> Result<(), AllocError>
+    ensures { OnOk result (probed.new.items ≡ probed.old.items ++ map probed_by (option_to_list probe)) }
 {
-    match reply {
-        Reply::Started {
-            probe: Some(probe),
-            ..
-        } => Ok(probed.push(Probed {
+    match probe {
+        Some(probe) => Ok(probed.push(Probed {
             number: probe.number,
             member: probe.target,
         })?),
-        _ => Ok(()),
+        None => Ok(()),
     }
 }

@@ -4,7 +4,7 @@ ghost use Rattle.std.specs.Prelude.{◌≡◌, ◌+◌, ◌<◌, ◌≤◌, ◌=
 ghost use Rattle.swim_history.specs.declared.entries.Entry.{Entry};
 ghost use Rattle.swim_history.specs.declared.storage.Slot.TheVariants.{Whole};
 ghost use Rattle.swim_history.specs.Storage.{ids_in, drawn_at, choice_among, entry_among, IsWithin};
-ghost use Rattle.swim_history.specs.StoredReplies.{IsAskedWithin};
+ghost use Rattle.swim_history.specs.StoredReplies.{IsAskedWithin, start_in};
 ghost use Rattle.swim_history.specs.Written.{undrawn};
 
 use crate::calls::Call;
@@ -13,7 +13,7 @@ use crate::entries::{Choice, Entry};
 use crate::openings::MOST_RELAYS;
 use crate::replies::{Relay, Reply};
 use crate::rows::KNOWN_MEMBERS;
-use crate::stored_replies::{StoredReply, reply_among, store_reply};
+use crate::stored_replies::{Start, StoredReply, reply_among, start_in, store_reply};
 use std::alloc::{AllocError, Global};
 use std::marker::Model;
 use std::slice;
@@ -175,25 +175,14 @@ impl Entries {
         }
     }
 
-    /// The call of the entry at a place.
-    pub(crate) fn call(&self, place: usize) -> Call
+    /// What the entry at a place begins, if a period.
+    pub(crate) fn start(&self, place: usize) -> Option<Start>
         requires { place < length self.now.items }
-        ensures { (e : Entry) → result ≡ (slice_index_or self.now.items place e).call }
+        ensures { (e : Entry) → result ≡ start_in (slice_index_or self.now.items place e).reply }
     {
         match &self.slots[place] {
-            Slot::Quiet { .. } => Call::Tick,
-            Slot::Whole { place } => self.whole[*place].call,
-        }
-    }
-
-    /// The reply of the entry at a place.
-    pub(crate) fn reply(&self, place: usize) -> Reply
-        requires { place < length self.now.items }
-        ensures { (e : Entry) → result ≡ (slice_index_or self.now.items place e).reply }
-    {
-        match &self.slots[place] {
-            Slot::Quiet { .. } => Reply::Quiet,
-            Slot::Whole { place } => reply_among(self.relays.as_slice(), &self.whole[*place].reply),
+            Slot::Quiet { .. } => None,
+            Slot::Whole { place } => start_in(&self.whole[*place].reply),
         }
     }
 }

@@ -1,7 +1,8 @@
 //! Replies, as the journal stores them.
 
-ghost use Rattle.std.specs.Prelude.{◌≡◌, ◌+◌, ◌≤◌, ◌++◌, length, vec_len, vec_capacity};
-ghost use Rattle.swim_history.specs.StoredReplies.{relays_in, reply_at, reply_among, IsAskedWithin};
+ghost use Rattle.std.specs.Prelude.{◌≡◌, ◌+◌, ◌≤◌, ◌++◌, List, length, vec_len, vec_capacity};
+ghost use Rattle.swim_history.specs.declared.replies.Relay.{Relay};
+ghost use Rattle.swim_history.specs.StoredReplies.{relays_in, reply_at, reply_among, start_in, IsAskedWithin};
 
 use crate::copies::copied;
 use crate::replies::{DropReason, Probe, Refusal, Relay, Reply};
@@ -33,6 +34,26 @@ pub(crate) enum StoredReply {
     },
     Removed,
     Refused(Refusal),
+}
+
+/// What a start tells beside its number: whom it judged, and whom it probes.
+#[derive(Clone, Copy)]
+pub(crate) struct Start {
+    pub(crate) judged: Option<Id>,
+    pub(crate) probe: Option<Probe>,
+}
+
+/// What a stored reply begins, if a period. No relays are read.
+pub(crate) fn start_in(stored: &StoredReply) -> Option<Start>
+    ensures { (relays : List Relay) → result ≡ start_in (reply_among relays stored.now) }
+{
+    match stored {
+        StoredReply::Started { judged, probe } => Some(Start {
+            judged: *judged,
+            probe: *probe,
+        }),
+        _ => None,
+    }
 }
 
 /// Puts the relays of a reply behind the others, and answers how the reply is stored. It takes no memory.

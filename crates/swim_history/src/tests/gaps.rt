@@ -1,7 +1,8 @@
-ghost use Rattle.std.specs.Prelude.{◌≡◌, ◌<◌, ◌^◌, [], ◌∷◌, length, reverse, IfSome};
+ghost use Rattle.std.specs.Prelude.{◌≡◌, ◌<◌, ◌^◌, [], ◌∷◌, Some, length, reverse, IfSome};
 ghost use Rattle.swim_history.specs.Run.{IsRun};
-ghost use Rattle.swim_history.specs.Worked.{round};
+ghost use Rattle.swim_history.specs.Worked.{round, asking, starting};
 ghost use Rattle.swim_history.specs.WorkedGaps.{quiet, heard, no_relays, four_periods, joiner, next_round, joined, removal, rejoiner, rejoined};
+ghost use Rattle.swim_history.specs.WorkedReturns.{leaving, returning, returned, judged_returning, judged_and_back};
 
 use super::journals::{append, entry, first_start, played, start};
 use super::{address, id};
@@ -194,6 +195,130 @@ fn finds_no_gap_of_a_rejoiner(rt: HostRuntime) -> Result<(), Fail> {
     assert!(rt; journal.widest_gap(id(2).ok_or("an id")?).is_none());
     let gap = journal.widest_gap(id(3).ok_or("an id")?);
     assert_eq!(rt; gap, Some(Gap { a: 2, b: 4, n: 3 }));
+    Ok(())
+}
+
+fn leaving() -> Option<Entry>
+    ensures { IfSome result (λ e. e ≡ leaving) }
+{
+    let call = Call::Remove(id(2)?);
+    Some(entry(13, call, Reply::Removed, Choice::Nothing))
+}
+
+fn returning() -> Option<Entry>
+    ensures { IfSome result (λ e. e ≡ returning) }
+{
+    let call = Call::Join(id(2)?, address(2));
+    Some(entry(14, call, Reply::Joined { place: 0 }, Choice::Nothing))
+}
+
+// Six periods that probe 2, 3, 3, 2, 2 and 3; in the fourth member 2 is removed and joins again.
+fn returned() -> Option<[Entry; 22]>
+    ensures { IfSome result (λ entries. entries ≡ reverse returned) }
+{
+    Some([
+        first_start()?,
+        heard(1, 2, 1)?,
+        quiet(2),
+        quiet(3),
+        start(4, None, 3, 2, Choice::Nothing)?,
+        heard(5, 3, 2)?,
+        quiet(6),
+        quiet(7),
+        start(8, None, 3, 3, round(3, 2)?)?,
+        heard(9, 3, 3)?,
+        quiet(10),
+        quiet(11),
+        start(12, None, 2, 4, Choice::Nothing)?,
+        leaving()?,
+        returning()?,
+        quiet(15),
+        quiet(16),
+        start(17, None, 2, 5, round(2, 3)?)?,
+        heard(18, 2, 5)?,
+        quiet(19),
+        quiet(20),
+        start(21, None, 3, 6, Choice::Nothing)?,
+    ])
+}
+
+#[test]
+fn keeps_the_widest_gap_of_a_removed_member(rt: HostRuntime) -> Result<(), Fail> {
+    let opening = no_relays().ok_or("an opening")?;
+    let entries = returned().ok_or("entries")?;
+    let journal = replayed(rt.alloc(), opening, &entries)?;
+    let gap = journal.widest_gap(id(2).ok_or("an id")?);
+    assert_eq!(rt; gap, Some(Gap { a: 1, b: 4, n: 2 }));
+    let gap = journal.widest_gap(id(3).ok_or("an id")?);
+    assert_eq!(rt; gap, Some(Gap { a: 3, b: 6, n: 3 }));
+    Ok(())
+}
+
+fn silence(place: u32) -> Option<Entry>
+    ensures { IfSome result (λ e. e ≡ asking place 2 4 []) }
+{
+    let reply = Reply::Asked {
+        target: id(2)?,
+        number: 4,
+        relays: ArrayVec::new(),
+    };
+    Some(entry(place, Call::Tick, reply, Choice::Nothing))
+}
+
+// The start that judges member 2. A round of the one member that is left begins.
+fn judging_start() -> Option<Entry>
+    ensures { IfSome result (λ e. e ≡ starting 15 (Some 2) 3 5 (round (3 ∷ []))) }
+{
+    let mut order = ArrayVec::new();
+    order.push(id(3)?);
+    start(15, Some(id(2)?), 3, 5, Choice::Round(order))
+}
+
+fn judged_returning() -> Option<Entry>
+    ensures { IfSome result (λ e. e ≡ judged_returning) }
+{
+    let call = Call::Join(id(2)?, address(2));
+    Some(entry(16, call, Reply::Joined { place: 1 }, Choice::Nothing))
+}
+
+// Six periods that probe 2, 3, 3, 2, 3 and 2; at the end of the fourth member 2 is judged, and it joins again.
+fn judged_and_back() -> Option<[Entry; 21]>
+    ensures { IfSome result (λ entries. entries ≡ reverse judged_and_back) }
+{
+    Some([
+        first_start()?,
+        heard(1, 2, 1)?,
+        quiet(2),
+        quiet(3),
+        start(4, None, 3, 2, Choice::Nothing)?,
+        heard(5, 3, 2)?,
+        quiet(6),
+        quiet(7),
+        start(8, None, 3, 3, round(3, 2)?)?,
+        heard(9, 3, 3)?,
+        quiet(10),
+        quiet(11),
+        start(12, None, 2, 4, Choice::Nothing)?,
+        silence(13)?,
+        quiet(14),
+        judging_start()?,
+        judged_returning()?,
+        heard(17, 3, 5)?,
+        quiet(18),
+        quiet(19),
+        start(20, None, 2, 6, Choice::Nothing)?,
+    ])
+}
+
+#[test]
+fn keeps_the_widest_gap_of_a_judged_member(rt: HostRuntime) -> Result<(), Fail> {
+    let opening = no_relays().ok_or("an opening")?;
+    let entries = judged_and_back().ok_or("entries")?;
+    let journal = replayed(rt.alloc(), opening, &entries)?;
+    let gap = journal.widest_gap(id(2).ok_or("an id")?);
+    assert_eq!(rt; gap, Some(Gap { a: 1, b: 4, n: 2 }));
+    let gap = journal.widest_gap(id(3).ok_or("an id")?);
+    assert_eq!(rt; gap, Some(Gap { a: 3, b: 5, n: 2 }));
     Ok(())
 }
 

@@ -1,18 +1,22 @@
-use Rattle.std.proofs.Common.{◌≡◌, ◌<◌, ◌∷◌, ◌+◌, length, take, reverse, refl, sym, ap, ◌∙◌, arith}
+use Rattle.std.proofs.Common.{◌≡◌, ◌<◌, ◌^◌, ◌∷◌, ◌+◌, length, take, reverse, refl, sym, ap, append-nil, ◌∙◌, arith}
+use Rattle.swim_history.specs.Judgement.{judgements}
 use Rattle.swim_history.specs.RunLaws.{number_then}
 use Rattle.swim_history.specs.JudgementLaws.{judges_by_rule}
-use Rattle.swim_history.proofs.InOrder.{no_entry, entry_at, entry_there, past_more, next_continues, unspent_at}
+use Rattle.swim_history.proofs.InOrder.{no_entry, entry_at, entry_there, past_more, next_continues, unspent_at, begins_it, begins_nothing}
 use Rattle.swim_history.proofs.journals.collect_judged.Goals as goal
+use Rattle.swim_history.proofs.journals.collect_judged.Goals.{in-Some+in_ok-note_judged, in_default}
 
-pub number_after-number-requires : goal.number_after-number-requires
-number_after-number-requires c =
+pub overflow_add-number : goal.overflow_add-number
+overflow_add-number c =
     let o = c.args.opening.now in
     let entries = c.args.entries.now.items in
     let place = c.loop-place.place in
     let e = entry_at entries place in
     let there : place < length entries = omega (arith, c.len-place-end.ensures, c.loop-place-test.true) in
     let follows = next_continues o entries place e there (entry_there entries place there) c.requires in
-    rw (c.reply-reply.ensures no_entry, c.loop-place.invariant.now) (λ starts. unspent_at o (reverse (take place entries)) e follows starts)
+    let begins = begins_it e.reply c.in-Some.start (c.in-Some.ensures no_entry) in
+    let unspent : c.loop-place.number + 1 < 2 ^ 64 = rw c.loop-place.invariant.now (unspent_at o (reverse (take place entries)) e follows begins.starts) in
+    omega arith
 
 pub loop-place-preserved : goal.loop-place-preserved
 loop-place-preserved c =
@@ -25,11 +29,21 @@ loop-place-preserved c =
     let is = entry_there entries place there in
     let follows = next_continues o entries place e there is c.requires in
     let more : reverse (take (place + 1) entries) ≡ e ∷ h = past_more entries place e there ∙ ap (λ x. x ∷ h) (sym is) in
-    let reply = c.reply-reply.ensures no_entry in
-    record {
-      told = rw more (rw (c.in_ok-note_judged.ensures, c.judged_member.ensures, c.loop-place.invariant.told, c.loop-place.invariant.now, reply) refl);
-      now = rw more (rw (c.number_after-number.ensures, c.loop-place.invariant.now, reply) (sym (number_then o h e c.last-number.ensures.limits follows)));
-    }
+    let number = number_then o h e c.last-number.ensures.limits follows in
+    elim c.match-start.branch [
+      | in-Some+in_ok-note_judged w ↦
+          let begins = begins_it e.reply w.in-Some.start (w.in-Some.ensures no_entry) in
+          record {
+            told = rw (more, w.judged-is, w.in_ok-note_judged.ensures, c.loop-place.invariant.told, c.loop-place.invariant.now, begins.judged) refl;
+            now = rw (more, w.number-is, c.loop-place.invariant.now) (sym (rw begins.starts at number));
+          }
+      | in_default w ↦
+          let begins = begins_nothing e.reply (w.in_default.ensures no_entry) in
+          record {
+            told = rw (more, w.judged-is, c.loop-place.invariant.told, begins.no_judged) (sym (append-nil (judgements o h)));
+            now = rw (more, w.number-is, c.loop-place.invariant.now) (sym (rw begins.no_start at number));
+          }
+    ]
 
 pub returns-in_err-note_judged-clause-rule : goal.returns-in_err-note_judged-clause-rule
 returns-in_err-note_judged-clause-rule c = judges_by_rule _ _ c.last-number.ensures.limits c.requires
