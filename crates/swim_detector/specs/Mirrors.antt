@@ -11,7 +11,7 @@ use Rattle.swim_history.specs.declared.replies.Refusal.{Refusal}
 use Rattle.swim_history.specs.declared.replies.Relay.{Relay}
 use Rattle.swim_wire.specs.Address.{Address}
 use Rattle.swim_wire.specs.Round.{Lists, all_of}
-use Rattle.swim_wire.specs.Ids.{has}
+use Rattle.swim_wire.specs.Ids.{most_members, has}
 use Rattle.swim_history.specs.Rows.{up, row_of, is_listed}
 use Rattle.swim_history.specs.Changes.{known_count}
 use Rattle.std.specs.List.{AllByRecursion}
@@ -20,7 +20,7 @@ use Rattle.swim_history.specs.Clock.{phase}
 use Rattle.swim_history.specs.Aim.{aim, was_heard}
 use Rattle.swim_history.specs.Round.{lists, listed}
 use Rattle.swim_history.specs.Waiting.{waiting}
-use Rattle.swim_history.specs.Run.{calls_of, Answers}
+use Rattle.swim_history.specs.Run.{seats, calls_of, Answers}
 use Rattle.swim_history.specs.Drawn.{DrawsEntry}
 use Rattle.swim_detector.specs.declared.states.State.{State}
 use Rattle.swim_detector.specs.declared.answers.Answer.{Answer}
@@ -74,7 +74,7 @@ IsAnswered orders places o h call answer state before after =
 
 -- each seat's count is how many calls of it stand in the history, which has at most so many entries
 pub record Counts (h : List Entry) (counts : List ℕ) (limit : ℕ) : Type 0 where
-  pub seats : (seat : ℕ) → seat < 4 → slice_index counts seat ≡ calls_of seat h
+  pub seats : (seat : ℕ) → seat < seats → slice_index counts seat ≡ calls_of seat h
   pub within : length h ≤ limit
 
 -- the next member, if there is one, is listed
@@ -94,9 +94,9 @@ AreAt o h relays = AllByRecursion (λ relay. row_of o h relay.id ≡ Some (up re
 pub record MayList (o : Setting) (h : List Entry) (id : ℕ) : Type 0 where
   pub other : id ≢ o.me
   pub down : is_listed o h id ≡ false
-  pub known : row_of o h id ≡ None → known_count o h ≢ 128
+  pub known : row_of o h id ≡ None → known_count o h ≢ most_members
   pub unlisted : has (listed o h) id ≡ false
-  pub room : length (listed o h) < 128
+  pub room : length (listed o h) < most_members
 
 -- a joiner is refused for that reason, or may be listed
 abbrev pub JoinsOr : Setting → List Entry → ℕ → Option Refusal → Type 0

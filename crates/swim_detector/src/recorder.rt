@@ -10,7 +10,7 @@ use crate::answers::Answer;
 use crate::states::State;
 use std::alloc::Global;
 use std::marker::Model;
-use swim_history::{Call, Change, Entry, Journal, Opening, Reply, Table};
+use swim_history::{Call, Change, Entry, Journal, Opening, Reply, SEATS, Table};
 use swim_targets::Chooser;
 
 /// Why a call got no reply. The detector, the chooser and the journal are as before.
@@ -32,7 +32,7 @@ pub struct Recorder<C: Chooser> {
     // The answer to the newest call, which stands here so that its reply can be lent.
     answer: Answer,
     // How many calls each seat made.
-    counts: [u32; 4],
+    counts: [u32; SEATS as usize],
     chooser: C,
     limit: u32,
 }
@@ -63,7 +63,7 @@ impl<C: Chooser> Recorder<C> {
             journal: Journal::new(alloc, opening),
             state,
             answer: Answer::of(Reply::Quiet),
-            counts: [0; 4],
+            counts: [0; SEATS as usize],
             chooser,
             limit,
         }
@@ -90,7 +90,7 @@ impl<C: Chooser> Recorder<C> {
     /// Answers a call of a seat, and adds the entry that it answers. An `Err` changes nothing. After
     /// `ready` was answered `Ok` it succeeds and takes no memory.
     pub fn apply(&mut self, seat: u8, call: Call) -> Result<Entry, ApplyFault>
-        requires { seat < 4 }
+        requires { seat < SEATS }
         ensures ok { IfOk result (λ e. (e.seat ≡ seat) × (e.call ≡ call) × Records C.orders C.places self.old self.new e) }
         ensures err { OnErr result (IsKept self.old self.new) }
         ensures ready { 0 < self.old.room → length self.old.past < self.old.limit → IsOk result }
@@ -106,7 +106,7 @@ impl<C: Chooser> Recorder<C> {
 
     /// As `apply`, but it answers no entry, which is large: `reply` lends the reply.
     pub fn record(&mut self, seat: u8, call: Call) -> Result<(), ApplyFault>
-        requires { seat < 4 }
+        requires { seat < SEATS }
         ensures ok { OnOk result (RecordsCall C.orders C.places self.old self.new seat call) }
         ensures err { OnErr result (IsKept self.old self.new) }
         ensures ready { 0 < self.old.room → length self.old.past < self.old.limit → IsOk result }

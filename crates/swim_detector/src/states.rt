@@ -11,7 +11,7 @@ ghost use Rattle.swim_history.specs.Setting.{ids_of, is_state_up};
 ghost use Rattle.swim_detector.specs.Mirrors.{Mirrors, IsAnswered, choice_after};
 
 use crate::answers::Answer;
-use swim_history::{Call, Choice, Journal, Opening, Order, Row, RowState};
+use swim_history::{Call, Choice, Journal, KNOWN_MEMBERS, Opening, Order, Row, RowState};
 use swim_relays::Relays;
 use swim_targets::{Chooser, Targets};
 use swim_wire::Id;
@@ -79,7 +79,7 @@ fn round_of(opening: &Opening) -> Targets
 
 /// The members that are up, in order.
 fn members_up(rows: &[Row]) -> Order
-    requires { length rows.now ≤ 128 }
+    requires { length rows.now ≤ KNOWN_MEMBERS }
     ensures { result.items ≡ ids_of (filter (λ row. is_state_up row.state) rows.now) }
 {
     let mut members = Order::new();

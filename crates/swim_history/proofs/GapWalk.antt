@@ -22,8 +22,8 @@ use Rattle.swim_history.proofs.LastProbes.{IsLast, no_split, ProbesIt, probes_it
 
 -- what the walk keeps
 pub record IsWalked (o : Setting) (h : List Entry) (m : ℕ) (last : Option LastProbe) (widest : Option Gap) : Type 0 where
-  pub last_is : (l : LastProbe) → last ≡ Some l → IsLast o h m l.number l.members
-  pub last_found : (a n : ℕ) → IsLast o h m a n → last ≡ Some (record { number = a; members = n })
+  pub last_is : (l : LastProbe) → last ≡ Some l → IsLast o h m l.number l.n
+  pub last_found : (a n : ℕ) → IsLast o h m a n → last ≡ Some (record { number = a; n = n })
   pub widest_is : (g : Gap) → widest ≡ Some g → IsWidest o h m g.a g.b g.n
   pub widest_found : widest ≡ None → HasNoGap o h m
   pub in_order : (l : LastProbe) (g : Gap) → last ≡ Some l → widest ≡ Some g → g.a ≤ l.number
@@ -43,13 +43,13 @@ joined_number : (joined : Bool) (l : LastProbe) → (with_joiner joined l).numbe
 joined_number true l = refl
 joined_number false l = refl
 
-joined_members : (joined : Bool) (l : LastProbe) → (with_joiner joined l).members ≡ l.members + cond joined 1 0
+joined_members : (joined : Bool) (l : LastProbe) → (with_joiner joined l).n ≡ l.n + cond joined 1 0
 joined_members true l = refl
 joined_members false l = omega arith
 
-joined_is : (joined : Bool) (a n members : ℕ) → n ≡ members + cond joined 1 0 → with_joiner joined (record { number = a; members = members }) ≡ record { number = a; members = n }
-joined_is true a n members more = ap (λ (x : ℕ). record { number = a; members = x }) (sym more)
-joined_is false a n members more = let same : members ≡ n = omega arith in ap (λ (x : ℕ). record { number = a; members = x }) same
+joined_is : (joined : Bool) (a n members : ℕ) → n ≡ members + cond joined 1 0 → with_joiner joined (record { number = a; n = members }) ≡ record { number = a; n = n }
+joined_is true a n members more = ap (λ (x : ℕ). record { number = a; n = x }) (sym more)
+joined_is false a n members more = let same : members ≡ n = omega arith in ap (λ (x : ℕ). record { number = a; n = x }) same
 
 -- what is kept was kept before
 record WasKept (m : ℕ) (e : Entry) (last : Option LastProbe) (l : LastProbe) : Type 0 where
@@ -85,8 +85,8 @@ walked_past : (o : Setting) (h : List Entry) (e : Entry) (m : ℕ) (last : Optio
 walked_past o h e m last widest at w = record {
   last_is = λ l is.
       let was = was_kept m e last l is in
-      let still = still_last o h e m was.before.number was.before.members other was.stays (w.last_is was.before was.was) in
-      subst (λ (l : LastProbe). IsLast o (e ∷ h) m l.number l.members) was.is
+      let still = still_last o h e m was.before.number was.before.n other was.stays (w.last_is was.before was.was) in
+      subst (λ (l : LastProbe). IsLast o (e ∷ h) m l.number l.n) was.is
       (rw (joined_number (joins e) was.before, joined_members (joins e) was.before) still);
   last_found = λ a n last.
       let was = was_last o h e m a n other last in
@@ -129,13 +129,13 @@ module _ (o : Setting) (h : List Entry) (e : Entry) (m b : ℕ) (last : Option L
   -- a gap that it ends began with the last probe
   ends : (l : LastProbe) → last ≡ Some l → (a' b' n' : ℕ) → IsLast o h m a' n' × (probed_at m e.reply ≡ Some b') → (a' ≡ l.number) × (b' ≡ b)
   ends l is a' b' n' new =
-      let same : record { number = a'; members = n' } ≡ l = same_Some _ l (sym (w.last_found a' n' new.0) ∙ is) in
+      let same : record { number = a'; n = n' } ≡ l = same_Some _ l (sym (w.last_found a' n' new.0) ∙ is) in
       (ap (λ (x : LastProbe). x.number) same, same_Some b' b (sym new.1 ∙ at))
 
   -- it is the widest, where each that was there is narrower
-  new_widest : (l : LastProbe) → last ≡ Some l → ((a' b' n' : ℕ) → IsGap o h m a' b' n' → b' - a' < b - l.number) → IsWidest o (e ∷ h) m l.number b l.members
+  new_widest : (l : LastProbe) → last ≡ Some l → ((a' b' n' : ℕ) → IsGap o h m a' b' n' → b' - a' < b - l.number) → IsWidest o (e ∷ h) m l.number b l.n
   new_widest l is narrower = record {
-    gap = gap_new o h e m l.number b l.members (probes_it m e b at) (w.last_is l is);
+    gap = gap_new o h e m l.number b l.n (probes_it m e b at) (w.last_is l is);
     none_wider = λ a' b' n' gap.
         elim (gap_cases o h e m a' b' n' gap) [
           | inl old ↦ omega (arith, narrower a' b' n' old)
@@ -160,7 +160,7 @@ module _ (o : Setting) (h : List Entry) (e : Entry) (m b : ℕ) (last : Option L
   wider_is g = by_last last refl
     where
       chosen : (l : LastProbe) → last ≡ Some l → (old : Gap) → widest ≡ Some old → (t : Bool) → nat_lt (old.b - old.a) (b - l.number) ≡ t
-          → cond t (Some (record { a = l.number; b = b; n = l.members })) (Some old) ≡ Some g → IsWidest o (e ∷ h) m g.a g.b g.n
+          → cond t (Some (record { a = l.number; b = b; n = l.n })) (Some old) ≡ Some g → IsWidest o (e ∷ h) m g.a g.b g.n
       chosen l was old are true less is =
           let lt = ltb-true (old.b - old.a) (b - l.number) less in
           subst (λ (g : Gap). IsWidest o (e ∷ h) m g.a g.b g.n) (same_Some _ g is)
@@ -174,7 +174,7 @@ module _ (o : Setting) (h : List Entry) (e : Entry) (m b : ℕ) (last : Option L
             | inr new ↦ let same = ends l was a' b' n' new in inr (omega (arith, ge, same), omega (arith, order, same))
           ]))
 
-      by_widest : (l : LastProbe) → last ≡ Some l → (found : Option Gap) → widest ≡ found → wider found (Some (record { a = l.number; b = b; n = l.members })) ≡ Some g → IsWidest o (e ∷ h) m g.a g.b g.n
+      by_widest : (l : LastProbe) → last ≡ Some l → (found : Option Gap) → widest ≡ found → wider found (Some (record { a = l.number; b = b; n = l.n })) ≡ Some g → IsWidest o (e ∷ h) m g.a g.b g.n
       by_widest l was None none is =
           subst (λ (g : Gap). IsWidest o (e ∷ h) m g.a g.b g.n) (same_Some _ g is) (new_widest l was (λ a' b' n' gap. absurd (w.widest_found none a' b' n' gap)))
       by_widest l was (Some old) are is = chosen l was old are (nat_lt (old.b - old.a) (b - l.number)) refl is
@@ -196,14 +196,14 @@ module _ (o : Setting) (h : List Entry) (e : Entry) (m b : ℕ) (last : Option L
 
       by_last : (found : Option LastProbe) → last ≡ found → wider widest (gap_since found b) ≡ None → HasNoGap o (e ∷ h) m
       by_last None none is a' b' n' gap = w.widest_found (sym (wider_none widest) ∙ is) a' b' n' (none_ends none a' b' n' gap)
-      by_last (Some l) was is a' b' n' gap = by_widest (record { a = l.number; b = b; n = l.members }) widest is
+      by_last (Some l) was is a' b' n' gap = by_widest (record { a = l.number; b = b; n = l.n }) widest is
 
-  walked_probe : IsSetting o → IsRun o (e ∷ h) → IsWalked o (e ∷ h) m (Some (record { number = b; members = length (listed o (e ∷ h)) })) (wider widest (gap_since last b))
+  walked_probe : IsSetting o → IsRun o (e ∷ h) → IsWalked o (e ∷ h) m (Some (record { number = b; n = length (listed o (e ∷ h)) })) (wider widest (gap_since last b))
   walked_probe s run = record {
-    last_is = λ l is. subst (λ (l : LastProbe). IsLast o (e ∷ h) m l.number l.members) (same_Some _ l is) (last_new o h e m b it);
+    last_is = λ l is. subst (λ (l : LastProbe). IsLast o (e ∷ h) m l.number l.n) (same_Some _ l is) (last_new o h e m b it);
     last_found = λ a' n' found.
         let only = only_last o h e m a' b n' it found in
-        ap (λ (x : ℕ). Some (record { number = x; members = length (listed o (e ∷ h)) })) (sym only.0) ∙ ap (λ (x : ℕ). Some (record { number = a'; members = x })) (sym only.1);
+        ap (λ (x : ℕ). Some (record { number = x; n = length (listed o (e ∷ h)) })) (sym only.0) ∙ ap (λ (x : ℕ). Some (record { number = a'; n = x })) (sym only.1);
     widest_is = wider_is;
     widest_found = wider_found;
     in_order = λ l g is are.
@@ -233,8 +233,8 @@ gap_rises o h e m last widest s run w = by (probed_at m e.reply) refl
     with_last : (b : ℕ) → probed_at m e.reply ≡ Some b → (found : Option LastProbe) → last ≡ found → IfSome (gap_since found b) (λ g. g.a ≤ g.b)
     with_last b at None is = tt
     with_last b at (Some l) is =
-        let gap = gap_new o h e m l.number b l.members (probes_it m e b at) (w.last_is l is) in
-        omega (arith, gap_bound o (e ∷ h) s run m l.number b l.members gap)
+        let gap = gap_new o h e m l.number b l.n (probes_it m e b at) (w.last_is l is) in
+        omega (arith, gap_bound o (e ∷ h) s run m l.number b l.n gap)
 
     by : (found : Option ℕ) → probed_at m e.reply ≡ found → IfSome (option_and_then (gap_since last) found) (λ g. g.a ≤ g.b)
     by None at = tt

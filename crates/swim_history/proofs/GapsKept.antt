@@ -44,7 +44,7 @@ last_more : (joined : Bool) (joins : ℕ) (last : Option ProbeStart) → IfSome 
 last_more joined joins None past = refl
 last_more true joins (Some start) past =
     let more : start.listed + (joins + 1 - start.joins) ≡ start.listed + (joins - start.joins) + 1 = omega (arith, past) in
-    ap (λ (x : ℕ). Some (record { number = start.number; members = x })) more
+    ap (λ (x : ℕ). Some (record { number = start.number; n = x })) more
 last_more false joins (Some start) past = refl
 
 last_stays : (gone joined : Bool) (joins : ℕ) (kept : Option MemberGaps) → IfSome (last_in kept) (λ start. start.joins ≤ joins)
@@ -108,7 +108,7 @@ kept_probed o h e before m b kept at apart k =
     record {
       probed = rw probes.0 refl;
       past = omega arith;
-      last = rw at (ap (λ (x : ℕ). Some (record { number = b; members = x })) members);
+      last = rw at (ap (λ (x : ℕ). Some (record { number = b; n = x })) members);
       widest = rw (at, k.last, k.widest) refl;
     }
 

@@ -15,7 +15,7 @@ use Rattle.swim_history.specs.Judgement.{judgement, judgements}
 use Rattle.swim_history.specs.Run.{Continues, IsRun}
 use Rattle.swim_history.specs.RunLaws.{number_then}
 use Rattle.swim_history.specs.declared.summaries.Summary.{Summary}
-use Rattle.swim_history.specs.Wait.{length-filter-le}
+use Rattle.swim_history.specs.UntilProbed.{length-filter-le}
 use Rattle.swim_history.specs.MemberGaps.{IsOpenTo}
 use Rattle.swim_history.specs.Written.{IsSummary, HasRoomFor, IsNext}
 use Rattle.swim_history.proofs.InOrder.{unspent_at}

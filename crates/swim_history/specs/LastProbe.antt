@@ -17,7 +17,7 @@ probed_at m reply = option_and_then (λ probe. if probe.target == m then Some pr
 
 -- one member more, where one joins
 abbrev pub with_joiner : Bool → LastProbe → LastProbe
-with_joiner joined last = if joined then record { number = last.number; members = last.members + 1 } else last
+with_joiner joined last = if joined then record { number = last.number; n = last.n + 1 } else last
 
 -- what is kept after an entry that doesn't probe the member
 abbrev pub kept : ℕ → Call → Reply → Option LastProbe → Option LastProbe
@@ -26,14 +26,14 @@ kept m call reply last = if is_unlisting m call reply then None else option_map 
 -- what is kept after an entry: up is how many are listed then
 abbrev pub last_of : Option ℕ → ℕ → Option LastProbe → Option LastProbe
 last_of None up last = last
-last_of (Some number) up last = Some (record { number = number; members = up })
+last_of (Some number) up last = Some (record { number = number; n = up })
 
 abbrev pub last_then : ℕ → Call → Reply → ℕ → Option LastProbe → Option LastProbe
 last_then m call reply up last = last_of (probed_at m reply) up (kept m call reply last)
 
 -- the gap that a probe ends
 abbrev pub gap_since : Option LastProbe → ℕ → Option Gap
-gap_since last number = option_map (λ last. record { a = last.number; b = number; n = last.members }) last
+gap_since last number = option_map (λ last. record { a = last.number; b = number; n = last.n }) last
 
 abbrev pub gap_then : ℕ → Reply → Option LastProbe → Option Gap
 gap_then m reply last = option_and_then (gap_since last) (probed_at m reply)

@@ -15,7 +15,7 @@ use Rattle.swim_history.specs.LastProbe.{probed_at, gap_since, wider, last_probe
 
 -- a probe, seen after so many joins
 abbrev pub last_at : ℕ → Option ProbeStart → Option LastProbe
-last_at joins start = option_map (λ start. record { number = start.number; members = start.listed + (joins - start.joins) }) start
+last_at joins start = option_map (λ start. record { number = start.number; n = start.listed + (joins - start.joins) }) start
 
 -- the last probe of a member that is listed since, and its widest gap
 abbrev pub last_in : Option MemberGaps → Option ProbeStart

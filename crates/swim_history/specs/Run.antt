@@ -3,7 +3,7 @@
 use Rattle.std.specs.Prelude.{◌≡◌, ◌≢◌, ◌⊎◌, ℕ, ◌+◌, ◌-◌, ◌^◌, ◌<◌, ◌≤◌, ◌==◌, Bool, true, false, List, [], ◌∷◌, length, min, map, filter, Option, Some, None}
 use Rattle.std.specs.List.{AllByRecursion}
 use Rattle.swim_wire.specs.Address.{Address}
-use Rattle.swim_wire.specs.Ids.{has, has_twice, without, front}
+use Rattle.swim_wire.specs.Ids.{most_members, has, has_twice, without, front}
 use Rattle.swim_wire.specs.Probe.{key_of, passed_on}
 use Rattle.swim_wire.specs.Requests.{waits, peer_for}
 use Rattle.swim_wire.specs.Round.{leave_judged, MayDraw, redraw}
@@ -96,13 +96,17 @@ Answers o h Tick Quiet Nothing = (phase o h ≢ 0) × (phase o h ≡ o.rtt → u
 Answers o h (Hear m source) reply Nothing = Hears o h m source m.kind reply
 Answers o h (Join id peer) (Refused Myself) Nothing = id ≡ o.me
 Answers o h (Join id peer) (Refused Listed) Nothing = (id ≢ o.me) × (is_listed o h id ≡ true)
-Answers o h (Join id peer) (Refused Full) Nothing = (id ≢ o.me) × (row_of o h id ≡ None) × (known_count o h ≡ 128)
+Answers o h (Join id peer) (Refused Full) Nothing = (id ≢ o.me) × (row_of o h id ≡ None) × (known_count o h ≡ most_members)
 Answers o h (Join id peer) (Joined place) Nothing =
-    (id ≢ o.me) × (is_listed o h id ≡ false) × (row_of o h id ≡ None → known_count o h ≢ 128) × (place ≤ length (listed o h))
+    (id ≢ o.me) × (is_listed o h id ≡ false) × (row_of o h id ≡ None → known_count o h ≢ most_members) × (place ≤ length (listed o h))
 Answers o h (Remove id) (Refused Myself) Nothing = id ≡ o.me
 Answers o h (Remove id) (Refused Unknown) Nothing = (id ≢ o.me) × (row_of o h id ≡ None)
 Answers o h (Remove id) Removed Nothing = (id ≢ o.me) × (row_of o h id ≢ None)
 Answers o h call reply choice = ⊥
+
+-- how many seats call the detector, numbered from 0
+abbrev pub seats : ℕ
+seats = 4
 
 -- how many calls of a seat stand in a history
 abbrev pub calls_of : ℕ → List Entry → ℕ
@@ -110,7 +114,7 @@ calls_of seat h = length (filter (λ e. e.seat == seat) h)
 
 -- the entry may follow the history
 pub record Continues (o : Setting) (h : List Entry) (e : Entry) : Type 0 where
-  pub seat : e.seat < 4
+  pub seat : e.seat < seats
   pub number : e.number ≡ calls_of e.seat h
   pub answer : Answers o h e.call e.reply e.choice
 

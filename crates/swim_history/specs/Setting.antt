@@ -1,7 +1,7 @@
 -- What a detector starts from, as contracts see an `Opening`.
 use Rattle.std.specs.Prelude.{◌≡◌, ℕ, ◌*◌, ◌<◌, ◌≤◌, ◌^◌, Bool, true, false, ◌&&◌, nat_lt, nat_le, List, length, map}
 use Rattle.std.specs.List.{list_all}
-use Rattle.swim_wire.specs.Ids.{has, has_twice}
+use Rattle.swim_wire.specs.Ids.{most_members, has, has_twice}
 use Rattle.swim_history.specs.declared.rows.Row.{Row}
 use Rattle.swim_history.specs.declared.rows.RowState.{RowState}
 use Rattle.swim_history.specs.declared.rows.RowState.TheVariants.{Up, Failed}
@@ -30,11 +30,18 @@ abbrev pub is_state_past : ℕ → RowState → Bool
 is_state_past last Up = true
 is_state_past last (Failed number) = nat_lt 0 number && nat_le number last
 
+-- how many relays are asked at the most, and how long a period lasts at the most, in ticks
+abbrev pub most_relays : ℕ
+most_relays = 8
+
+abbrev pub longest_period : ℕ
+longest_period = 65535
+
 -- the limits within which a detector runs
 pub record IsSetting (o : Setting) : Type 0 where
-  pub relays : o.k ≤ 8
-  pub timing : (1 ≤ o.rtt) × (3 * o.rtt ≤ o.period) × (o.period ≤ 65535)
-  pub rows : length o.rows ≤ 128
+  pub relays : o.k ≤ most_relays
+  pub timing : (1 ≤ o.rtt) × (3 * o.rtt ≤ o.period) × (o.period ≤ longest_period)
+  pub rows : length o.rows ≤ most_members
   pub others : has (ids_of o.rows) o.me ≡ false
   pub once : has_twice (ids_of o.rows) ≡ false
   pub states : list_all (λ row. is_state_past o.last row.state) o.rows ≡ true

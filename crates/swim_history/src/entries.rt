@@ -2,11 +2,10 @@
 
 use crate::calls::Call;
 use crate::replies::Reply;
-use arrayvec::ArrayVec;
-use swim_wire::Id;
+use swim_wire::Order;
 
-/// The members in the order of a new round.
-pub type Order = ArrayVec<Id, 128>;
+/// How many seats call a detector. They are numbered from 0.
+pub const SEATS: u8 = 4;
 
 /// What was drawn for an entry, beside what its reply says.
 #[derive(Debug, PartialEq, Eq, Drop)]

@@ -13,7 +13,7 @@ use crate::calls::Call;
 use crate::replies::Reply;
 use crate::rows::{Row, RowState};
 use std::collections::HashMap;
-use swim_wire::Id;
+use swim_wire::{Id, KNOWN_MEMBERS};
 
 /// Two successive probes of a member that was listed all the time between: the numbers `a` and `b` of their
 /// periods, and `n`, how many members were listed just after the first, and how many joined between.
@@ -29,7 +29,7 @@ pub struct Gap {
 #[derive(Clone, Copy)]
 struct LastProbe {
     number: u64,
-    members: u64,
+    n: u64,
 }
 
 /// A probe of a member: the number of its period, how many joins had been accepted by then, and how many
@@ -64,7 +64,7 @@ pub(crate) fn note_gaps(
     rows: &[Row],
 )
     requires room { 0 < spare gaps.old }
-    requires rows { length rows.now ≤ 128 }
+    requires rows { length rows.now ≤ KNOWN_MEMBERS }
     requires fits { IfSome (probe_in reply.now) (λ probe. IsOpenTo joins probe.number (get nat_eq gaps.old probe.target)) }
     ensures gaps { let up = length (filter (λ row. is_state_up row.state) rows.now) in
         (m : ℕ) → get nat_eq gaps.new m ≡ gaps_then m call.now reply.now up joins (get nat_eq gaps.old m) }
@@ -130,7 +130,7 @@ fn gap_since(kept: Option<MemberGaps>, start: ProbeStart) -> Option<Gap>
     Some(Gap {
         a: last.number,
         b: start.number,
-        n: last.members,
+        n: last.n,
     })
 }
 
@@ -141,7 +141,7 @@ fn last_at(start: ProbeStart, joins: u32) -> LastProbe
 {
     LastProbe {
         number: start.number,
-        members: u64::from(start.listed) + u64::from(joins - start.joins),
+        n: u64::from(start.listed) + u64::from(joins - start.joins),
     }
 }
 
@@ -178,7 +178,7 @@ pub(crate) fn is_joining(call: &Call, reply: &Reply) -> bool
 
 /// How many rows are of members that are up.
 fn count_up(rows: &[Row]) -> u8
-    requires { length rows.now ≤ 128 }
+    requires { length rows.now ≤ KNOWN_MEMBERS }
     ensures { result ≡ length (filter (λ row. is_state_up row.state) rows.now) }
 {
     let mut up = 0;

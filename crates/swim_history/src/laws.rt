@@ -2,6 +2,7 @@
 
 ghost use Rattle.std.specs.Prelude.{◌≡◌, ◌↔◌, ◌+◌, ◌≤◌, ◌++◌, ◌∷◌, ℕ, List, length, true, if◌then◌else◌};
 ghost use Rattle.swim_history.specs.declared.entries.Entry.{Entry};
+ghost use Rattle.swim_wire.specs.Ids.{most_members};
 ghost use Rattle.swim_history.specs.Setting.{Setting, IsSetting};
 ghost use Rattle.swim_history.specs.Events.{is_start, is_tick};
 ghost use Rattle.swim_history.specs.Clock.{period_number, phase};
@@ -36,11 +37,12 @@ pub fn one_reply_fits()
     ensures started { (o : Setting) → StartsOnce o }
 {}
 
-/// The member table shows the row of each member, its ids ascend, and in a run it has at most 128 rows.
+/// The member table shows the row of each member, its ids ascend, and in a run it has at most as many rows as
+/// members may be known.
 pub fn table_shows_members()
     ensures shows { (o : Setting) (h : List Entry) (id : ℕ) → row_at (table o h) id ≡ row_of o h id }
     ensures ascends { (o : Setting) (h : List Entry) → IsAscending (table o h) }
-    ensures bound { (o : Setting) (h : List Entry) → IsSetting o → IsRun o h → length (table o h) ≤ 128 }
+    ensures bound { (o : Setting) (h : List Entry) → IsSetting o → IsRun o h → length (table o h) ≤ most_members }
 {}
 
 /// A dropped message and a refused call change nothing that the rules look at: the clock, the round, the rows, the aim

@@ -20,14 +20,15 @@ mod summaries;
 mod tables;
 
 pub use calls::Call;
-pub use entries::{Choice, Entry, Order};
+pub use entries::{Choice, Entry, SEATS};
 pub use gaps::Gap;
 pub use journals::{Journal, Judged};
 pub use openings::{LONGEST_PERIOD, MOST_RELAYS, Opening, OpeningFault};
 pub use probing::Probed;
 pub use replies::{DropReason, Probe, Refusal, Relay, Reply};
-pub use rows::{Change, KNOWN_MEMBERS, Row, RowState, Table};
+pub use rows::{Change, Row, RowState, Table};
 pub use sending::sends;
+pub use swim_wire::{KNOWN_MEMBERS, Order};
 
 #[cfg(test)]
 mod tests;

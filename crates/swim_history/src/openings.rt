@@ -5,13 +5,12 @@ ghost use Rattle.swim_wire.specs.Ids.{has, has_twice as stands_twice};
 ghost use Rattle.swim_history.specs.Setting.{IsSetting, ids_of};
 ghost use Rattle.swim_history.specs.Check.{first_fault, fault_number, setting_of, rows_up};
 
-use crate::rows::{KNOWN_MEMBERS, Row, RowState};
-use arrayvec::ArrayVec;
+use crate::rows::{Row, RowState, Table};
 use std::marker::Model;
-use swim_wire::{Id, Peer};
+use swim_wire::{Id, KNOWN_MEMBERS, Peer};
 
 /// The most members that are asked for an indirect probe.
-pub const MOST_RELAYS: u32 = 8;
+pub const MOST_RELAYS: usize = 8;
 
 /// The longest period, in ticks.
 pub const LONGEST_PERIOD: u32 = 65535;
@@ -19,11 +18,11 @@ pub const LONGEST_PERIOD: u32 = 65535;
 /// Why a detector can't start so. The first that applies is told.
 #[derive(Clone, Copy, Debug, PartialEq, Eq)]
 pub enum OpeningFault {
-    /// More than 8 relays.
+    /// More than [`MOST_RELAYS`] relays.
     Relays,
     /// A timeout of 0 ticks, a period of less than three timeouts, or one of more than 65535 ticks.
     Timing,
-    /// More than 128 members.
+    /// More than [`KNOWN_MEMBERS`] members.
     TooManyRows,
     /// This member is among the others.
     Myself,
@@ -56,7 +55,7 @@ pub struct Opening {
     k: u32,
     rtt: u32,
     period: u32,
-    rows: ArrayVec<Row, 128>,
+    rows: Table,
     last: u64,
 }
 
@@ -149,9 +148,9 @@ impl Opening {
 /// The first fault of these parameters. The last number has none.
 fn fault_of(me: Id, k: u32, rtt: u32, period: u32, rows: &[(Id, Peer)]) -> Option<OpeningFault>
     ensures first { (last : ℕ) → result ≡ first_fault (setting_of me k rtt period rows.now last) }
-    ensures room { result ≡ None → length rows.now ≤ 128 }
+    ensures room { result ≡ None → length rows.now ≤ KNOWN_MEMBERS }
 {
-    if k > MOST_RELAYS {
+    if k as usize > MOST_RELAYS {
         return Some(OpeningFault::Relays);
     }
     if rtt == 0 || u64::from(period) < 3 * u64::from(rtt) || period > LONGEST_PERIOD {
@@ -190,11 +189,11 @@ fn has_twice(rows: &[(Id, Peer)]) -> bool
 }
 
 /// The rows of members that are up.
-fn rows_of(members: &[(Id, Peer)]) -> ArrayVec<Row, 128>
-    requires { length members.now ≤ 128 }
+fn rows_of(members: &[(Id, Peer)]) -> Table
+    requires { length members.now ≤ KNOWN_MEMBERS }
     ensures { result.items ≡ rows_up members.now }
 {
-    let mut rows = ArrayVec::new();
+    let mut rows = Table::new();
     for member in members {
         rows.push(Row {
             id: member.0,

@@ -4,6 +4,7 @@ ghost use Rattle.std.specs.Prelude.{◌≡◌};
 ghost use Rattle.swim_history.specs.Reasons.{drop_number, refusal_number};
 
 use crate::copies::copied;
+use crate::openings::MOST_RELAYS;
 use arrayvec::ArrayVec;
 use swim_wire::{Id, Message, Peer};
 
@@ -66,7 +67,7 @@ pub enum Refusal {
     Myself,
     /// The member is listed already.
     Listed,
-    /// 128 members are known, and this one isn't among them.
+    /// As many members are known as may be, and this one isn't among them.
     Full,
     /// No such member is known.
     Unknown,
@@ -105,7 +106,7 @@ pub enum Reply {
     Asked {
         target: Id,
         number: u64,
-        relays: ArrayVec<Relay, 8>,
+        relays: ArrayVec<Relay, MOST_RELAYS>,
     },
     /// An ack of the aim for this period.
     Heard,

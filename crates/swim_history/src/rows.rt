@@ -1,10 +1,7 @@
 //! The member table's rows, and what changes them.
 
 use arrayvec::ArrayVec;
-use swim_wire::{Id, Peer};
-
-/// How many members a detector may know, up and failed together.
-pub const KNOWN_MEMBERS: usize = 128;
+use swim_wire::{Id, KNOWN_MEMBERS, Peer};
 
 /// What a detector holds of a member that it knows.
 #[derive(Clone, Copy, Debug, Default, PartialEq, Eq)]
@@ -25,7 +22,7 @@ pub struct Row {
 }
 
 /// The rows of the known members, ascending by id.
-pub type Table = ArrayVec<Row, 128>;
+pub type Table = ArrayVec<Row, KNOWN_MEMBERS>;
 
 /// What an entry does to the member table.
 #[derive(Clone, Copy, Debug, PartialEq, Eq)]

@@ -3,7 +3,7 @@
 ghost use Rattle.std.specs.Prelude.{◌≡◌, ◌+◌, ◌<◌, ◌≤◌, ◌∷◌, ◌++◌, [], length, map};
 ghost use Rattle.swim_history.specs.Sends.{sends_of, to_each};
 
-use crate::openings::Opening;
+use crate::openings::{MOST_RELAYS, Opening};
 use crate::replies::{Relay, Reply};
 use arrayvec::ArrayVec;
 use swim_wire::{Id, Kind, Message, Peer, PeriodNumber};
@@ -11,7 +11,7 @@ use swim_wire::{Id, Kind, Message, Peer, PeriodNumber};
 /// The messages that a reply sends, with their addresses, in order: the ping of a period that begins, a
 /// request to each relay, or the message of a `Send` (section 3.1 of the SWIM paper). No other reply
 /// sends any.
-pub fn sends(reply: &Reply, opening: &Opening) -> ArrayVec<(Peer, Message), 8>
+pub fn sends(reply: &Reply, opening: &Opening) -> ArrayVec<(Peer, Message), MOST_RELAYS>
     ensures { result.items ≡ sends_of reply.now opening.now }
 {
     let me = opening.me();
@@ -38,8 +38,8 @@ pub fn sends(reply: &Reply, opening: &Opening) -> ArrayVec<(Peer, Message), 8>
 }
 
 /// The addresses of relays, in order.
-fn peers_of(relays: &[Relay]) -> ArrayVec<Peer, 8>
-    requires { length relays.now ≤ 8 }
+fn peers_of(relays: &[Relay]) -> ArrayVec<Peer, MOST_RELAYS>
+    requires { length relays.now ≤ MOST_RELAYS }
     ensures { result.items ≡ map (λ relay. relay.peer) relays.now }
 {
     let mut peers = ArrayVec::new();
@@ -56,8 +56,8 @@ fn to_each(
     target: Id,
     number: u64,
     peers: &[Peer],
-) -> ArrayVec<(Peer, Message), 8>
-    requires { length peers.now ≤ 8 }
+) -> ArrayVec<(Peer, Message), MOST_RELAYS>
+    requires { length peers.now ≤ MOST_RELAYS }
     ensures { result.items ≡ to_each kind me target number peers.now }
 {
     match PeriodNumber::new(number) {
@@ -76,8 +76,8 @@ fn to_each(
 }
 
 /// A message with each address.
-fn addressed(message: &Message, peers: &[Peer]) -> ArrayVec<(Peer, Message), 8>
-    requires { length peers.now ≤ 8 }
+fn addressed(message: &Message, peers: &[Peer]) -> ArrayVec<(Peer, Message), MOST_RELAYS>
+    requires { length peers.now ≤ MOST_RELAYS }
     ensures { result.items ≡ map (λ peer. (peer, message.now)) peers.now }
 {
     let mut sent = ArrayVec::new();

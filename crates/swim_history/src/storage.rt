@@ -12,12 +12,11 @@ use crate::copies::copied;
 use crate::entries::{Choice, Entry};
 use crate::openings::MOST_RELAYS;
 use crate::replies::{Relay, Reply};
-use crate::rows::KNOWN_MEMBERS;
 use crate::stored_replies::{Start, StoredReply, reply_among, start_in, store_reply};
 use std::alloc::{AllocError, Global};
 use std::marker::Model;
 use std::slice;
-use swim_wire::Id;
+use swim_wire::{Id, KNOWN_MEMBERS};
 
 /// What is stored for each entry, in 16 bytes.
 #[derive(Clone, Copy)]
@@ -63,6 +62,8 @@ pub(crate) struct Entries {
 
 impl Model for Entries {
     ghost use Rattle.std.specs.Prelude.{◌-◌, ◌/◌, map, min, length, vec_len, vec_capacity};
+    ghost use Rattle.swim_wire.specs.Ids.{most_members};
+    ghost use Rattle.swim_history.specs.Setting.{most_relays};
     ghost use Rattle.swim_history.specs.Storage.{Storage, entry_in, ArePlaced, AreWithin};
 
     ghost Value = { Storage };
@@ -70,7 +71,8 @@ impl Model for Entries {
     ghost view = { λ e. record {
       items = map (entry_in e.ids.items e.relays.items e.whole.items) e.slots.items;
       room = min (min (vec_capacity e.slots - vec_len e.slots) (vec_capacity e.whole - vec_len e.whole))
-          (min ((vec_capacity e.relays - vec_len e.relays) / 8) ((vec_capacity e.ids - vec_len e.ids) / 128));
+          (min ((vec_capacity e.relays - vec_len e.relays) / most_relays)
+          ((vec_capacity e.ids - vec_len e.ids) / most_members));
     } };
 
     ghost invariant = { λ e. ArePlaced (length e.whole.items) e.slots.items
@@ -115,7 +117,7 @@ impl Entries {
     {
         self.slots.reserve(1)?;
         self.whole.reserve(1)?;
-        self.relays.reserve(MOST_RELAYS as usize)?;
+        self.relays.reserve(MOST_RELAYS)?;
         self.ids.reserve(KNOWN_MEMBERS)
     }
 
@@ -218,12 +220,12 @@ fn entry_among(ids: &[Id], relays: &[Relay], stored: &Stored) -> Entry
 
 /// Puts the ids that were drawn behind the others, and answers where they stand. It takes no memory.
 fn store_ids(ids: &mut Vec<Id>, choice: &Choice) -> Drawn
-    requires { vec_len ids.old + 128 ≤ vec_capacity ids.old }
+    requires { vec_len ids.old + KNOWN_MEMBERS ≤ vec_capacity ids.old }
     ensures ids { ids.new.items ≡ ids.old.items ++ ids_in choice.now }
     ensures drawn { result ≡ drawn_at (length ids.old.items) choice.now }
     ensures within { IsWithin (length ids.new.items) result }
     ensures capacity { vec_capacity ids.old ≤ vec_capacity ids.new }
-    ensures len { vec_len ids.new ≤ vec_len ids.old + 128 }
+    ensures len { vec_len ids.new ≤ vec_len ids.old + KNOWN_MEMBERS }
 {
     match choice {
         Choice::Nothing => Drawn::Nothing,

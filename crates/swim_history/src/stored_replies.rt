@@ -5,6 +5,7 @@ ghost use Rattle.swim_history.specs.declared.replies.Relay.{Relay};
 ghost use Rattle.swim_history.specs.StoredReplies.{relays_in, reply_at, reply_among, start_in, IsAskedWithin};
 
 use crate::copies::copied;
+use crate::openings::MOST_RELAYS;
 use crate::replies::{DropReason, Probe, Refusal, Relay, Reply};
 use swim_wire::{Id, Message, Peer};
 
@@ -58,12 +59,12 @@ pub(crate) fn start_in(stored: &StoredReply) -> Option<Start>
 
 /// Puts the relays of a reply behind the others, and answers how the reply is stored. It takes no memory.
 pub(crate) fn store_reply(relays: &mut Vec<Relay>, reply: &Reply) -> StoredReply
-    requires { vec_len relays.old + 8 ≤ vec_capacity relays.old }
+    requires { vec_len relays.old + MOST_RELAYS ≤ vec_capacity relays.old }
     ensures relays { relays.new.items ≡ relays.old.items ++ relays_in reply.now }
     ensures stored { result ≡ reply_at (length relays.old.items) reply.now }
     ensures within { IsAskedWithin (length relays.new.items) result }
     ensures capacity { vec_capacity relays.old ≤ vec_capacity relays.new }
-    ensures len { vec_len relays.new ≤ vec_len relays.old + 8 }
+    ensures len { vec_len relays.new ≤ vec_len relays.old + MOST_RELAYS }
 {
     match reply {
         Reply::Quiet => StoredReply::Quiet,

@@ -15,7 +15,7 @@ use crate::replies::Reply;
 use crate::rows::Table;
 use crate::tables::{apply_change, change_by, table_of};
 use std::alloc::{AllocError, Global};
-use swim_wire::Id;
+use swim_wire::{Id, KNOWN_MEMBERS};
 
 /// The member table, the last period number used, how many members were judged failed, how many joined, and
 /// what is kept of the gaps of each member that was ever probed.
@@ -101,7 +101,7 @@ fn is_start(reply: &Reply) -> bool
 fn note_change(rows: &mut Table, call: &Call, reply: &Reply, number: u64)
     requires ascends { IsAscending rows.old.items }
     requires fits { let change = change_by call.now reply.now number in
-        length (rows_after rows.old.items (option_to_list change)) ≤ 128 }
+        length (rows_after rows.old.items (option_to_list change)) ≤ KNOWN_MEMBERS }
     ensures { let change = change_by call.now reply.now number in
         rows.new.items ≡ rows_after rows.old.items (option_to_list change) }
 {

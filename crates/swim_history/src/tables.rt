@@ -9,11 +9,11 @@ ghost use Rattle.swim_history.specs.declared.rows.Change.TheVariants as change;
 use crate::calls::Call;
 use crate::replies::Reply;
 use crate::rows::{Change, Row, RowState, Table};
-use swim_wire::Id;
+use swim_wire::{Id, KNOWN_MEMBERS};
 
 /// The table of these rows.
 pub(crate) fn table_of(rows: &[Row]) -> Table
-    requires { length rows.now ≤ 128 }
+    requires { length rows.now ≤ KNOWN_MEMBERS }
     ensures { result.items ≡ ascending rows.now }
 {
     let mut table = Table::new();
@@ -44,7 +44,7 @@ pub(crate) fn change_by(call: &Call, reply: &Reply, number: u64) -> Option<Chang
 /// Makes a change.
 pub(crate) fn apply_change(table: &mut Table, change: &Change)
     requires ascends { IsAscending table.old.items }
-    requires fits { length (after_change change.now table.old.items) ≤ 128 }
+    requires fits { length (after_change change.now table.old.items) ≤ KNOWN_MEMBERS }
     ensures { table.new.items ≡ after_change change.now table.old.items }
 {
     match *change {
@@ -75,7 +75,7 @@ pub(crate) fn find_row(rows: &[Row], id: Id) -> Option<Row>
 /// Puts a row among the others, or in place of the one with its id.
 fn put(table: &mut Table, row: Row)
     requires ascends { IsAscending table.old.items }
-    requires fits { length (put row table.old.items) ≤ 128 }
+    requires fits { length (put row table.old.items) ≤ KNOWN_MEMBERS }
     ensures { table.new.items ≡ put row table.old.items }
 {
     match search(table.as_slice(), row.id) {

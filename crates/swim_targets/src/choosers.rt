@@ -2,11 +2,7 @@
 
 ghost use Rattle.std.specs.Prelude.{ℕ, List, ◌≤◌, IsPermutation};
 
-use arrayvec::ArrayVec;
 use swim_wire::Id;
-
-/// Ids in order, at most 128.
-pub type Order = ArrayVec<Id, 128>;
 
 /// Chooses orders and places. What it chooses is a matter of each chooser: its two members say it.
 pub trait Chooser: Drop + Send {

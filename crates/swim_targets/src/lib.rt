@@ -7,10 +7,11 @@ mod places;
 mod rounds;
 mod scripts;
 
-pub use choosers::{Chooser, Order};
+pub use choosers::Chooser;
 pub use draws::Seeded;
 pub use rounds::{JoinFault, Next, Targets};
 pub use scripts::Scripted;
+pub use swim_wire::Order;
 
 #[cfg(test)]
 mod tests;

@@ -5,17 +5,17 @@ ghost use Rattle.swim_wire.specs.Ids.{has, has_twice, without, front};
 ghost use Rattle.swim_wire.specs.Round.{Lists, all_of, leave, MayDraw, redraw, advance, join_at};
 ghost use Rattle.swim_targets.specs.Rounds.{drawn_of, IsListing};
 
+use crate::Chooser;
 use crate::places::{has, has_twice, place_of};
-use crate::{Chooser, Order};
 use std::marker::Model;
-use swim_wire::Id;
+use swim_wire::{Id, KNOWN_MEMBERS, Order};
 
 /// Why members are not taken. The first that applies is told.
 #[derive(Clone, Copy, Debug, PartialEq, Eq)]
 pub enum JoinFault {
     /// A member is listed already, or twice.
     Listed,
-    /// There are more than 128.
+    /// There are more than [`KNOWN_MEMBERS`].
     Full,
 }
 
@@ -56,9 +56,9 @@ impl Targets {
     /// The list of these members. Each waits for the next round, which begins at once.
     pub fn open(ids: &[Id]) -> Result<Targets, JoinFault>
         ensures ok { IfOk result (λ targets. targets ≡ record { probed = ids.now; rest = [] }) }
-        ensures valid { IsOk result ↔ ((has_twice ids.now ≡ false) × (length ids.now ≤ 128)) }
+        ensures valid { IsOk result ↔ ((has_twice ids.now ≡ false) × (length ids.now ≤ KNOWN_MEMBERS)) }
         ensures listed { (result ≡ Err JoinFault.Listed) ↔ (has_twice ids.now ≡ true) }
-        ensures full { (result ≡ Err JoinFault.Full) ↔ ((has_twice ids.now ≡ false) × (128 < length ids.now)) }
+        ensures full { (result ≡ Err JoinFault.Full) ↔ ((has_twice ids.now ≡ false) × (KNOWN_MEMBERS < length ids.now)) }
     {
         if has_twice(ids) {
             return Err(JoinFault::Listed);
@@ -123,7 +123,7 @@ impl Targets {
     pub fn join<C: Chooser>(&mut self, id: Id, chooser: &mut C) -> Result<u32, JoinFault>
         ensures listed { (result ≡ Err JoinFault.Listed) ↔ (has (all_of self.old) id ≡ true) }
         ensures full { (result ≡ Err JoinFault.Full)
-            ↔ ((has (all_of self.old) id ≡ false) × (length (all_of self.old) ≡ 128)) }
+            ↔ ((has (all_of self.old) id ≡ false) × (length (all_of self.old) ≡ KNOWN_MEMBERS)) }
         ensures place { IfOk result (λ place. place ≤ length (all_of self.old)) }
         ensures drawn { IfOk result (λ place. C.places chooser.old (length (all_of self.old)) place chooser.new) }
         ensures ok { IfOk result (λ place. self.new ≡ join_at id place self.old) }
@@ -208,7 +208,7 @@ impl Targets {
 }
 
 fn copied(ids: &[Id]) -> Order
-    requires { length ids.now ≤ 128 }
+    requires { length ids.now ≤ KNOWN_MEMBERS }
     ensures { result.items ≡ ids.now }
 {
     let mut order = Order::new();

@@ -3,10 +3,10 @@
 ghost use Rattle.std.specs.Prelude.{◌≡◌, List, ℕ, map, slice_get, Some, IsPermutation, if◌then◌else◌};
 ghost use Rattle.swim_targets.specs.Script.{is_order_of, FollowsOrder, FollowsPlace};
 
+use crate::Chooser;
 use crate::places::place_of;
-use crate::{Chooser, Order};
 use std::marker::Model;
-use swim_wire::Id;
+use swim_wire::{Id, Order};
 
 /// Follows orders and places that were written down, each in turn. An order that is none of the ids
 /// leaves them as they are, and so does the end of the orders. A place past the last is the last, and

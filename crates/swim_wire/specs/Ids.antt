@@ -2,6 +2,10 @@
 use Rattle.std.specs.Prelude.{ℕ, Bool, false, ◌||◌, ◌==◌, not, nat_eq, List, [], ◌∷◌, filter, Option, Some, None}
 use Rattle.std.specs.List.{list_any}
 
+-- how many members a detector may know
+abbrev pub most_members : ℕ
+most_members = 128
+
 -- the id is on the list
 abbrev pub has : List ℕ → ℕ → Bool
 has ids id = list_any (nat_eq id) ids

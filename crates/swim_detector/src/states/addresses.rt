@@ -10,7 +10,7 @@ ghost use Rattle.swim_history.specs.Drawn.{DrawsRelays};
 ghost use Rattle.swim_detector.specs.Mirrors.{IsListedNext, AreListed, AreAt};
 
 use arrayvec::ArrayVec;
-use swim_history::{Journal, Order, Probe, Relay, RowState};
+use swim_history::{Journal, MOST_RELAYS, Order, Probe, Relay, RowState};
 use swim_targets::{Chooser, Targets};
 use swim_wire::{Id, Peer};
 
@@ -61,7 +61,7 @@ pub(super) fn relays_for<C: Chooser>(
     targets: &Targets,
     target: Id,
     chooser: &mut C,
-) -> ArrayVec<Relay, 8>
+) -> ArrayVec<Relay, MOST_RELAYS>
     requires { targets.now ≡ lists journal.now.opening journal.now.past }
     ensures relays { AreRelays journal.now.opening journal.now.past target result.items }
     ensures drawn { DrawsRelays C.orders journal.now.opening.k (candidates journal.now.opening journal.now.past target) (map (λ relay. relay.id) result.items) chooser.old chooser.new }
@@ -85,8 +85,8 @@ fn order<C: Chooser>(members: &mut Order, chooser: &mut C)
 }
 
 /// These members, with their addresses.
-fn relays_at(journal: &Journal, ids: &[Id]) -> ArrayVec<Relay, 8>
-    requires count { length ids.now ≤ 8 }
+fn relays_at(journal: &Journal, ids: &[Id]) -> ArrayVec<Relay, MOST_RELAYS>
+    requires count { length ids.now ≤ MOST_RELAYS }
     requires listed { AreListed journal.now.opening journal.now.past ids.now }
     ensures ids { map (λ relay. relay.id) result.items ≡ ids.now }
     ensures addresses { AreAt journal.now.opening journal.now.past result.items }
