@@ -102,7 +102,7 @@ impl State {
     fn pass(&mut self, period: u32)
         requires { self.old.phase < period }
         ensures same { (self.new.targets ≡ self.old.targets) × (self.new.aim ≡ self.old.aim) × (self.new.heard ≡ self.old.heard) }
-        ensures requests { self.new.relays ≡ record self.old.relays { waiting = aged self.old.relays.waiting } }
+        ensures requests { (self.new.relays.period ≡ self.old.relays.period) × (self.new.relays.waiting ≡ aged self.old.relays.waiting) }
         ensures phase { (ticks : ℕ) → self.old.phase ≡ ticks % period → self.new.phase ≡ (ticks + 1) % period }
     {
         self.relays.tick();
