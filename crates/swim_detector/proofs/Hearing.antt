@@ -38,7 +38,7 @@ counts o h target m source = is_acking o.me target (period_number o h) (Hear m s
 -- a message was answered: only the requests that wait and what was heard may have changed
 hears : (o : Setting) (h : List Entry) (m : Message) (source : Address) (reply : Reply) (old new : State) → Mirrors o h old → Hears o h m source m.kind reply →
     new.targets ≡ old.targets → new.aim ≡ old.aim → new.phase ≡ old.phase →
-    ((seat number : ℕ) → AreRequests o (plain_entry seat number (Hear m source) reply ∷ h) new.relays) →
+    ((seat number : ℕ) → AreRequests o (plain_entry seat number (Hear m source) reply ∷ h) new.requests) →
     ((target : ℕ) → aim h ≡ Some target → new.heard ≡ (counts o h target m source || was_heard o h target)) →
     IsSettled o h (Hear m source) (plain reply) new
 hears o h m source reply old new mirrors fits targets aims phases requests heard = (
@@ -63,7 +63,7 @@ same_state : (o : Setting) (h : List Entry) (m : Message) (source : Address) (re
     IsSettled o h (Hear m source) (plain reply) s
 same_state o h m source reply s mirrors fits unasked unsent uncounted =
     hears o h m source reply s s mirrors fits refl refl refl
-    (λ seat number. let e = plain_entry seat number (Hear m source) reply in requests_same o h (e ∷ h) s.relays s.relays mirrors.requests_are refl (waiting_same o h e refl unasked unsent))
+    (λ seat number. let e = plain_entry seat number (Hear m source) reply in requests_same o h (e ∷ h) s.requests s.requests mirrors.requests_are refl (waiting_same o h e refl unasked unsent))
     (λ target is. mirrors.heard_is target is ∙ rw (uncounted target is) refl)
 
 -- a message that is no ack doesn't count as one
@@ -91,7 +91,7 @@ request_dropped o h m source why s mirrors is fits =
 
 -- 64 others wait
 pub request_full : (o : Setting) (h : List Entry) (m : Message) (source peer : Address) (s : State) → Mirrors o h s → m.kind ≡ PingReq → IsRequest o.me m → m.target ≢ o.me → row_of o h m.target ≡ Some (up m.target peer) →
-    waits (key_of m) s.relays.waiting ≡ false → length s.relays.waiting ≡ 64 → IsSettled o h (Hear m source) (plain (Dropped TableFull)) s
+    waits (key_of m) s.requests.waiting ≡ false → length s.requests.waiting ≡ 64 → IsSettled o h (Hear m source) (plain (Dropped TableFull)) s
 request_full o h m source peer s mirrors is own other listed none full =
     request_dropped o h m source TableFull s mirrors is (own, other, rw listed refl, rw mirrors.requests_are.1 at none, omega (arith, rw mirrors.requests_are.1 at full))
 
@@ -104,13 +104,13 @@ room_for key rs new r is bound none =
 -- a request waits
 pub request_taken : (o : Setting) (h : List Entry) (m : Message) (source peer : Address) (old new : State) → IsSetting o → Mirrors o h old → m.kind ≡ PingReq → IsRequest o.me m → m.target ≢ o.me → row_of o h m.target ≡ Some (up m.target peer) →
     new.targets ≡ old.targets → new.aim ≡ old.aim → new.phase ≡ old.phase → new.heard ≡ old.heard →
-    new.relays ≡ record old.relays { waiting = forget (key_of m) old.relays.waiting ++ record { key = key_of m; peer = source; left = old.relays.period } ∷ [] } → length new.relays.waiting ≤ 64 →
+    new.requests ≡ record old.requests { waiting = forget (key_of m) old.requests.waiting ++ record { key = key_of m; peer = source; left = old.requests.period } ∷ [] } → length new.requests.waiting ≤ 64 →
     IsSettled o h (Hear m source) (plain (Send peer (passed_on Ping o.me m))) new
 request_taken o h m source peer old new setting mirrors is own other listed targets aims phases heard asked bound =
     let reply = Send peer (passed_on Ping o.me m) in
     let r : Request = record { key = key_of m; peer = source; left = o.period } in
-    let waits_now : new.relays.waiting ≡ forget (key_of m) (waiting o h) ++ r ∷ [] = rw (mirrors.requests_are.1, mirrors.requests_are.0) at (ap (λ (w : Waiting). w.waiting) asked) in
-    let room : is_waiting o h m ≡ false → length (waiting o h) < most_waiting = λ none. room_for (key_of m) (waiting o h) new.relays.waiting r waits_now bound none in
+    let waits_now : new.requests.waiting ≡ forget (key_of m) (waiting o h) ++ r ∷ [] = rw (mirrors.requests_are.1, mirrors.requests_are.0) at (ap (λ (w : Waiting). w.waiting) asked) in
+    let room : is_waiting o h m ≡ false → length (waiting o h) < most_waiting = λ none. room_for (key_of m) (waiting o h) new.requests.waiting r waits_now bound none in
     hears o h m source reply old new mirrors (rw is (own, other, listed, room, refl)) targets aims phases
     (λ seat number. (
       ap (λ (w : Waiting). w.period) asked ∙ mirrors.requests_are.0,
@@ -124,9 +124,9 @@ not_own : (o : Setting) (h : List Entry) (m : Message) (source : Address) (targe
 not_own o h m source target is other = rw (is, ne_eqb m.initiator o.me other) refl
 
 -- an ack is sent on
-pub ack_forwarded : (o : Setting) (h : List Entry) (m : Message) (source peer : Address) (old new : State) → Mirrors o h old → m.kind ≡ Ack → m.initiator ≢ o.me → Some peer ≡ peer_for (key_of m) old.relays.waiting →
+pub ack_forwarded : (o : Setting) (h : List Entry) (m : Message) (source peer : Address) (old new : State) → Mirrors o h old → m.kind ≡ Ack → m.initiator ≢ o.me → Some peer ≡ peer_for (key_of m) old.requests.waiting →
     new.targets ≡ old.targets → new.aim ≡ old.aim → new.phase ≡ old.phase → new.heard ≡ old.heard →
-    new.relays ≡ record old.relays { waiting = forget (key_of m) old.relays.waiting } →
+    new.requests ≡ record old.requests { waiting = forget (key_of m) old.requests.waiting } →
     IsSettled o h (Hear m source) (plain (Send peer (passed_on Ack o.me m))) new
 ack_forwarded o h m source peer old new mirrors is other waits targets aims phases heard answered =
     let reply = Send peer (passed_on Ack o.me m) in
@@ -138,27 +138,27 @@ ack_forwarded o h m source peer old new mirrors is other waits targets aims phas
     (λ target aimed. heard ∙ mirrors.heard_is target aimed ∙ rw (not_own o h m source target is other) refl)
 
 -- nobody waits for the ack
-pub ack_unasked : (o : Setting) (h : List Entry) (m : Message) (source : Address) (old new : State) → Mirrors o h old → m.kind ≡ Ack → m.initiator ≢ o.me → None ≡ peer_for (key_of m) old.relays.waiting →
+pub ack_unasked : (o : Setting) (h : List Entry) (m : Message) (source : Address) (old new : State) → Mirrors o h old → m.kind ≡ Ack → m.initiator ≢ o.me → None ≡ peer_for (key_of m) old.requests.waiting →
     new.targets ≡ old.targets → new.aim ≡ old.aim → new.phase ≡ old.phase → new.heard ≡ old.heard →
-    new.relays ≡ record old.relays { waiting = forget (key_of m) old.relays.waiting } →
+    new.requests ≡ record old.requests { waiting = forget (key_of m) old.requests.waiting } →
     IsSettled o h (Hear m source) (plain (Dropped NoRequest)) new
 ack_unasked o h m source old new mirrors is other waits targets aims phases heard answered =
     let reply = Dropped NoRequest in
     hears o h m source reply old new mirrors (rw is (other, sym (rw mirrors.requests_are.1 at waits))) targets aims phases
     (λ seat number.
         let e = plain_entry seat number (Hear m source) reply in
-        let unasked = forget_none (key_of m) old.relays.waiting (waits_none (key_of m) old.relays.waiting (sym waits)) in
-        requests_same o h (e ∷ h) old.relays new.relays mirrors.requests_are (answered ∙ rw unasked refl) (waiting_same o h e refl refl refl))
+        let unasked = forget_none (key_of m) old.requests.waiting (waits_none (key_of m) old.requests.waiting (sym waits)) in
+        requests_same o h (e ∷ h) old.requests new.requests mirrors.requests_are (answered ∙ rw unasked refl) (waiting_same o h e refl refl refl))
     (λ target aimed. heard ∙ mirrors.heard_is target aimed ∙ rw (not_own o h m source target is other) refl)
 
 -- ---- acks of this member's own probe
 
 pub ack_heard : (o : Setting) (h : List Entry) (m : Message) (source : Address) (old new : State) → Mirrors o h old → m.kind ≡ Ack → m.initiator ≡ o.me → aim h ≡ Some m.target → m.number ≡ period_number o h →
-    new.targets ≡ old.targets → new.aim ≡ old.aim → new.phase ≡ old.phase → new.relays ≡ old.relays → new.heard ≡ true →
+    new.targets ≡ old.targets → new.aim ≡ old.aim → new.phase ≡ old.phase → new.requests ≡ old.requests → new.heard ≡ true →
     IsSettled o h (Hear m source) (plain Heard) new
 ack_heard o h m source old new mirrors is own aimed now targets aims phases relays heard =
     hears o h m source Heard old new mirrors (rw is (own, aimed, now)) targets aims phases
-    (λ seat number. let e = plain_entry seat number (Hear m source) Heard in requests_same o h (e ∷ h) old.relays new.relays mirrors.requests_are relays (waiting_same o h e refl refl refl))
+    (λ seat number. let e = plain_entry seat number (Hear m source) Heard in requests_same o h (e ∷ h) old.requests new.requests mirrors.requests_are relays (waiting_same o h e refl refl refl))
     (λ target is_aim. heard ∙ rw (is, eq-eqb m.initiator o.me own, eq-eqb m.target target (same_Some m.target target (sym aimed ∙ is_aim)), eq-eqb m.number (period_number o h) now) refl)
 
 pub ack_stray : (o : Setting) (h : List Entry) (m : Message) (source : Address) (s : State) → Mirrors o h s → m.kind ≡ Ack → m.initiator ≡ o.me → (aim h ≡ Some m.target → m.number ≢ period_number o h) →

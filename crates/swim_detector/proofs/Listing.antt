@@ -46,14 +46,14 @@ no_fault o h s id Full m may is_on is_full =
 pub joined : {S : Type 0} (orders : S → List ℕ → List ℕ → S → Type 0) (places : S → ℕ → ℕ → S → Type 0) (o : Setting) (h : List Entry) (id place : ℕ) (peer : Address) (old new : State) (before after : S) →
     Mirrors o h old → MayList o h id →
     place ≤ length (all_of old.targets) → places before (length (all_of old.targets)) place after → new.targets ≡ join_at id place old.targets →
-    new.relays ≡ old.relays → new.aim ≡ old.aim → new.heard ≡ old.heard → new.phase ≡ old.phase →
+    new.requests ≡ old.requests → new.aim ≡ old.aim → new.heard ≡ old.heard → new.phase ≡ old.phase →
     IsAnswered orders places o h (Join id peer) (plain (Joined place)) new before after
 joined orders places o h id place peer old new before after m may within drawn listing relays aims heard phases = (
   (may.other, may.down, may.known, rw m.lists_are at within),
   rw m.lists_are at drawn,
   λ seat number. record {
     lists_are = listing ∙ ap (join_at id place) m.lists_are;
-    requests_are = let e = plain_entry seat number (Join id peer) (Joined place) in requests_same o h (e ∷ h) old.relays new.relays m.requests_are relays (waiting_same o h e refl refl refl);
+    requests_are = let e = plain_entry seat number (Join id peer) (Joined place) in requests_same o h (e ∷ h) old.requests new.requests m.requests_are relays (waiting_same o h e refl refl refl);
     aim_is = aims ∙ m.aim_is;
     heard_is = λ target is. heard ∙ m.heard_is target is;
     phase_is = phases ∙ m.phase_is;
@@ -81,7 +81,7 @@ still gone (Some m) target is = by (gone m) is
 
 -- the member is forgotten
 pub forgotten : (o : Setting) (h : List Entry) (id : ℕ) (old new : State) → Mirrors o h old → id ≢ o.me → row_of o h id ≢ None → new.targets ≡ leave id old.targets → new.aim ≡ option_and_then (λ m. unless (id == m) m) old.aim →
-    new.relays ≡ old.relays → new.heard ≡ old.heard → new.phase ≡ old.phase → IsSettled o h (Remove id) (plain Removed) new
+    new.requests ≡ old.requests → new.heard ≡ old.heard → new.phase ≡ old.phase → IsSettled o h (Remove id) (plain Removed) new
 forgotten o h id old new m other known leaves aims relays heard phases = (
   (other, known),
   refl,
@@ -90,7 +90,7 @@ forgotten o h id old new m other known leaves aims relays heard phases = (
       let aim_after : aim (e ∷ h) ≡ option_and_then (λ m. unless (id == m) m) (aim h) = unless_either (λ m. id == m) (λ m. list_any (removes m) (since is_start h)) (last_probed h) in
       record {
         lists_are = leaves ∙ ap (leave id) m.lists_are;
-        requests_are = requests_same o h (e ∷ h) old.relays new.relays m.requests_are relays (waiting_same o h e refl refl refl);
+        requests_are = requests_same o h (e ∷ h) old.requests new.requests m.requests_are relays (waiting_same o h e refl refl refl);
         aim_is = aims ∙ (ap (option_and_then (λ m. unless (id == m) m)) m.aim_is ∙ sym aim_after);
         heard_is = λ target is. heard ∙ m.heard_is target (still (λ m. id == m) (aim h) target (sym aim_after ∙ is));
         phase_is = phases ∙ m.phase_is;

@@ -61,7 +61,7 @@ stays o h s e m idle goes_on same unremoved unacked unasked unsent =
     let same_aim : aim (e ∷ h) ≡ aim h = rw goes_on (ap (λ (gone : ℕ → Bool). option_and_then (λ m. unless (gone m) m) (last_probed h)) (λ i m. (unremoved m i) || list_any (removes m) (since is_start h))) in
     record {
       lists_are = m.lists_are ∙ sym same;
-      requests_are = requests_same o h (e ∷ h) s.relays s.relays m.requests_are refl (waiting_same o h e idle unasked unsent);
+      requests_are = requests_same o h (e ∷ h) s.requests s.requests m.requests_are refl (waiting_same o h e idle unasked unsent);
       aim_is = m.aim_is ∙ sym same_aim;
       heard_is = λ target is.
           let same_number : period_number o (e ∷ h) ≡ period_number o h = period_number-same o h e idle in
@@ -87,13 +87,13 @@ pub record Passes (o : Setting) (old new : State) : Type 0 where
   pub targets : new.targets ≡ old.targets
   pub aim : new.aim ≡ old.aim
   pub heard : new.heard ≡ old.heard
-  pub requests : (new.relays.period ≡ old.relays.period) × (new.relays.waiting ≡ aged old.relays.waiting)
+  pub requests : (new.requests.period ≡ old.requests.period) × (new.requests.waiting ≡ aged old.requests.waiting)
   pub phase : (t : ℕ) → old.phase ≡ t % o.period → new.phase ≡ (t + 1) % o.period
 
 -- the requests after a tick
 pub requests_after : (o : Setting) (h : List Entry) (e : Entry) (old new : State) → Mirrors o h old →
-    (new.relays.period ≡ old.relays.period) × (new.relays.waiting ≡ aged old.relays.waiting) → is_ticking e.call e.reply ≡ true →
-    AreRequests o (e ∷ h) new.relays
+    (new.requests.period ≡ old.requests.period) × (new.requests.waiting ≡ aged old.requests.waiting) → is_ticking e.call e.reply ≡ true →
+    AreRequests o (e ∷ h) new.requests
 requests_after o h e old new m aging ticking = (aging.0 ∙ m.requests_are.0, rw (waiting_tick o h e ticking) (rw m.requests_are.1 at aging.1))
 
 -- a tick within a period

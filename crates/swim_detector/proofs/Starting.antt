@@ -20,7 +20,7 @@ use Rattle.swim_history.specs.Aim.{aim, was_heard, unless, unheard}
 use Rattle.swim_history.specs.Round.{lists, listed, drawn}
 use Rattle.swim_wire.specs.IdLaws.{has_part, has-IsPermutation}
 use Rattle.swim_history.specs.ListedLaws.{listed_is, has_front, all-leave, all-advanced, all-started}
-use Rattle.swim_history.specs.Run.{IsRun, IsProbe, last_number, Answers}
+use Rattle.swim_history.specs.Run.{IsRun, IsProbe, greatest_number, Answers}
 use Rattle.swim_history.specs.Drawn.{DrawsEntry}
 use Rattle.swim_targets.specs.Rounds.{drawn_of}
 use Rattle.swim_detector.specs.declared.states.State.{State}
@@ -99,7 +99,7 @@ pub record Begins {S : Type 0} (orders : S → List ℕ → List ℕ → S → T
   pub none : IfNone d (after ≡ before)
   pub aims : new.aim ≡ next
   pub unheard : new.heard ≡ false
-  pub requests : (new.relays.period ≡ old.relays.period) × (new.relays.waiting ≡ aged old.relays.waiting)
+  pub requests : (new.requests.period ≡ old.requests.period) × (new.requests.waiting ≡ aged old.requests.waiting)
   pub phase : (t : ℕ) → old.phase ≡ t % o.period → new.phase ≡ (t + 1) % o.period
 
 -- the round after the judged member left it
@@ -115,7 +115,7 @@ StartsWith orders places o h judged probe new before after choice =
     × ((seat number : ℕ) → Mirrors o (record { seat = seat; number = number; call = Tick; choice = choice; reply = Started judged probe } ∷ h) new)
 
 starts : {S : Type 0} (orders : S → List ℕ → List ℕ → S → Type 0) (places : S → ℕ → ℕ → S → Type 0) (o : Setting) (h : List Entry) (old new : State) (left : Lists) (judged next : Option ℕ) (d : Option (ArrayVec ℕ)) (probe : Option Probe) (before after : S) →
-    Mirrors o h old → Begins orders o old new left judged next d before after → phase o h ≡ 0 → period_number o h < last_number →
+    Mirrors o h old → Begins orders o old new left judged next d before after → phase o h ≡ 0 → period_number o h < greatest_number →
     IsProbe o h (period_number o h + 1) next probe →
     StartsWith orders places o h judged probe new before after (chosen d)
 starts orders places o h old new left judged next d probe before after m b begins unspent probes =
@@ -140,7 +140,7 @@ starts orders places o h old new left judged next d probe before after m b begin
     )
 
 pub started : {S : Type 0} (orders : S → List ℕ → List ℕ → S → Type 0) (places : S → ℕ → ℕ → S → Type 0) (o : Setting) (h : List Entry) (old new : State) (left : Lists) (judged next : Option ℕ) (d : Option (ArrayVec ℕ)) (probe : Option Probe) (before after : S) →
-    Mirrors o h old → Begins orders o old new left judged next d before after → phase o h ≡ 0 → period_number o h < last_number →
+    Mirrors o h old → Begins orders o old new left judged next d before after → phase o h ≡ 0 → period_number o h < greatest_number →
     IsProbe o h (period_number o h + 1) next probe →
     IsAnswered orders places o h Tick (record { reply = Started judged probe; begins_round = is_some d }) new before after
 started orders places o h old new left judged next d probe before after m b begins unspent probes =

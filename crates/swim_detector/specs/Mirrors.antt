@@ -33,7 +33,7 @@ AreRequests o h w = (w.period ≡ o.period) × (w.waiting ≡ waiting o h)
 -- the state is what the definitions find in the history
 pub record Mirrors (o : Setting) (h : List Entry) (s : State) : Type 0 where
   pub lists_are : s.targets ≡ lists o h
-  pub requests_are : AreRequests o h s.relays
+  pub requests_are : AreRequests o h s.requests
   pub aim_is : s.aim ≡ aim h
   pub heard_is : (m : ℕ) → aim h ≡ Some m → s.heard ≡ was_heard o h m
   pub phase_is : s.phase ≡ phase o h

@@ -21,7 +21,7 @@ use swim_wire::Id;
 #[derive(Drop)]
 pub(crate) struct State {
     targets: Targets,
-    relays: Relays,
+    requests: Relays,
     aim: Option<Id>,
     heard: bool,
     phase: u32,
@@ -34,7 +34,7 @@ impl State {
     {
         State {
             targets: round_of(opening),
-            relays: Relays::new(opening.period()),
+            requests: Relays::new(opening.period()),
             aim: None,
             heard: false,
             phase: 0,

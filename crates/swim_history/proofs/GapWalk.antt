@@ -18,7 +18,7 @@ use Rattle.swim_history.specs.JudgementLaws.{started_number, map_some}
 use Rattle.swim_history.specs.ListedLaws.{listed_bound}
 use Rattle.swim_history.specs.TableLaws.{table_bound}
 use Rattle.swim_history.specs.Gap.{probes_member, unlists, IsGap, HasNoGap, IsWidest}
-use Rattle.swim_history.specs.Wait.{length-filter-le}
+use Rattle.swim_history.specs.UntilProbed.{length-filter-le}
 use Rattle.swim_history.specs.GapLaws.{number_after, probing_starts, gap_bound}
 use Rattle.swim_history.specs.LastProbe.{probed_at, with_joiner, kept, last_of, last_then, gap_since, gap_then, wider}
 use Rattle.swim_history.proofs.LastProbes.{IsLast, no_split, ProbesIt, probes_it, probes_other, last_new, only_last, was_last, still_last, gap_older, gap_new, gap_cases}

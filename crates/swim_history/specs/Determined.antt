@@ -30,7 +30,7 @@ use Rattle.swim_history.specs.Gap.{is_member}
 use Rattle.swim_history.specs.Rows.{up, row_of, is_listed}
 use Rattle.swim_history.specs.Changes.{known_count}
 use Rattle.swim_history.specs.Waiting.{waiting}
-use Rattle.swim_history.specs.Run.{Answers, Hears, IsProbe, last_number, most_waiting, is_waiting}
+use Rattle.swim_history.specs.Run.{Answers, Hears, IsProbe, greatest_number, most_waiting, is_waiting}
 
 -- a reply without what is free
 abbrev pub settled : Reply → Reply
@@ -46,7 +46,7 @@ reply_to_timeout number (Some target) = Asked target number (record { items = []
 abbrev pub reply_to_tick : Setting → List Entry → Reply
 reply_to_tick o h =
     if phase o h == 0
-    then (if period_number o h == last_number then Refused Spent else Started (unheard o h) None)
+    then (if period_number o h == greatest_number then Refused Spent else Started (unheard o h) None)
     else (if phase o h == o.rtt then reply_to_timeout (period_number o h) (unheard o h) else Quiet)
 
 -- sent to an address, if there is one
@@ -132,8 +132,8 @@ hear_settled o h m source kind reply a = absurd a
 
 -- the reply that fits a call is the one that is settled
 pub answers_settled : (o : Setting) (h : List Entry) (call : Call) (reply : Reply) (choice : Choice) → IsSetting o → Answers o h call reply choice → settled reply ≡ reply_to o h call
-answers_settled o h Tick (Refused Spent) Nothing s a = rw (eq-eqb (phase o h) 0 a.0, eq-eqb (period_number o h) last_number a.1) refl
-answers_settled o h Tick (Started judged probe) choice s a = rw (eq-eqb (phase o h) 0 a.begins, ne_eqb (period_number o h) last_number (λ e. omega (arith, a.unspent)), a.judges) refl
+answers_settled o h Tick (Refused Spent) Nothing s a = rw (eq-eqb (phase o h) 0 a.0, eq-eqb (period_number o h) greatest_number a.1) refl
+answers_settled o h Tick (Started judged probe) choice s a = rw (eq-eqb (phase o h) 0 a.begins, ne_eqb (period_number o h) greatest_number (λ e. omega (arith, a.unspent)), a.judges) refl
 answers_settled o h Tick (Asked m number relays) Nothing s a =
     rw (ne_eqb (phase o h) 0 (λ e. omega (arith, a.0, s.timing.0)), eq-eqb (phase o h) o.rtt a.0, a.1, a.2) refl
 answers_settled o h Tick Quiet Nothing s a =

@@ -37,7 +37,7 @@ use Rattle.swim_history.specs.Changes.{known_count}
 use Rattle.swim_history.specs.TableLaws.{table_bound, listed_row}
 use Rattle.swim_history.specs.Round.{drawn, lists, listed}
 use Rattle.swim_history.specs.Waiting.{waiting}
-use Rattle.swim_history.specs.Run.{last_number, IsProbe, candidates, IsRequest, most_waiting, is_waiting, Hears, Answers, calls_of, IsRun}
+use Rattle.swim_history.specs.Run.{greatest_number, IsProbe, candidates, IsRequest, most_waiting, is_waiting, Hears, Answers, calls_of, IsRun}
 use Rattle.swim_history.specs.RunLaws.{begins, number_then}
 use Rattle.swim_history.specs.ListedLaws.{no_longer, all-redraw, next_is_in, stays_from, once_judged, listed_is, listed_once, listed_bound, room_to_join}
 use Rattle.swim_history.specs.Drawn.{DrawsEntry, IsDrawn}
@@ -132,10 +132,10 @@ hear_reply o h m source Ack =
 -- ---- the clock and the lists
 
 -- in a run no number is past the last
-pub number_bound : (o : Setting) (h : List Entry) → IsSetting o → IsRun o h → period_number o h ≤ last_number
+pub number_bound : (o : Setting) (h : List Entry) → IsSetting o → IsRun o h → period_number o h ≤ greatest_number
 number_bound o [] s run = omega (arith, s.last)
 number_bound o (e ∷ h) s run = by (is_start e) refl (number_then o h e s run.0) (number_bound o h s run.1) where
-  by : (b : Bool) → is_start e ≡ b → period_number o (e ∷ h) ≡ cond (is_start e) (period_number o h + 1) (period_number o h) → period_number o h ≤ last_number → period_number o (e ∷ h) ≤ last_number
+  by : (b : Bool) → is_start e ≡ b → period_number o (e ∷ h) ≡ cond (is_start e) (period_number o h + 1) (period_number o h) → period_number o h ≤ greatest_number → period_number o (e ∷ h) ≤ greatest_number
   by true starts then most =
       let b = begins o h e.call e.reply e.choice run.0.answer starts in
       omega (arith, rw starts at then, b.fits.unspent)
@@ -193,7 +193,7 @@ module _ {S : Type 0} (orders : S → List ℕ → List ℕ → S → Type 0) (p
       let row = listed_row o h id (listed id refl) in
       (Some (record { target = id; peer = row.0; number = number }), (row.0, row.1, refl))
 
-  started : phase o h ≡ 0 → period_number o h < last_number → HasAnswer orders places o h Tick before
+  started : phase o h ≡ 0 → period_number o h < greatest_number → HasAnswer orders places o h Tick before
   started begins unspent =
       let judged = unheard o h in
       let r = leave_judged judged (lists o h) in
@@ -299,7 +299,7 @@ module _ {S : Type 0} (orders : S → List ℕ → List ℕ → S → Type 0) (p
   ticked =
       elim (cases_eq (phase o h) 0) [
         | inl begins ↦
-            elim (cases_lt (period_number o h) last_number) [
+            elim (cases_lt (period_number o h) greatest_number) [
               | inl unspent ↦ started begins unspent
               | inr spent ↦ plain Tick (Refused Spent) (begins, omega (arith, number_bound o h s run)) refl
             ]

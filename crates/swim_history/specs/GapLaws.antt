@@ -25,7 +25,7 @@ use Rattle.swim_history.specs.RunLaws.{begins, number_then, IsRun-older}
 use Rattle.swim_history.specs.JudgementLaws.{started_number}
 use Rattle.swim_history.specs.ListedLaws.{listed_is, aim_listed, up_then}
 use Rattle.swim_history.specs.Gap.{is_member, is_probe_of, probes_member, unlists, AreGapsBounded, IsProbedInTime}
-use Rattle.swim_history.specs.Wait.{wait, wait-leave, wait-start, wait-join, wait_bound}
+use Rattle.swim_history.specs.UntilProbed.{until_probed, until_probed-leave, until_probed-start, until_probed-join, until_probed_bound}
 
 -- ---- one entry
 
@@ -50,36 +50,36 @@ stays_up o h e m c stays is = by (is_start e) refl
         rw (b.ticks, b.says) (up_started b.judged b.probe (period_number o h) m (row_of o h m) spared is)
     by false starts = up_then e.call e.reply (period_number o h) m (row_of o h m) starts (or_parts (removes m e) (is_member m (judged_in e.reply)) stays).0 is
 
--- an entry that begins no period and doesn't remove the member: only a join makes it wait longer
+-- an entry that begins no period and doesn't remove the member: only a join makes it until_probed longer
 waits_on : (o : Setting) (h : List Entry) (call : Call) (reply : Reply) (choice : Choice) (m : ℕ) → Answers o h call reply choice → is_starting reply ≡ false → is_removing m call reply ≡ false → is_listed o h m ≡ true
-    → wait m (lists_then call reply choice (lists o h)) ≤ wait m (lists o h) + 2 * cond (is_joining call reply) 1 0
+    → until_probed m (lists_then call reply choice (lists o h)) ≤ until_probed m (lists o h) + 2 * cond (is_joining call reply) 1 0
 waits_on o h Tick (Started judged probe) choice m a starts stays is = absurd cc
-waits_on o h (Join id peer) (Joined place) Nothing m a starts stays is = wait-join m id place (lists o h) (differ (nat_eq m id) refl)
+waits_on o h (Join id peer) (Joined place) Nothing m a starts stays is = until_probed-join m id place (lists o h) (differ (nat_eq m id) refl)
   where
     differ : (b : Bool) → nat_eq m id ≡ b → nat_eq m id ≡ false
     differ true same = absurd (both_ways (is_listed o h m) (ap (is_listed o h) (eqb-true m id same) ∙ a.1) is)
     differ false same = same
 waits_on o h (Join id peer) (Joined place) (Round order) m a starts stays is = absurd a
-waits_on o h (Remove id) Removed Nothing m a starts stays is = omega (arith, wait-leave m id (lists o h) (nat_eq_equiv.symm m id ∙ stays))
+waits_on o h (Remove id) Removed Nothing m a starts stays is = omega (arith, until_probed-leave m id (lists o h) (nat_eq_equiv.symm m id ∙ stays))
 waits_on o h (Remove id) Removed (Round order) m a starts stays is = absurd a
 waits_on o h call reply choice m a starts stays is = omega arith
 
 -- what an entry that neither probes nor unlists the member does to its wait: a start lowers it, a join raises it by at
 -- most two
-pub wait_then : (o : Setting) (h : List Entry) (e : Entry) (m : ℕ) → IsSetting o → IsRun o h → Continues o h e → probes_member m e ≡ false → unlists m e ≡ false → is_listed o h m ≡ true
-    → wait m (lists o (e ∷ h)) + cond (is_start e) 1 0 ≤ wait m (lists o h) + 2 * cond (joins e) 1 0
-wait_then o h e m s run c none stays is = by (is_start e) refl
+pub until_probed_then : (o : Setting) (h : List Entry) (e : Entry) (m : ℕ) → IsSetting o → IsRun o h → Continues o h e → probes_member m e ≡ false → unlists m e ≡ false → is_listed o h m ≡ true
+    → until_probed m (lists o (e ∷ h)) + cond (is_start e) 1 0 ≤ until_probed m (lists o h) + 2 * cond (joins e) 1 0
+until_probed_then o h e m s run c none stays is = by (is_start e) refl
   where
     parts : (removes m e ≡ false) × (is_member m (judged_in e.reply) ≡ false)
     parts = or_parts (removes m e) (is_member m (judged_in e.reply)) stays
 
-    by : (b : Bool) → is_start e ≡ b → wait m (lists_then e.call e.reply e.choice (lists o h)) + cond b 1 0 ≤ wait m (lists o h) + 2 * cond (is_joining e.call e.reply) 1 0
+    by : (b : Bool) → is_start e ≡ b → until_probed m (lists_then e.call e.reply e.choice (lists o h)) + cond b 1 0 ≤ until_probed m (lists o h) + 2 * cond (is_joining e.call e.reply) 1 0
     by true starts =
         let b = begins o h e.call e.reply e.choice c.answer starts in
         let spared : is_member m b.judged ≡ false = rw b.says at parts.1 in
         let other : is_probe_of m b.probe ≡ false = rw b.says at none in
         let next = sym (probes_next o h (period_number o h + 1) m _ b.probe b.fits.probes) ∙ other in
-        let nearer = wait-start m b.judged (drawn e.choice) (lists o h) b.fits.draws (listed_is o h s run m ∙ is) spared next in
+        let nearer = until_probed-start m b.judged (drawn e.choice) (lists o h) b.fits.draws (listed_is o h s run m ∙ is) spared next in
         rw (b.ticks, b.says) (omega (arith, nearer))
     by false starts = omega (arith, waits_on o h e.call e.reply e.choice m c.answer starts parts.0 is)
 
@@ -104,15 +104,15 @@ number_after o (e ∷ newer) before s run = by (is_start e) (number_then o (newe
 
 -- after entries that neither probe nor unlist the member, it is listed, and for each start it waits one start less, but
 -- for each join two more
-pub wait_between : (o : Setting) (newer before : List Entry) (m : ℕ) → IsSetting o → IsRun o (newer ++ before) → list_any (probes_member m) newer ≡ false → list_any (unlists m) newer ≡ false → is_listed o before m ≡ true
-    → (is_listed o (newer ++ before) m ≡ true) × (wait m (lists o (newer ++ before)) + length (filter is_start newer) ≤ wait m (lists o before) + 2 * length (filter joins newer))
-wait_between o [] before m s run none stays is = (is, omega arith)
-wait_between o (e ∷ newer) before m s run none stays is =
+pub until_probed_between : (o : Setting) (newer before : List Entry) (m : ℕ) → IsSetting o → IsRun o (newer ++ before) → list_any (probes_member m) newer ≡ false → list_any (unlists m) newer ≡ false → is_listed o before m ≡ true
+    → (is_listed o (newer ++ before) m ≡ true) × (until_probed m (lists o (newer ++ before)) + length (filter is_start newer) ≤ until_probed m (lists o before) + 2 * length (filter joins newer))
+until_probed_between o [] before m s run none stays is = (is, omega arith)
+until_probed_between o (e ∷ newer) before m s run none stays is =
     let others = or_parts (probes_member m e) (list_any (probes_member m) newer) none in
     let stay = or_parts (unlists m e) (list_any (unlists m) newer) stays in
-    let again = wait_between o newer before m s run.1 others.1 stay.1 is in (
+    let again = until_probed_between o newer before m s run.1 others.1 stay.1 is in (
       stays_up o (newer ++ before) e m run.0 stay.0 again.0,
-      omega (arith, again.1, wait_then o (newer ++ before) e m s run.1 run.0 others.0 stay.0 again.0, counted is_start e newer, counted joins e newer),
+      omega (arith, again.1, until_probed_then o (newer ++ before) e m s run.1 run.0 others.0 stay.0 again.0, counted is_start e newer, counted joins e newer),
     )
 
 -- ---- gaps
@@ -142,9 +142,9 @@ gap_bound o h s run m a b n gap =
     let to = started_number o ended gap.second gap.to s older.0 again gap.again in
     let next : period_number o (gap.second ∷ ended) ≡ period_number o ended + 1 = rw again at (number_then o ended gap.second s older.0) in
     let at_first : is_listed o probed m ≡ true = rw gap.members.0 at (probed_listed o gap.before gap.first gap.from s began gap.probed) in
-    let waits = wait_between o gap.between probed m s older.1 gap.none_between gap.stays at_first in
-    let most = wait_bound m (lists o probed) (listed_is o probed s began m ∙ at_first) in
-    let least = wait_bound m (lists o ended) (listed_is o ended s older.1 m ∙ waits.0) in
+    let waits = until_probed_between o gap.between probed m s older.1 gap.none_between gap.stays at_first in
+    let most = until_probed_bound m (lists o probed) (listed_is o probed s began m ∙ at_first) in
+    let least = until_probed_bound m (lists o ended) (listed_is o ended s older.1 m ∙ waits.0) in
     let rises = number_after o gap.between probed s older.1 in
     (omega (arith, gap.numbers), omega (arith, gap.numbers, gap.count, waits.1, most.1, least.0))
 
@@ -159,7 +159,7 @@ probed_in_time o h s run m n stretch is enough = by (list_any (probes_member m) 
     by false none =
         let older : IsRun o (stretch ++ is.before) = IsRun-older o is.newer (stretch ++ is.before) (subst (λ (h : List Entry). IsRun o h) is.split run) in
         let began : IsRun o is.before = IsRun-older o stretch is.before older in
-        let waits = wait_between o stretch is.before m s older none is.stays is.listed_at_first in
-        let most = wait_bound m (lists o is.before) (listed_is o is.before s began m ∙ is.listed_at_first) in
-        let least = wait_bound m (lists o (stretch ++ is.before)) (listed_is o (stretch ++ is.before) s older m ∙ waits.0) in
+        let waits = until_probed_between o stretch is.before m s older none is.stays is.listed_at_first in
+        let most = until_probed_bound m (lists o is.before) (listed_is o is.before s began m ∙ is.listed_at_first) in
+        let least = until_probed_bound m (lists o (stretch ++ is.before)) (listed_is o (stretch ++ is.before) s older m ∙ waits.0) in
         absurd (omega (arith, enough, is.count, waits.1, most.1, least.0))

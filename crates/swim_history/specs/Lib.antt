@@ -31,7 +31,7 @@ pub mod JudgementLaws
 pub mod ProbeLaws
 pub mod WaitingLaws
 pub mod ListedLaws
-pub mod Wait
+pub mod UntilProbed
 pub mod GapLaws
 pub mod DrawnLaws
 pub mod DrawnRuns

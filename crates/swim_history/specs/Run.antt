@@ -30,8 +30,8 @@ use Rattle.swim_history.specs.Round.{lists, listed, drawn}
 use Rattle.swim_history.specs.Waiting.{waiting}
 
 -- The most periods: the last number.
-abbrev pub last_number : ℕ
-last_number = 2 ^ 64 - 1
+abbrev pub greatest_number : ℕ
+greatest_number = 2 ^ 64 - 1
 
 -- the probe of a new period: of the next member at its address, if there is a next
 abbrev pub IsProbe : Setting → List Entry → ℕ → Option ℕ → Option Probe → Type 0
@@ -42,7 +42,7 @@ IsProbe o h number (Some m) probe =
 -- a tick by which a period begins, and the one before, if any, ends
 pub record IsStart (o : Setting) (h : List Entry) (judged : Option ℕ) (probe : Option Probe) (choice : Choice) : Type 0 where
   pub begins : phase o h ≡ 0
-  pub unspent : period_number o h < last_number
+  pub unspent : period_number o h < greatest_number
   pub judges : judged ≡ unheard o h
   pub draws : MayDraw (drawn choice) (leave_judged judged (lists o h))
   pub probes : IsProbe o h (period_number o h + 1) (front (redraw (drawn choice) (leave_judged judged (lists o h))).rest) probe
@@ -88,7 +88,7 @@ Hears o h m source kind reply = ⊥
 
 -- the replies to a call, with what was drawn
 abbrev pub Answers : Setting → List Entry → Call → Reply → Choice → Type 0
-Answers o h Tick (Refused Spent) Nothing = (phase o h ≡ 0) × (period_number o h ≡ last_number)
+Answers o h Tick (Refused Spent) Nothing = (phase o h ≡ 0) × (period_number o h ≡ greatest_number)
 Answers o h Tick (Started judged probe) choice = IsStart o h judged probe choice
 Answers o h Tick (Asked m number relays) Nothing =
     (phase o h ≡ o.rtt) × (unheard o h ≡ Some m) × (number ≡ period_number o h) × AreRelays o h m relays.items

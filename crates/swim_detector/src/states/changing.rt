@@ -5,13 +5,13 @@ ghost use Rattle.std.specs.Option.{option_map};
 ghost use Rattle.swim_history.specs.declared.calls.Call.TheVariants.{Tick, Join, Remove};
 ghost use Rattle.swim_history.specs.declared.rows.Change.TheVariants as changes;
 ghost use Rattle.swim_history.specs.Clock.{phase, period_number};
-ghost use Rattle.swim_history.specs.Run.{last_number};
+ghost use Rattle.swim_history.specs.Run.{greatest_number};
 ghost use Rattle.swim_detector.specs.Mirrors.{Mirrors};
 ghost use Rattle.swim_detector.specs.Recording.{IsChangeOf};
 
 use super::State;
 use super::members::{refusal_to_join, refusal_to_remove};
-use super::ticking::silent;
+use super::ticking::unheard;
 use swim_history::{Call, Change, Journal};
 use swim_wire::{Id, Peer};
 
@@ -41,7 +41,7 @@ impl State {
         if number == u64::MAX {
             return None;
         }
-        failed(silent(self.heard, self.aim), number)
+        failed(unheard(self.heard, self.aim), number)
     }
 }
 

@@ -92,7 +92,7 @@ impl State {
         ensures { IsSettled journal.now.opening journal.now.past (Hear message.now source) result self.new }
     {
         let me = journal.opening().me();
-        match self.relays.ask(message.key(), source) {
+        match self.requests.ask(message.key(), source) {
             Ok(()) => Answer::of(Reply::Send {
                 peer,
                 message: message.passed_on(Kind::Ping, me),
@@ -145,7 +145,7 @@ impl State {
         ensures { IsSettled journal.now.opening journal.now.past (Hear message.now _source) result self.new }
     {
         let me = journal.opening().me();
-        match self.relays.answer(&message.key()) {
+        match self.requests.answer(&message.key()) {
             Some(peer) => Answer::of(Reply::Send {
                 peer,
                 message: message.passed_on(Kind::Ack, me),

@@ -7,7 +7,7 @@ ghost use Rattle.swim_wire.specs.Round.{leave_judged};
 ghost use Rattle.swim_history.specs.declared.calls.Call.TheVariants.{Tick};
 ghost use Rattle.swim_history.specs.Clock.{phase, period_number};
 ghost use Rattle.swim_history.specs.Aim.{unless, unheard};
-ghost use Rattle.swim_history.specs.Run.{last_number};
+ghost use Rattle.swim_history.specs.Run.{greatest_number};
 ghost use Rattle.swim_detector.specs.Mirrors.{Mirrors, IsAnswered, IsSettled};
 
 use super::State;
@@ -33,7 +33,7 @@ impl State {
         } else if self.phase == journal.opening().rtt() {
             self.time_out(journal, chooser)
         } else {
-            self.rest(journal)
+            self.quiet_tick(journal)
         }
     }
 
@@ -43,10 +43,10 @@ impl State {
     fn start<C: Chooser>(&mut self, journal: &Journal, chooser: &mut C) -> Answer
         requires mirrors { Mirrors journal.now.opening journal.now.past self.old }
         requires begins { phase journal.now.opening journal.now.past ≡ 0 }
-        requires unspent { period_number journal.now.opening journal.now.past < last_number }
+        requires unspent { period_number journal.now.opening journal.now.past < greatest_number }
         ensures { IsAnswered C.orders C.places journal.now.opening journal.now.past Tick result self.new chooser.old chooser.new }
     {
-        let judged = silent(self.heard, self.aim);
+        let judged = unheard(self.heard, self.aim);
         leave(&mut self.targets, &judged);
         let next = self.targets.next(chooser);
         self.pass(journal.opening().period());
@@ -66,8 +66,8 @@ impl State {
         requires inside { phase journal.now.opening journal.now.past ≢ 0 }
         ensures { IsAnswered C.orders C.places journal.now.opening journal.now.past Tick result self.new chooser.old chooser.new }
     {
-        match silent(self.heard, self.aim) {
-            None => self.rest(journal),
+        match unheard(self.heard, self.aim) {
+            None => self.quiet_tick(journal),
             Some(target) => self.ask(journal, chooser, target),
         }
     }
@@ -76,7 +76,7 @@ impl State {
     fn ask<C: Chooser>(&mut self, journal: &Journal, chooser: &mut C, target: Id) -> Answer
         requires mirrors { Mirrors journal.now.opening journal.now.past self.old }
         requires timeout { phase journal.now.opening journal.now.past ≡ journal.now.opening.rtt }
-        requires silent { unheard journal.now.opening journal.now.past ≡ Some target }
+        requires unheard { unheard journal.now.opening journal.now.past ≡ Some target }
         ensures { IsAnswered C.orders C.places journal.now.opening journal.now.past Tick result self.new chooser.old chooser.new }
     {
         self.pass(journal.opening().period());
@@ -88,7 +88,7 @@ impl State {
     }
 
     /// Nothing is to be done in this tick.
-    fn rest(&mut self, journal: &Journal) -> Answer
+    fn quiet_tick(&mut self, journal: &Journal) -> Answer
         requires mirrors { Mirrors journal.now.opening journal.now.past self.old }
         requires inside { phase journal.now.opening journal.now.past ≢ 0 }
         requires quiet { phase journal.now.opening journal.now.past ≡ journal.now.opening.rtt → unheard journal.now.opening journal.now.past ≡ None }
@@ -102,10 +102,10 @@ impl State {
     fn pass(&mut self, period: u32)
         requires { self.old.phase < period }
         ensures same { (self.new.targets ≡ self.old.targets) × (self.new.aim ≡ self.old.aim) × (self.new.heard ≡ self.old.heard) }
-        ensures requests { (self.new.relays.period ≡ self.old.relays.period) × (self.new.relays.waiting ≡ aged self.old.relays.waiting) }
+        ensures requests { (self.new.requests.period ≡ self.old.requests.period) × (self.new.requests.waiting ≡ aged self.old.requests.waiting) }
         ensures phase { (ticks : ℕ) → self.old.phase ≡ ticks % period → self.new.phase ≡ (ticks + 1) % period }
     {
-        self.relays.tick();
+        self.requests.tick();
         self.phase = phase_after(self.phase, period);
     }
 }
@@ -119,7 +119,7 @@ fn phase_after(phase: u32, period: u32) -> u32
 }
 
 /// The aim, unless an ack of it was heard.
-pub(super) fn silent(heard: bool, aim: Option<Id>) -> Option<Id>
+pub(super) fn unheard(heard: bool, aim: Option<Id>) -> Option<Id>
     ensures { result ≡ option_and_then (λ m. unless heard m) aim }
 {
     match aim {

@@ -8,4 +8,4 @@ returns g c =
     rw c.of.ensures (asked g.C.Chooser.orders g.C.Chooser.places c.args.journal.now.opening c.args.journal.now.past c.args.target c.last_number.result c.relays_for.result c.args.self.now c.pass.new.self c.args.chooser.now c.relays_for.new.chooser
     c.opening.ensures.limits c.requires.mirrors
     (record { targets = c.pass.ensures.same.0; aim = c.pass.ensures.same.1; heard = c.pass.ensures.same.2; requests = c.pass.ensures.requests; phase = rw period at c.pass.ensures.phase })
-    c.requires.timeout c.requires.silent c.last_number.ensures.value c.relays_for.ensures.relays c.relays_for.ensures.drawn)
+    c.requires.timeout c.requires.unheard c.last_number.ensures.value c.relays_for.ensures.relays c.relays_for.ensures.drawn)

@@ -7,7 +7,7 @@ returns-in-Ok c =
     let a = c.args in
     let me = c.me-me.ensures ∙ ap (λ x. x.me) c.opening.ensures.value in
     let asked = rw c.key.ensures at c.in-Ok.ensures.ok in
-    rw (c.of.ensures, c.passed_on.ensures, me) (request_taken a.journal.now.opening a.journal.now.past a.message.now a.source a.peer a.self.now (record a.self.now { relays = c.ask.new.self })
+    rw (c.of.ensures, c.passed_on.ensures, me) (request_taken a.journal.now.opening a.journal.now.past a.message.now a.source a.peer a.self.now (record a.self.now { requests = c.ask.new.self })
     c.opening.ensures.limits c.requires.mirrors c.requires.kind c.requires.own c.requires.other c.requires.listed refl refl refl refl asked c.in-Ok.ensures.kept.bound)
 
 pub returns-in-Err : goal.returns-in-Err

@@ -1,6 +1,6 @@
 use Rattle.std.proofs.Common.{◌∙◌, ap}
 use Rattle.swim_detector.proofs.Settling.{quiet}
-use Rattle.swim_detector.proofs.states.State.rest.Goals as goal
+use Rattle.swim_detector.proofs.states.State.quiet_tick.Goals as goal
 
 pub returns : goal.returns
 returns c =

@@ -20,8 +20,8 @@ place_of m (id ∷ ids) = if nat_eq m id then 1 else place_of m ids + 1
 
 -- within so many starts a listed member is probed, if nobody joins: its place among those to be probed, or, where it
 -- was probed in this round, as many as are to be probed, and then as many as are listed
-abbrev pub wait : ℕ → Lists → ℕ
-wait m r = if has r.rest m then place_of m r.rest else length r.rest + length (all_of r)
+abbrev pub until_probed : ℕ → Lists → ℕ
+until_probed m r = if has r.rest m then place_of m r.rest else length r.rest + length (all_of r)
 
 -- ---- places on lists
 
@@ -70,11 +70,11 @@ has-insert m x ids k other = has-IsPermutation m (x ∷ ids) (insert ids k x) (I
 length-insert : (x : ℕ) (ids : List ℕ) (k : ℕ) → length (insert ids k x) ≡ length ids + 1
 length-insert x ids k = length_permutation (x ∷ ids) (insert ids k x) (IsPermutation-insert ids k x) ∙ omega arith
 
--- ---- what an entry does to the wait of a listed member
+-- ---- what an entry does to the until_probed of a listed member
 
 -- another member leaves
-pub wait-leave : (m x : ℕ) (r : Lists) → nat_eq m x ≡ false → wait m (leave x r) ≤ wait m r
-wait-leave m x r other = rw (has-without m x r.rest other) (by (has r.rest m))
+pub until_probed-leave : (m x : ℕ) (r : Lists) → nat_eq m x ≡ false → until_probed m (leave x r) ≤ until_probed m r
+until_probed-leave m x r other = rw (has-without m x r.rest other) (by (has r.rest m))
   where
     by : (b : Bool) → cond b (place_of m (without x r.rest)) (length (without x r.rest) + length (without x r.probed ++ without x r.rest)) ≤ cond b (place_of m r.rest) (length r.rest + length (r.probed ++ r.rest))
     by true = place-without m x r.rest other
@@ -84,27 +84,27 @@ wait-leave m x r other = rw (has-without m x r.rest other) (by (has r.rest m))
 other_way : (m x : ℕ) → nat_eq x m ≡ false → nat_eq m x ≡ false
 other_way m x other = nat_eq_equiv.symm m x ∙ other
 
-wait-judged : (m : ℕ) (judged : Option ℕ) (r : Lists) → is_member m judged ≡ false → wait m (leave_judged judged r) ≤ wait m r
-wait-judged m None r other = omega arith
-wait-judged m (Some x) r other = wait-leave m x r (other_way m x other)
+until_probed-judged : (m : ℕ) (judged : Option ℕ) (r : Lists) → is_member m judged ≡ false → until_probed m (leave_judged judged r) ≤ until_probed m r
+until_probed-judged m None r other = omega arith
+until_probed-judged m (Some x) r other = until_probed-leave m x r (other_way m x other)
 
 stays_listed : (m : ℕ) (judged : Option ℕ) (r : Lists) → is_member m judged ≡ false → has (all_of (leave_judged judged r)) m ≡ has (all_of r) m
 stays_listed m None r other = refl
 stays_listed m (Some x) r other = rw (all-leave x r) (has-without m x (all_of r) (other_way m x other))
 
 -- a round begins, in an order of those probed
-wait-redraw : (m : ℕ) (order : Option (List ℕ)) (r : Lists) → MayDraw order r → has (all_of r) m ≡ true → wait m (redraw order r) ≤ wait m r
-wait-redraw m None r may listed = omega arith
-wait-redraw m (Some order) r may listed =
+until_probed-redraw : (m : ℕ) (order : Option (List ℕ)) (r : Lists) → MayDraw order r → has (all_of r) m ≡ true → until_probed m (redraw order r) ≤ until_probed m r
+until_probed-redraw m None r may listed = omega arith
+until_probed-redraw m (Some order) r may listed =
     let probed : has r.probed m ≡ true = rw (may.0, append-nil r.probed) at listed in
     let next : has order m ≡ true = has-IsPermutation m r.probed order may.2 ∙ probed in
     rw (next, may.0, append-nil r.probed) (omega (arith, place_bound m order next, length_permutation r.probed order may.2))
 
 -- another member is probed
-wait-advanced : (m : ℕ) (probed rest : List ℕ) → (rest ≡ [] → probed ≡ []) → has (probed ++ rest) m ≡ true → is_member m (front rest) ≡ false
-    → wait m (advanced probed rest) + 1 ≤ wait m (record { probed = probed; rest = rest })
-wait-advanced m probed [] empty listed other = absurd (false≢true (rw (empty refl) at listed))
-wait-advanced m probed (id ∷ rest) empty listed other = rw (other_way m id other, append_assoc probed (id ∷ []) rest) (by (has rest m))
+until_probed-advanced : (m : ℕ) (probed rest : List ℕ) → (rest ≡ [] → probed ≡ []) → has (probed ++ rest) m ≡ true → is_member m (front rest) ≡ false
+    → until_probed m (advanced probed rest) + 1 ≤ until_probed m (record { probed = probed; rest = rest })
+until_probed-advanced m probed [] empty listed other = absurd (false≢true (rw (empty refl) at listed))
+until_probed-advanced m probed (id ∷ rest) empty listed other = rw (other_way m id other, append_assoc probed (id ∷ []) rest) (by (has rest m))
   where
     by : (b : Bool) → cond b (place_of m rest) (length rest + length (probed ++ id ∷ rest)) + 1 ≤ cond b (place_of m rest + 1) (length (id ∷ rest) + length (probed ++ id ∷ rest))
     by true = omega arith
@@ -116,23 +116,23 @@ drawn_empty None r may = may
 drawn_empty (Some order) r may = λ e. refl
 
 -- a start that neither judges nor probes the member brings it nearer
-pub wait-start : (m : ℕ) (judged : Option ℕ) (order : Option (List ℕ)) (r : Lists) → MayDraw order (leave_judged judged r) → has (all_of r) m ≡ true → is_member m judged ≡ false
-    → is_member m (front (redraw order (leave_judged judged r)).rest) ≡ false → wait m (advance (redraw order (leave_judged judged r))) + 1 ≤ wait m r
-wait-start m judged order r may listed spared other =
+pub until_probed-start : (m : ℕ) (judged : Option ℕ) (order : Option (List ℕ)) (r : Lists) → MayDraw order (leave_judged judged r) → has (all_of r) m ≡ true → is_member m judged ≡ false
+    → is_member m (front (redraw order (leave_judged judged r)).rest) ≡ false → until_probed m (advance (redraw order (leave_judged judged r))) + 1 ≤ until_probed m r
+until_probed-start m judged order r may listed spared other =
     let stays = leave_judged judged r in
     let drawn = redraw order stays in
     let still : has (all_of stays) m ≡ true = stays_listed m judged r spared ∙ listed in
     let again : has (all_of drawn) m ≡ true = has-IsPermutation m (all_of stays) (all_of drawn) (all-redraw order stays may) ∙ still in
     omega (
       arith,
-      wait-judged m judged r spared,
-      wait-redraw m order stays may still,
-      wait-advanced m drawn.probed drawn.rest (drawn_empty order stays may) again other,
+      until_probed-judged m judged r spared,
+      until_probed-redraw m order stays may still,
+      until_probed-advanced m drawn.probed drawn.rest (drawn_empty order stays may) again other,
     )
 
 -- another member joins
-pub wait-join : (m x place : ℕ) (r : Lists) → nat_eq m x ≡ false → wait m (join_at x place r) ≤ wait m r + 2
-wait-join m x place r other = by (nat_lt place (length r.probed))
+pub until_probed-join : (m x place : ℕ) (r : Lists) → nat_eq m x ≡ false → until_probed m (join_at x place r) ≤ until_probed m r + 2
+until_probed-join m x place r other = by (nat_lt place (length r.probed))
   where
     among_probed : (b : Bool) → cond b (place_of m r.rest) (length r.rest + length (insert r.probed place x ++ r.rest)) ≤ cond b (place_of m r.rest) (length r.rest + length (r.probed ++ r.rest)) + 2
     among_probed true = omega arith
@@ -142,7 +142,7 @@ wait-join m x place r other = by (nat_lt place (length r.probed))
     among_rest k true = omega (arith, place-insert m x r.rest k other)
     among_rest k false = omega (arith, length-append r.probed (insert r.rest k x), length-append r.probed r.rest, length-insert x r.rest k)
 
-    by : (b : Bool) → wait m (cond b (record { probed = insert r.probed place x; rest = r.rest }) (record { probed = r.probed; rest = insert r.rest (place - length r.probed) x })) ≤ wait m r + 2
+    by : (b : Bool) → until_probed m (cond b (record { probed = insert r.probed place x; rest = r.rest }) (record { probed = r.probed; rest = insert r.rest (place - length r.probed) x })) ≤ until_probed m r + 2
     by true = among_probed (has r.rest m)
     by false = rw (has-insert m x r.rest (place - length r.probed) other) (among_rest (place - length r.probed) (has r.rest m))
 
@@ -152,8 +152,8 @@ or_first : (x y : Bool) → (x || y) ≡ true → y ≡ false → x ≡ true
 or_first true y either other = refl
 or_first false y either other = absurd (false≢true (sym other ∙ either))
 
-pub wait_bound : (m : ℕ) (r : Lists) → has (all_of r) m ≡ true → (1 ≤ wait m r) × (wait m r ≤ 2 * length (all_of r) - 1)
-wait_bound m r listed = by (has r.rest m) refl
+pub until_probed_bound : (m : ℕ) (r : Lists) → has (all_of r) m ≡ true → (1 ≤ until_probed m r) × (until_probed m r ≤ 2 * length (all_of r) - 1)
+until_probed_bound m r listed = by (has r.rest m) refl
   where
     by : (b : Bool) → has r.rest m ≡ b → (1 ≤ cond b (place_of m r.rest) (length r.rest + length (all_of r))) × (cond b (place_of m r.rest) (length r.rest + length (all_of r)) ≤ 2 * length (all_of r) - 1)
     by true is = let bound = place_bound m r.rest is in (bound.0, omega (arith, bound.0, bound.1, length-append r.probed r.rest))
