@@ -3,6 +3,7 @@ pub mod GapWalk
 pub mod InOrder
 pub mod LastProbes
 pub mod Places
+pub mod Room
 pub mod Storing
 pub mod Summing
 pub mod UpRows
