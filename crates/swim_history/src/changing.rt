@@ -4,8 +4,17 @@ ghost use Rattle.std.specs.Prelude.{◌≡◌, ◌≤◌, length, nat_le};
 ghost use Rattle.swim_history.specs.Changes.{after_change, IsAscending};
 ghost use Rattle.swim_history.specs.Changing.{changed_within};
 
+use crate::copies::copied;
 use crate::rows::{Change, KNOWN_MEMBERS, Row, Table};
 use crate::tables::{apply_change, find_row};
+
+/// The table with these rows. It takes no memory.
+pub fn copy_table(rows: &[Row]) -> Table
+    requires { length rows.now ≤ 128 }
+    ensures { result.items ≡ rows.now }
+{
+    copied(rows)
+}
 
 /// Makes a change, unless more members would be known after it than may be: then the table stays as it was.
 pub fn change_table(table: &mut Table, change: &Change)

@@ -23,7 +23,7 @@ mod summaries;
 mod tables;
 
 pub use calls::Call;
-pub use changing::change_table;
+pub use changing::{change_table, copy_table};
 pub use entries::{Choice, Entry, Order};
 pub use gaps::Gap;
 pub use journals::{Journal, Judged};

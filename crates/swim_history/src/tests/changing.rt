@@ -27,6 +27,7 @@ fn a_full_table_stays(rt: HostRuntime) -> Result<(), Fail> {
     change_table(&mut table, &Change::Up(member(129)?, address(1)));
     assert_eq!(rt; table.last().map(|row| row.id), Some(member(129)?));
     assert_eq!(rt; table.len(), 128);
+    assert_eq!(rt; copy_table(table.as_slice()).as_slice(), table.as_slice());
     Ok(())
 }
 
