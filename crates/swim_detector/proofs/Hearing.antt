@@ -146,9 +146,9 @@ ack_unasked o h m source old new mirrors is other waits targets aims phases hear
     let reply = Dropped NoRequest in
     hears o h m source reply old new mirrors (rw is (other, sym (rw mirrors.requests_are.1 at waits))) targets aims phases
     (λ seat number.
-        let e = plain_entry seat number (Hear m source) reply in
-        let unasked = forget_none (key_of m) old.requests.waiting (waits_none (key_of m) old.requests.waiting (sym waits)) in
-        requests_same o h (e ∷ h) old.requests new.requests mirrors.requests_are (answered ∙ rw unasked refl) (waiting_same o h e refl refl refl))
+    let e = plain_entry seat number (Hear m source) reply in
+    let unasked = forget_none (key_of m) old.requests.waiting (waits_none (key_of m) old.requests.waiting (sym waits)) in
+    requests_same o h (e ∷ h) old.requests new.requests mirrors.requests_are (answered ∙ rw unasked refl) (waiting_same o h e refl refl refl))
     (λ target aimed. heard ∙ mirrors.heard_is target aimed ∙ rw (not_own o h m source target is other) refl)
 
 -- ---- acks of this member's own probe
