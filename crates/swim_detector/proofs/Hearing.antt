@@ -27,8 +27,9 @@ use Rattle.swim_history.specs.WaitingLaws.{waiting_asked, waiting_answered, wait
 use Rattle.swim_history.specs.RunLaws.{hears_no_start}
 use Rattle.swim_history.specs.Run.{Hears, IsRequest, is_waiting, most_waiting}
 use Rattle.swim_detector.specs.declared.states.State.{State}
-use Rattle.swim_detector.specs.Mirrors.{Mirrors, IsSettled}
-use Rattle.swim_detector.proofs.Settling.{plain, plain_entry}
+use Rattle.swim_relays.specs.Waiting.{Waiting}
+use Rattle.swim_detector.specs.Mirrors.{Mirrors, AreRequests, IsSettled}
+use Rattle.swim_detector.proofs.Settling.{plain, plain_entry, requests_same}
 
 -- whether a message is an ack of the aim for this period
 abbrev counts : Setting → List Entry → ℕ → Message → Address → Bool
@@ -37,7 +38,7 @@ counts o h target m source = is_acking o.me target (period_number o h) (Hear m s
 -- a message was answered: only the requests that wait and what was heard may have changed
 hears : (o : Setting) (h : List Entry) (m : Message) (source : Address) (reply : Reply) (old new : State) → Mirrors o h old → Hears o h m source m.kind reply →
     new.targets ≡ old.targets → new.aim ≡ old.aim → new.phase ≡ old.phase →
-    ((seat number : ℕ) → new.requests ≡ record { period = o.period; waiting = waiting o (plain_entry seat number (Hear m source) reply ∷ h) }) →
+    ((seat number : ℕ) → AreRequests o (plain_entry seat number (Hear m source) reply ∷ h) new.requests) →
     ((target : ℕ) → aim h ≡ Some target → new.heard ≡ (counts o h target m source || was_heard o h target)) →
     IsSettled o h (Hear m source) (plain reply) new
 hears o h m source reply old new mirrors fits targets aims phases requests heard = (
@@ -62,7 +63,7 @@ same_state : (o : Setting) (h : List Entry) (m : Message) (source : Address) (re
     IsSettled o h (Hear m source) (plain reply) s
 same_state o h m source reply s mirrors fits unasked unsent uncounted =
     hears o h m source reply s s mirrors fits refl refl refl
-    (λ seat number. mirrors.requests_are ∙ ap (λ w. record { period = o.period; waiting = w }) (sym (waiting_same o h (plain_entry seat number (Hear m source) reply) refl unasked unsent)))
+    (λ seat number. let e = plain_entry seat number (Hear m source) reply in requests_same o h (e ∷ h) s.requests s.requests mirrors.requests_are refl (waiting_same o h e refl unasked unsent))
     (λ target is. mirrors.heard_is target is ∙ rw (uncounted target is) refl)
 
 -- a message that is no ack doesn't count as one
@@ -92,7 +93,7 @@ request_dropped o h m source why s mirrors is fits =
 pub request_full : (o : Setting) (h : List Entry) (m : Message) (source peer : Address) (s : State) → Mirrors o h s → m.kind ≡ PingReq → IsRequest o.me m → m.target ≢ o.me → row_of o h m.target ≡ Some (up m.target peer) →
     waits (key_of m) s.requests.waiting ≡ false → length s.requests.waiting ≡ 64 → IsSettled o h (Hear m source) (plain (Dropped TableFull)) s
 request_full o h m source peer s mirrors is own other listed none full =
-    request_dropped o h m source TableFull s mirrors is (own, other, rw listed refl, rw mirrors.requests_are at none, omega (arith, rw mirrors.requests_are at full))
+    request_dropped o h m source TableFull s mirrors is (own, other, rw listed refl, rw mirrors.requests_are.1 at none, omega (arith, rw mirrors.requests_are.1 at full))
 
 -- one more request waits only where there is room for it
 room_for : (key : Key) (rs new : List Request) (r : Request) → new ≡ forget key rs ++ r ∷ [] → length new ≤ 64 → waits key rs ≡ false → length rs < 64
@@ -108,9 +109,13 @@ pub request_taken : (o : Setting) (h : List Entry) (m : Message) (source peer : 
 request_taken o h m source peer old new setting mirrors is own other listed targets aims phases heard asked bound =
     let reply = Send peer (passed_on Ping o.me m) in
     let r : Request = record { key = key_of m; peer = source; left = o.period } in
-    let room : is_waiting o h m ≡ false → length (waiting o h) < most_waiting = λ none. room_for (key_of m) (waiting o h) new.requests.waiting r (rw mirrors.requests_are at (ap (λ w. w.waiting) asked)) bound none in
+    let waits_now : new.requests.waiting ≡ forget (key_of m) (waiting o h) ++ r ∷ [] = rw (mirrors.requests_are.1, mirrors.requests_are.0) at (ap (λ (w : Waiting). w.waiting) asked) in
+    let room : is_waiting o h m ≡ false → length (waiting o h) < most_waiting = λ none. room_for (key_of m) (waiting o h) new.requests.waiting r waits_now bound none in
     hears o h m source reply old new mirrors (rw is (own, other, listed, room, refl)) targets aims phases
-    (λ seat number. rw (waiting_asked o h (plain_entry seat number (Hear m source) reply) m source peer (passed_on Ping o.me m) (omega (arith, setting.timing.0, setting.timing.1)) refl is refl) (rw mirrors.requests_are at asked))
+    (λ seat number. (
+      ap (λ (w : Waiting). w.period) asked ∙ mirrors.requests_are.0,
+      rw (waiting_asked o h (plain_entry seat number (Hear m source) reply) m source peer (passed_on Ping o.me m) (omega (arith, setting.timing.0, setting.timing.1)) refl is refl) waits_now,
+    ))
     (λ target aimed. heard ∙ mirrors.heard_is target aimed ∙ rw (no_ack o h m source PingReq target is (λ e. absurd (cc e))) refl)
 
 -- ---- acks of other members' probes
@@ -125,8 +130,11 @@ pub ack_forwarded : (o : Setting) (h : List Entry) (m : Message) (source peer : 
     IsSettled o h (Hear m source) (plain (Send peer (passed_on Ack o.me m))) new
 ack_forwarded o h m source peer old new mirrors is other waits targets aims phases heard answered =
     let reply = Send peer (passed_on Ack o.me m) in
-    hears o h m source reply old new mirrors (rw is (other, sym (rw mirrors.requests_are at waits), refl)) targets aims phases
-    (λ seat number. rw (waiting_answered o h (plain_entry seat number (Hear m source) reply) m source peer (passed_on Ack o.me m) refl is refl) (rw mirrors.requests_are at answered))
+    hears o h m source reply old new mirrors (rw is (other, sym (rw mirrors.requests_are.1 at waits), refl)) targets aims phases
+    (λ seat number. (
+      ap (λ (w : Waiting). w.period) answered ∙ mirrors.requests_are.0,
+      rw (waiting_answered o h (plain_entry seat number (Hear m source) reply) m source peer (passed_on Ack o.me m) refl is refl) (rw mirrors.requests_are.1 at (ap (λ (w : Waiting). w.waiting) answered)),
+    ))
     (λ target aimed. heard ∙ mirrors.heard_is target aimed ∙ rw (not_own o h m source target is other) refl)
 
 -- nobody waits for the ack
@@ -136,8 +144,11 @@ pub ack_unasked : (o : Setting) (h : List Entry) (m : Message) (source : Address
     IsSettled o h (Hear m source) (plain (Dropped NoRequest)) new
 ack_unasked o h m source old new mirrors is other waits targets aims phases heard answered =
     let reply = Dropped NoRequest in
-    hears o h m source reply old new mirrors (rw is (other, sym (rw mirrors.requests_are at waits))) targets aims phases
-    (λ seat number. rw (waiting_same o h (plain_entry seat number (Hear m source) reply) refl refl refl) (answered ∙ rw (forget_none (key_of m) old.requests.waiting (waits_none (key_of m) old.requests.waiting (sym waits))) mirrors.requests_are))
+    hears o h m source reply old new mirrors (rw is (other, sym (rw mirrors.requests_are.1 at waits))) targets aims phases
+    (λ seat number.
+    let e = plain_entry seat number (Hear m source) reply in
+    let unasked = forget_none (key_of m) old.requests.waiting (waits_none (key_of m) old.requests.waiting (sym waits)) in
+    requests_same o h (e ∷ h) old.requests new.requests mirrors.requests_are (answered ∙ rw unasked refl) (waiting_same o h e refl refl refl))
     (λ target aimed. heard ∙ mirrors.heard_is target aimed ∙ rw (not_own o h m source target is other) refl)
 
 -- ---- acks of this member's own probe
@@ -147,7 +158,7 @@ pub ack_heard : (o : Setting) (h : List Entry) (m : Message) (source : Address) 
     IsSettled o h (Hear m source) (plain Heard) new
 ack_heard o h m source old new mirrors is own aimed now targets aims phases relays heard =
     hears o h m source Heard old new mirrors (rw is (own, aimed, now)) targets aims phases
-    (λ seat number. relays ∙ (mirrors.requests_are ∙ ap (λ w. record { period = o.period; waiting = w }) (sym (waiting_same o h (plain_entry seat number (Hear m source) Heard) refl refl refl))))
+    (λ seat number. let e = plain_entry seat number (Hear m source) Heard in requests_same o h (e ∷ h) old.requests new.requests mirrors.requests_are relays (waiting_same o h e refl refl refl))
     (λ target is_aim. heard ∙ rw (is, eq-eqb m.initiator o.me own, eq-eqb m.target target (same_Some m.target target (sym aimed ∙ is_aim)), eq-eqb m.number (period_number o h) now) refl)
 
 pub ack_stray : (o : Setting) (h : List Entry) (m : Message) (source : Address) (s : State) → Mirrors o h s → m.kind ≡ Ack → m.initiator ≡ o.me → (aim h ≡ Some m.target → m.number ≢ period_number o h) →

@@ -22,7 +22,7 @@ use Rattle.swim_targets.specs.declared.rounds.JoinFault.{JoinFault}
 use Rattle.swim_targets.specs.declared.rounds.JoinFault.TheVariants.{Listed, Full}
 use Rattle.swim_detector.specs.declared.states.State.{State}
 use Rattle.swim_detector.specs.Mirrors.{Mirrors, MayList, IsAnswered, IsSettled}
-use Rattle.swim_detector.proofs.Settling.{plain, plain_entry}
+use Rattle.swim_detector.proofs.Settling.{plain, plain_entry, requests_same}
 
 -- a member that isn't listed, nor refused, may be listed
 pub may_list : (o : Setting) (h : List Entry) (id : ℕ) → IsSetting o → IsRun o h → id ≢ o.me → is_listed o h id ≡ false → (row_of o h id ≡ None → known_count o h ≢ 128) → MayList o h id
@@ -53,7 +53,7 @@ joined orders places o h id place peer old new before after m may within drawn l
   rw m.lists_are at drawn,
   λ seat number. record {
     lists_are = listing ∙ ap (join_at id place) m.lists_are;
-    requests_are = relays ∙ (m.requests_are ∙ ap (λ w. record { period = o.period; waiting = w }) (sym (waiting_same o h (plain_entry seat number (Join id peer) (Joined place)) refl refl refl)));
+    requests_are = let e = plain_entry seat number (Join id peer) (Joined place) in requests_same o h (e ∷ h) old.requests new.requests m.requests_are relays (waiting_same o h e refl refl refl);
     aim_is = aims ∙ m.aim_is;
     heard_is = λ target is. heard ∙ m.heard_is target is;
     phase_is = phases ∙ m.phase_is;
@@ -90,7 +90,7 @@ forgotten o h id old new m other known leaves aims relays heard phases = (
       let aim_after : aim (e ∷ h) ≡ option_and_then (λ m. unless (id == m) m) (aim h) = unless_either (λ m. id == m) (λ m. list_any (removes m) (since is_start h)) (last_probed h) in
       record {
         lists_are = leaves ∙ ap (leave id) m.lists_are;
-        requests_are = relays ∙ (m.requests_are ∙ ap (λ w. record { period = o.period; waiting = w }) (sym (waiting_same o h e refl refl refl)));
+        requests_are = requests_same o h (e ∷ h) old.requests new.requests m.requests_are relays (waiting_same o h e refl refl refl);
         aim_is = aims ∙ (ap (option_and_then (λ m. unless (id == m) m)) m.aim_is ∙ sym aim_after);
         heard_is = λ target is. heard ∙ m.heard_is target (still (λ m. id == m) (aim h) target (sym aim_after ∙ is));
         phase_is = phases ∙ m.phase_is;

@@ -27,7 +27,8 @@ use Rattle.swim_history.specs.Run.{Answers, Hears}
 use Rattle.swim_history.specs.Drawn.{DrawsEntry}
 use Rattle.swim_detector.specs.declared.states.State.{State}
 use Rattle.swim_detector.specs.declared.answers.Answer.{Answer}
-use Rattle.swim_detector.specs.Mirrors.{Mirrors, choice_of, may_draw, IsSettled, IsAnswered}
+use Rattle.swim_relays.specs.Waiting.{Waiting}
+use Rattle.swim_detector.specs.Mirrors.{Mirrors, AreRequests, choice_of, may_draw, IsSettled, IsAnswered}
 
 -- where the chooser isn't asked, it stays
 undrawn : {S : Type 0} (orders : S → List ℕ → List ℕ → S → Type 0) (places : S → ℕ → ℕ → S → Type 0) (o : Setting) (h : List Entry) (call : Call) (reply : Reply) (choice : Choice) (c : S) →
@@ -49,6 +50,10 @@ plain reply = record { reply = reply; begins_round = false }
 abbrev pub plain_entry : ℕ → ℕ → Call → Reply → Entry
 plain_entry seat number call reply = record { seat = seat; number = number; call = call; choice = Nothing; reply = reply }
 
+-- the requests where the table stays, and none begins or ceases to wait
+pub requests_same : (o : Setting) (h later : List Entry) (old new : Waiting) → AreRequests o h old → new ≡ old → waiting o later ≡ waiting o h → AreRequests o later new
+requests_same o h later old new are same kept = (ap (λ (w : Waiting). w.period) same ∙ are.0, ap (λ (w : Waiting). w.waiting) same ∙ are.1 ∙ sym kept)
+
 -- an entry by which nothing changes
 stays : (o : Setting) (h : List Entry) (s : State) (e : Entry) → Mirrors o h s → is_tick e ≡ false → is_start e ≡ false → lists_then e.call e.reply e.choice (lists o h) ≡ lists o h →
     ((m : ℕ) → removes m e ≡ false) → ((m number : ℕ) → acks o.me m number e ≡ false) → asked_in e.call e.reply ≡ None → sent_on_in e.call e.reply ≡ None → Mirrors o (e ∷ h) s
@@ -56,7 +61,7 @@ stays o h s e m idle goes_on same unremoved unacked unasked unsent =
     let same_aim : aim (e ∷ h) ≡ aim h = rw goes_on (ap (λ (gone : ℕ → Bool). option_and_then (λ m. unless (gone m) m) (last_probed h)) (λ i m. (unremoved m i) || list_any (removes m) (since is_start h))) in
     record {
       lists_are = m.lists_are ∙ sym same;
-      requests_are = m.requests_are ∙ ap (λ w. record { period = o.period; waiting = w }) (sym (waiting_same o h e idle unasked unsent));
+      requests_are = requests_same o h (e ∷ h) s.requests s.requests m.requests_are refl (waiting_same o h e idle unasked unsent);
       aim_is = m.aim_is ∙ sym same_aim;
       heard_is = λ target is.
           let same_number : period_number o (e ∷ h) ≡ period_number o h = period_number-same o h e idle in
@@ -82,13 +87,14 @@ pub record Passes (o : Setting) (old new : State) : Type 0 where
   pub targets : new.targets ≡ old.targets
   pub aim : new.aim ≡ old.aim
   pub heard : new.heard ≡ old.heard
-  pub requests : new.requests ≡ record old.requests { waiting = aged old.requests.waiting }
+  pub requests : (new.requests.period ≡ old.requests.period) × (new.requests.waiting ≡ aged old.requests.waiting)
   pub phase : (t : ℕ) → old.phase ≡ t % o.period → new.phase ≡ (t + 1) % o.period
 
 -- the requests after a tick
-pub requests_after : (o : Setting) (h : List Entry) (e : Entry) (old new : State) → Mirrors o h old → new.requests ≡ record old.requests { waiting = aged old.requests.waiting } → is_ticking e.call e.reply ≡ true →
-    new.requests ≡ record { period = o.period; waiting = waiting o (e ∷ h) }
-requests_after o h e old new m aging ticking = rw (waiting_tick o h e ticking) (rw m.requests_are at aging)
+pub requests_after : (o : Setting) (h : List Entry) (e : Entry) (old new : State) → Mirrors o h old →
+    (new.requests.period ≡ old.requests.period) × (new.requests.waiting ≡ aged old.requests.waiting) → is_ticking e.call e.reply ≡ true →
+    AreRequests o (e ∷ h) new.requests
+requests_after o h e old new m aging ticking = (aging.0 ∙ m.requests_are.0, rw (waiting_tick o h e ticking) (rw m.requests_are.1 at aging.1))
 
 -- a tick within a period
 pub passed : (o : Setting) (h : List Entry) (reply : Reply) (old new : State) (seat number : ℕ) → IsSetting o → Mirrors o h old → Passes o old new → is_ticking Tick reply ≡ true → is_starting reply ≡ false → phase o h ≢ 0 →

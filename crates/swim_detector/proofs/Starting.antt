@@ -99,7 +99,7 @@ pub record Begins {S : Type 0} (orders : S → List ℕ → List ℕ → S → T
   pub none : IfNone d (after ≡ before)
   pub aims : new.aim ≡ next
   pub unheard : new.heard ≡ false
-  pub requests : new.requests ≡ record old.requests { waiting = aged old.requests.waiting }
+  pub requests : (new.requests.period ≡ old.requests.period) × (new.requests.waiting ≡ aged old.requests.waiting)
   pub phase : (t : ℕ) → old.phase ≡ t % o.period → new.phase ≡ (t + 1) % o.period
 
 -- the round after the judged member left it

@@ -10,6 +10,7 @@ use Rattle.swim_history.specs.declared.entries.Entry.{Entry}
 use Rattle.swim_history.specs.declared.replies.Refusal.{Refusal}
 use Rattle.swim_history.specs.declared.replies.Relay.{Relay}
 use Rattle.swim_wire.specs.Address.{Address}
+use Rattle.swim_relays.specs.Waiting.{Waiting}
 use Rattle.swim_wire.specs.Round.{Lists, all_of}
 use Rattle.swim_wire.specs.Ids.{most_members, has}
 use Rattle.swim_history.specs.Rows.{up, row_of, is_listed}
@@ -25,10 +26,14 @@ use Rattle.swim_history.specs.Drawn.{DrawsEntry}
 use Rattle.swim_detector.specs.declared.states.State.{State}
 use Rattle.swim_detector.specs.declared.answers.Answer.{Answer}
 
+-- the requests that wait by the history, for as many ticks as its period has; where their count began is nobody's concern
+abbrev pub AreRequests : Setting → List Entry → Waiting → Type 0
+AreRequests o h w = (w.period ≡ o.period) × (w.waiting ≡ waiting o h)
+
 -- the state is what the definitions find in the history
 pub record Mirrors (o : Setting) (h : List Entry) (s : State) : Type 0 where
   pub lists_are : s.targets ≡ lists o h
-  pub requests_are : s.requests ≡ record { period = o.period; waiting = waiting o h }
+  pub requests_are : AreRequests o h s.requests
   pub aim_is : s.aim ≡ aim h
   pub heard_is : (m : ℕ) → aim h ≡ Some m → s.heard ≡ was_heard o h m
   pub phase_is : s.phase ≡ phase o h

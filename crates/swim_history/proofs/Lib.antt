@@ -4,6 +4,7 @@ pub mod GapsKept
 pub mod InOrder
 pub mod LastProbes
 pub mod Places
+pub mod Room
 pub mod Storing
 pub mod Summing
 pub mod UpRows

@@ -5,6 +5,7 @@ pub mod Clock
 pub mod Aim
 pub mod Rows
 pub mod Changes
+pub mod Changing
 pub mod Places
 pub mod TableLaws
 pub mod Round

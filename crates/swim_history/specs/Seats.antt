@@ -1,15 +1,7 @@
 -- The calls of a seat: what a caller was answered, in order, and where it stands in the journal.
 use Rattle.std.specs.Prelude.{ℕ, ◌==◌, List, [], ◌∷◌, ◌++◌, length, if◌then◌else◌}
-use Rattle.swim_history.specs.declared.calls.Call.{Call}
-use Rattle.swim_history.specs.declared.replies.Reply.{Reply}
 use Rattle.swim_history.specs.declared.entries.Entry.{Entry}
-
--- an answered call: its place in the journal, its number among the seat's calls, the call and its reply
-pub record Kept : Type 0 where
-  pub position : ℕ
-  pub number : ℕ
-  pub call : Call
-  pub reply : Reply
+use Rattle.swim_history.specs.declared.seats.Kept.{Kept}
 
 -- the calls of a seat in a history, oldest first
 abbrev pub kept_of : ℕ → List Entry → List Kept

@@ -63,7 +63,7 @@ ascending_shows [] id = refl
 ascending_shows (row ∷ rows) id = ascending_shows_more row rows id (ascending_shows rows id)
 
 -- changes one after the other
-rows_after-append : (rows : List Row) (first second : List Change) → rows_after rows (first ++ second) ≡ rows_after (rows_after rows first) second
+pub rows_after-append : (rows : List Row) (first second : List Change) → rows_after rows (first ++ second) ≡ rows_after (rows_after rows first) second
 rows_after-append rows [] second = refl
 rows_after-append rows (change ∷ first) second = rows_after-append (after_change change rows) first second
 
@@ -133,7 +133,7 @@ gone_ascends gone [] ascends = tt
 gone_ascends gone (row ∷ rows) ascends =
     cond_both (not (row.id == gone)) _ _ IsAscending (λ _. (gone_each (λ x. row.id < x.id) gone rows ascends.0, gone_ascends gone rows ascends.1)) (λ _. gone_ascends gone rows ascends.1)
 
-change_ascends : (change : Change) (rows : List Row) → IsAscending rows → IsAscending (after_change change rows)
+pub change_ascends : (change : Change) (rows : List Row) → IsAscending rows → IsAscending (after_change change rows)
 change_ascends (change.Up id peer) rows ascends = put_ascends (up id peer) rows ascends
 change_ascends (change.Failed id number) rows ascends = failed_ascends id number rows ascends
 change_ascends (change.Gone id) rows ascends = gone_ascends id rows ascends
@@ -151,7 +151,7 @@ pub table_ascends : (o : Setting) (h : List Entry) → IsAscending (table o h)
 table_ascends o h = changes_ascend (ascending o.rows) (changes o h) (ascending_ascends o.rows)
 
 -- a row put makes one more at most, and none more where its id is among the others
-put_length : (new : Row) (rows : List Row) → length (put new rows) ≤ length rows + 1
+pub put_length : (new : Row) (rows : List Row) → length (put new rows) ≤ length rows + 1
 put_length new [] = omega arith
 put_length new (row ∷ rows) =
     let again = put_length new rows in
@@ -162,7 +162,7 @@ pub none_below : (id : ℕ) (rows : List Row) → AllByRecursion (λ row. id < r
 none_below id [] each = refl
 none_below id (row ∷ rows) each = rw (ne_eqb row.id id (λ e. omega (arith, each.0))) (none_below id rows each.1)
 
-put_length-known : (new : Row) (rows : List Row) → IsAscending rows → row_at rows new.id ≢ None → length (put new rows) ≡ length rows
+pub put_length-known : (new : Row) (rows : List Row) → IsAscending rows → row_at rows new.id ≢ None → length (put new rows) ≡ length rows
 put_length-known new [] ascends known = absurd (known refl)
 put_length-known new (row ∷ rows) ascends known =
     cond_both (nat_lt new.id row.id) _ _ (λ (x : List Row). length x ≡ length (row ∷ rows))
@@ -172,11 +172,11 @@ put_length-known new (row ∷ rows) ascends known =
     let differs : row.id ≢ new.id = λ same. eqb-false new.id row.id other (sym same) in
     ap suc (put_length-known new rows ascends.1 (λ none. known (rw (ne_eqb row.id new.id differs) none)))))
 
-failed_length : (judged number : ℕ) (rows : List Row) → length (after_change (change.Failed judged number) rows) ≡ length rows
+pub failed_length : (judged number : ℕ) (rows : List Row) → length (after_change (change.Failed judged number) rows) ≡ length rows
 failed_length judged number [] = refl
 failed_length judged number (row ∷ rows) = ap suc (failed_length judged number rows)
 
-gone_length : (gone : ℕ) (rows : List Row) → length (after_change (change.Gone gone) rows) ≤ length rows
+pub gone_length : (gone : ℕ) (rows : List Row) → length (after_change (change.Gone gone) rows) ≤ length rows
 gone_length gone [] = omega arith
 gone_length gone (row ∷ rows) =
     let again = gone_length gone rows in

@@ -3,6 +3,7 @@
 #![tactic(auto)]
 
 mod calls;
+mod changing;
 mod copies;
 pub mod drawn_laws;
 mod entries;
@@ -13,6 +14,8 @@ mod openings;
 mod probing;
 mod replies;
 mod rows;
+mod same_replies;
+mod seats;
 mod sending;
 mod storage;
 mod stored_replies;
@@ -20,6 +23,7 @@ mod summaries;
 mod tables;
 
 pub use calls::Call;
+pub use changing::{change_table, copy_table};
 pub use entries::{Choice, Entry, SEATS};
 pub use gaps::Gap;
 pub use journals::{Journal, Judged};
@@ -27,8 +31,11 @@ pub use openings::{LONGEST_PERIOD, MOST_RELAYS, Opening, OpeningFault};
 pub use probing::Probed;
 pub use replies::{DropReason, Probe, Refusal, Relay, Reply};
 pub use rows::{Change, Row, RowState, Table};
+pub use same_replies::is_same_reply;
+pub use seats::Kept;
 pub use sending::sends;
 pub use swim_wire::{KNOWN_MEMBERS, Order};
+pub use tables::table_of;
 
 #[cfg(test)]
 mod tests;

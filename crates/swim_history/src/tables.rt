@@ -12,7 +12,7 @@ use crate::rows::{Change, Row, RowState, Table};
 use swim_wire::{Id, KNOWN_MEMBERS};
 
 /// The table of these rows.
-pub(crate) fn table_of(rows: &[Row]) -> Table
+pub fn table_of(rows: &[Row]) -> Table
     requires { length rows.now ≤ KNOWN_MEMBERS }
     ensures { result.items ≡ ascending rows.now }
 {

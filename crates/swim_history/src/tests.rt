@@ -4,6 +4,7 @@ ghost use Rattle.std.specs.Option.{SomeIff};
 use super::*;
 use swim_wire::{Id, Peer};
 
+mod changing;
 mod gaps;
 mod journals;
 mod openings;

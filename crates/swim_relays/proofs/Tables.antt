@@ -1,20 +1,22 @@
 -- What a table of requests becomes, where no probe's requests wait twice.
-use Rattle.std.specs.Prelude.{◌≡◌, ℕ, ◌-◌, ◌<◌, ◌≤◌, Bool, true, false, ◌||◌, ◌&&◌, not, nat_lt, List, [], ◌∷◌, ◌++◌, length, take, filter, remove, Some, None, zero, suc}
+use Rattle.std.specs.Prelude.{◌≡◌, ℕ, ◌-◌, ◌<◌, ◌≤◌, ◌^◌, Bool, true, false, ◌||◌, ◌&&◌, not, nat_lt, List, [], ◌∷◌, ◌++◌, length, map, filter, None, zero, suc}
 use Rattle.std.specs.List.{AllByRecursion}
-use Rattle.std.specs.List.Retain.{RetainsInTurn}
-use Rattle.std.proofs.Common.{cond, eqb, refl, sym, ap, subst, ◌∙◌, arith, get_or, length-append}
+use Rattle.std.specs.List.Sorted.{IsNonDecreasingBy}
+use Rattle.std.proofs.Common.{cond, eqb, refl, subst, ◌∙◌, arith, get_or, length-append}
+use Rattle.std.proofs.lemmas.List.{length-map}
 use Rattle.std.proofs.lemmas.Bool.{and_parts, or_parts, or_from, eqb-true, eq-eqb, both_ways, ltb-true, false_from_ne_true}
 use Rattle.std.proofs.lemmas.List.Folds.{list_any-append}
+use Rattle.std.proofs.lemmas.List.Kept.{IsNonDecreasingBy-filter}
+use Rattle.std.proofs.lemmas.List.Sorted.{IsNonDecreasingBy-push}
 use Rattle.swim_wire.specs.declared.messages.Key.{Key}
 use Rattle.swim_wire.specs.Address.{Address}
 use Rattle.swim_wire.specs.Probe.{same_key}
 use Rattle.swim_wire.specs.Requests.{Request, waits, forget, peer_for, one_less, aged}
-use Rattle.swim_wire.specs.RequestLaws.{forget_none}
-use Rattle.swim_relays.specs.Waiting.{waits_twice, AreWaiting, IsFirstOf}
+use Rattle.swim_relays.specs.Waiting.{waits_twice, AreWaiting}
 
 -- ---- keys
 
-key_is : (a b : Key) → same_key a b ≡ true → a ≡ b
+pub key_is : (a b : Key) → same_key a b ≡ true → a ≡ b
 key_is a b e =
     let parts = and_parts (eqb a.initiator b.initiator && eqb a.target b.target) (eqb a.number b.number) e in
     let firsts = and_parts (eqb a.initiator b.initiator) (eqb a.target b.target) parts.0 in
@@ -37,39 +39,6 @@ peer_none key [] none = refl
 peer_none key (r ∷ rs) none =
     let parts = or_parts (same_key r.key key) (waits key rs) none in
     rw parts.0 (peer_none key rs parts.1)
-
-here_is : (key : Key) (r : Request) → (same_key r.key key || false) ≡ true → same_key r.key key ≡ true
-here_is key r e = by (same_key r.key key) e where
-  by : (b : Bool) → (b || false) ≡ true → b ≡ true
-  by true h = refl
-  by false h = h
-
-pub forget_first : (key : Key) (rs : List Request) (place : ℕ) → IsFirstOf rs key place → waits_twice rs ≡ false → remove rs place ≡ forget key rs
-forget_first key [] place at once = absurd (omega (arith, at.listed))
-forget_first key (r ∷ rs) zero at once =
-    let here = here_is key r at.here in
-    let others = (or_parts (waits r.key rs) (waits_twice rs) once).0 in
-    rw here (sym (forget_none key rs (subst (λ k. waits k rs ≡ false) (key_is r.key key here) others)))
-forget_first key (r ∷ rs) (suc place) at once =
-    let parts = or_parts (same_key r.key key) (waits key (take place rs)) at.first in
-    let later : IsFirstOf rs key place = record { listed = omega (arith, at.listed); here = at.here; first = parts.1 } in
-    rw parts.0 (ap (λ xs. r ∷ xs) (forget_first key rs place later (or_parts (waits r.key rs) (waits_twice rs) once).1))
-
-pub peer_first : (key : Key) (rs : List Request) (place : ℕ) (x : Request) → IsFirstOf rs key place → x ≡ get_or rs place x → Some x.peer ≡ peer_for key rs
-peer_first key [] place x at e = absurd (omega (arith, at.listed))
-peer_first key (r ∷ rs) zero x at e = rw (here_is key r at.here) (ap (λ y. Some y.peer) e)
-peer_first key (r ∷ rs) (suc place) x at e =
-    let parts = or_parts (same_key r.key key) (waits key (take place rs)) at.first in
-    let later : IsFirstOf rs key place = record { listed = omega (arith, at.listed); here = at.here; first = parts.1 } in
-    rw parts.0 (peer_first key rs place x later e)
-
-pub is_waiting : (key : Key) (rs : List Request) (place : ℕ) → IsFirstOf rs key place → waits key rs ≡ true
-is_waiting key [] place at = absurd (omega (arith, at.listed))
-is_waiting key (r ∷ rs) zero at = rw (here_is key r at.here) refl
-is_waiting key (r ∷ rs) (suc place) at =
-    let parts = or_parts (same_key r.key key) (waits key (take place rs)) at.first in
-    let later : IsFirstOf rs key place = record { listed = omega (arith, at.listed); here = at.here; first = parts.1 } in
-    rw parts.0 (is_waiting key rs place later)
 
 -- ---- what stays true
 
@@ -109,7 +78,7 @@ length_part p (r ∷ rs) = by (p r) (length_part p rs) where
   by false again = omega (arith, again)
 
 -- the requests without those of a probe
-gone : (key : Key) (rs : List Request) → waits key (forget key rs) ≡ false
+pub gone : (key : Key) (rs : List Request) → waits key (forget key rs) ≡ false
 gone key [] = refl
 gone key (r ∷ rs) = by (same_key r.key key) refl (gone key rs) where
   by : (b : Bool) → same_key r.key key ≡ b → waits key (forget key rs) ≡ false → waits key (cond (not b) (r ∷ forget key rs) (forget key rs)) ≡ false
@@ -133,9 +102,14 @@ once_push (x ∷ rs) r once none =
     (list_any-append (λ request. same_key request.key x.key) rs (r ∷ []) ∙ (rw (onces.0, other_key x.key r.key nones.0) refl))
     (once_push rs r onces.1 nones.1)
 
-all_push : (P : Request → Type 0) (rs : List Request) (r : Request) → AllByRecursion P rs → P r → AllByRecursion P (rs ++ r ∷ [])
-all_push P [] r all here = (here, tt)
-all_push P (x ∷ rs) r all here = (all.0, all_push P rs r all.1 here)
+pub all_push : {X : Type 0} (P : X → Type 0) (xs : List X) (x : X) → AllByRecursion P xs → P x → AllByRecursion P (xs ++ x ∷ [])
+all_push P [] x all here = (here, tt)
+all_push P (y ∷ xs) x all here = (all.0, all_push P xs x all.1 here)
+
+all_at : {X : Type 0} (P : X → Type 0) (xs : List X) (place : ℕ) (d : X) → AllByRecursion P xs → place < length xs → P (get_or xs place d)
+all_at P [] place d all lt = absurd (omega (arith, lt))
+all_at P (x ∷ xs) zero d all lt = all.0
+all_at P (x ∷ xs) (suc place) d all lt = all_at P xs place d all.1 (omega (arith, lt))
 
 -- there is room where one is taken out, or fewer than 64 wait
 pub room_after : (key : Key) (rs : List Request) → (waits key rs || nat_lt (length rs) 64) ≡ true → length rs ≤ 64 → length (forget key rs) < 64
@@ -145,25 +119,30 @@ room_after key rs room most = by (waits key rs) refl room where
   by false e h = omega (arith, length_part (λ request. not (same_key request.key key)) rs, ltb-true (length rs) 64 h)
 
 -- the table without those of a probe
-pub forgets : (key : Key) (period : ℕ) (rs : List Request) → AreWaiting (record { period = period; waiting = rs }) → AreWaiting (record { period = period; waiting = forget key rs })
-forgets key period rs kept = record {
+pub forgets : (key : Key) (period count : ℕ) (rs : List Request) → AreWaiting (record { period = period; count = count; waiting = rs })
+    → AreWaiting (record { period = period; count = count; waiting = forget key rs })
+forgets key period count rs kept = record {
   period = kept.period;
+  count = kept.count;
   once = once_part (λ request. not (same_key request.key key)) rs kept.once;
   bound = omega (arith, length_part (λ request. not (same_key request.key key)) rs, kept.bound);
   ticks = all_part (λ request. (1 ≤ request.left) × (request.left ≤ period)) (λ request. not (same_key request.key key)) rs kept.ticks;
+  order = IsNonDecreasingBy-filter (λ request. request.left) (λ request. not (same_key request.key key)) rs kept.order;
 }
 
 -- and with a new one of it
-pub asks : (key : Key) (peer : Address) (period : ℕ) (rs : List Request) → AreWaiting (record { period = period; waiting = rs }) → length (forget key rs) < 64
-    → AreWaiting (record { period = period; waiting = forget key rs ++ record { key = key; peer = peer; left = period } ∷ [] })
-asks key peer period rs kept room =
-    let rest = forgets key period rs kept in
+pub asks : (key : Key) (peer : Address) (period count : ℕ) (rs : List Request) → AreWaiting (record { period = period; count = count; waiting = rs }) → waits key rs ≡ false → length rs < 64
+    → AreWaiting (record { period = period; count = count; waiting = rs ++ record { key = key; peer = peer; left = period } ∷ [] })
+asks key peer period count rs kept none room =
     let new : Request = record { key = key; peer = peer; left = period } in
+    let fits : Request → Type 0 = λ request. (1 ≤ request.left) × (request.left ≤ period) in
     record {
       period = kept.period;
-      once = once_push (forget key rs) new rest.once (gone key rs);
-      bound = omega (arith, length-append (forget key rs) (new ∷ []), room);
-      ticks = all_push (λ request. (1 ≤ request.left) × (request.left ≤ period)) (forget key rs) new rest.ticks (kept.period.0, omega arith);
+      count = kept.count;
+      once = once_push rs new kept.once none;
+      bound = omega (arith, length-append rs (new ∷ []), room);
+      ticks = all_push fits rs new kept.ticks (kept.period.0, omega arith);
+      order = IsNonDecreasingBy-push (λ request. request.left) rs new kept.order (λ d some. (all_at fits rs (length rs - 1) d kept.ticks (omega (arith, some))).1);
     }
 
 -- ---- a tick
@@ -204,20 +183,23 @@ length_aged (r ∷ rs) = by (nat_lt 0 (r.left - 1)) (length_aged rs) where
   by true again = omega (arith, again)
   by false again = omega (arith, again)
 
-pub ages : (period : ℕ) (rs : List Request) → AreWaiting (record { period = period; waiting = rs }) → AreWaiting (record { period = period; waiting = aged rs })
-ages period rs kept = record {
+less_at : (rs : List Request) (place : ℕ) (d : Request) → place < length rs → (get_or (map one_less rs) place d).left ≡ (get_or rs place d).left - 1
+less_at [] place d lt = absurd (omega (arith, lt))
+less_at (r ∷ rs) zero d lt = refl
+less_at (r ∷ rs) (suc place) d lt = less_at rs place d (omega (arith, lt))
+
+order_less : (rs : List Request) → IsNonDecreasingBy (λ request. request.left) rs → IsNonDecreasingBy (λ request. request.left) (map one_less rs)
+order_less rs order i j d ij within =
+    let here : j < length rs = omega (arith, within, length-map rs one_less) in
+    omega (arith, less_at rs i d (omega (arith, here, ij)), less_at rs j d here, order i j d ij here)
+
+pub ages : (period count later : ℕ) (rs : List Request) → later < 2 ^ 32 → AreWaiting (record { period = period; count = count; waiting = rs })
+    → AreWaiting (record { period = period; count = later; waiting = aged rs })
+ages period count later rs fits kept = record {
   period = kept.period;
+  count = fits;
   once = once_aged rs kept.once;
   bound = omega (arith, length_aged rs, kept.bound);
   ticks = ticks_aged period rs kept.ticks;
+  order = IsNonDecreasingBy-filter (λ request. request.left) (λ request. nat_lt 0 request.left) (map one_less rs) (order_less rs kept.order);
 }
-
--- the requests that are left where each in turn has one tick less and stays if it has one left
-pub retained_aged : {F : Type 0} (R : F → Request → Bool → F → Request → Type 0) (f : F)
-    → ((request : Request) (stays : Bool) (f' : F) (left : Request) → R f request stays f' left → (stays ≡ nat_lt 0 (request.left - 1)) × (f' ≡ f) × (left ≡ one_less request))
-    → (rs kept : List Request) → RetainsInTurn R f rs kept → kept ≡ aged rs
-retained_aged R f says [] kept h = h
-retained_aged R f says (r ∷ rs) kept h =
-    let said = says r h.0 h.1 h.2 h.3 in
-    let rest = retained_aged R f says rs h.4 (subst (λ f'. RetainsInTurn R f' rs h.4) said.1 h.5) in
-    h.6 ∙ (λ i. cond (said.0 i) (said.2 i ∷ rest i) (rest i))

@@ -1,10 +1,12 @@
 //! What is kept for other members' probes.
 
-ghost use Rattle.std.specs.Prelude.{◌≡◌, ◌==◌, ◌||◌, nat_lt, ◌↔◌, ◌≤◌, [], ◌∷◌, ◌++◌, length, false, IsErr, OnOk, OnErr};
+ghost use Rattle.std.specs.Prelude.{◌≡◌, ◌==◌, ◌||◌, nat_lt, ◌↔◌, ◌≤◌, ◌+◌, ◌%◌, ◌^◌, [], ◌∷◌, ◌++◌, length, false};
+ghost use Rattle.std.specs.Prelude.{IsErr, OnOk, OnErr, slice_get};
+ghost use Rattle.std.specs.Option.{option_map};
 ghost use Rattle.swim_wire.specs.Requests.{waits, forget, peer_for, aged};
 ghost use Rattle.swim_relays.specs.Waiting.{AreWaiting};
 
-use crate::waiting::{Entries, Entry, age, place_of, take};
+use crate::waiting::{Entries, Entry, expire, place_of};
 use std::marker::Model;
 use swim_wire::{Key, Peer};
 
@@ -13,32 +15,48 @@ use swim_wire::{Key, Peer};
 pub struct TableFull;
 
 /// The requests that wait for an ack of their target, at most 64, and each probe's at most once (section
-/// 3.1 of the SWIM paper). A request waits for as many ticks as a period has.
+/// 3.1 of the SWIM paper). A request waits for as many ticks as a period has. Ticks are counted modulo 2^32.
 #[derive(Drop)]
 pub struct Relays {
     period: u32,
+    count: u32,
     entries: Entries,
 }
 
 impl Model for Relays {
-    ghost use Rattle.swim_relays.specs.Waiting.{Waiting, AreWaiting};
+    ghost use Rattle.swim_relays.specs.Waiting.{Waiting};
+    ghost use Rattle.swim_relays.specs.Due.{requests_at, AreKept};
 
     ghost Value = { Waiting };
 
-    ghost view = { λ relays. record { period = relays.period; waiting = relays.entries.items } };
+    ghost view = { λ relays. record {
+      period = relays.period;
+      count = relays.count;
+      waiting = requests_at relays.count relays.entries.items;
+    } };
 
-    ghost invariant = { λ relays. AreWaiting (record { period = relays.period; waiting = relays.entries.items }) };
+    ghost invariant = { λ relays. AreKept relays.period relays.count relays.entries.items };
 }
 
 impl Relays {
-    /// No requests. A period has 1 to 65535 ticks.
+    /// No requests, where no tick passed. A period has 1 to 65535 ticks.
     pub fn new(period: u32) -> Relays
         requires least { 1 ≤ period }
         requires most { period ≤ 65535 }
-        ensures { result ≡ record { period = period; waiting = [] } }
+        ensures { result ≡ record { period = period; count = 0; waiting = [] } }
+    {
+        Relays::starting(period, 0)
+    }
+
+    /// No requests, where so many ticks passed. A period has 1 to 65535 ticks.
+    pub fn starting(period: u32, now: u32) -> Relays
+        requires least { 1 ≤ period }
+        requires most { period ≤ 65535 }
+        ensures { result ≡ record { period = period; count = now; waiting = [] } }
     {
         Relays {
             period,
+            count: now,
             entries: Entries::new(),
         }
     }
@@ -56,18 +74,19 @@ impl Relays {
         if !self.has_room(&key) {
             return Err(TableFull);
         }
-        take(&mut self.entries, &key);
+        self.take(&key);
         self.entries.push(Entry {
             key,
             peer,
-            left: self.period,
+            due: self.count.wrapping_add(self.period),
         });
         Ok(())
     }
 
     // Whether a request of that probe waits, or there is room for one more.
     fn has_room(&self, key: &Key) -> bool
-        ensures { result ≡ (waits key.now self.now.waiting || nat_lt (length self.now.waiting) 64) }
+        ensures value { result ≡ (waits key.now self.now.waiting || nat_lt (length self.now.waiting) 64) }
+        ensures kept { AreWaiting self.now }
     {
         self.waits(key) || !self.entries.is_full()
     }
@@ -78,15 +97,39 @@ impl Relays {
         ensures waiting { self.new ≡ record self.old { waiting = forget key.now self.old.waiting } }
         ensures kept { AreWaiting self.new }
     {
-        take(&mut self.entries, key)
+        self.take(key)
     }
 
-    /// A tick passes: each request has one tick less, and one that has none left is forgotten.
-    pub fn tick(&mut self)
-        ensures waiting { self.new ≡ record self.old { waiting = aged self.old.waiting } }
+    // Takes the request of that probe out, and answers who is to get the ack.
+    fn take(&mut self, key: &Key) -> Option<Peer>
+        ensures peer { result ≡ peer_for key.now self.old.waiting }
+        ensures waiting { self.new ≡ record self.old { waiting = forget key.now self.old.waiting } }
         ensures kept { AreWaiting self.new }
     {
-        age(&mut self.entries);
+        let place = place_of(self.entries.as_slice(), key)?;
+        Some(self.entries.remove(place).peer)
+    }
+
+    /// A tick passes and is counted: each request has one tick less, and one that has none left is forgotten.
+    /// Where none is forgotten, the cost doesn't grow with the requests that wait.
+    pub fn tick(&mut self)
+        ensures waiting { self.new ≡ record self.old {
+          count = (self.old.count + 1) % 2 ^ 32;
+          waiting = aged self.old.waiting;
+        } }
+        ensures kept { AreWaiting self.new }
+    {
+        self.count = self.count.wrapping_add(1);
+        expire(&mut self.entries, self.count);
+    }
+
+    /// The count of ticks at which the first request is forgotten, if none asks again or is answered.
+    pub fn due(&self) -> Option<u32>
+        ensures value { result
+            ≡ option_map (λ request. (self.now.count + request.left) % 2 ^ 32) (slice_get self.now.waiting 0) }
+        ensures kept { AreWaiting self.now }
+    {
+        self.entries.as_slice().first().map(|entry| entry.due)
     }
 
     /// Whether a request of that probe waits.

@@ -60,3 +60,34 @@ fn at_most_64_wait(rt: HostRuntime) -> Result<(), Fail> {
     assert_eq!(rt; relays.ask(key_of(65)?, peer), Ok(()));
     Ok(())
 }
+
+#[test]
+fn ticks_are_counted_past_the_greatest_count(rt: HostRuntime) -> Result<(), Fail> {
+    let mut relays = Relays::starting(3, 4294967294);
+    let key = key_of(1)?;
+    assert_eq!(rt; relays.due(), None);
+    assert_eq!(rt; relays.ask(key, peer_of("10.0.0.2:7000")?), Ok(()));
+    assert_eq!(rt; relays.due(), Some(1));
+    relays.tick();
+    relays.tick();
+    assert_eq!(rt; relays.due(), Some(1));
+    assert_eq!(rt; relays.len(), 1);
+    relays.tick();
+    assert_eq!(rt; relays.len(), 0);
+    assert_eq!(rt; relays.due(), None);
+    Ok(())
+}
+
+#[test]
+fn a_request_that_is_asked_again_is_due_later(rt: HostRuntime) -> Result<(), Fail> {
+    let mut relays = Relays::starting(3, 1);
+    let key = key_of(1)?;
+    assert_eq!(rt; relays.ask(key, peer_of("10.0.0.2:7000")?), Ok(()));
+    relays.tick();
+    assert_eq!(rt; relays.ask(key, peer_of("10.0.0.2:7001")?), Ok(()));
+    assert_eq!(rt; relays.due(), Some(5));
+    relays.tick();
+    relays.tick();
+    assert_eq!(rt; relays.answer(&key), Some(peer_of("10.0.0.2:7001")?));
+    Ok(())
+}

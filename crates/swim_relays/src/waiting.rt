@@ -1,29 +1,18 @@
-//! The requests as a list.
+//! The requests as they are kept: in front those that are due first.
 
-ghost use Rattle.std.specs.Prelude.{◌≡◌, false, MatchOption};
-ghost use Rattle.swim_wire.specs.Requests.{waits, forget, peer_for, aged};
-ghost use Rattle.swim_relays.specs.Waiting.{IsFirstOf, waits_twice};
+ghost use Rattle.std.specs.Prelude.{◌≡◌, ◌==◌, position, drop};
+ghost use Rattle.std.specs.List.{prefix_len};
+ghost use Rattle.swim_wire.specs.Probe.{same_key};
 
 use arrayvec::ArrayVec;
-use std::marker::Model;
 use swim_wire::{Key, Peer};
 
-/// A request: the probe, who is to get the ack, and for how many more ticks it waits.
+/// A request: the probe, who is to get the ack, and the count of ticks at which it waits no more.
 #[derive(Clone, Copy)]
 pub(crate) struct Entry {
     pub(crate) key: Key,
     pub(crate) peer: Peer,
-    pub(crate) left: u32,
-}
-
-impl Model for Entry {
-    ghost use Rattle.swim_wire.specs.Requests.{Request};
-
-    ghost Value = { Request };
-
-    ghost view = { λ entry. record { key = entry.key; peer = entry.peer; left = entry.left } };
-
-    ghost inverse = { λ request. record { key = request.key; peer = request.peer; left = request.left } };
+    pub(crate) due: u32,
 }
 
 /// Some entry, so that entries can stand in an array of a fixed capacity. Nothing rests on which one.
@@ -32,7 +21,7 @@ impl Default for Entry {
         Entry {
             key: Key::default(),
             peer: Peer::default(),
-            left: 0,
+            due: 0,
         }
     }
 }
@@ -42,32 +31,28 @@ pub(crate) type Entries = ArrayVec<Entry, 64>;
 
 /// The first place of the key.
 pub(crate) fn place_of(entries: &[Entry], key: &Key) -> Option<usize>
-    ensures { MatchOption result (waits key.now entries.now ≡ false) (IsFirstOf entries.now key.now) }
+    ensures { result ≡ position (λ entry. same_key entry.key key.now) entries.now }
 {
-    for (i, entry) in entries.iter().enumerate() {
-        if entry.key == *key {
-            return Some(i);
-        }
+    entries.iter().position(|entry| entry.key == *key)
+}
+
+/// How many entries in front are due at that count.
+fn count_due(entries: &[Entry], count: u32) -> usize
+    ensures { result ≡ prefix_len (λ entry. entry.due == count) entries.now }
+{
+    entries
+        .iter()
+        .take_while(|entry| entry.due == count)
+        .count()
+}
+
+/// Takes the entries in front that are due at that count out. Where there are none it costs no more than a
+/// look at the first.
+pub(crate) fn expire(entries: &mut Entries, count: u32)
+    ensures { entries.new.items ≡ drop (prefix_len (λ entry. entry.due == count) entries.old.items) entries.old.items }
+{
+    let due = count_due(entries.as_slice(), count);
+    if due > 0 {
+        entries.drain(..due);
     }
-    None
-}
-
-/// Takes the request of the key out, and answers who is to get the ack.
-pub(crate) fn take(entries: &mut Entries, key: &Key) -> Option<Peer>
-    requires { waits_twice entries.old.items ≡ false }
-    ensures entries { entries.new.items ≡ forget key.now entries.old.items }
-    ensures peer { result ≡ peer_for key.now entries.old.items }
-{
-    let place = place_of(entries.as_slice(), key)?;
-    Some(entries.remove(place).peer)
-}
-
-/// A tick passes: each request has one tick less, and one that has none left is taken out.
-pub(crate) fn age(entries: &mut Entries)
-    ensures { entries.new.items ≡ aged entries.old.items }
-{
-    entries.retain(|entry| {
-        entry.left = entry.left.saturating_sub(1);
-        entry.left > 0
-    });
 }

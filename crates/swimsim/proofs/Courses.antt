@@ -4,7 +4,7 @@ use Rattle.std.specs.Io.KnownBytes.{Keeps, Appends}
 use Rattle.std.proofs.lemmas.Bool.{lt-ltb, le-ltb}
 use Rattle.std.proofs.lemmas.Grind.{reverse_onto}
 use Rattle.std.proofs.lemmas.List.{append_assoc, take_at, take-append-drop, map-append, length-map, length-drop, length-reverse, reverse-append, reverse-reverse}
-use Rattle.swim_wire.specs.Lines.{pieces, bare, IsLine, IsLong, IsOversize}
+use Rattle.swim_wire.specs.Lines.{pieces, bare, IsLine, IsLong, IsOversize, IsCutShort}
 use Rattle.swim_wire.specs.Streams.{appends_none, appends_both, kept_appends, appends_kept, keeps_self}
 use Rattle.swim_history.specs.declared.entries.Entry.{Entry}
 use Rattle.std.proofs.lemmas.Option.{same_Some}
@@ -22,7 +22,7 @@ use Rattle.swimsim.specs.declared.faults.FaultKind.TheVariants.{Size, Long, Word
 use Rattle.swimsim.specs.declared.faults.ScriptFault.{ScriptFault}
 use Rattle.swimsim.specs.Commands.{line_read}
 use Rattle.swimsim.specs.Headers.{Told, nothing_told, is_event, stage_of, said, head_of, setting_in, chooser_in}
-use Rattle.swimsim.specs.Script.{Turn, lines_of, at_line, opening_at, fault_of_setting, fault_of_opening, fault_of_read, bytes_of, fault_at, fault_with, fault_of_header, fault_at_end, first_of, fault_from, fault_of, IsTold, lines_before, takes_memory, WantsMemory, RunsTo}
+use Rattle.swimsim.specs.Script.{Turn, lines_of, at_line, opening_at, fault_of_setting, fault_of_opening, fault_of_read, bytes_of, fault_at, fault_with, fault_of_header, fault_at_end, first_of, fault_from, fault_of, IsTold, lines_before, takes_memory, WantsMemory, WaitsFor, is_answered, IsAnswering, RunsTo}
 use Rattle.swimsim.specs.Holds.{Played, kept, IsSilent, line_of, IsWaiting, Plays, Holds, ending, ending_with, TurnDone, TurnFails, Course}
 use Rattle.swimsim.proofs.KeptRows.{fault_of_kept}
 
@@ -130,15 +130,15 @@ abbrev pub IsNamed : FaultKind → Type 0
 IsNamed kind = (kind ≢ Read) × (kind ≢ Write) × (kind ≢ Memory)
 
 -- any fault but the reader's, the writer's and the want of memory
-ends_with : (script : List ℕ) (old new : Option (List ℕ)) (fault : ScriptFault) (kind : FaultKind) → IsNamed kind →
-    (fault_of script ≡ Some fault) × (text : List ℕ) × IsTold (lines_before fault.line script) text × Appends old new text → RunsTo script old new fault kind
-ends_with script old new fault Size named p = p
-ends_with script old new fault Long named p = p
-ends_with script old new fault (Words wrong) named p = p
-ends_with script old new fault (Opening opening) named p = p
-ends_with script old new fault Read named p = absurd (named.0 refl)
-ends_with script old new fault Write named p = absurd (named.1 refl)
-ends_with script old new fault Memory named p = absurd (named.2 refl)
+ends_with : (script left : List ℕ) (old new : Option (List ℕ)) (fault : ScriptFault) (kind : FaultKind) → IsNamed kind →
+    (fault_of script ≡ Some fault) × (text : List ℕ) × IsTold (lines_before fault.line script) text × Appends old new text → RunsTo script left old new fault kind
+ends_with script left old new fault Size named p = p
+ends_with script left old new fault Long named p = p
+ends_with script left old new fault (Words wrong) named p = p
+ends_with script left old new fault (Opening opening) named p = p
+ends_with script left old new fault Read named p = absurd (named.0 refl)
+ends_with script left old new fault Write named p = absurd (named.1 refl)
+ends_with script left old new fault Memory named p = absurd (named.2 refl)
 
 -- the lines before such a fault's line were answered
 abbrev pub Stands : List ℕ → List ℕ → ScriptFault → Type 0
@@ -198,35 +198,64 @@ wants_memory script before piece more cut takes =
       takes = ap (λ (lines : List (List ℕ)). takes_memory (said (head_of lines) piece)) same ∙ takes;
     }
 
+-- a line whose answer was not written
+answering : (script left : List ℕ) (before : List (List ℕ)) (piece : List ℕ) → pieces script ≡ reverse before ++ piece ∷ pieces left → is_answered (said (head_of before) piece) ≡ true →
+    IsAnswering script left (length before + 1)
+answering script left before piece cut event =
+    let same : lines_before (length before + 1) script ≡ before = before_next (length before + 1) script before (piece ∷ pieces left) (omega arith) cut in
+    record {
+      number = ap (λ (lines : List (List ℕ)). length lines + 1) (sym same);
+      piece = piece;
+      cut = cut ∙ ap (λ (lines : List (List ℕ)). reverse lines ++ piece ∷ pieces left) (sym same);
+      event = ap (λ (lines : List (List ℕ)). is_answered (said (head_of lines) piece)) same ∙ event;
+    }
+
+-- a line that was not taken to its end
+waits_for : (n : ℕ) (script rest left : List ℕ) (before : List (List ℕ)) (budget after : ℕ) → n ≡ length before + 1 → pieces script ≡ reverse before ++ pieces rest → IsCutShort rest left budget after →
+    WaitsFor script left n
+waits_for n script rest left before budget after count cut i =
+    let same : lines_before n script ≡ before = before_next n script before (pieces rest) (omega (arith, count)) cut in
+    record {
+      number = count ∙ ap (λ (lines : List (List ℕ)). length lines + 1) (sym same);
+      taken = i.taken;
+      cut = cut ∙ (ap (λ (text : List ℕ). reverse before ++ pieces text) i.whole ∙ ap (λ (lines : List (List ℕ)). reverse lines ++ pieces (i.taken ++ left)) (sym same));
+      unended = i.within;
+    }
+
 -- a run that ends at a line's words, for want of memory, or where the writer fails
 pub ends_in_line : (script rest left line : List ℕ) (old mid mid' new : Option (List ℕ)) (budget after : ℕ) (s : Played) (fault : ScriptFault) (c : Course script rest old mid budget s) (i : IsLine rest left line 2048 budget after) →
-    Keeps mid mid' → TurnFails c.turns i.piece fault mid' new → RunsTo script old new fault fault.kind
+    Keeps mid mid' → TurnFails c.turns i.piece fault mid' new → RunsTo script left old new fault fault.kind
 ends_in_line script rest left line old mid mid' new budget after s fault c i kept fails =
     let before = lines_of c.turns in
     elim fails [
       | inl found ↦
           let within = fault_within before i.piece (omega (arith, c.spent, i.spent)) (rw (i.bytes) i.fits) in
           let stands = read_stands script c.turns c.run c.text (pieces rest) s (line_read (stage_of (head_of before)) (bare i.piece)) fault c.cut c.holds found.0 in
-          ends_with script old new fault fault.kind stands.1
+          ends_with script left old new fault fault.kind stands.1
           (first_fault_is script rest i.piece (pieces left) before fault c.fault i.first (within ∙ found.0), c.text, stands.0, appends_kept old mid' new c.text (appends_kept old mid mid' c.text c.written kept) found.1)
       | inr (inl short) ↦
-          subst (λ (f : ScriptFault). RunsTo script old new f f.kind) (sym short.0) (
+          subst (λ (f : ScriptFault). RunsTo script left old new f f.kind) (sym short.0) (
             wants_memory script before i.piece (pieces left) (c.cut ∙ ap (λ (lines : List (List ℕ)). reverse before ++ lines) i.first) short.1,
             c.text,
             told_so_far (length before + 1) script c.turns c.run c.text (pieces rest) s refl c.cut c.holds,
             appends_kept old mid' new c.text (appends_kept old mid mid' c.text c.written kept) short.2,
           )
       | inr (inr failed) ↦
-          subst (λ (f : ScriptFault). RunsTo script old new f f.kind) (sym failed.0)
-          (c.text, failed.1, told_so_far (length before + 1) script c.turns c.run c.text (pieces rest) s refl c.cut c.holds, appends_both old mid new c.text failed.1 c.written (kept_appends mid mid' new failed.1 kept failed.2))
+          subst (λ (f : ScriptFault). RunsTo script left old new f f.kind) (sym failed.0) (
+            inr (answering script left before i.piece (c.cut ∙ ap (λ (lines : List (List ℕ)). reverse before ++ lines) i.first) failed.1),
+            c.text,
+            failed.2,
+            told_so_far (length before + 1) script c.turns c.run c.text (pieces rest) s refl c.cut c.holds,
+            appends_both old mid new c.text failed.2 c.written (kept_appends mid mid' new failed.2 kept failed.3),
+          )
     ]
 
 -- a run that ends at a line that is too long
 pub ends_long : (script rest left : List ℕ) (old mid new : Option (List ℕ)) (budget after : ℕ) (s : Played) (c : Course script rest old mid budget s) → IsLong rest left 2048 budget after → Keeps mid new →
-    RunsTo script old new (at_line (s.lines + 1) Long) Long
+    RunsTo script left old new (at_line (s.lines + 1) Long) Long
 ends_long script rest left old mid new budget after s c i kept =
     let before = lines_of c.turns in
-    subst (λ n. RunsTo script old new (at_line (n + 1) Long) Long) (sym c.holds.count) (
+    subst (λ n. RunsTo script left old new (at_line (n + 1) Long) Long) (sym c.holds.count) (
       first_fault_is script rest i.piece (pieces left) before (at_line (length before + 1) Long) c.fault i.first (fault_long before i.piece (omega (arith, c.spent, i.spent)) i.long),
       c.text,
       told_so_far (length before + 1) script c.turns c.run c.text (pieces rest) s refl c.cut c.holds,
@@ -234,11 +263,11 @@ ends_long script rest left old mid new budget after s c i kept =
     )
 
 -- at one that goes past the size of a script
-pub ends_oversize : (script rest : List ℕ) (old mid new : Option (List ℕ)) (budget : ℕ) (s : Played) (c : Course script rest old mid budget s) → IsOversize rest budget → Keeps mid new →
-    RunsTo script old new (at_line (s.lines + 1) Size) Size
-ends_oversize script rest old mid new budget s c i kept =
+pub ends_oversize : (script rest left : List ℕ) (old mid new : Option (List ℕ)) (budget : ℕ) (s : Played) (c : Course script rest old mid budget s) → IsOversize rest budget → Keeps mid new →
+    RunsTo script left old new (at_line (s.lines + 1) Size) Size
+ends_oversize script rest left old mid new budget s c i kept =
     let before = lines_of c.turns in
-    subst (λ n. RunsTo script old new (at_line (n + 1) Size) Size) (sym c.holds.count) (
+    subst (λ n. RunsTo script left old new (at_line (n + 1) Size) Size) (sym c.holds.count) (
       first_fault_is script rest i.piece i.more before (at_line (length before + 1) Size) c.fault i.first (fault_size before i.piece (omega (arith, c.spent, i.over))),
       c.text,
       told_so_far (length before + 1) script c.turns c.run c.text (pieces rest) s refl c.cut c.holds,
@@ -246,14 +275,16 @@ ends_oversize script rest old mid new budget s c i kept =
     )
 
 -- where the reader fails
-pub ends_unread : (script rest : List ℕ) (old mid new : Option (List ℕ)) (budget : ℕ) (s : Played) (c : Course script rest old mid budget s) → Keeps mid new → RunsTo script old new (at_line (s.lines + 1) Read) Read
-ends_unread script rest old mid new budget s c kept =
-    (c.text, told_so_far (s.lines + 1) script c.turns c.run c.text (pieces rest) s (ap (λ n. n + 1) c.holds.count) c.cut c.holds, appends_kept old mid new c.text c.written kept)
+pub ends_unread : (script rest left : List ℕ) (old mid new : Option (List ℕ)) (budget after : ℕ) (s : Played) (c : Course script rest old mid budget s) → IsCutShort rest left budget after → Keeps mid new → RunsTo script left old new (at_line (s.lines + 1) Read) Read
+ends_unread script rest left old mid new budget after s c i kept =
+    let count : s.lines + 1 ≡ length (lines_of c.turns) + 1 = ap (λ n. n + 1) c.holds.count in
+    (waits_for (s.lines + 1) script rest left (lines_of c.turns) budget after count c.cut i, c.text, told_so_far (s.lines + 1) script c.turns c.run c.text (pieces rest) s count c.cut c.holds, appends_kept old mid new c.text c.written kept)
 
 -- where the writer fails between answers
-pub ends_unsent : (script rest : List ℕ) (old mid new : Option (List ℕ)) (budget : ℕ) (s : Played) (c : Course script rest old mid budget s) → Keeps mid new → RunsTo script old new (at_line (s.lines + 1) Write) Write
-ends_unsent script rest old mid new budget s c kept =
-    (c.text, [], told_so_far (s.lines + 1) script c.turns c.run c.text (pieces rest) s (ap (λ n. n + 1) c.holds.count) c.cut c.holds, rw append-nil (appends_kept old mid new c.text c.written kept))
+pub ends_unsent : (script rest left : List ℕ) (old mid new : Option (List ℕ)) (budget after : ℕ) (s : Played) (c : Course script rest old mid budget s) → IsCutShort rest left budget after → Keeps mid new → RunsTo script left old new (at_line (s.lines + 1) Write) Write
+ends_unsent script rest left old mid new budget after s c i kept =
+    let count : s.lines + 1 ≡ length (lines_of c.turns) + 1 = ap (λ n. n + 1) c.holds.count in
+    (inl (waits_for (s.lines + 1) script rest left (lines_of c.turns) budget after count c.cut i), c.text, [], told_so_far (s.lines + 1) script c.turns c.run c.text (pieces rest) s count c.cut c.holds, rw append-nil (appends_kept old mid new c.text c.written kept))
 
 -- ---- the end of a script
 
@@ -289,11 +320,11 @@ ends_well script rest old mid new budget s c over kept none =
     (fault_of_whole script rest old mid budget s c over ∙ none, c.text, subst (λ (l : List (List ℕ)). IsTold l c.text) (sym lines) (told_by c.turns c.run c.text s.header s.recorded c.holds.plays), appends_kept old mid new c.text c.written kept)
 
 -- one that has a fault at its end
-pub ends_badly : (script rest : List ℕ) (old mid new : Option (List ℕ)) (budget : ℕ) (s : Played) (fault : ScriptFault) (c : Course script rest old mid budget s) → rest ≡ [] → Keeps mid new → ending s ≡ Some fault →
-    RunsTo script old new fault fault.kind
-ends_badly script rest old mid new budget s fault c over kept found =
+pub ends_badly : (script rest left : List ℕ) (old mid new : Option (List ℕ)) (budget : ℕ) (s : Played) (fault : ScriptFault) (c : Course script rest old mid budget s) → rest ≡ [] → Keeps mid new → ending s ≡ Some fault →
+    RunsTo script left old new fault fault.kind
+ends_badly script rest left old mid new budget s fault c over kept found =
     let stands = end_stands script c.turns c.run c.text (pieces rest) s.header s.recorded fault c.cut c.holds.plays found in
-    ends_with script old new fault fault.kind stands.1 (fault_of_whole script rest old mid budget s c over ∙ found, c.text, stands.0, appends_kept old mid new c.text c.written kept)
+    ends_with script left old new fault fault.kind stands.1 (fault_of_whole script rest old mid budget s c over ∙ found, c.text, stands.0, appends_kept old mid new c.text c.written kept)
 
 -- ---- the start
 

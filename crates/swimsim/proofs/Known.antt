@@ -4,7 +4,7 @@ use Rattle.std.specs.Prelude.{MatchResult}
 use Rattle.std.specs.Result.{IsErrAnd}
 use Rattle.std.specs.Io.KnownBytes.{Keeps}
 use Rattle.swim_wire.specs.Lines.{bare, TakesKnown}
-use Rattle.swim_wire.specs.declared.lines.Taken.TheVariants.{Line, Long, Size, Over}
+use Rattle.swim_wire.specs.declared.lines.Taken.TheVariants.{Line, Long, Size, Over, Failed, Unsent}
 use Rattle.swim_history.specs.declared.entries.Entry.{Entry}
 use Rattle.swimsim.specs.declared.faults.FaultKind.TheVariants as kinds
 use Rattle.swimsim.specs.declared.faults.ScriptFault.{ScriptFault}
@@ -31,7 +31,7 @@ next_known (Some script) (Some rest) (Some left) old mid mid' new line budget af
     next script rest left line old mid mid' new budget after s s' c i kept (turned c.turns c.run c.text i.piece c.holds i.bytes)
 
 pub stop_known : (script rest left old mid mid' new : Option (List ℕ)) (line : List ℕ) (budget after : ℕ) (s s' : Played) (fault : ScriptFault) →
-    CourseKnown script rest old mid budget s → TakesKnown rest left Line line 2048 budget after → Keeps mid mid' → Turns line s s' mid' new (Err fault) → RunsKnown script old new (Err fault)
+    CourseKnown script rest old mid budget s → TakesKnown rest left Line line 2048 budget after → Keeps mid mid' → Turns line s s' mid' new (Err fault) → RunsKnown script left old new (Err fault)
 stop_known None rest left old mid mid' new line budget after s s' fault c i kept turned = tt
 stop_known (Some script) None left old mid mid' new line budget after s s' fault c i kept turned = absurd c
 stop_known (Some script) (Some rest) None old mid mid' new line budget after s s' fault c i kept turned = absurd i
@@ -39,49 +39,53 @@ stop_known (Some script) (Some rest) (Some left) old mid mid' new line budget af
     ends_in_line script rest left line old mid mid' new budget after s fault c i kept (turned c.turns c.run c.text i.piece c.holds i.bytes)
 
 pub long_known : (script rest left old mid new : Option (List ℕ)) (line : List ℕ) (budget after : ℕ) (s : Played) →
-    CourseKnown script rest old mid budget s → TakesKnown rest left Long line 2048 budget after → Keeps mid new → RunsKnown script old new (Err (at_line (s.lines + 1) kinds.Long))
+    CourseKnown script rest old mid budget s → TakesKnown rest left Long line 2048 budget after → Keeps mid new → RunsKnown script left old new (Err (at_line (s.lines + 1) kinds.Long))
 long_known None rest left old mid new line budget after s c i kept = tt
 long_known (Some script) None left old mid new line budget after s c i kept = absurd c
 long_known (Some script) (Some rest) None old mid new line budget after s c i kept = absurd i
 long_known (Some script) (Some rest) (Some left) old mid new line budget after s c i kept = ends_long script rest left old mid new budget after s c i kept
 
 pub oversize_known : (script rest left old mid new : Option (List ℕ)) (line : List ℕ) (budget after : ℕ) (s : Played) →
-    CourseKnown script rest old mid budget s → TakesKnown rest left Size line 2048 budget after → Keeps mid new → RunsKnown script old new (Err (at_line (s.lines + 1) kinds.Size))
+    CourseKnown script rest old mid budget s → TakesKnown rest left Size line 2048 budget after → Keeps mid new → RunsKnown script left old new (Err (at_line (s.lines + 1) kinds.Size))
 oversize_known None rest left old mid new line budget after s c i kept = tt
 oversize_known (Some script) None left old mid new line budget after s c i kept = absurd c
 oversize_known (Some script) (Some rest) None old mid new line budget after s c i kept = absurd i
-oversize_known (Some script) (Some rest) (Some left) old mid new line budget after s c i kept = ends_oversize script rest old mid new budget s c i kept
+oversize_known (Some script) (Some rest) (Some left) old mid new line budget after s c i kept = ends_oversize script rest left old mid new budget s c i kept
 
-pub unread_known : (script rest old mid new : Option (List ℕ)) (budget : ℕ) (s : Played) → CourseKnown script rest old mid budget s → Keeps mid new → RunsKnown script old new (Err (at_line (s.lines + 1) kinds.Read))
-unread_known None rest old mid new budget s c kept = tt
-unread_known (Some script) None old mid new budget s c kept = absurd c
-unread_known (Some script) (Some rest) old mid new budget s c kept = ends_unread script rest old mid new budget s c kept
+pub unread_known : (script rest left old mid new : Option (List ℕ)) (line : List ℕ) (budget after : ℕ) (s : Played) →
+    CourseKnown script rest old mid budget s → TakesKnown rest left Failed line 2048 budget after → Keeps mid new → RunsKnown script left old new (Err (at_line (s.lines + 1) kinds.Read))
+unread_known None rest left old mid new line budget after s c i kept = tt
+unread_known (Some script) None left old mid new line budget after s c i kept = absurd c
+unread_known (Some script) (Some rest) None old mid new line budget after s c i kept = absurd i
+unread_known (Some script) (Some rest) (Some left) old mid new line budget after s c i kept = ends_unread script rest left old mid new budget after s c i kept
 
-pub unsent_known : (script rest old mid new : Option (List ℕ)) (budget : ℕ) (s : Played) → CourseKnown script rest old mid budget s → Keeps mid new → RunsKnown script old new (Err (at_line (s.lines + 1) kinds.Write))
-unsent_known None rest old mid new budget s c kept = tt
-unsent_known (Some script) None old mid new budget s c kept = absurd c
-unsent_known (Some script) (Some rest) old mid new budget s c kept = ends_unsent script rest old mid new budget s c kept
+pub unsent_known : (script rest left old mid new : Option (List ℕ)) (line : List ℕ) (budget after : ℕ) (s : Played) →
+    CourseKnown script rest old mid budget s → TakesKnown rest left Unsent line 2048 budget after → Keeps mid new → RunsKnown script left old new (Err (at_line (s.lines + 1) kinds.Write))
+unsent_known None rest left old mid new line budget after s c i kept = tt
+unsent_known (Some script) None left old mid new line budget after s c i kept = absurd c
+unsent_known (Some script) (Some rest) None old mid new line budget after s c i kept = absurd i
+unsent_known (Some script) (Some rest) (Some left) old mid new line budget after s c i kept = ends_unsent script rest left old mid new budget after s c i kept
 
 end_known : (script rest left old mid new : Option (List ℕ)) (line : List ℕ) (budget after : ℕ) (s : Played) (done : Unit {0}) →
-    CourseKnown script rest old mid budget s → TakesKnown rest left Over line 2048 budget after → Keeps mid new → ending s ≡ None → RunsKnown script old new (Ok done)
+    CourseKnown script rest old mid budget s → TakesKnown rest left Over line 2048 budget after → Keeps mid new → ending s ≡ None → RunsKnown script left old new (Ok done)
 end_known None rest left old mid new line budget after s done c i kept none = tt
 end_known (Some script) None left old mid new line budget after s done c i kept none = absurd c
 end_known (Some script) (Some rest) None old mid new line budget after s done c i kept none = absurd i
 end_known (Some script) (Some rest) (Some left) old mid new line budget after s done c i kept none = ends_well script rest old mid new budget s c i.0 kept none
 
 end_fault_known : (script rest left old mid new : Option (List ℕ)) (line : List ℕ) (budget after : ℕ) (s : Played) (fault : ScriptFault) →
-    CourseKnown script rest old mid budget s → TakesKnown rest left Over line 2048 budget after → Keeps mid new → ending s ≡ Some fault → RunsKnown script old new (Err fault)
+    CourseKnown script rest old mid budget s → TakesKnown rest left Over line 2048 budget after → Keeps mid new → ending s ≡ Some fault → RunsKnown script left old new (Err fault)
 end_fault_known None rest left old mid new line budget after s fault c i kept found = tt
 end_fault_known (Some script) None left old mid new line budget after s fault c i kept found = absurd c
 end_fault_known (Some script) (Some rest) None old mid new line budget after s fault c i kept found = absurd i
-end_fault_known (Some script) (Some rest) (Some left) old mid new line budget after s fault c i kept found = ends_badly script rest old mid new budget s fault c i.0 kept found
+end_fault_known (Some script) (Some rest) (Some left) old mid new line budget after s fault c i kept found = ends_badly script rest left old mid new budget s fault c i.0 kept found
 
 pub ending_known : (script rest left old mid new : Option (List ℕ)) (line : List ℕ) (budget after : ℕ) (s : Played) (result : Result (Unit {0}) ScriptFault) →
-    CourseKnown script rest old mid budget s → TakesKnown rest left Over line 2048 budget after → Keeps mid new → MatchResult result (λ done. ending s ≡ None) (λ fault. ending s ≡ Some fault) → RunsKnown script old new result
+    CourseKnown script rest old mid budget s → TakesKnown rest left Over line 2048 budget after → Keeps mid new → MatchResult result (λ done. ending s ≡ None) (λ fault. ending s ≡ Some fault) → RunsKnown script left old new result
 ending_known script rest left old mid new line budget after s (Ok done) c i kept none = end_known script rest left old mid new line budget after s done c i kept none
 ending_known script rest left old mid new line budget after s (Err fault) c i kept found = end_fault_known script rest left old mid new line budget after s fault c i kept found
 
 -- a fault that is passed on stays the same
-pub passed_on : (script old new : Option (List ℕ)) (fault : ScriptFault) (result : Result (Unit {0}) ScriptFault) → IsErrAnd result (λ e. e ≡ fault) → RunsKnown script old new (Err fault) → RunsKnown script old new result
-passed_on script old new fault (Ok done) same told = absurd same
-passed_on script old new fault (Err other) same told = subst (λ f. RunsKnown script old new (Err f)) (sym same) told
+pub passed_on : (script left old new : Option (List ℕ)) (fault : ScriptFault) (result : Result (Unit {0}) ScriptFault) → IsErrAnd result (λ e. e ≡ fault) → RunsKnown script left old new (Err fault) → RunsKnown script left old new result
+passed_on script left old new fault (Ok done) same told = absurd same
+passed_on script left old new fault (Err other) same told = subst (λ f. RunsKnown script left old new (Err f)) (sym same) told

@@ -61,7 +61,7 @@ stopped turns run text piece s command fault before after read event early stand
       | inl refused ↦
           let stage = stage_is turns run text s h in
           inl (rw read (refused_at_event turns run text s.header s.recorded command fault event early (rw stage stands) h.plays refused.0 refused.1), refused.2)
-      | inr failed ↦ inr (inr (failed.0 ∙ ap (λ n. record { line = n + 1; kind = Write }) h.count, failed.1, failed.2))
+      | inr failed ↦ inr (inr (failed.0 ∙ ap (λ n. record { line = n + 1; kind = Write }) h.count, rw read event, failed.1, failed.2))
     ]
 
 -- a line with no answer

@@ -25,7 +25,7 @@ use Rattle.swimsim.specs.Choosers.{ChoosesOrder, ChoosesPlace}
 use Rattle.swimsim.specs.Commands.{line_read}
 use Rattle.swimsim.specs.Headers.{Told, told_then, stage_told, stage_of, said, head_of, setting_in, limit_in, chooser_in}
 use Rattle.swimsim.specs.Texts.{answer_text, table_text, gap_text, wire_text, full_text, no_memory_text}
-use Rattle.swimsim.specs.Script.{Turn, lines_of, calls_in, output_of, IsRunOf, takes_memory, fault_of, fault_from, fault_of_read, fault_of_header, at_line, bytes_of}
+use Rattle.swimsim.specs.Script.{Turn, lines_of, calls_in, output_of, IsRunOf, takes_memory, is_answered, fault_of, fault_from, fault_of_read, fault_of_header, at_line, bytes_of}
 
 -- what contracts see of a session: how many lines it was given, what those of the header told, and the recorder,
 -- once an event line was met
@@ -194,12 +194,17 @@ abbrev pub FindsNoMemory : List Turn → List ℕ → ScriptFault → Option (Li
 FindsNoMemory turns piece fault before after =
     (fault ≡ at_line (length (lines_of turns) + 1) Memory) × (takes_memory (said (head_of (lines_of turns)) piece) ≡ true) × Keeps before after
 
+-- the writer failed at its answer
+abbrev pub FailsToAnswer : List Turn → List ℕ → ScriptFault → Option (List ℕ) → Option (List ℕ) → Type 0
+FailsToAnswer turns piece fault before after =
+    (fault ≡ at_line (length (lines_of turns) + 1) Write) × (is_answered (said (head_of (lines_of turns)) piece) ≡ true)
+    × (part : List ℕ) × Appends before after part
+
 -- it has a fault and nothing was written, or there was no memory, or the writer failed
 abbrev pub TurnFails : List Turn → List ℕ → ScriptFault → Option (List ℕ) → Option (List ℕ) → Type 0
 TurnFails turns piece fault before after =
     ((fault_of_read (length (lines_of turns) + 1) (head_of (lines_of turns)) (line_read (stage_of (head_of (lines_of turns))) (bare piece)) ≡ Some fault) × Keeps before after)
-    ⊎ (FindsNoMemory turns piece fault before after
-    ⊎ ((fault ≡ at_line (length (lines_of turns) + 1) Write) × (part : List ℕ) × Appends before after part))
+    ⊎ (FindsNoMemory turns piece fault before after ⊎ FailsToAnswer turns piece fault before after)
 
 abbrev pub Turned : List Turn → List ℕ → List ℕ → Played → Option (List ℕ) → Option (List ℕ) → Result (Unit {0}) ScriptFault → Type 0
 Turned turns text piece new before after (Ok done) = TurnDone turns text piece new before after

@@ -5,3 +5,4 @@ pub mod Headers
 pub mod Holds
 pub mod Script
 pub mod Texts
+pub mod FaultTexts

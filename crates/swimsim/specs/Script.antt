@@ -1,9 +1,9 @@
 -- A script: its first fault, its calls, and what is written for it. Lines are lists of bytes with their line feeds; a
 -- list of lines is newest first, so that each line stands before the earlier ones.
-use Rattle.std.specs.Prelude.{◌≡◌, ℕ, ◌+◌, ◌-◌, ◌==◌, Bool, true, false, not, ◌||◌, nat_lt, List, [], ◌∷◌, ◌++◌, length, map, take, reverse, Option, Some, None, Result, Ok, Err, if◌then◌else◌}
+use Rattle.std.specs.Prelude.{◌≡◌, ℕ, ◌+◌, ◌-◌, ◌==◌, Bool, true, false, not, ◌||◌, nat_lt, ◌⊎◌, List, [], ◌∷◌, ◌++◌, length, map, take, reverse, Option, Some, None, Result, Ok, Err, if◌then◌else◌}
 use Rattle.std.specs.List.{list_all}
 use Rattle.std.specs.Io.KnownBytes.{Appends}
-use Rattle.swim_wire.specs.Lines.{pieces, bare}
+use Rattle.swim_wire.specs.Lines.{pieces, bare, has_feed}
 use Rattle.swim_wire.specs.declared.codec.WireFault.{WireFault}
 use Rattle.swim_history.specs.declared.calls.Call.{Call}
 use Rattle.swim_history.specs.declared.calls.Call.TheVariants as calls
@@ -203,16 +203,44 @@ pub record WantsMemory (script : List ℕ) (n : ℕ) : Type 0 where
   pub cut : pieces script ≡ reverse (lines_before n script) ++ piece ∷ more
   pub takes : takes_memory (said (head_of (lines_before n script)) piece) ≡ true
 
--- what was written before a fault: where the reader failed at a line, the lines before it were answered
-abbrev pub RunsTo : List ℕ → Option (List ℕ) → Option (List ℕ) → ScriptFault → FaultKind → Type 0
-RunsTo script old new fault Read = (text : List ℕ) × IsTold (lines_before fault.line script) text × Appends old new text
--- where the writer failed, nothing is said of the last answer's part
-RunsTo script old new fault Write = (text : List ℕ) × (part : List ℕ) × IsTold (lines_before fault.line script) text × Appends old new (text ++ part)
+-- line n of a script is waited for: the lines before it were taken, and perhaps bytes of it, but no line feed, and
+-- this is left
+pub record WaitsFor (script left : List ℕ) (n : ℕ) : Type 0 where
+  pub number : n ≡ length (lines_before n script) + 1
+  pub taken : List ℕ
+  pub cut : pieces script ≡ reverse (lines_before n script) ++ pieces (taken ++ left)
+  pub unended : has_feed taken ≡ false
+
+-- a line of an event is answered
+abbrev pub is_answered : Option Command → Bool
+is_answered (Some command) = is_event command
+is_answered None = false
+
+-- line n of a script is being answered: it was taken, and the lines behind it are left
+pub record IsAnswering (script left : List ℕ) (n : ℕ) : Type 0 where
+  pub number : n ≡ length (lines_before n script) + 1
+  pub piece : List ℕ
+  pub cut : pieces script ≡ reverse (lines_before n script) ++ piece ∷ pieces left
+  pub event : is_answered (said (head_of (lines_before n script)) piece) ≡ true
+
+-- where in a script a fault stopped, of which this is left, and what was written before it: the reader failed at the
+-- line that was waited for, and the lines before it were answered
+abbrev pub RunsTo : List ℕ → List ℕ → Option (List ℕ) → Option (List ℕ) → ScriptFault → FaultKind → Type 0
+RunsTo script left old new fault Read =
+    WaitsFor script left fault.line
+    × (text : List ℕ) × IsTold (lines_before fault.line script) text × Appends old new text
+-- the writer failed at the line that was waited for, or was being answered; nothing is said of the last answer's part
+RunsTo script left old new fault Write =
+    (WaitsFor script left fault.line ⊎ IsAnswering script left fault.line)
+    × (text : List ℕ) × (part : List ℕ) × IsTold (lines_before fault.line script) text × Appends old new (text ++ part)
 -- memory is wanted for a line that is kept in it, and the lines before it were answered
-RunsTo script old new fault Memory = WantsMemory script fault.line × (text : List ℕ) × IsTold (lines_before fault.line script) text × Appends old new text
+RunsTo script left old new fault Memory =
+    WantsMemory script fault.line
+    × (text : List ℕ) × IsTold (lines_before fault.line script) text × Appends old new text
 -- any other fault is the one that the format names, and the lines before it were answered
-RunsTo script old new fault kind =
-    (fault_of script ≡ Some fault) × (text : List ℕ) × IsTold (lines_before fault.line script) text × Appends old new text
+RunsTo script left old new fault kind =
+    (fault_of script ≡ Some fault)
+    × (text : List ℕ) × IsTold (lines_before fault.line script) text × Appends old new text
 
 -- the kind of the fault of a result, if there is one
 abbrev pub result_kind : Result (Unit {0}) ScriptFault → Option FaultKind
@@ -234,12 +262,15 @@ is_write result = is_write_kind (result_kind result)
 abbrev pub is_read : Result (Unit {0}) ScriptFault → Bool
 is_read result = is_read_kind (result_kind result)
 
--- what a run of a script wrote
-abbrev pub Runs : List ℕ → Option (List ℕ) → Option (List ℕ) → Result (Unit {0}) ScriptFault → Type 0
-Runs script old new (Ok done) = (fault_of script ≡ None) × (text : List ℕ) × IsTold (reverse (pieces script)) text × Appends old new text
-Runs script old new (Err fault) = RunsTo script old new fault fault.kind
+-- what a run of a script wrote, of which this is left
+abbrev pub Runs : List ℕ → List ℕ → Option (List ℕ) → Option (List ℕ) → Result (Unit {0}) ScriptFault → Type 0
+Runs script left old new (Ok done) =
+    (fault_of script ≡ None) × (text : List ℕ) × IsTold (reverse (pieces script)) text × Appends old new text
+Runs script left old new (Err fault) = RunsTo script left old new fault fault.kind
 
 -- the same, where the script's bytes are known
-abbrev pub RunsKnown : Option (List ℕ) → Option (List ℕ) → Option (List ℕ) → Result (Unit {0}) ScriptFault → Type 0
-RunsKnown None old new result = Unit {0}
-RunsKnown (Some script) old new result = Runs script old new result
+abbrev pub RunsKnown :
+    Option (List ℕ) → Option (List ℕ) → Option (List ℕ) → Option (List ℕ) → Result (Unit {0}) ScriptFault → Type 0
+RunsKnown None left old new result = Unit {0}
+RunsKnown (Some script) None old new result = ⊥
+RunsKnown (Some script) (Some left) old new result = Runs script left old new result

@@ -1,9 +1,9 @@
 //! What is wrong with a script.
 
 use crate::commands::LineFault;
+use std::error::Error;
 use std::fmt;
 use swim_history::OpeningFault;
-use thiserror::Error;
 
 /// The most bytes of a script.
 pub const SCRIPT_BYTES: u32 = 16_777_216;
@@ -28,15 +28,37 @@ pub enum FaultKind {
 }
 
 /// What is wrong with a script, and in which line, counted from 1. The line is 0 for a script with no line
-/// that isn't skipped. Where the writer failed it is the line that was being answered or waited for.
-#[derive(Clone, Copy, Debug, PartialEq, Eq, Error)]
-#[error("line {line}: {kind}")]
+/// that isn't skipped. Where the reader failed it is the line that was waited for, and where the writer failed that
+/// or the line that was being answered.
+#[derive(Clone, Copy, Debug, PartialEq, Eq)]
 pub struct ScriptFault {
     pub line: u32,
     pub kind: FaultKind,
 }
 
+impl Error for ScriptFault {}
+
+/// The line and the kind, as `line 3: word`.
+impl fmt::Display for ScriptFault {
+    ghost use Rattle.std.specs.Prelude.{Some};
+    ghost use Rattle.swimsim.specs.FaultTexts.{fault_text};
+
+    ghost output = { λ fault. Some (fault_text fault) };
+
+    fn fmt<W: fmt::Write>(&self, f: &mut fmt::Formatter<W>) -> fmt::Result {
+        let line = self.line;
+        let kind = self.kind;
+        write!(f, "line {line}: {kind}")
+    }
+}
+
+/// The word of the kind, of a refused opening with its number.
 impl fmt::Display for FaultKind {
+    ghost use Rattle.std.specs.Prelude.{Some};
+    ghost use Rattle.swimsim.specs.FaultTexts.{kind_text};
+
+    ghost output = { λ kind. Some (kind_text kind) };
+
     fn fmt<W: fmt::Write>(&self, f: &mut fmt::Formatter<W>) -> fmt::Result {
         match self {
             FaultKind::Size => f.write_str("size"),

@@ -18,7 +18,8 @@ pub fn run<R: Source, W: Sink>(
     reader: &mut R,
     writer: &mut W,
 ) -> Result<(), ScriptFault>
-    ensures told { RunsKnown (R.left reader.old) (W.written writer.old) (W.written writer.new) result }
+    ensures told { RunsKnown (R.left reader.old) (R.left reader.new)
+        (W.written writer.old) (W.written writer.new) result }
     ensures reads { R.failures reader.new ≡ (if is_read result then one_more (R.failures reader.old) else R.failures reader.old) }
     ensures writes { W.failures writer.new ≡ (if is_write result then one_more (W.failures writer.old) else W.failures writer.old) }
 {

@@ -102,7 +102,7 @@ impl State {
     fn pass(&mut self, period: u32)
         requires { self.old.phase < period }
         ensures same { (self.new.targets ≡ self.old.targets) × (self.new.aim ≡ self.old.aim) × (self.new.heard ≡ self.old.heard) }
-        ensures requests { self.new.requests ≡ record self.old.requests { waiting = aged self.old.requests.waiting } }
+        ensures requests { (self.new.requests.period ≡ self.old.requests.period) × (self.new.requests.waiting ≡ aged self.old.requests.waiting) }
         ensures phase { (ticks : ℕ) → self.old.phase ≡ ticks % period → self.new.phase ≡ (ticks + 1) % period }
     {
         self.requests.tick();

@@ -39,7 +39,7 @@ returns-in_err-turn-in-Line-clause-told g c =
     let takes = subst (λ (l : List ℕ). TakesKnown rest left Line l 2048 c.loop-session.budget c.next_line.new.budget) (sym c.as_slice.ensures.value) c.in-Line.ensures.takes in
     let stops = stop_known (g.R.Source.left c.args.reader.now) rest left (g.W.Sink.written c.args.writer.now) (g.W.Sink.written c.loop-session.writer) (g.W.Sink.written c.next_line.new.writer) (g.W.Sink.written c.turn.new.writer)
     c.as_slice.result.now c.loop-session.budget c.next_line.new.budget c.loop-session.session c.turn.new.self c.in_err-turn-in-Line.field-0.0 c.loop-session.invariant.course takes c.in-Line.ensures.kept c.in_err-turn-in-Line.ensures.turned in
-    passed_on (g.R.Source.left c.args.reader.now) (g.W.Sink.written c.args.writer.now) (g.W.Sink.written c.turn.new.writer) c.in_err-turn-in-Line.field-0.0 c.from_residual.result c.from_residual.ensures.1 stops
+    passed_on (g.R.Source.left c.args.reader.now) left (g.W.Sink.written c.args.writer.now) (g.W.Sink.written c.turn.new.writer) c.in_err-turn-in-Line.field-0.0 c.from_residual.result c.from_residual.ensures.1 stops
 
 pub returns-in-Over-clause-told : goal.returns-in-Over-clause-told
 returns-in-Over-clause-told g c =
@@ -48,24 +48,24 @@ returns-in-Over-clause-told g c =
 
 pub returns-in-Long-clause-told : goal.returns-in-Long-clause-told
 returns-in-Long-clause-told g c =
-    subst (λ (f : ScriptFault). RunsKnown (g.R.Source.left c.args.reader.now) (g.W.Sink.written c.args.writer.now) (g.W.Sink.written c.next_line.new.writer) (Err f)) (sym c.fault.ensures)
+    subst (λ (f : ScriptFault). RunsKnown (g.R.Source.left c.args.reader.now) (g.R.Source.left c.next_line.new.reader) (g.W.Sink.written c.args.writer.now) (g.W.Sink.written c.next_line.new.writer) (Err f)) (sym c.fault.ensures)
     (long_known (g.R.Source.left c.args.reader.now) (g.R.Source.left c.loop-session.reader) (g.R.Source.left c.next_line.new.reader) (g.W.Sink.written c.args.writer.now) (g.W.Sink.written c.loop-session.writer) (g.W.Sink.written c.next_line.new.writer)
     c.next_line.new.line.items c.loop-session.budget c.next_line.new.budget c.loop-session.session c.loop-session.invariant.course c.in-Long.ensures.takes c.in-Long.ensures.kept)
 
 pub returns-in-Size-clause-told : goal.returns-in-Size-clause-told
 returns-in-Size-clause-told g c =
-    subst (λ (f : ScriptFault). RunsKnown (g.R.Source.left c.args.reader.now) (g.W.Sink.written c.args.writer.now) (g.W.Sink.written c.next_line.new.writer) (Err f)) (sym c.fault-in-Size.ensures)
+    subst (λ (f : ScriptFault). RunsKnown (g.R.Source.left c.args.reader.now) (g.R.Source.left c.next_line.new.reader) (g.W.Sink.written c.args.writer.now) (g.W.Sink.written c.next_line.new.writer) (Err f)) (sym c.fault-in-Size.ensures)
     (oversize_known (g.R.Source.left c.args.reader.now) (g.R.Source.left c.loop-session.reader) (g.R.Source.left c.next_line.new.reader) (g.W.Sink.written c.args.writer.now) (g.W.Sink.written c.loop-session.writer) (g.W.Sink.written c.next_line.new.writer)
     c.next_line.new.line.items c.loop-session.budget c.next_line.new.budget c.loop-session.session c.loop-session.invariant.course c.in-Size.ensures.takes c.in-Size.ensures.kept)
 
 pub returns-in-Failed-clause-told : goal.returns-in-Failed-clause-told
 returns-in-Failed-clause-told g c =
-    subst (λ (f : ScriptFault). RunsKnown (g.R.Source.left c.args.reader.now) (g.W.Sink.written c.args.writer.now) (g.W.Sink.written c.next_line.new.writer) (Err f)) (sym c.fault-in-Failed.ensures)
-    (unread_known (g.R.Source.left c.args.reader.now) (g.R.Source.left c.loop-session.reader) (g.W.Sink.written c.args.writer.now) (g.W.Sink.written c.loop-session.writer) (g.W.Sink.written c.next_line.new.writer)
-    c.loop-session.budget c.loop-session.session c.loop-session.invariant.course c.in-Failed.ensures.kept)
+    subst (λ (f : ScriptFault). RunsKnown (g.R.Source.left c.args.reader.now) (g.R.Source.left c.next_line.new.reader) (g.W.Sink.written c.args.writer.now) (g.W.Sink.written c.next_line.new.writer) (Err f)) (sym c.fault-in-Failed.ensures)
+    (unread_known (g.R.Source.left c.args.reader.now) (g.R.Source.left c.loop-session.reader) (g.R.Source.left c.next_line.new.reader) (g.W.Sink.written c.args.writer.now) (g.W.Sink.written c.loop-session.writer) (g.W.Sink.written c.next_line.new.writer)
+    c.next_line.new.line.items c.loop-session.budget c.next_line.new.budget c.loop-session.session c.loop-session.invariant.course c.in-Failed.ensures.takes c.in-Failed.ensures.kept)
 
 pub returns-in-Unsent-clause-told : goal.returns-in-Unsent-clause-told
 returns-in-Unsent-clause-told g c =
-    subst (λ (f : ScriptFault). RunsKnown (g.R.Source.left c.args.reader.now) (g.W.Sink.written c.args.writer.now) (g.W.Sink.written c.next_line.new.writer) (Err f)) (sym c.fault-in-Unsent.ensures)
-    (unsent_known (g.R.Source.left c.args.reader.now) (g.R.Source.left c.loop-session.reader) (g.W.Sink.written c.args.writer.now) (g.W.Sink.written c.loop-session.writer) (g.W.Sink.written c.next_line.new.writer)
-    c.loop-session.budget c.loop-session.session c.loop-session.invariant.course c.in-Unsent.ensures.kept)
+    subst (λ (f : ScriptFault). RunsKnown (g.R.Source.left c.args.reader.now) (g.R.Source.left c.next_line.new.reader) (g.W.Sink.written c.args.writer.now) (g.W.Sink.written c.next_line.new.writer) (Err f)) (sym c.fault-in-Unsent.ensures)
+    (unsent_known (g.R.Source.left c.args.reader.now) (g.R.Source.left c.loop-session.reader) (g.R.Source.left c.next_line.new.reader) (g.W.Sink.written c.args.writer.now) (g.W.Sink.written c.loop-session.writer) (g.W.Sink.written c.next_line.new.writer)
+    c.next_line.new.line.items c.loop-session.budget c.next_line.new.budget c.loop-session.session c.loop-session.invariant.course c.in-Unsent.ensures.takes c.in-Unsent.ensures.kept)

@@ -1,0 +1,51 @@
+//! What a call of a node is answered.
+
+use crate::naming::Naming;
+use crate::news::News;
+use crate::seats::Seat;
+use swim_detector::Recorder;
+use swim_history::{Call, Reply};
+use swim_targets::Chooser;
+use swim_wire::WireFault;
+
+/// The answer to a call.
+#[derive(Drop)]
+pub struct Receipt<N: Naming> {
+    /// How many entries stand before it in the journal.
+    pub position: u32,
+    /// How many calls the seat had made before it.
+    pub number: u32,
+    /// What was asked.
+    pub call: Call,
+    pub reply: Reply,
+    /// What was published when the call ended; a viewer that learns it sees no older table.
+    pub news: News<N>,
+}
+
+/// Why a call got no reply. The seat is as it was, and the call is not in the journal.
+#[derive(Clone, Copy, Debug, PartialEq, Eq)]
+pub enum CallFault {
+    /// The bytes are no datagram. Only `hear` answers so, before it takes the lock.
+    Wire(WireFault),
+    /// The journal has as many entries as it may have.
+    JournalFull,
+    /// Memory was refused.
+    NoMemory,
+}
+
+/// Why a node can't be opened.
+#[derive(Clone, Copy, Debug, PartialEq, Eq)]
+pub enum OpenFault {
+    /// Memory was refused.
+    NoMemory,
+    /// No reader of the table was to be had.
+    NoPlace,
+}
+
+/// Why a closed node doesn't hand its journal back.
+#[derive(Drop)]
+pub enum CloseFault<N: Naming, C: Chooser> {
+    /// The calls of some seat are not the journal's entries of that seat. Here are the node's detector, with the journal,
+    /// and the seats.
+    Differs(Recorder<C>, [Seat<N>; 4]),
+}

@@ -1,0 +1,114 @@
+//! Viewers: readers of a node's member table. They take no lock.
+
+ghost use Rattle.std.specs.Prelude.{◌≡◌, [], IfSome, IfNone};
+ghost use mathlib.Core.List.{IsPrefix};
+ghost use Rattle.swim_history.specs.Changes.{table_after};
+ghost use Rattle.swim_node.specs.News.{IsLongerOf};
+
+use crate::naming::Naming;
+use crate::news::News;
+use crate::shown::ShownTable;
+use crossbeam_utils::rule::{Outcome, Protocol};
+use left_right::reader::Reader;
+use std::marker::{Model, PhantomData};
+use swim_history::{Table, copy_table};
+
+/// The rule of what readers are shown: it is the table of this node, after the changes that it tells.
+pub struct ShowsNode<N> {
+    of: PhantomData<N>,
+}
+
+impl<N: Naming> Protocol<ShownTable, ()> for ShowsNode<N> {
+    ghost use Rattle.swim_node.specs.Shown.{IsOfNode};
+
+    ghost holds = { λ s views. IsOfNode N.opening N.log s };
+
+    ghost first = { tt };
+}
+
+/// A look at what is shown tells that it is so.
+pub struct Looks<N> {
+    of: PhantomData<N>,
+}
+
+impl<N: Naming> Outcome<ShownTable, ()> for Looks<N> {
+    ghost use Rattle.swim_node.specs.Shown.{IsOfNode};
+
+    ghost then = { λ before old new after. IsOfNode N.opening N.log new };
+}
+
+/// A reader of a node's member table. There are four; each may go to a thread of its own. It takes no lock and waits for
+/// nobody, and nobody who calls the node waits for more than its present look. A contract sees the changes that it has
+/// seen, oldest first: it never goes back behind them.
+#[derive(Drop)]
+pub struct Viewer<N: Naming> {
+    // None only while it looks.
+    reader: Option<Reader<ShownTable, (), ShowsNode<N>>>,
+    seen: News<N>,
+}
+
+impl<N: Naming> Model for Viewer<N> {
+    ghost use Rattle.std.specs.Prelude.{List};
+    ghost use Rattle.swim_history.specs.declared.rows.Change.{Change};
+
+    ghost Value = { List Change };
+
+    ghost view = { λ v. v.seen };
+}
+
+impl<N: Naming> Viewer<N> {
+    /// A viewer that has seen no change.
+    pub(crate) fn new(reader: Reader<ShownTable, (), ShowsNode<N>>, seen: News<N>) -> Viewer<N>
+        ensures { result ≡ seen }
+    {
+        Viewer {
+            reader: Some(reader),
+            seen,
+        }
+    }
+
+    /// The member table as it was published last, ascending by id. `None` once the node is closed.
+    pub fn list(&mut self) -> Option<Table>
+        ensures later { IsPrefix self.old self.new }
+        ensures table { IfSome result (λ table. table.items ≡ table_after N.opening self.new) }
+        ensures none { IfNone result (self.new ≡ self.old) }
+    {
+        match self.reader.take()?.enter_as::<Looks<N>>() {
+            Ok(reading) => {
+                let shown = reading.get();
+                let table = copy_table(shown.table.as_slice());
+                let news = News::new(shown.shown.again());
+                self.reader = Some(reading.leave());
+                self.see(table, news)
+            }
+            Err(reader) => {
+                self.reader = Some(reader);
+                None
+            }
+        }
+    }
+
+    /// Learns what a call of the node told: from then on it lists no older table. It takes no lock, and may be called
+    /// after the node was closed.
+    pub fn learn(&mut self, news: &News<N>)
+        ensures { IsLongerOf self.old news.now self.new }
+    {
+        self.seen = self.seen.longer(news);
+    }
+
+    // Sees a table after the changes of some news, if it isn't older than what was seen.
+    fn see(&mut self, table: Table, news: News<N>) -> Option<Table>
+        requires { table.items ≡ table_after N.opening news }
+        ensures later { IsPrefix self.old self.new }
+        ensures table { IfSome result (λ table. table.items ≡ table_after N.opening self.new) }
+        ensures none { IfNone result (self.new ≡ self.old) }
+    {
+        // What is published only grows, so this comes only where this viewer learnt of a change, or saw one, and a look
+        // showed less: never in fact.
+        if !self.seen.begins(&news) {
+            return None;
+        }
+        self.seen = news;
+        Some(table)
+    }
+}

@@ -1,8 +1,0 @@
-use Rattle.swim_relays.proofs.Tables.{forgets}
-use Rattle.swim_relays.proofs.requests.Relays.answer.Goals as goal
-
-pub invariant_of-self : goal.invariant_of-self
-invariant_of-self c = rw c.take.ensures.entries (forgets c.args.key.now c.self.inside.period c.self.inside.entries.items c.self.invariant)
-
-pub returns-clause-kept : goal.returns-clause-kept
-returns-clause-kept c = invariant_of-self c
