@@ -5,12 +5,13 @@ ghost use Rattle.swim_history.specs.Changes.{after_change, IsAscending};
 ghost use Rattle.swim_history.specs.Changing.{changed_within};
 
 use crate::copies::copied;
-use crate::rows::{Change, KNOWN_MEMBERS, Row, Table};
+use crate::rows::{Change, Row, Table};
 use crate::tables::{apply_change, find_row};
+use swim_wire::KNOWN_MEMBERS;
 
 /// The table with these rows. It takes no memory.
 pub fn copy_table(rows: &[Row]) -> Table
-    requires { length rows.now ≤ 128 }
+    requires { length rows.now ≤ KNOWN_MEMBERS }
     ensures { result.items ≡ rows.now }
 {
     copied(rows)
@@ -30,8 +31,8 @@ pub fn change_table(table: &mut Table, change: &Change)
 /// Whether no more members are known after a change than may be.
 fn has_room(rows: &[Row], change: &Change) -> bool
     requires ascends { IsAscending rows.now }
-    requires bound { length rows.now ≤ 128 }
-    ensures { result ≡ nat_le (length (after_change change.now rows.now)) 128 }
+    requires bound { length rows.now ≤ KNOWN_MEMBERS }
+    ensures { result ≡ nat_le (length (after_change change.now rows.now)) KNOWN_MEMBERS }
 {
     match change {
         Change::Up(id, _) => rows.len() < KNOWN_MEMBERS || find_row(rows, *id).is_some(),

@@ -17,7 +17,7 @@ use left_right::writer::Writer;
 use std::alloc::{AllocError, Global};
 use std::marker::{Model, PhantomData};
 use std::sync::Wait;
-use swim_history::{Change, Opening};
+use swim_history::{Change, KNOWN_MEMBERS, Opening};
 
 /// A publication tells its writer nothing.
 pub struct Shows<N> {
@@ -153,7 +153,7 @@ impl<N: Naming, H: Wait + Drop> Board<N, H> {
     /// Publishes a change, if there is one. It waits for readers that still look at the table before the last change.
     pub(crate) fn publish_if(&mut self, change: &Option<Change>)
         requires room { length self.old < 2 ^ 62 }
-        requires fits { length (table_after N.opening (self.old ++ option_to_list change.now)) ≤ 128 }
+        requires fits { length (table_after N.opening (self.old ++ option_to_list change.now)) ≤ KNOWN_MEMBERS }
         ensures { self.new ≡ self.old ++ option_to_list change.now }
     {
         if let Some(change) = change {
@@ -163,7 +163,7 @@ impl<N: Naming, H: Wait + Drop> Board<N, H> {
 
     fn publish(&mut self, change: &Change)
         requires room { length self.old < 2 ^ 62 }
-        requires fits { length (table_after N.opening (self.old ++ change.now ∷ [])) ≤ 128 }
+        requires fits { length (table_after N.opening (self.old ++ change.now ∷ [])) ≤ KNOWN_MEMBERS }
         ensures { self.new ≡ self.old ++ change.now ∷ [] }
     {
         replace_with(self, change, |board, change| board.published(change))
@@ -171,7 +171,7 @@ impl<N: Naming, H: Wait + Drop> Board<N, H> {
 
     fn published(self, change: &Change) -> (Board<N, H>, ())
         requires room { length self < 2 ^ 62 }
-        requires fits { length (table_after N.opening (self ++ change.now ∷ [])) ≤ 128 }
+        requires fits { length (table_after N.opening (self ++ change.now ∷ [])) ≤ KNOWN_MEMBERS }
         ensures { result.0 ≡ self ++ change.now ∷ [] }
     {
         let Board {

@@ -8,7 +8,7 @@ use crate::change_log::Beginning;
 use left_right::Absorb;
 use std::alloc::AllocError;
 use std::marker::Model;
-use swim_history::{Change, Row, Table, change_table, table_of};
+use swim_history::{Change, KNOWN_MEMBERS, Row, Table, change_table, table_of};
 
 /// The member table as readers see it, and the changes that it shows.
 #[derive(Drop)]
@@ -32,7 +32,7 @@ impl ShownTable {
     /// The table of these rows, after the changes of a beginning without any.
     #[tactic(auto, using(swim_history::specs::TableLaws::ascending_ascends))]
     pub(crate) fn new(rows: &[Row], shown: Beginning) -> ShownTable
-        requires { length rows.now ≤ 128 }
+        requires { length rows.now ≤ KNOWN_MEMBERS }
         ensures { result ≡ record { rows = ascending rows.now; shown = shown } }
     {
         ShownTable {
