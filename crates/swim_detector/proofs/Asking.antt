@@ -18,7 +18,7 @@ use Rattle.swim_history.specs.Aim.{unheard}
 use Rattle.swim_history.specs.Rows.{up, row_of, is_listed}
 use Rattle.swim_history.specs.Round.{listed}
 use Rattle.swim_wire.specs.IdLaws.{has_part, once_part, has-IsPermutation, once-IsPermutation}
-use Rattle.swim_history.specs.ListedLaws.{listed_is, listed_once}
+use Rattle.swim_history.specs.Laws.Listed.{listed_is, listed_once}
 use Rattle.swim_history.specs.Run.{IsRun, AreRelays, candidates}
 use Rattle.swim_history.specs.Drawn.{DrawsRelays}
 use Rattle.swim_detector.specs.declared.states.State.{State}

@@ -8,8 +8,8 @@ use Rattle.swim_history.specs.declared.rows.RowState.TheVariants.{Up, Failed}
 use Rattle.swim_history.specs.declared.entries.Entry.{Entry}
 use Rattle.swim_history.specs.Setting.{Setting, IsSetting, ids_of, is_state_up}
 use Rattle.swim_history.specs.Rows.{up, row_of, is_listed}
-use Rattle.swim_history.specs.TableLaws.{listed_row, table_bound}
-use Rattle.swim_history.specs.ListedLaws.{listed_once, listed_bound}
+use Rattle.swim_history.specs.Laws.Table.{listed_row, table_bound}
+use Rattle.swim_history.specs.Laws.Listed.{listed_once, listed_bound}
 
 -- a member whose row is up is up at its address
 pub row_up : (o : Setting) (h : List Entry) (id : ℕ) (row : Row) → row_of o h id ≡ Some row → row.state ≡ Up → row_of o h id ≡ Some (up id row.peer)

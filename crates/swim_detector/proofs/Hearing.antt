@@ -23,8 +23,8 @@ use Rattle.swim_history.specs.Clock.{period_number}
 use Rattle.swim_history.specs.Aim.{aim, was_heard}
 use Rattle.swim_history.specs.Rows.{up, row_of}
 use Rattle.swim_history.specs.Waiting.{waiting, asked_in, sent_on_in}
-use Rattle.swim_history.specs.WaitingLaws.{waiting_asked, waiting_answered, waiting_same}
-use Rattle.swim_history.specs.RunLaws.{hears_no_start}
+use Rattle.swim_history.specs.Laws.Waiting.{waiting_asked, waiting_answered, waiting_same}
+use Rattle.swim_history.specs.Laws.Run.{hears_no_start}
 use Rattle.swim_history.specs.Run.{Hears, IsRequest, is_waiting, most_waiting}
 use Rattle.swim_detector.specs.declared.states.State.{State}
 use Rattle.swim_relays.specs.Waiting.{Waiting}

@@ -15,8 +15,8 @@ use Rattle.swim_history.specs.Aim.{since, unless, last_probed, aim}
 use Rattle.swim_history.specs.Rows.{row_of, is_listed}
 use Rattle.swim_history.specs.Changes.{known_count}
 use Rattle.swim_history.specs.Round.{listed}
-use Rattle.swim_history.specs.WaitingLaws.{waiting_same}
-use Rattle.swim_history.specs.ListedLaws.{listed_is, room_to_join}
+use Rattle.swim_history.specs.Laws.Waiting.{waiting_same}
+use Rattle.swim_history.specs.Laws.Listed.{listed_is, room_to_join}
 use Rattle.swim_history.specs.Run.{IsRun}
 use Rattle.swim_targets.specs.declared.rounds.JoinFault.{JoinFault}
 use Rattle.swim_targets.specs.declared.rounds.JoinFault.TheVariants.{Listed, Full}

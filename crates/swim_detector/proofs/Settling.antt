@@ -19,10 +19,10 @@ use Rattle.swim_history.specs.Setting.{Setting, IsSetting}
 use Rattle.swim_history.specs.Events.{is_ticking, is_tick, is_starting, is_start, removes, acks}
 use Rattle.swim_history.specs.Clock.{phase, ticks, period_number}
 use Rattle.swim_history.specs.Aim.{since, unless, last_probed, aim, unheard}
-use Rattle.swim_history.specs.RunLaws.{period_number-within, period_number-same}
+use Rattle.swim_history.specs.Laws.Run.{period_number-within, period_number-same}
 use Rattle.swim_history.specs.Waiting.{waiting, asked_in, sent_on_in}
 use Rattle.swim_history.specs.Round.{lists, lists_then}
-use Rattle.swim_history.specs.WaitingLaws.{waiting_tick, waiting_same}
+use Rattle.swim_history.specs.Laws.Waiting.{waiting_tick, waiting_same}
 use Rattle.swim_history.specs.Run.{Answers, Hears}
 use Rattle.swim_history.specs.Drawn.{DrawsEntry}
 use Rattle.swim_detector.specs.declared.states.State.{State}

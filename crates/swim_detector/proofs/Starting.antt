@@ -19,7 +19,7 @@ use Rattle.swim_history.specs.Clock.{phase, ticks, period_number}
 use Rattle.swim_history.specs.Aim.{aim, was_heard, unless, unheard}
 use Rattle.swim_history.specs.Round.{lists, listed, drawn}
 use Rattle.swim_wire.specs.IdLaws.{has_part, has-IsPermutation}
-use Rattle.swim_history.specs.ListedLaws.{listed_is, has_front, all-leave, all-advanced, all-started}
+use Rattle.swim_history.specs.Laws.Listed.{listed_is, has_front, all-leave, all-advanced, all-started}
 use Rattle.swim_history.specs.Run.{IsRun, IsProbe, greatest_number, Answers}
 use Rattle.swim_history.specs.Drawn.{DrawsEntry}
 use Rattle.swim_targets.specs.Rounds.{drawn_of}

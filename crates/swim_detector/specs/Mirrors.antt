@@ -1,5 +1,6 @@
 -- What the fields of the detector mean, by the definitions over its journal.
-use Rattle.std.specs.Prelude.{◌≡◌, ◌≢◌, ℕ, ◌<◌, ◌≤◌, Bool, true, false, List, ◌∷◌, length, slice_index, Option, Some, None}
+use Rattle.std.specs.Prelude.{◌≡◌, ◌≢◌, ℕ, ◌<◌, ◌≤◌, Bool, true, false, List, ◌∷◌, length, slice_index, Option, Some}
+use Rattle.std.specs.Prelude.{None}
 use Rattle.swim_history.specs.declared.calls.Call.{Call}
 use Rattle.swim_history.specs.declared.calls.Call.TheVariants.{Tick, Join, Remove}
 use Rattle.swim_history.specs.declared.replies.Reply.{Reply}
@@ -26,7 +27,8 @@ use Rattle.swim_history.specs.Drawn.{DrawsEntry}
 use Rattle.swim_detector.specs.declared.states.State.{State}
 use Rattle.swim_detector.specs.declared.answers.Answer.{Answer}
 
--- the requests that wait by the history, for as many ticks as its period has; where their count began is nobody's concern
+-- the requests that wait by the history, for as many ticks as its period has; where their count began is nobody's
+-- concern
 abbrev pub AreRequests : Setting → List Entry → Waiting → Type 0
 AreRequests o h w = (w.period ≡ o.period) × (w.waiting ≡ waiting o h)
 
@@ -48,11 +50,13 @@ choice_of answer state = choice_after answer.begins_round state.targets
 
 -- the entry of a call with its answer, after which this is the state
 abbrev pub entry_of : ℕ → ℕ → Call → Answer → State → Entry
-entry_of seat number call answer state = record { seat = seat; number = number; call = call; choice = choice_of answer state; reply = answer.reply }
+entry_of seat number call answer state =
+    record { seat = seat; number = number; call = call; choice = choice_of answer state; reply = answer.reply }
 
 -- the same where a round began by it
 abbrev pub round_entry : ℕ → ℕ → Call → Reply → State → Entry
-round_entry seat number call reply state = entry_of seat number call (record { reply = reply; begins_round = true }) state
+round_entry seat number call reply state =
+    entry_of seat number call (record { reply = reply; begins_round = true }) state
 
 -- the chooser may have been asked for the entry
 abbrev pub may_draw : Call → Reply → Choice → Bool
@@ -71,7 +75,8 @@ IsSettled o h call answer state =
 
 -- the answer to a call may follow the history, its choices are the chooser's, and the state is what the
 -- definitions find in the history with its entry, whose ever the call was
-abbrev pub IsAnswered : {S : Type 0} → (S → List ℕ → List ℕ → S → Type 0) → (S → ℕ → ℕ → S → Type 0) → Setting → List Entry → Call → Answer → State → S → S → Type 0
+abbrev pub IsAnswered : {S : Type 0} → (S → List ℕ → List ℕ → S → Type 0) → (S → ℕ → ℕ → S → Type 0) → Setting →
+    List Entry → Call → Answer → State → S → S → Type 0
 IsAnswered orders places o h call answer state before after =
     Answers o h call answer.reply (choice_of answer state)
     × DrawsEntry orders places o h call answer.reply (choice_of answer state) before after

@@ -6,8 +6,8 @@ use Rattle.swim_targets.specs.Draws.{DrawsOrder, DrawsPlace, HaveSameWords}
 use Rattle.swim_targets.specs.DrawLaws.{order_drawn, order_drawn_once, place_drawn, place_drawn_once}
 use Rattle.swim_targets.specs.Script.{Script, is_order_of, order_by, place_by, FollowsOrder, FollowsPlace}
 use Rattle.swim_targets.specs.Orders.{order_is}
-use Rattle.swim_history.specs.DrawnLaws.{IsFunctional}
-use Rattle.swim_history.specs.DrawnRuns.{IsTotal}
+use Rattle.swim_history.specs.Laws.Drawn.{IsFunctional}
+use Rattle.swim_history.specs.Laws.DrawnRuns.{IsTotal}
 
 -- ---- scripted
 

@@ -29,19 +29,24 @@ IsLatest (e ∷ h) reply = reply ≡ e.reply
 
 -- nothing changed but the room for more entries
 abbrev pub IsKept : {C : Type 0} → Recording C → Recording C → Type 0
-IsKept old new = (new.opening ≡ old.opening) × (new.past ≡ old.past) × (new.limit ≡ old.limit) × (new.chooser ≡ old.chooser)
+IsKept old new =
+    (new.opening ≡ old.opening) × (new.past ≡ old.past) × (new.limit ≡ old.limit) × (new.chooser ≡ old.chooser)
 
 -- the entry was added: it may follow those before it, its choices are the chooser's answers, and nothing else changed
-abbrev pub Records : {C : Type 0} → (C → List ℕ → List ℕ → C → Type 0) → (C → ℕ → ℕ → C → Type 0) → Recording C → Recording C → Entry → Type 0
+abbrev pub Records : {C : Type 0} → (C → List ℕ → List ℕ → C → Type 0) → (C → ℕ → ℕ → C → Type 0) → Recording C →
+    Recording C → Entry → Type 0
 Records orders places old new e =
     Continues old.opening old.past e
     × DrawsEntry orders places old.opening old.past e.call e.reply e.choice old.chooser new.chooser
     × (new.past ≡ e ∷ old.past) × (new.opening ≡ old.opening) × (new.limit ≡ old.limit)
 
 -- an entry of that seat with this call was added
-abbrev pub RecordsCall : {C : Type 0} → (C → List ℕ → List ℕ → C → Type 0) → (C → ℕ → ℕ → C → Type 0) → Recording C → Recording C → ℕ → Call → Type 0
-RecordsCall orders places old new seat call = (e : Entry) × (e.seat ≡ seat) × (e.call ≡ call) × Records orders places old new e
+abbrev pub RecordsCall : {C : Type 0} → (C → List ℕ → List ℕ → C → Type 0) → (C → ℕ → ℕ → C → Type 0) → Recording C →
+    Recording C → ℕ → Call → Type 0
+RecordsCall orders places old new seat call =
+    (e : Entry) × (e.seat ≡ seat) × (e.call ≡ call) × Records orders places old new e
 
 -- the change is the one that each entry of the call makes which may follow the history
 abbrev pub IsChangeOf : Setting → List Entry → Call → Option Change → Type 0
-IsChangeOf o h call change = (reply : Reply) → (choice : Choice) → Answers o h call reply choice → change ≡ change_by call reply (period_number o h)
+IsChangeOf o h call change = (reply : Reply) → (choice : Choice) → Answers o h call reply choice →
+    change ≡ change_by call reply (period_number o h)

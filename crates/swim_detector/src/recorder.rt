@@ -44,7 +44,13 @@ impl<C: Chooser> Model for Recorder<C> {
 
     ghost Value = { Recording C };
 
-    ghost view = { λ r. record { opening = r.journal.opening; past = r.journal.past; limit = r.limit; room = r.journal.room; chooser = r.chooser } };
+    ghost view = { λ r. record {
+      opening = r.journal.opening;
+      past = r.journal.past;
+      limit = r.limit;
+      room = r.journal.room;
+      chooser = r.chooser;
+    } };
 
     ghost invariant = { λ r. Mirrors r.journal.opening r.journal.past r.state × Counts r.journal.past r.counts r.limit
         × IsLatest r.journal.past r.answer.reply };
@@ -69,7 +75,7 @@ impl<C: Chooser> Recorder<C> {
         }
     }
 
-    /// Makes room for one entry, so that the next `apply` or `record` succeeds and takes no memory.
+    /// Makes room for one entry, so that the next `apply` or `record` succeeds.
     /// `JournalFull` exactly where the journal has as many entries as it may have.
     pub fn ready(&mut self) -> Result<(), ApplyFault>
         ensures same { IsKept self.old self.new }
@@ -88,10 +94,11 @@ impl<C: Chooser> Recorder<C> {
     }
 
     /// Answers a call of a seat, and adds the entry that it answers. An `Err` changes nothing. After
-    /// `ready` was answered `Ok` it succeeds and takes no memory.
+    /// `ready` was answered `Ok` it succeeds.
     pub fn apply(&mut self, seat: u8, call: Call) -> Result<Entry, ApplyFault>
         requires { seat < SEATS }
-        ensures ok { IfOk result (λ e. (e.seat ≡ seat) × (e.call ≡ call) × Records C.orders C.places self.old self.new e) }
+        ensures ok { IfOk result
+            (λ e. (e.seat ≡ seat) × (e.call ≡ call) × Records C.orders C.places self.old self.new e) }
         ensures err { OnErr result (IsKept self.old self.new) }
         ensures ready { 0 < self.old.room → length self.old.past < self.old.limit → IsOk result }
         ensures full { (result ≡ Err ApplyFault.JournalFull) ↔ (length self.old.past ≡ self.old.limit) }
@@ -163,8 +170,9 @@ impl<C: Chooser> Recorder<C> {
 /// Adds the entry of a call.
 fn add(journal: &mut Journal, state: &State, seat: u8, number: u32, call: Call, answer: &Answer)
     requires room { 0 < journal.old.room }
-    requires count { length journal.old.past < 4294967295 }
-    requires continues { Continues journal.old.opening journal.old.past (entry_of seat number call answer.now state.now) }
+    requires count { length journal.old.past < u32.MAX }
+    requires continues { Continues journal.old.opening journal.old.past
+        (entry_of seat number call answer.now state.now) }
     ensures opening { journal.new.opening ≡ journal.old.opening }
     ensures past { journal.new.past ≡ entry_of seat number call answer.now state.now ∷ journal.old.past }
 {
@@ -180,8 +188,9 @@ fn add(journal: &mut Journal, state: &State, seat: u8, number: u32, call: Call, 
 #[inline(never)]
 fn add_start(journal: &mut Journal, state: &State, seat: u8, number: u32, call: Call, reply: &Reply)
     requires room { 0 < journal.old.room }
-    requires count { length journal.old.past < 4294967295 }
-    requires continues { Continues journal.old.opening journal.old.past (round_entry seat number call reply.now state.now) }
+    requires count { length journal.old.past < u32.MAX }
+    requires continues { Continues journal.old.opening journal.old.past
+        (round_entry seat number call reply.now state.now) }
     ensures opening { journal.new.opening ≡ journal.old.opening }
     ensures past { journal.new.past ≡ round_entry seat number call reply.now state.now ∷ journal.old.past }
 {

@@ -49,7 +49,8 @@ impl State {
         call: &Call,
     ) -> Answer
         requires { Mirrors journal.now.opening journal.now.past self.old }
-        ensures { IsAnswered C.orders C.places journal.now.opening journal.now.past call.now result self.new chooser.old chooser.new }
+        ensures { IsAnswered C.orders C.places journal.now.opening journal.now.past
+            call.now result self.new chooser.old chooser.new }
     {
         match call {
             Call::Tick => self.tick(journal, chooser),

@@ -13,10 +13,10 @@ use Rattle.swim_history.specs.Events.{probe_in, joins}
 use Rattle.swim_history.specs.Clock.{period_number}
 use Rattle.swim_history.specs.Round.{listed}
 use Rattle.swim_history.specs.Run.{IsRun}
-use Rattle.swim_history.specs.RunLaws.{IsRun-older}
-use Rattle.swim_history.specs.JudgementLaws.{started_number, map_some}
+use Rattle.swim_history.specs.Laws.Run.{IsRun-older}
+use Rattle.swim_history.specs.Laws.Judgement.{started_number, map_some}
 use Rattle.swim_history.specs.Gap.{probes_member, unlists, IsGap, HasNoGap, IsWidest}
-use Rattle.swim_history.specs.GapLaws.{number_after, probing_starts, gap_bound}
+use Rattle.swim_history.specs.Laws.Gap.{number_after, probing_starts, gap_bound}
 use Rattle.swim_history.specs.LastProbe.{probed_at, with_joiner, kept, last_of, last_then, gap_since, gap_then, wider, last_probe, widest_gap}
 use Rattle.swim_history.proofs.LastProbes.{IsLast, no_split, ProbesIt, probes_it, probes_other, last_new, only_last, was_last, still_last, gap_older, gap_new, gap_cases}
 

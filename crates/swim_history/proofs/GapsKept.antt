@@ -18,11 +18,11 @@ use Rattle.swim_history.specs.Clock.{period_number}
 use Rattle.swim_history.specs.Rows.{failed, is_up, row_then, row_of, is_listed}
 use Rattle.swim_history.specs.Round.{listed}
 use Rattle.swim_history.specs.Run.{IsRun}
-use Rattle.swim_history.specs.RunLaws.{begins}
+use Rattle.swim_history.specs.Laws.Run.{begins}
 use Rattle.swim_history.specs.Gap.{is_member, unlists}
-use Rattle.swim_history.specs.GapLaws.{probing_starts, probed_listed}
+use Rattle.swim_history.specs.Laws.Gap.{probing_starts, probed_listed}
 use Rattle.swim_history.specs.LastProbe.{probed_at, with_joiner, gap_since, last_probe, widest_gap}
-use Rattle.swim_history.specs.MemberGaps.{last_at, last_in, widest_in, unlisted, probed_again, gaps_then, IsKept, IsOpenTo}
+use Rattle.swim_history.specs.Storing.MemberGaps.{last_at, last_in, widest_in, unlisted, probed_again, gaps_then, IsKept, IsOpenTo}
 use Rattle.swim_history.proofs.LastProbes.{ProbesIt, probes_it, probes_other, probing}
 use Rattle.swim_history.proofs.GapWalk.{wider_none, walked, gap_rises, widest_rises}
 

@@ -10,10 +10,10 @@ use Rattle.swim_history.specs.declared.entries.Entry.{Entry}
 use Rattle.swim_history.specs.Setting.{Setting}
 use Rattle.swim_history.specs.declared.stored_replies.Start.{Start}
 use Rattle.swim_history.specs.Events.{is_start, is_starting, judged_in, probe_in}
-use Rattle.swim_history.specs.StoredReplies.{start_in}
+use Rattle.swim_history.specs.Storing.StoredReplies.{start_in}
 use Rattle.swim_history.specs.Clock.{period_number}
 use Rattle.swim_history.specs.Run.{Continues, IsRun}
-use Rattle.swim_history.specs.RunLaws.{IsRun-older, begins}
+use Rattle.swim_history.specs.Laws.Run.{IsRun-older, begins}
 
 -- the entry at a place, and another where there is none
 abbrev pub no_entry : Entry

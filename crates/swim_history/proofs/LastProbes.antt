@@ -10,7 +10,7 @@ use Rattle.swim_history.specs.Setting.{Setting}
 use Rattle.swim_history.specs.Events.{probe_in, joins}
 use Rattle.swim_history.specs.Round.{listed}
 use Rattle.swim_history.specs.Gap.{is_probe_of, probes_member, unlists, IsGap}
-use Rattle.swim_history.specs.GapLaws.{counted}
+use Rattle.swim_history.specs.Laws.Gap.{counted}
 use Rattle.swim_history.specs.LastProbe.{probed_at}
 
 -- the last probe of the member, in the period a, since which it is listed; n is how many were listed just after it, and

@@ -5,7 +5,7 @@ use Rattle.std.proofs.lemmas.Bool.Decides.{nat_tests}
 use Rattle.swim_history.specs.declared.rows.Row.{Row}
 use Rattle.swim_history.specs.Rows.{row_at}
 use Rattle.swim_history.specs.Changes.{put, IsAscending}
-use Rattle.swim_history.specs.TableLaws.{put_length, put_length-known}
+use Rattle.swim_history.specs.Laws.Table.{put_length, put_length-known}
 
 put_more : (new row : Row) (rows : List Row) → (row_at rows new.id ≡ None → length (put new rows) ≡ length rows + 1) → row_at (row ∷ rows) new.id ≡ None → length (put new (row ∷ rows)) ≡ length (row ∷ rows) + 1
 put_more new row rows again none = grind (arith, nat_tests)

@@ -16,8 +16,8 @@ use Rattle.swim_history.specs.declared.replies.Reply.{Reply}
 use Rattle.swim_history.specs.declared.replies.Reply.TheVariants as replies
 use Rattle.swim_history.specs.declared.stored_replies.StoredReply.{StoredReply}
 use Rattle.swim_history.specs.declared.stored_replies.StoredReply.TheVariants as stored_replies
-use Rattle.swim_history.specs.StoredReplies.{relays_in, reply_at, reply_among, IsAskedWithin}
-use Rattle.swim_history.specs.Storage.{ids_in, drawn_at, choice_among, no_stored, entry_in, IsWithin, IsStoredWithin, AreWithin, IsPlaced, ArePlaced}
+use Rattle.swim_history.specs.Storing.StoredReplies.{relays_in, reply_at, reply_among, IsAskedWithin}
+use Rattle.swim_history.specs.Storing.Storage.{ids_in, drawn_at, choice_among, no_stored, entry_in, IsWithin, IsStoredWithin, AreWithin, IsPlaced, ArePlaced}
 use Rattle.swim_history.proofs.Each.{each_at}
 
 -- ids put behind the others are found there

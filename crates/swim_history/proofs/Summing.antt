@@ -10,14 +10,14 @@ use Rattle.swim_history.specs.Setting.{Setting, IsSetting}
 use Rattle.swim_history.specs.Events.{judged_in, probe_in, joins}
 use Rattle.swim_history.specs.Clock.{period_number}
 use Rattle.swim_history.specs.Changes.{change_by, rows_after, table}
-use Rattle.swim_history.specs.TableLaws.{table_ascends, table_next, table_bound}
+use Rattle.swim_history.specs.Laws.Table.{table_ascends, table_next, table_bound}
 use Rattle.swim_history.specs.Judgement.{judgement, judgements}
 use Rattle.swim_history.specs.Run.{Continues, IsRun}
-use Rattle.swim_history.specs.RunLaws.{number_then}
+use Rattle.swim_history.specs.Laws.Run.{number_then}
 use Rattle.swim_history.specs.declared.summaries.Summary.{Summary}
-use Rattle.swim_history.specs.UntilProbed.{length-filter-le}
-use Rattle.swim_history.specs.MemberGaps.{IsOpenTo}
-use Rattle.swim_history.specs.Written.{IsSummary, HasRoomFor, IsNext}
+use Rattle.swim_history.specs.Laws.UntilProbed.{length-filter-le}
+use Rattle.swim_history.specs.Storing.MemberGaps.{IsOpenTo}
+use Rattle.swim_history.specs.Storing.Written.{IsSummary, HasRoomFor, IsNext}
 use Rattle.swim_history.proofs.InOrder.{unspent_at}
 use Rattle.swim_history.proofs.UpRows.{up_rows}
 use Rattle.swim_history.proofs.GapsKept.{kept_next, kept_open}

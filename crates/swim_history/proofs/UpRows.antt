@@ -8,11 +8,11 @@ use Rattle.swim_history.specs.declared.rows.Row.{Row}
 use Rattle.swim_history.specs.declared.entries.Entry.{Entry}
 use Rattle.swim_history.specs.Setting.{Setting, IsSetting, ids_of, is_state_up}
 use Rattle.swim_history.specs.Changes.{IsAscending, table}
-use Rattle.swim_history.specs.TableLaws.{none_below, table_ascends, table_shows}
+use Rattle.swim_history.specs.Laws.Table.{none_below, table_ascends, table_shows}
 use Rattle.swim_history.specs.Rows.{is_up}
 use Rattle.swim_history.specs.Round.{listed}
 use Rattle.swim_history.specs.Run.{IsRun}
-use Rattle.swim_history.specs.ListedLaws.{has_row, listed_first, once_up, listed_is, listed_once, no_longer}
+use Rattle.swim_history.specs.Laws.Listed.{has_row, listed_first, once_up, listed_is, listed_once, no_longer}
 
 -- no id of rows that ascend stands twice
 ascending_once : (rows : List Row) → IsAscending rows → has_twice (ids_of rows) ≡ false

@@ -14,7 +14,8 @@ rows_up members = map (λ member. up member.0 member.1) members
 
 -- the setting that the arguments give, whether or not it is within the limits
 abbrev pub setting_of : ℕ → ℕ → ℕ → ℕ → List (ℕ × Address) → ℕ → Setting
-setting_of me k rtt period members last = record { me = me; k = k; rtt = rtt; period = period; rows = rows_up members; last = last }
+setting_of me k rtt period members last =
+    record { me = me; k = k; rtt = rtt; period = period; rows = rows_up members; last = last }
 
 -- the fault applies
 abbrev pub has_fault : Setting → OpeningFault → Bool

@@ -23,15 +23,20 @@ DrawsRelays orders k ids relays before after =
 
 -- what the chooser is asked for an entry: the order of a new round, the order of the members that may be asked
 -- to ping the aim, the place of a joiner, and nothing else
-abbrev pub DrawsEntry : {S : Type 0} → (S → List ℕ → List ℕ → S → Type 0) → (S → ℕ → ℕ → S → Type 0) → Setting → List Entry → Call → Reply → Choice → S → S → Type 0
-DrawsEntry orders places o h Tick (Started judged probe) (Round order) before after = orders before (leave_judged judged (lists o h)).probed order.items after
+abbrev pub DrawsEntry : {S : Type 0} → (S → List ℕ → List ℕ → S → Type 0) → (S → ℕ → ℕ → S → Type 0) → Setting →
+    List Entry → Call → Reply → Choice → S → S → Type 0
+DrawsEntry orders places o h Tick (Started judged probe) (Round order) before after =
+    orders before (leave_judged judged (lists o h)).probed order.items after
 DrawsEntry orders places o h Tick (Asked m number relays) choice before after =
     DrawsRelays orders o.k (candidates o h m) (map (λ relay. relay.id) relays.items) before after
-DrawsEntry orders places o h (Join id peer) (Joined place) choice before after = places before (length (listed o h)) place after
+DrawsEntry orders places o h (Join id peer) (Joined place) choice before after =
+    places before (length (listed o h)) place after
 DrawsEntry orders places o h call reply choice before after = after ≡ before
 
 -- the choices of a run are those of the chooser, which is start before it and now after it
-abbrev pub IsDrawn : {S : Type 0} → (S → List ℕ → List ℕ → S → Type 0) → (S → ℕ → ℕ → S → Type 0) → Setting → S → List Entry → S → Type 0
+abbrev pub IsDrawn : {S : Type 0} → (S → List ℕ → List ℕ → S → Type 0) → (S → ℕ → ℕ → S → Type 0) → Setting → S →
+    List Entry → S → Type 0
 IsDrawn orders places o start [] now = now ≡ start
 IsDrawn {S} orders places o start (e ∷ past) now =
-    (between : S) × IsDrawn orders places o start past between × DrawsEntry orders places o past e.call e.reply e.choice between now
+    (between : S) × IsDrawn orders places o start past between
+    × DrawsEntry orders places o past e.call e.reply e.choice between now

@@ -32,7 +32,8 @@ judgement number judged = option_map (λ m. record { member = m; number = number
 -- the judgements of a history, oldest first
 abbrev pub judgements : Setting → List Entry → List Judged
 judgements o [] = []
-judgements o (e ∷ before) = judgements o before ++ option_to_list (judgement (period_number o before) (judged_in e.reply))
+judgements o (e ∷ before) =
+    judgements o before ++ option_to_list (judgement (period_number o before) (judged_in e.reply))
 
 -- in a history, each judgement is one by the rule, and each case of the rule is judged
 abbrev pub JudgesByRule : Setting → List Entry → Type 0

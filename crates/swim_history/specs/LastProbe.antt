@@ -1,5 +1,6 @@
 -- The last probe of a member since which it is listed, and its widest gap.
-use Rattle.std.specs.Prelude.{ℕ, ◌+◌, ◌-◌, ◌==◌, nat_lt, Bool, List, [], ◌∷◌, length, Option, Some, None, option_and_then, if◌then◌else◌}
+use Rattle.std.specs.Prelude.{ℕ, ◌+◌, ◌-◌, ◌==◌, nat_lt, Bool, List, [], ◌∷◌, length, Option, Some, None}
+use Rattle.std.specs.Prelude.{option_and_then, if◌then◌else◌}
 use Rattle.std.specs.Option.{option_map}
 use Rattle.swim_history.specs.declared.calls.Call.{Call}
 use Rattle.swim_history.specs.declared.replies.Reply.{Reply}
@@ -21,7 +22,8 @@ with_joiner joined last = if joined then record { number = last.number; n = last
 
 -- what is kept after an entry that doesn't probe the member
 abbrev pub kept : ℕ → Call → Reply → Option LastProbe → Option LastProbe
-kept m call reply last = if is_unlisting m call reply then None else option_map (with_joiner (is_joining call reply)) last
+kept m call reply last =
+    if is_unlisting m call reply then None else option_map (with_joiner (is_joining call reply)) last
 
 -- what is kept after an entry: up is how many are listed then
 abbrev pub last_of : Option ℕ → ℕ → Option LastProbe → Option LastProbe

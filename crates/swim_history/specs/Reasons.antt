@@ -1,7 +1,8 @@
 -- The numbers by which texts tell why a message was dropped or a call refused.
 use Rattle.std.specs.Prelude.{ℕ}
 use Rattle.swim_history.specs.declared.replies.DropReason.{DropReason}
-use Rattle.swim_history.specs.declared.replies.DropReason.TheVariants.{NotForMe, Borrowed, AboutMe, Unlisted, TableFull, Stray, NoRequest}
+use Rattle.swim_history.specs.declared.replies.DropReason.TheVariants.{NotForMe, Borrowed, AboutMe, Unlisted, TableFull}
+use Rattle.swim_history.specs.declared.replies.DropReason.TheVariants.{Stray, NoRequest}
 use Rattle.swim_history.specs.declared.replies.Refusal.{Refusal}
 use Rattle.swim_history.specs.declared.replies.Refusal.TheVariants.{Myself, Listed, Full, Unknown, Spent}
 

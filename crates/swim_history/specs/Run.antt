@@ -1,6 +1,7 @@
 -- The sequential detector: which entries may follow a history (sections 3.1 and 4.3 of the SWIM paper).
 -- A history is a list of entries, newest first. Nothing here but the entries themselves is remembered.
-use Rattle.std.specs.Prelude.{◌≡◌, ◌≢◌, ◌⊎◌, ℕ, ◌+◌, ◌-◌, ◌^◌, ◌<◌, ◌≤◌, ◌==◌, Bool, true, false, List, [], ◌∷◌, length, min, map, filter, Option, Some, None}
+use Rattle.std.specs.Prelude.{◌≡◌, ◌≢◌, ◌⊎◌, ℕ, ◌+◌, ◌-◌, ◌^◌, ◌<◌, ◌≤◌, ◌==◌, Bool, true, false, List, [], ◌∷◌, length}
+use Rattle.std.specs.Prelude.{min, map, filter, Option, Some, None}
 use Rattle.std.specs.List.{AllByRecursion}
 use Rattle.swim_wire.specs.Address.{Address}
 use Rattle.swim_wire.specs.Ids.{most_members, has, has_twice, without, front}
@@ -13,10 +14,12 @@ use Rattle.swim_wire.specs.declared.messages.Message.{Message}
 use Rattle.swim_history.specs.declared.calls.Call.{Call}
 use Rattle.swim_history.specs.declared.calls.Call.TheVariants.{Tick, Hear, Join, Remove}
 use Rattle.swim_history.specs.declared.replies.Reply.{Reply}
-use Rattle.swim_history.specs.declared.replies.Reply.TheVariants.{Quiet, Started, Asked, Heard, Send, Dropped, Joined, Removed, Refused}
+use Rattle.swim_history.specs.declared.replies.Reply.TheVariants.{Quiet, Started, Asked, Heard, Send, Dropped, Joined}
+use Rattle.swim_history.specs.declared.replies.Reply.TheVariants.{Removed, Refused}
 use Rattle.swim_history.specs.declared.replies.Probe.{Probe}
 use Rattle.swim_history.specs.declared.replies.Relay.{Relay}
-use Rattle.swim_history.specs.declared.replies.DropReason.TheVariants.{NotForMe, Borrowed, AboutMe, Unlisted, TableFull, Stray, NoRequest}
+use Rattle.swim_history.specs.declared.replies.DropReason.TheVariants.{NotForMe, Borrowed, AboutMe, Unlisted, TableFull}
+use Rattle.swim_history.specs.declared.replies.DropReason.TheVariants.{Stray, NoRequest}
 use Rattle.swim_history.specs.declared.replies.Refusal.TheVariants.{Myself, Listed, Full, Unknown, Spent}
 use Rattle.swim_history.specs.declared.entries.Choice.{Choice}
 use Rattle.swim_history.specs.declared.entries.Choice.TheVariants.{Nothing}
@@ -37,15 +40,18 @@ greatest_number = 2 ^ 64 - 1
 abbrev pub IsProbe : Setting → List Entry → ℕ → Option ℕ → Option Probe → Type 0
 IsProbe o h number None probe = probe ≡ None
 IsProbe o h number (Some m) probe =
-    (peer : Address) × (row_of o h m ≡ Some (up m peer)) × (probe ≡ Some (record { target = m; peer = peer; number = number }))
+    (peer : Address) × (row_of o h m ≡ Some (up m peer))
+    × (probe ≡ Some (record { target = m; peer = peer; number = number }))
 
 -- a tick by which a period begins, and the one before, if any, ends
-pub record IsStart (o : Setting) (h : List Entry) (judged : Option ℕ) (probe : Option Probe) (choice : Choice) : Type 0 where
+pub record IsStart (o : Setting) (h : List Entry) (judged : Option ℕ) (probe : Option Probe)
+    (choice : Choice) : Type 0 where
   pub begins : phase o h ≡ 0
   pub unspent : period_number o h < greatest_number
   pub judges : judged ≡ unheard o h
   pub draws : MayDraw (drawn choice) (leave_judged judged (lists o h))
-  pub probes : IsProbe o h (period_number o h + 1) (front (redraw (drawn choice) (leave_judged judged (lists o h))).rest) probe
+  pub probes : IsProbe o h (period_number o h + 1)
+      (front (redraw (drawn choice) (leave_judged judged (lists o h))).rest) probe
 
 -- the listed members that may be asked to ping the aim
 abbrev pub candidates : Setting → List Entry → ℕ → List ℕ
@@ -55,7 +61,8 @@ candidates o h m = without m (listed o h)
 pub record AreRelays (o : Setting) (h : List Entry) (m : ℕ) (relays : List Relay) : Type 0 where
   pub count : length relays ≡ min o.k (length (candidates o h m))
   pub once : has_twice (map (λ relay. relay.id) relays) ≡ false
-  pub each : AllByRecursion (λ relay. (has (candidates o h m) relay.id ≡ true) × (row_of o h relay.id ≡ Some (up relay.id relay.peer))) relays
+  pub each : AllByRecursion
+      (λ relay. (has (candidates o h m) relay.id ≡ true) × (row_of o h relay.id ≡ Some (up relay.id relay.peer))) relays
 
 -- a request that its sender began, of a member other than this one
 abbrev pub IsRequest : ℕ → Message → Type 0
@@ -77,12 +84,15 @@ Hears o h m source PingReq (Dropped Borrowed) = (m.initiator ≢ m.sender) ⊎ (
 Hears o h m source PingReq (Dropped AboutMe) = IsRequest o.me m × (m.target ≡ o.me)
 Hears o h m source PingReq (Dropped Unlisted) = IsRequest o.me m × (m.target ≢ o.me) × (is_listed o h m.target ≡ false)
 Hears o h m source PingReq (Dropped TableFull) =
-    IsRequest o.me m × (m.target ≢ o.me) × (is_listed o h m.target ≡ true) × (is_waiting o h m ≡ false) × (most_waiting ≤ length (waiting o h))
+    IsRequest o.me m × (m.target ≢ o.me) × (is_listed o h m.target ≡ true) × (is_waiting o h m ≡ false)
+    × (most_waiting ≤ length (waiting o h))
 Hears o h m source PingReq (Send peer ping) =
-    IsRequest o.me m × (m.target ≢ o.me) × (row_of o h m.target ≡ Some (up m.target peer)) × (is_waiting o h m ≡ false → length (waiting o h) < most_waiting) × (ping ≡ passed_on Ping o.me m)
+    IsRequest o.me m × (m.target ≢ o.me) × (row_of o h m.target ≡ Some (up m.target peer))
+    × (is_waiting o h m ≡ false → length (waiting o h) < most_waiting) × (ping ≡ passed_on Ping o.me m)
 Hears o h m source Ack Heard = (m.initiator ≡ o.me) × (aim h ≡ Some m.target) × (m.number ≡ period_number o h)
 Hears o h m source Ack (Dropped Stray) = (m.initiator ≡ o.me) × (aim h ≡ Some m.target → m.number ≢ period_number o h)
-Hears o h m source Ack (Send peer ack) = (m.initiator ≢ o.me) × (peer_for (key_of m) (waiting o h) ≡ Some peer) × (ack ≡ passed_on Ack o.me m)
+Hears o h m source Ack (Send peer ack) =
+    (m.initiator ≢ o.me) × (peer_for (key_of m) (waiting o h) ≡ Some peer) × (ack ≡ passed_on Ack o.me m)
 Hears o h m source Ack (Dropped NoRequest) = (m.initiator ≢ o.me) × (peer_for (key_of m) (waiting o h) ≡ None)
 Hears o h m source kind reply = ⊥
 
@@ -96,9 +106,11 @@ Answers o h Tick Quiet Nothing = (phase o h ≢ 0) × (phase o h ≡ o.rtt → u
 Answers o h (Hear m source) reply Nothing = Hears o h m source m.kind reply
 Answers o h (Join id peer) (Refused Myself) Nothing = id ≡ o.me
 Answers o h (Join id peer) (Refused Listed) Nothing = (id ≢ o.me) × (is_listed o h id ≡ true)
-Answers o h (Join id peer) (Refused Full) Nothing = (id ≢ o.me) × (row_of o h id ≡ None) × (known_count o h ≡ most_members)
+Answers o h (Join id peer) (Refused Full) Nothing =
+    (id ≢ o.me) × (row_of o h id ≡ None) × (known_count o h ≡ most_members)
 Answers o h (Join id peer) (Joined place) Nothing =
-    (id ≢ o.me) × (is_listed o h id ≡ false) × (row_of o h id ≡ None → known_count o h ≢ most_members) × (place ≤ length (listed o h))
+    (id ≢ o.me) × (is_listed o h id ≡ false) × (row_of o h id ≡ None → known_count o h ≢ most_members)
+    × (place ≤ length (listed o h))
 Answers o h (Remove id) (Refused Myself) Nothing = id ≡ o.me
 Answers o h (Remove id) (Refused Unknown) Nothing = (id ≢ o.me) × (row_of o h id ≡ None)
 Answers o h (Remove id) Removed Nothing = (id ≢ o.me) × (row_of o h id ≢ None)

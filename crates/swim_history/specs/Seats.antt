@@ -8,5 +8,11 @@ abbrev pub kept_of : ℕ → List Entry → List Kept
 kept_of seat [] = []
 kept_of seat (e ∷ before) =
     if e.seat == seat
-    then kept_of seat before ++ record { position = length before; number = e.number; call = e.call; reply = e.reply } ∷ []
+    then kept_of seat before ++ record {
+      position = length before;
+      number = e.number;
+      call = e.call;
+      reply =
+          e.reply;
+    } ∷ []
     else kept_of seat before

@@ -1,7 +1,8 @@
 -- The requests that wait: pings that other members asked for, whose acks are to be forwarded
 -- (section 3.1 of the SWIM paper). A request waits with the address that it came from until an ack of its
 -- probe is forwarded, the probe is asked for again, or a whole period of ticks has passed.
-use Rattle.std.specs.Prelude.{ℕ, ◌-◌, Bool, false, List, [], ◌∷◌, ◌++◌, Option, Some, None, if◌then◌else◌, nat_lt, option_and_then}
+use Rattle.std.specs.Prelude.{ℕ, ◌-◌, Bool, false, List, [], ◌∷◌, ◌++◌, Option, Some, None, if◌then◌else◌, nat_lt}
+use Rattle.std.specs.Prelude.{option_and_then}
 use Rattle.std.specs.List.{list_any}
 use Rattle.std.specs.Option.{option_to_list}
 use Rattle.swim_wire.specs.Address.{Address}
@@ -54,13 +55,15 @@ ends key e = is_same key (sent_on_in e.call e.reply)
 abbrev pub left_of : ℕ → List Entry → Asking → Option Request
 left_of period newer a =
     if list_any (ends a.key) newer then None
-    else (if nat_lt (ticks newer) period then Some (record { key = a.key; peer = a.peer; left = period - ticks newer }) else None)
+    else (if nat_lt (ticks newer) period then Some (record { key = a.key; peer = a.peer; left = period - ticks newer })
+    else None)
 
 -- the requests that wait after these entries and then those, oldest first
 abbrev pub waiting_since : ℕ → List Entry → List Entry → List Request
 waiting_since period newer [] = []
 waiting_since period newer (e ∷ before) =
-    waiting_since period (e ∷ newer) before ++ option_to_list (option_and_then (left_of period newer) (asked_in e.call e.reply))
+    waiting_since period (e ∷ newer) before ++ option_to_list
+    (option_and_then (left_of period newer) (asked_in e.call e.reply))
 
 -- the requests that wait after a history, oldest first
 abbrev pub waiting : Setting → List Entry → List Request

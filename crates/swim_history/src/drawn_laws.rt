@@ -2,8 +2,8 @@
 
 ghost use Rattle.std.specs.Prelude.{ℕ, List};
 ghost use Rattle.swim_history.specs.Setting.{Setting, IsSetting};
-ghost use Rattle.swim_history.specs.DrawnLaws.{IsFunctional, DrawsOnce};
-ghost use Rattle.swim_history.specs.DrawnRuns.{IsTotal, DrawsAlways};
+ghost use Rattle.swim_history.specs.Laws.Drawn.{IsFunctional, DrawsOnce};
+ghost use Rattle.swim_history.specs.Laws.DrawnRuns.{IsTotal, DrawsAlways};
 
 /// What choosers of a kind answer, whatever they are.
 pub trait Drawing {
@@ -20,10 +20,12 @@ pub trait Drawing {
 /// Where choosers that are the same answer the same and are the same afterwards, an opening, a chooser and a
 /// list of calls, each with its seat, have at most one drawn run, and one chooser after it.
 pub fn calls_determine_a_drawn_run<C: Drawing>()
-    ensures { IsFunctional C.orders C.places C.same → (o : Setting) → IsSetting o → DrawsOnce C.orders C.places C.same o }
+    ensures { IsFunctional C.orders C.places C.same → (o : Setting) → IsSetting o →
+        DrawsOnce C.orders C.places C.same o }
 {}
 
-/// Where choosers always answer, an opening, a chooser and a list of calls, each with its seat, 0 to 3, have a drawn run.
+/// Where choosers always answer, an opening, a chooser and a list of calls, each with its seat, 0 to 3, have a drawn
+/// run.
 pub fn calls_have_a_drawn_run<C: Drawing>()
     ensures { IsTotal C.orders C.places → (o : Setting) → IsSetting o → DrawsAlways C.orders C.places o }
 {}

@@ -1,13 +1,15 @@
 //! The gaps between successive probes of a member that is listed all the time between, as they come.
 
-ghost use Rattle.std.specs.Prelude.{◌≡◌, ◌+◌, ◌^◌, ◌<◌, ◌≤◌, ◌==◌, ℕ, length, filter, IfSome, nat_eq, Some, if◌then◌else◌};
+ghost use Rattle.std.specs.Prelude.{◌≡◌, ◌+◌, ◌^◌, ◌<◌, ◌≤◌, ◌==◌, ℕ, length, filter, IfSome, nat_eq, Some};
+ghost use Rattle.std.specs.Prelude.{if◌then◌else◌};
 ghost use Rattle.std.specs.Option.{option_map};
 ghost use Rattle.std.specs.HashMap.{get, spare};
 ghost use Rattle.swim_history.specs.Setting.{is_state_up};
 ghost use Rattle.swim_history.specs.Events.{is_joining, probe_in};
 ghost use Rattle.swim_history.specs.Gap.{is_member, is_unlisting};
 ghost use Rattle.swim_history.specs.LastProbe.{gap_since, wider};
-ghost use Rattle.swim_history.specs.MemberGaps.{last_at, last_in, widest_in, unlisted, probed_again, gaps_then, IsOpenTo};
+ghost use Rattle.swim_history.specs.Storing.MemberGaps.{last_at, last_in, widest_in, unlisted, probed_again, gaps_then};
+ghost use Rattle.swim_history.specs.Storing.MemberGaps.{IsOpenTo};
 
 use crate::calls::Call;
 use crate::replies::Reply;
@@ -65,7 +67,8 @@ pub(crate) fn note_gaps(
 )
     requires room { 0 < spare gaps.old }
     requires rows { length rows.now ≤ KNOWN_MEMBERS }
-    requires fits { IfSome (probe_in reply.now) (λ probe. IsOpenTo joins probe.number (get nat_eq gaps.old probe.target)) }
+    requires fits { IfSome (probe_in reply.now)
+        (λ probe. IsOpenTo joins probe.number (get nat_eq gaps.old probe.target)) }
     ensures gaps { let up = length (filter (λ row. is_state_up row.state) rows.now) in
         (m : ℕ) → get nat_eq gaps.new m ≡ gaps_then m call.now reply.now up joins (get nat_eq gaps.old m) }
     ensures room { spare gaps.old ≤ spare gaps.new + 1 }

@@ -1,10 +1,11 @@
 //! The journal: a run of the sequential detector, as it happened.
 
-ghost use Rattle.std.specs.Prelude.{◌≡◌, ◌↔◌, ◌+◌, ◌^◌, ◌<◌, ◌≤◌, ◌==◌, ◌∷◌, ◌++◌, [], None, length, map, reverse, IfSome, IsOk, IfOk, OnOk, slice_get, true, if◌then◌else◌};
+ghost use Rattle.std.specs.Prelude.{◌≡◌, ◌↔◌, ◌+◌, ◌^◌, ◌<◌, ◌≤◌, ◌==◌, ◌∷◌, ◌++◌, [], None, length, map, reverse};
+ghost use Rattle.std.specs.Prelude.{IfSome, IsOk, IfOk, OnOk, slice_get, true, if◌then◌else◌};
 ghost use Rattle.std.specs.Option.{option_to_list};
 ghost use Rattle.swim_history.specs.Setting.{IsSetting};
 ghost use Rattle.swim_history.specs.Events.{is_starting, judged_in};
-ghost use Rattle.swim_history.specs.Written.{undrawn};
+ghost use Rattle.swim_history.specs.Storing.Written.{undrawn};
 ghost use Rattle.swim_history.specs.Run.{Continues, IsRun};
 ghost use Rattle.swim_history.specs.Judgement.{judgements, judgement, JudgesByRule};
 ghost use Rattle.swim_history.specs.Probes.{probes, probed_by, ProbesAsDrawn};
@@ -51,7 +52,7 @@ impl Model for Journal {
     ghost use Rattle.std.specs.HashMap.{spare};
     ghost use Rattle.swim_history.specs.Setting.{IsSetting};
     ghost use Rattle.swim_history.specs.Run.{IsRun};
-    ghost use Rattle.swim_history.specs.Written.{Written, IsSummary};
+    ghost use Rattle.swim_history.specs.Storing.Written.{Written, IsSummary};
 
     ghost Value = { Written };
 
@@ -125,10 +126,10 @@ impl Journal {
         self.entries.reserve()
     }
 
-    /// Puts an entry last. It takes no memory.
+    /// Puts an entry last. It can't be refused, since room for it was made.
     pub fn add(&mut self, entry: &Entry)
         requires room { 0 < self.old.room }
-        requires count { length self.old.past < 4294967295 }
+        requires count { length self.old.past < u32.MAX }
         requires continues { Continues self.old.opening self.old.past entry.now }
         ensures opening { self.new.opening ≡ self.old.opening }
         ensures past { self.new.past ≡ entry.now ∷ self.old.past }
@@ -138,10 +139,10 @@ impl Journal {
         self.entries.push(entry);
     }
 
-    /// Puts an entry last for which nothing was drawn. It takes no memory.
+    /// Puts an entry last for which nothing was drawn. It can't be refused, since room for it was made.
     pub fn add_undrawn(&mut self, seat: u8, number: u32, call: &Call, reply: &Reply)
         requires room { 0 < self.old.room }
-        requires count { length self.old.past < 4294967295 }
+        requires count { length self.old.past < u32.MAX }
         requires continues { Continues self.old.opening self.old.past (undrawn seat number call.now reply.now) }
         ensures opening { self.new.opening ≡ self.old.opening }
         ensures past { self.new.past ≡ undrawn seat number call.now reply.now ∷ self.old.past }

@@ -10,7 +10,7 @@ ghost use Rattle.swim_history.specs.Rows.{row_at, row_of};
 ghost use Rattle.swim_history.specs.Changes.{table, IsAscending};
 ghost use Rattle.swim_history.specs.Run.{Continues, IsRun};
 ghost use Rattle.swim_history.specs.Unchanged.{is_declining, IsUnchanged};
-ghost use Rattle.swim_history.specs.Determined.{FitsOnce, StartsOnce};
+ghost use Rattle.swim_history.specs.Laws.Determined.{FitsOnce, StartsOnce};
 
 /// In a run an entry begins a period exactly where it is an accepted tick at phase 0: a start by its
 /// reply is a start by the clock.
@@ -48,5 +48,6 @@ pub fn table_shows_members()
 /// A dropped message and a refused call change nothing that the rules look at: the clock, the round, the rows, the aim
 /// and whether it was heard, the requests that wait. So what may follow them is what might have stood in their place.
 pub fn declining_changes_nothing()
-    ensures { (o : Setting) (h : List Entry) (e : Entry) → Continues o h e → is_declining e.reply ≡ true → IsUnchanged o h e }
+    ensures { (o : Setting) (h : List Entry) (e : Entry) → Continues o h e → is_declining e.reply ≡ true →
+        IsUnchanged o h e }
 {}

@@ -64,9 +64,18 @@ impl Model for Opening {
 
     ghost Value = { Setting };
 
-    ghost view = { λ o. record { me = o.me; k = o.k; rtt = o.rtt; period = o.period; rows = o.rows.items; last = o.last } };
+    ghost view = { λ o. record {
+      me = o.me;
+      k = o.k;
+      rtt = o.rtt;
+      period = o.period;
+      rows = o.rows.items;
+      last =
+          o.last;
+    } };
 
-    ghost invariant = { λ o. IsSetting (record { me = o.me; k = o.k; rtt = o.rtt; period = o.period; rows = o.rows.items; last = o.last }) };
+    ghost invariant = { λ o. IsSetting
+        (record { me = o.me; k = o.k; rtt = o.rtt; period = o.period; rows = o.rows.items; last = o.last }) };
 }
 
 impl Opening {

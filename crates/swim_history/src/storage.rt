@@ -1,11 +1,12 @@
 //! The entries of a journal, as they are stored.
 
-ghost use Rattle.std.specs.Prelude.{◌≡◌, ◌+◌, ◌<◌, ◌≤◌, ◌==◌, ◌++◌, ◌∷◌, [], length, vec_len, vec_capacity, slice_get, slice_index_or, OnOk, IsOk};
+ghost use Rattle.std.specs.Prelude.{◌≡◌, ◌+◌, ◌<◌, ◌≤◌, ◌==◌, ◌++◌, ◌∷◌, [], length, vec_len, vec_capacity, slice_get};
+ghost use Rattle.std.specs.Prelude.{slice_index_or, OnOk, IsOk};
 ghost use Rattle.swim_history.specs.declared.entries.Entry.{Entry};
 ghost use Rattle.swim_history.specs.declared.storage.Slot.TheVariants.{Whole};
-ghost use Rattle.swim_history.specs.Storage.{ids_in, drawn_at, choice_among, entry_among, IsWithin};
-ghost use Rattle.swim_history.specs.StoredReplies.{IsAskedWithin, start_in};
-ghost use Rattle.swim_history.specs.Written.{undrawn};
+ghost use Rattle.swim_history.specs.Storing.Storage.{ids_in, drawn_at, choice_among, entry_among, IsWithin};
+ghost use Rattle.swim_history.specs.Storing.StoredReplies.{IsAskedWithin, start_in};
+ghost use Rattle.swim_history.specs.Storing.Written.{undrawn};
 
 use crate::calls::Call;
 use crate::copies::copied;
@@ -64,7 +65,7 @@ impl Model for Entries {
     ghost use Rattle.std.specs.Prelude.{◌-◌, ◌/◌, map, min, length, vec_len, vec_capacity};
     ghost use Rattle.swim_wire.specs.Ids.{most_members};
     ghost use Rattle.swim_history.specs.Setting.{most_relays};
-    ghost use Rattle.swim_history.specs.Storage.{Storage, entry_in, ArePlaced, AreWithin};
+    ghost use Rattle.swim_history.specs.Storing.Storage.{Storage, entry_in, ArePlaced, AreWithin};
 
     ghost Value = { Storage };
 
@@ -121,7 +122,7 @@ impl Entries {
         self.ids.reserve(KNOWN_MEMBERS)
     }
 
-    /// Puts an entry last. It takes no memory.
+    /// Puts an entry last. It can't be refused, since room for it was made.
     pub(crate) fn push(&mut self, entry: &Entry)
         requires { 0 < self.old.room }
         ensures items { self.new.items ≡ self.old.items ++ entry.now ∷ [] }
@@ -137,7 +138,7 @@ impl Entries {
         store_whole(&mut self.slots, &mut self.whole, &stored);
     }
 
-    /// Puts an entry last for which nothing was drawn. It takes no memory.
+    /// Puts an entry last for which nothing was drawn. It can't be refused, since room for it was made.
     pub(crate) fn push_undrawn(&mut self, seat: u8, number: u32, call: &Call, reply: &Reply)
         requires { 0 < self.old.room }
         ensures items { self.new.items ≡ self.old.items ++ undrawn seat number call.now reply.now ∷ [] }
@@ -195,7 +196,8 @@ fn store_whole(slots: &mut Vec<Slot>, whole: &mut Vec<Stored>, stored: &Stored)
     requires whole { vec_len whole.old < vec_capacity whole.old }
     ensures slots { slots.new.items ≡ slots.old.items ++ Whole (length whole.old.items) ∷ [] }
     ensures whole { whole.new.items ≡ whole.old.items ++ stored.now ∷ [] }
-    ensures capacity { (vec_capacity slots.old ≤ vec_capacity slots.new) × (vec_capacity whole.old ≤ vec_capacity whole.new) }
+    ensures capacity { (vec_capacity slots.old ≤ vec_capacity slots.new)
+        × (vec_capacity whole.old ≤ vec_capacity whole.new) }
 {
     let place = whole.len();
     let _ = slots.push(Slot::Whole { place });

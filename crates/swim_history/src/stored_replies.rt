@@ -2,7 +2,7 @@
 
 ghost use Rattle.std.specs.Prelude.{◌≡◌, ◌+◌, ◌≤◌, ◌++◌, List, length, vec_len, vec_capacity};
 ghost use Rattle.swim_history.specs.declared.replies.Relay.{Relay};
-ghost use Rattle.swim_history.specs.StoredReplies.{relays_in, reply_at, reply_among, start_in, IsAskedWithin};
+ghost use Rattle.swim_history.specs.Storing.StoredReplies.{relays_in, reply_at, reply_among, start_in, IsAskedWithin};
 
 use crate::copies::copied;
 use crate::openings::MOST_RELAYS;

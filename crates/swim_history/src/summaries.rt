@@ -5,8 +5,8 @@ ghost use Rattle.std.specs.Option.{option_to_list};
 ghost use Rattle.std.specs.HashMap.{get, spare};
 ghost use Rattle.swim_history.specs.Events.{is_starting, is_joining, judged_in};
 ghost use Rattle.swim_history.specs.Changes.{change_by, rows_after, IsAscending};
-ghost use Rattle.swim_history.specs.MemberGaps.{widest_in};
-ghost use Rattle.swim_history.specs.Written.{IsSummary, HasRoomFor, IsNext, IsSame};
+ghost use Rattle.swim_history.specs.Storing.MemberGaps.{widest_in};
+ghost use Rattle.swim_history.specs.Storing.Written.{IsSummary, HasRoomFor, IsNext, IsSame};
 
 use crate::calls::Call;
 use crate::gaps::{Gap, GapsByMember, is_joining, note_gaps};
@@ -53,7 +53,7 @@ impl Summary {
         self.gaps.reserve(1)
     }
 
-    /// Goes on by an entry. It takes no memory.
+    /// Goes on by an entry. It can't be refused, since room for it was made.
     pub(crate) fn note(&mut self, call: &Call, reply: &Reply)
         requires { HasRoomFor call.now reply.now self.old }
         ensures { IsNext call.now reply.now self.old self.new }

@@ -7,7 +7,7 @@ use Rattle.swim_history.specs.declared.rows.Change.{Change}
 use Rattle.swim_history.specs.Setting.{Setting}
 use Rattle.swim_history.specs.Changes.{ascending, after_change, table_after}
 use Rattle.swim_history.specs.Changing.{changed_within}
-use Rattle.swim_history.specs.TableLaws.{rows_after-append}
+use Rattle.swim_history.specs.Laws.Table.{rows_after-append}
 use Rattle.swim_node.specs.declared.shown.Update.{Update}
 use Rattle.swim_node.specs.Shown.{Showing, shown_after, showing}
 

@@ -10,9 +10,9 @@ use Rattle.swim_history.specs.Setting.{Setting, IsSetting}
 use Rattle.swim_history.specs.Clock.{period_number}
 use Rattle.swim_history.specs.Changes.{change_by, changes, table_after}
 use Rattle.swim_history.specs.Run.{Continues, IsRun}
-use Rattle.swim_history.specs.TableLaws.{table_bound}
-use Rattle.swim_history.specs.JudgementLaws.{judges_by_rule}
-use Rattle.swim_history.specs.GapLaws.{gap_bound, probed_in_time}
+use Rattle.swim_history.specs.Laws.Table.{table_bound}
+use Rattle.swim_history.specs.Laws.Judgement.{judges_by_rule}
+use Rattle.swim_history.specs.Laws.Gap.{gap_bound, probed_in_time}
 use Rattle.swim_detector.specs.Recording.{IsChangeOf}
 use Rattle.swim_node.specs.Seats.{Seated}
 use Rattle.swim_node.specs.Answered.{EndsARun}

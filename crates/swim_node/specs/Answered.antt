@@ -24,7 +24,8 @@ kept position number call reply = record { position = position; number = number;
 abbrev pub entry_of : ℕ → Kept → Choice → Entry
 entry_of seat k choice = record { seat = seat; number = k.number; call = k.call; choice = choice; reply = k.reply }
 
--- some run of the opening ends with this call of the seat, at its place, and its changes of the member table are the news
+-- some run of the opening ends with this call of the seat, at its place, and its changes of the member table are the
+-- news
 pub record EndsARun (o : Setting) (seat : ℕ) (k : Kept) (news : List Change) : Type 0 where
   pub before : List Entry
   pub choice : Choice
@@ -45,7 +46,8 @@ pub record IsMoment (o : Setting) (seat : Seated) (past : List Entry) : Type 0 w
   pub run : IsRun o past
   pub calls : calls_of seat.number past ≡ length seat.calls
 
--- why a call may be refused under the lock: at such a moment the journal had as many entries as it may have, or memory was
+-- why a call may be refused under the lock: at such a moment the journal had as many entries as it may have, or
+-- memory was
 -- refused
 abbrev pub MayRefuse : Setting → ℕ → Seated → CallFault → Type 0
 MayRefuse o limit seat (Wire fault) = ⊥
@@ -61,4 +63,5 @@ MayRefuseBytes bytes o limit seat NoMemory = MayRefuse o limit seat NoMemory
 -- what is told of a member's widest gap is true of one such history
 abbrev pub IsGapAtMoment : Setting → Seated → ℕ → Option Gap → Type 0
 IsGapAtMoment o seat member gap =
-    (past : List Entry) × IsMoment o seat past × IfSome gap (λ g. IsWidest o past member g.a g.b g.n) × ((gap ≡ None) ↔ HasNoGap o past member)
+    (past : List Entry) × IsMoment o seat past × IfSome gap (λ g. IsWidest o past member g.a g.b g.n)
+    × ((gap ≡ None) ↔ HasNoGap o past member)

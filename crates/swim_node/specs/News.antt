@@ -1,4 +1,5 @@
--- Lists of changes of the member table, oldest first: what a node published so far (its news), and what a viewer has seen
+-- Lists of changes of the member table, oldest first: what a node published so far (its news), and what a viewer has
+-- seen
 -- of it. Of the news of one node one list begins the other.
 use Rattle.std.specs.Prelude.{◌≡◌, ◌⊎◌, ℕ, List, [], ◌∷◌, ◌++◌}
 use Rattle.std.specs.Option.{option_to_list}
@@ -16,7 +17,9 @@ SawNothing viewers = viewers ≡ [] ∷ [] ∷ [] ∷ [] ∷ []
 abbrev pub IsLongerOf : List Change → List Change → List Change → Type 0
 IsLongerOf one other longer = (IsPrefix one other × (longer ≡ other)) ⊎ (IsPrefix other one × (longer ≡ one))
 
--- where the reply makes a change, the news ends with it: a member is up after a join, gone after a removal, failed after
+-- where the reply makes a change, the news ends with it: a member is up after a join, gone after a removal, failed
+-- after
 -- a judgement
 abbrev pub EndsWithChange : Call → Reply → List Change → Type 0
-EndsWithChange call reply news = (before : List Change) × (number : ℕ) × (news ≡ before ++ option_to_list (change_by call reply number))
+EndsWithChange call reply news =
+    (before : List Change) × (number : ℕ) × (news ≡ before ++ option_to_list (change_by call reply number))

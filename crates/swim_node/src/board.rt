@@ -94,8 +94,8 @@ impl<N: Naming, H: Wait + Drop> Board<N, H> {
         }
     }
 
-    // Publishes an update without a change, so that the writer's queue has the memory that it ever needs: it never has more
-    // than two updates, the one published last and the next.
+    // Publishes an update without a change, so that the writer's queue has the memory that it ever needs: it never
+    // has more than two updates, the one published last and the next.
     fn warmed(self) -> Result<Board<N, H>, OpenFault>
         ensures { IfOk result (λ board. board ≡ self) }
     {

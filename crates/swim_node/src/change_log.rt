@@ -105,8 +105,8 @@ pub(crate) struct Head<N: Naming> {
     ghost is: { head ≡ head_of N.log },
 }
 
-/// A beginning of some node's list of changes: its length, and the proof that the list has begun so. A contract sees the
-/// changes, and which list it is.
+/// A beginning of some node's list of changes: its length, and the proof that the list has begun so. A contract sees
+/// the changes, and which list it is.
 #[derive(Drop)]
 pub(crate) struct Beginning {
     len: u64,

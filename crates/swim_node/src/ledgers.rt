@@ -1,5 +1,5 @@
-//! How many calls each seat was answered, counted under the lock and in the seats. Nothing here has bytes: the counts exist
-//! in the proofs alone, and show that no seat has lost a call or has one too many.
+//! How many calls each seat was answered, counted under the lock and in the seats. Nothing here has bytes: the counts
+//! exist in the proofs alone, and show that no seat has lost a call or has one too many.
 
 ghost use Rattle.std.specs.Prelude.{◌≡◌, ◌+◌, ◌<◌, ◌∷◌, [], length, slice_index, slice_set};
 ghost use Rattle.swim_node.specs.Names.{counted};
@@ -121,7 +121,8 @@ impl<N: Naming> Books<N> {
 
     /// Counts one more call of a seat.
     pub(crate) fn add(&mut self, tally: &mut Tally<N>)
-        ensures books { let seat = tally.old.seat in self.new ≡ slice_set self.old seat (slice_index self.old seat + 1) }
+        ensures books { let seat = tally.old.seat in self.new ≡ slice_set self.old seat
+            (slice_index self.old seat + 1) }
         ensures tally { tally.new ≡ counted tally.old.seat (tally.old.calls + 1) }
         ensures seat { tally.old.seat < 4 }
     {

@@ -1,5 +1,5 @@
-//! One detector for four callers in threads of their own, readers of its member table that take no lock, and at the end a
-//! journal of everything, in one order.
+//! One detector for four callers in threads of their own, readers of its member table that take no lock, and at the
+//! end a journal of everything, in one order.
 #![tactic(auto)]
 
 mod board;

@@ -26,8 +26,8 @@ use swim_targets::Chooser;
 use swim_wire::Id;
 
 /// What lies under a node's lock: the detector with its journal, how many calls each seat was answered, and what was
-/// published. Whenever the lock is free, the journal is a run of the node's opening, each seat's count is how many entries
-/// of it the journal has, and what is published are the journal's changes. A contract sees the detector.
+/// published. Whenever the lock is free, the journal is a run of the node's opening, each seat's count is how many
+/// entries of it the journal has, and what is published are the journal's changes. A contract sees the detector.
 #[derive(Drop)]
 pub(crate) struct Locked<N: Naming, C: Chooser, H: Wait + Drop> {
     recorder: Recorder<C>,
@@ -82,8 +82,8 @@ impl<N: Naming, C: Chooser, H: Wait + Drop> Locked<N, C, H> {
         Ok((locked, seats_of(alloc, tallies), viewers))
     }
 
-    /// Answers a call of a seat. In this order: the journal's limit; every growth of memory; and from then on nothing is
-    /// refused: the detector's answer and entry, the count, the publication of the change, the receipt.
+    /// Answers a call of a seat. In this order: the journal's limit; every growth of memory; and from then on nothing
+    /// is refused: the detector's answer and entry, the count, the publication of the change, the receipt.
     pub(crate) fn call(&mut self, seat: &mut Seat<N>, call: &Call) -> Result<Receipt<N>, CallFault>
         ensures ok { IfOk result (λ r. let k = kept r.position r.number r.call r.reply in
             IsAnswered N.opening seat.old seat.new call.now k r.news) }
@@ -140,8 +140,8 @@ impl<N: Naming, C: Chooser, H: Wait + Drop> Locked<N, C, H> {
         journal.widest_gap(member)
     }
 
-    /// Ends the publication, and hands the journal back, with the seats, whose calls it holds. `Err` where a seat's calls
-    /// are not the journal's entries of that seat.
+    /// Ends the publication, and hands the journal back, with the seats, whose calls it holds. `Err` where a seat's
+    /// calls are not the journal's entries of that seat.
     pub(crate) fn close(
         self,
         seats: [Seat<N>; 4],

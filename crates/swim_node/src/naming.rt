@@ -2,8 +2,9 @@
 
 use std::marker::Brand;
 
-/// Which node a value is of. A seat, a viewer and news carry their node in their type, by a parameter with this bound. It
-/// exists in the proofs alone: a program passes `Brand` where it calls the function in which a node is opened and used.
+/// Which node a value is of. A seat, a viewer and news carry their node in their type, by a parameter with this
+/// bound. It exists in the proofs alone: a program passes `Brand` where it calls the function in which a node is
+/// opened and used.
 pub trait Naming {
     ghost use Rattle.std.specs.Prelude.{ℕ, List};
     ghost use Rattle.logbook.specs.Pages.{Book};

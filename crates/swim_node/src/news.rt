@@ -9,9 +9,9 @@ use crate::change_log::Beginning;
 use crate::naming::Naming;
 use std::marker::{Model, PhantomData};
 
-/// Changes of the member table that a node has published, oldest first: all of them up to some moment. It holds no list,
-/// and takes 8 bytes. Threads may share it. A contract sees the changes; of the news of one node the shorter begins the
-/// longer.
+/// Changes of the member table that a node has published, oldest first: all of them up to some moment. It holds no
+/// list, and takes 8 bytes. Threads may share it. A contract sees the changes; of the news of one node the shorter
+/// begins the longer.
 #[derive(Drop)]
 pub struct News<N: Naming> {
     beginning: Beginning,

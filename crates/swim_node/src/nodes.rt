@@ -25,9 +25,9 @@ use swim_history::{Call, Gap, Journal, Opening};
 use swim_targets::Chooser;
 use swim_wire::{Id, Peer, decode};
 
-/// One detector, behind one lock, for four callers: its seats. Its calls take the lock and may wait for it; readers of its
-/// member table, its viewers, don't. Seats, viewers and news have to be of the node that they are used with, which their
-/// type says.
+/// One detector, behind one lock, for four callers: its seats. Its calls take the lock and may wait for it; readers
+/// of its member table, its viewers, don't. Seats, viewers and news have to be of the node that they are used with,
+/// which their type says.
 ///
 /// `H` is with what it waits for readers that look at an old table, also where it is closed or dropped.
 #[derive(Drop)]
@@ -36,9 +36,9 @@ pub struct Node<N: Naming, C: Chooser, H: Wait + Drop> {
 }
 
 impl<N: Naming, C: Chooser, H: Wait + Drop> Node<N, C, H> {
-    /// A node whose detector wasn't called yet, with its seats, numbered 0 to 3 in order, and its viewers. The parts are
-    /// those of the limit, which says how many entries the journal may have. Parts, opening and chooser are dropped on a
-    /// fault.
+    /// A node whose detector wasn't called yet, with its seats, numbered 0 to 3 in order, and its viewers. The parts
+    /// are those of the limit, which says how many entries the journal may have. Parts, opening and chooser are
+    /// dropped on a fault.
     pub fn open(
         alloc: Global,
         rt: H,
@@ -70,7 +70,8 @@ impl<N: Naming, C: Chooser, H: Wait + Drop> Node<N, C, H> {
         source: Peer,
     ) -> Result<Receipt<N>, CallFault>
         ensures ok { IfOk result (λ r. let k = kept r.position r.number r.call r.reply in
-            (m : Message) × IsTextOf bytes.now m × IsAnswered N.opening seat.old seat.new (call.Hear m source) k r.news) }
+            (m : Message) × IsTextOf bytes.now m
+            × IsAnswered N.opening seat.old seat.new (call.Hear m source) k r.news) }
         ensures change { IfOk result (λ r. EndsWithChange r.call r.reply r.news) }
         ensures number { seat.new.number ≡ seat.old.number }
         ensures err { OnErr result (seat.new ≡ seat.old) }
@@ -133,8 +134,8 @@ impl<N: Naming, C: Chooser, H: Wait + Drop> Node<N, C, H> {
         self.locked.lock(rt).call(seat, &Call::Remove(id))
     }
 
-    /// The gap of a member with the greatest distance between successive probes, the earliest of equals; `None` if it has
-    /// none. It walks through the journal under the lock. The seat stays as it was.
+    /// The gap of a member with the greatest distance between successive probes, the earliest of equals; `None` if it
+    /// has none. It walks through the journal under the lock. The seat stays as it was.
     pub fn gap<R: Wait>(&self, rt: &R, seat: &mut Seat<N>, member: Id) -> Option<Gap>
         ensures seat { seat.new ≡ seat.old }
         ensures gap { IsGapAtMoment N.opening seat.old member result }
@@ -142,8 +143,8 @@ impl<N: Naming, C: Chooser, H: Wait + Drop> Node<N, C, H> {
         self.locked.lock(rt).gap(seat, member)
     }
 
-    /// Closes the node: from then on its viewers list nothing. The journal is handed back with the seats, whose calls it
-    /// holds, and the closing news, which a viewer may still learn. It waits for viewers that look.
+    /// Closes the node: from then on its viewers list nothing. The journal is handed back with the seats, whose calls
+    /// it holds, and the closing news, which a viewer may still learn. It waits for viewers that look.
     pub fn close(
         self,
         seats: [Seat<N>; 4],

@@ -6,8 +6,8 @@ use crate::change_log::BlankLog;
 use crate::ledgers::Ledgers;
 use std::marker::Model;
 
-/// What a node is opened with, beside its opening and its chooser: the names by which its types know it. It has no bytes
-/// but the limit.
+/// What a node is opened with, beside its opening and its chooser: the names by which its types know it. It has no
+/// bytes but the limit.
 #[derive(Drop)]
 pub struct Parts {
     pub(crate) limit: u32,

@@ -45,7 +45,7 @@ pub enum OpenFault {
 /// Why a closed node doesn't hand its journal back.
 #[derive(Drop)]
 pub enum CloseFault<N: Naming, C: Chooser> {
-    /// The calls of some seat are not the journal's entries of that seat. Here are the node's detector, with the journal,
-    /// and the seats.
+    /// The calls of some seat are not the journal's entries of that seat. Here are the node's detector, with the
+    /// journal, and the seats.
     Differs(Recorder<C>, [Seat<N>; 4]),
 }

@@ -11,9 +11,9 @@ use std::alloc::Global;
 use std::marker::Model;
 use swim_history::Kept;
 
-/// A caller of a node. There are four, numbered 0 to 3; each may go to a thread of its own, and none can be copied. It
-/// keeps what it was answered, so that at the end its calls can be compared with the journal. A contract sees its number
-/// and its answered calls, oldest first.
+/// A caller of a node. There are four, numbered 0 to 3; each may go to a thread of its own, and none can be copied.
+/// It keeps what it was answered, so that at the end its calls can be compared with the journal. A contract sees its
+/// number and its answered calls, oldest first.
 #[derive(Drop)]
 pub struct Seat<N: Naming> {
     pub(crate) tally: Tally<N>,

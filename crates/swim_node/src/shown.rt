@@ -42,7 +42,8 @@ impl ShownTable {
     }
 }
 
-/// What the writer does to both copies of the table: it makes a change, if there is one, and tells the changes shown then.
+/// What the writer does to both copies of the table: it makes a change, if there is one, and tells the changes shown
+/// then.
 #[derive(Drop)]
 pub struct Update {
     pub(crate) change: Option<Change>,

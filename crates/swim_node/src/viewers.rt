@@ -37,9 +37,9 @@ impl<N: Naming> Outcome<ShownTable, ()> for Looks<N> {
     ghost then = { λ before old new after. IsOfNode N.opening N.log new };
 }
 
-/// A reader of a node's member table. There are four; each may go to a thread of its own. It takes no lock and waits for
-/// nobody, and nobody who calls the node waits for more than its present look. A contract sees the changes that it has
-/// seen, oldest first: it never goes back behind them.
+/// A reader of a node's member table. There are four; each may go to a thread of its own. It takes no lock and waits
+/// for nobody, and nobody who calls the node waits for more than its present look. A contract sees the changes that
+/// it has seen, oldest first: it never goes back behind them.
 #[derive(Drop)]
 pub struct Viewer<N: Naming> {
     // None only while it looks.

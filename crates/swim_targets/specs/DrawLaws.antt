@@ -1,19 +1,24 @@
 -- A seeded chooser always answers, with an order of the ids or with a place up to the last, and the words that are
 -- left are those of a later state of the generator. The words to come determine both.
-use Rattle.std.proofs.Common.{◌≡◌, ℕ, zero, suc, ◌+◌, ◌-◌, ◌*◌, ◌/◌, ◌%◌, ◌^◌, ◌<◌, ◌≤◌, ◌==◌, Bool, true, false, if◌then◌else◌, nat_lt, nat_le, List, length, swap, refl, sym, ap, subst, ◌∙◌, inl, inr, arith}
+use Rattle.std.proofs.Common.{◌≡◌, ℕ, zero, suc, ◌+◌, ◌-◌, ◌*◌, ◌/◌, ◌%◌, ◌^◌, ◌<◌, ◌≤◌, ◌==◌, Bool, true, false}
+use Rattle.std.proofs.Common.{if◌then◌else◌, nat_lt, nat_le, List, length, swap, refl, sym, ap, subst, ◌∙◌, inl, inr}
+use Rattle.std.proofs.Common.{arith}
 use Rattle.std.proofs.Math.Nat.{mod-lt, mul_comm, mul-lt-mul_of_pos_right}
 use Rattle.std.proofs.lemmas.Bool.{cases_lt, eqb-true, eqb-false, ne_eqb, lt-ltb}
 use Rattle.std.proofs.lemmas.Nat.{div_below}
-use Rattle.std.proofs.lemmas.List.Sorted.{IsPermutation-refl, IsPermutation-trans, IsPermutation-swap, length_permutation}
+use Rattle.std.proofs.lemmas.List.Sorted.{IsPermutation-refl, IsPermutation-trans, IsPermutation-swap}
+use Rattle.std.proofs.lemmas.List.Sorted.{length_permutation}
 use Rattle.std.specs.Prelude.{IsPermutation}
 use Rattle.rand_core.specs.Stream.{Stream, next_u32}
 use Rattle.rand_core.specs.Steps.{steps_u32}
 use Rattle.rand_core.proofs.StepsLemmas.{next_u32-stream_of}
 use Rattle.rand_chacha.specs.Block.{block_word}
 use Rattle.rand_chacha.specs.ChaCha.{ChaCha, next_word}
-use Rattle.rand.specs.Shuffle.{rising, grow, chunk_of, Chooser, chooser_at, chooser_refill, chooser_next, narrow_swaps, shuffled}
+use Rattle.rand.specs.Shuffle.{rising, grow, chunk_of, Chooser, chooser_at, chooser_refill, chooser_next, narrow_swaps}
+use Rattle.rand.specs.Shuffle.{shuffled}
 use Rattle.rand.specs.Uniform.{canon, below_or_word}
-use Rattle.rand.proofs.ShuffleLemmas.{rising_more, rising_one, rising_positive, grow_stops, grow_goes, rest_below, last_below, narrow_none, narrow_next}
+use Rattle.rand.proofs.ShuffleLemmas.{rising_more, rising_one, rising_positive, grow_stops, grow_goes, rest_below}
+use Rattle.rand.proofs.ShuffleLemmas.{last_below, narrow_none, narrow_next}
 use Rattle.rand.proofs.UniformLemmas.{canon_plain, canon_carried, carry_room, if_below}
 use Rattle.swim_targets.specs.Draws.{words_of, HaveSameWords, DrawsOrder, DrawsPlace}
 
@@ -48,16 +53,19 @@ number_drawn range g some fits =
     let x = first.0 * range in
     let y = second.0 * range in
     let high = x / 2 ^ 32 in
-    let below : high < range = div_below x (2 ^ 32) range (omega arith) (rw (mul_comm range (2 ^ 32)) (mul-lt-mul_of_pos_right (word_fits g) some)) in
+    let below : high < range = div_below x (2 ^ 32) range (omega arith)
+    (rw (mul_comm range (2 ^ 32)) (mul-lt-mul_of_pos_right (word_fits g) some)) in
     elim (cases_lt (2 ^ 32 - range) (x % 2 ^ 32)) [
       | inl carried ↦
-          let room : high + 1 < range = carry_room (2 ^ 32) range first.0 high (x % 2 ^ 32) (word_fits g) (parts x) carried fits in
+          let room : high + 1 < range =
+          carry_room (2 ^ 32) range first.0 high (x % 2 ^ 32) (word_fits g) (parts x) carried fits in
           let carries = nat_le (2 ^ 32) (x % 2 ^ 32 + y / 2 ^ 32) in
           record {
             number = if carries then high + 1 else high;
             after = second.1;
             below = if_below carries (if carries then high + 1 else high) (high + 1) high range refl room below;
-            drawn = canon_carried (2 ^ 32) range next_u32 (words_of g) (words_of first.1) (words_of second.1) first.0 second.0 high (x % 2 ^ 32) (y / 2 ^ 32) (y % 2 ^ 32)
+            drawn = canon_carried (2 ^ 32) range next_u32 (words_of g) (words_of first.1)
+                (words_of second.1) first.0 second.0 high (x % 2 ^ 32) (y / 2 ^ 32) (y % 2 ^ 32)
                 (next_is g) (next_is first.1) (parts x) (remainder x) (parts y) (remainder y) carried;
           }
       | inr plain ↦
@@ -65,7 +73,8 @@ number_drawn range g some fits =
             number = high;
             after = first.1;
             below = below;
-            drawn = canon_plain (2 ^ 32) range next_u32 (words_of g) (words_of first.1) first.0 high (x % 2 ^ 32) (next_is g) (parts x) (remainder x) plain;
+            drawn = canon_plain (2 ^ 32) range next_u32 (words_of g) (words_of first.1) first.0 high (x % 2 ^ 32)
+                (next_is g) (parts x) (remainder x) plain;
           }
     ]
 
@@ -77,15 +86,18 @@ record IsChunk (m : ℕ) (chunk : ℕ × ℕ) : Type 0 where
   some : 0 < chunk.1
   fits : chunk.0 < 2 ^ 32
 
-grow_is : (n m product current count : ℕ) → product ≡ rising m count → current ≡ m + count → 0 < count → product < 2 ^ 32 → IsChunk m (grow n product current count)
+grow_is : (n m product current count : ℕ) → product ≡ rising m count → current ≡ m + count → 0 < count →
+    product < 2 ^ 32 → IsChunk m (grow n product current count)
 unfolding grow
 grow_is zero m product current count is at some fits = record { product = is; some = some; fits = fits }
 grow_is (suc n) m product current count is at some fits =
     elim (cases_lt (product * current) (2 ^ 32)) [
       | inl within ↦
           subst (IsChunk m) (grow_goes n product current count within)
-          (grow_is n m (product * current) (current + 1) (count + 1) (rw (is, at) (sym (rising_more m count))) (omega arith) (omega arith) within)
-      | inr over ↦ subst (IsChunk m) (grow_stops n product current count (omega arith)) (record { product = is; some = some; fits = fits })
+          (grow_is n m (product * current) (current + 1) (count + 1) (rw (is, at) (sym (rising_more m count)))
+          (omega arith) (omega arith) within)
+      | inr over ↦ subst (IsChunk m) (grow_stops n product current count (omega arith))
+          (record { product = is; some = some; fits = fits })
     ]
 
 chunk_is : (m : ℕ) → m < 2 ^ 32 → IsChunk m (chunk_of m)
@@ -106,10 +118,12 @@ record HasDraw (c : Chooser) (g : ChaCha) : Type 0 where
   below : chunk < rising (c.n + 1) left
   drawn : (chunk, left, words_of after) ≡ chooser_refill c (words_of g)
 
-refilled : (n chunk left : ℕ) (g : ChaCha) → n + 1 < 2 ^ 32 → Serves (record { n = n; chunk = chunk; left = left }) → HasDraw (record { n = n; chunk = chunk; left = left }) g
+refilled : (n chunk left : ℕ) (g : ChaCha) → n + 1 < 2 ^ 32 → Serves (record { n = n; chunk = chunk; left = left }) →
+    HasDraw (record { n = n; chunk = chunk; left = left }) g
 refilled n chunk zero g fits serves =
     let served = chunk_is (n + 1) fits in
-    let positive : 0 < (chunk_of (n + 1)).0 = rw served.product (rising_positive (n + 1) (chunk_of (n + 1)).1 (omega arith)) in
+    let positive : 0 < (chunk_of (n + 1)).0 =
+    rw served.product (rising_positive (n + 1) (chunk_of (n + 1)).1 (omega arith)) in
     let d = number_drawn (chunk_of (n + 1)).0 g positive (omega (arith, served.fits)) in
     record {
       chunk = d.number;
@@ -121,7 +135,15 @@ refilled n chunk zero g fits serves =
     }
 refilled n chunk (suc left) g fits serves =
     let some : (suc left == 0) ≡ false = ne_eqb (suc left) 0 (λ none. omega arith) in
-    record { chunk = chunk; left = suc left; after = g; some = omega arith; below = serves (omega arith); drawn = rw some refl }
+    record {
+      chunk = chunk;
+      left = suc left;
+      after = g;
+      some = omega arith;
+      below = serves (omega arith);
+      drawn =
+          rw some refl;
+    }
 
 -- the chooser's next index
 record HasIndex (c : Chooser) (g : ChaCha) : Type 0 where
@@ -202,32 +224,46 @@ swapped ids g (suc k) within few =
       chooser = next.next;
       after = next.after;
       permutes = IsPermutation-trans ids before.order order before.permutes
-          (IsPermutation-swap before.order order before.chooser.n next.index (omega (arith, before.bound, size)) (omega (arith, before.bound, size, next.below)) refl);
+          (IsPermutation-swap before.order order before.chooser.n next.index (omega (arith, before.bound, size))
+          (omega (arith, before.bound, size, next.below)) refl);
       bound = omega (arith, next.bound, before.bound);
       serves = next.serves;
-      drawn = narrow_next ids (chooser_at 0) (words_of g) k before.order before.chooser next.next (words_of before.after) (words_of next.after) next.index before.drawn next.drawn;
+      drawn = narrow_next ids (chooser_at 0) (words_of g) k before.order before.chooser next.next
+          (words_of before.after) (words_of next.after) next.index before.drawn next.drawn;
     }
 
-pub order_drawn : (before : ChaCha) (ids : List ℕ) → length ids ≤ 128 → (order : List ℕ) × (after : ChaCha) × IsPermutation ids order × DrawsOrder before ids order after
+pub order_drawn : (before : ChaCha) (ids : List ℕ) → length ids ≤ 128 → (order : List ℕ) × (after : ChaCha)
+    × IsPermutation ids order × DrawsOrder before ids order after
 order_drawn before ids few =
     let swaps = swapped ids before (length ids - 0) (omega arith) few in
-    let narrow : nat_lt (length ids) (2 ^ 32 - 1) ≡ true = lt-ltb (length ids) (2 ^ 32 - 1) (omega arith) in
-    (swaps.order, swaps.after, swaps.permutes, rw narrow (ap (λ (p : List ℕ × Chooser × Stream). (p.0, p.2)) swaps.drawn))
+    let narrow : nat_lt (length ids) (2 ^ 32 - 1) ≡ true = lt-ltb (length ids) (2 ^ 32 - 1) (omega arith) in (
+      swaps.order,
+      swaps.after,
+      swaps.permutes,
+      rw narrow
+          (ap (λ (p : List ℕ × Chooser × Stream). (p.0, p.2)) swaps.drawn),
+    )
 
-pub order_drawn_once : (one other after after' : ChaCha) (ids order order' : List ℕ) → HaveSameWords one other → DrawsOrder one ids order after → DrawsOrder other ids order' after' → (order ≡ order') × HaveSameWords after after'
+pub order_drawn_once : (one other after after' : ChaCha) (ids order order' : List ℕ) → HaveSameWords one other →
+    DrawsOrder one ids order after → DrawsOrder other ids order' after' → (order ≡ order') × HaveSameWords after after'
 order_drawn_once one other after after' ids order order' same drawn drawn' =
-    let both : ◌≡◌ {A = List ℕ × Stream} (order, words_of after) (order', words_of after') = drawn ∙ ap (λ (s : Stream). shuffled ids 0 s) same ∙ sym drawn' in
+    let both : ◌≡◌ {A = List ℕ × Stream} (order, words_of after) (order', words_of after') =
+    drawn ∙ ap (λ (s : Stream). shuffled ids 0 s) same ∙ sym drawn' in
     (ap (λ (p : List ℕ × Stream). p.0) both, ap (λ (p : List ℕ × Stream). p.1) both)
 
 -- ---- the place
 
-pub place_drawn : (before : ChaCha) (last : ℕ) → last < 128 → (place : ℕ) × (after : ChaCha) × (place ≤ last) × DrawsPlace before last place after
+pub place_drawn : (before : ChaCha) (last : ℕ) → last < 128 → (place : ℕ) × (after : ChaCha) × (place ≤ last)
+    × DrawsPlace before last place after
 place_drawn before last few =
     let d = number_drawn (last + 1) before (omega arith) (omega arith) in
     let part : (last + 1 == 2 ^ 32) ≡ false = ne_eqb (last + 1) (2 ^ 32) (λ same. omega arith) in
     (d.number, d.after, omega (arith, d.below), rw part d.drawn)
 
-pub place_drawn_once : (one other after after' : ChaCha) (last place place' : ℕ) → HaveSameWords one other → DrawsPlace one last place after → DrawsPlace other last place' after' → (place ≡ place') × HaveSameWords after after'
+pub place_drawn_once : (one other after after' : ChaCha) (last place place' : ℕ) → HaveSameWords one other →
+    DrawsPlace one last place after → DrawsPlace other last place' after' → (place ≡ place')
+    × HaveSameWords after after'
 place_drawn_once one other after after' last place place' same drawn drawn' =
-    let both : ◌≡◌ {A = ℕ × Stream} (place, words_of after) (place', words_of after') = drawn ∙ ap (λ (s : Stream). below_or_word canon (2 ^ 32) next_u32 (last + 1) s) same ∙ sym drawn' in
+    let both : ◌≡◌ {A = ℕ × Stream} (place, words_of after) (place', words_of after') =
+    drawn ∙ ap (λ (s : Stream). below_or_word canon (2 ^ 32) next_u32 (last + 1) s) same ∙ sym drawn' in
     (ap (λ (p : ℕ × Stream). p.0) both, ap (λ (p : ℕ × Stream). p.1) both)

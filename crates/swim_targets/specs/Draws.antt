@@ -21,4 +21,5 @@ DrawsOrder before ids order after = (order, words_of after) ≡ shuffled ids 0 (
 
 -- the place, and the words that are left, are those of the draw of a 32-bit number from 0 to the last place
 abbrev pub DrawsPlace : ChaCha → ℕ → ℕ → ChaCha → Type 0
-DrawsPlace before last place after = (place, words_of after) ≡ below_or_word canon (2 ^ 32) next_u32 (last + 1) (words_of before)
+DrawsPlace before last place after =
+    (place, words_of after) ≡ below_or_word canon (2 ^ 32) next_u32 (last + 1) (words_of before)

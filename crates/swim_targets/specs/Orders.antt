@@ -3,7 +3,8 @@ use Rattle.std.specs.Prelude.{◌≡◌, ℕ, ◌+◌, ◌<◌, Bool, true, fals
 use Rattle.std.proofs.Common.{cond, eqb, refl, sym, ◌∙◌, arith}
 use Rattle.std.proofs.lemmas.Bool.{and_parts, and_from, eqb-true, eqb-false, eq-eqb, ne_eqb}
 use Rattle.std.proofs.lemmas.List.Recursion.{is_sum_by}
-use Rattle.std.proofs.lemmas.List.Sorted.{sum_by-IsPermutation, IsPermutation-refl, IsPermutation-sym, IsPermutation-trans, IsPermutation-cons, IsPermutation-middle}
+use Rattle.std.proofs.lemmas.List.Sorted.{sum_by-IsPermutation, IsPermutation-refl, IsPermutation-sym}
+use Rattle.std.proofs.lemmas.List.Sorted.{IsPermutation-trans, IsPermutation-cons, IsPermutation-middle}
 use Rattle.swim_wire.specs.Ids.{has}
 use Rattle.swim_targets.specs.Script.{less_one, is_order_of}
 
@@ -42,7 +43,8 @@ eqb_comm a b = by (eqb b a) refl where
 front_again : (id : ℕ) (ids : List ℕ) → has ids id ≡ true → IsPermutation ids (id ∷ less_one id ids)
 front_again id [] h = absurd cc
 front_again id (x ∷ ids) h = by (eqb x id) refl (front_again id ids) where
-  by : (b : Bool) → eqb x id ≡ b → (has ids id ≡ true → IsPermutation ids (id ∷ less_one id ids)) → IsPermutation (x ∷ ids) (id ∷ cond b ids (x ∷ less_one id ids))
+  by : (b : Bool) → eqb x id ≡ b → (has ids id ≡ true → IsPermutation ids (id ∷ less_one id ids)) →
+      IsPermutation (x ∷ ids) (id ∷ cond b ids (x ∷ less_one id ids))
   by true e again = rw (eqb-true x id e) (IsPermutation-refl (id ∷ ids))
   by false e again =
       let elsewhere : has ids id ≡ true = rw (eqb_comm id x, e) at h in
@@ -50,7 +52,8 @@ front_again id (x ∷ ids) h = by (eqb x id) refl (front_again id ids) where
       (IsPermutation-cons x ids (id ∷ less_one id ids) (again elsewhere))
       (IsPermutation-middle (x ∷ []) id (less_one id ids))
 
-times-less_one : (q id : ℕ) (ids : List ℕ) → has ids id ≡ true → one_if_same q id + times q (less_one id ids) ≡ times q ids
+times-less_one : (q id : ℕ) (ids : List ℕ) → has ids id ≡ true → one_if_same q id + times q (less_one id ids) ≡
+    times q ids
 times-less_one q id [] h = absurd cc
 times-less_one q id (x ∷ ids) h = by (eqb x id) refl (times-less_one q id ids) where
   by : (b : Bool) → eqb x id ≡ b → (has ids id ≡ true → one_if_same q id + times q (less_one id ids) ≡ times q ids)

@@ -1,6 +1,7 @@
 //! The members that are probed in turn.
 
-ghost use Rattle.std.specs.Prelude.{◌≡◌, ◌==◌, ◌↔◌, ◌≤◌, ◌<◌, [], length, true, false, IsOk, IfOk, OnErr, IfSome, IfNone};
+ghost use Rattle.std.specs.Prelude.{◌≡◌, ◌==◌, ◌↔◌, ◌≤◌, ◌<◌, [], length, true, false, IsOk, IfOk, OnErr, IfSome};
+ghost use Rattle.std.specs.Prelude.{IfNone};
 ghost use Rattle.swim_wire.specs.Ids.{has, has_twice, without, front};
 ghost use Rattle.swim_wire.specs.Round.{Lists, all_of, leave, MayDraw, redraw, advance, join_at};
 ghost use Rattle.swim_targets.specs.Rounds.{drawn_of, IsListing};
@@ -58,7 +59,8 @@ impl Targets {
         ensures ok { IfOk result (λ targets. targets ≡ record { probed = ids.now; rest = [] }) }
         ensures valid { IsOk result ↔ ((has_twice ids.now ≡ false) × (length ids.now ≤ KNOWN_MEMBERS)) }
         ensures listed { (result ≡ Err JoinFault.Listed) ↔ (has_twice ids.now ≡ true) }
-        ensures full { (result ≡ Err JoinFault.Full) ↔ ((has_twice ids.now ≡ false) × (KNOWN_MEMBERS < length ids.now)) }
+        ensures full { (result ≡ Err JoinFault.Full) ↔
+            ((has_twice ids.now ≡ false) × (KNOWN_MEMBERS < length ids.now)) }
     {
         if has_twice(ids) {
             return Err(JoinFault::Listed);

@@ -14,16 +14,20 @@ use Rattle.swim_wire.specs.Numbers.{number_of, number_read, number_only, positiv
 use Rattle.swim_wire.specs.Parts.{has, cut, cut_at, cut_joined}
 
 -- a byte that is no digit is in no digits
-digits_without : (byte : ℕ) → ((c : ℕ) → IsInRange 48 57 c → eqb c byte ≡ false) → (text : List ℕ) → AllDigits 10 text → has byte text ≡ false
+digits_without : (byte : ℕ) → ((c : ℕ) → IsInRange 48 57 c → eqb c byte ≡ false) → (text : List ℕ) → AllDigits 10 text →
+    has byte text ≡ false
 digits_without byte other [] digits = refl
-digits_without byte other (d ∷ text) digits = or_from _ _ (other d (digit_from_value d digits.0)) (digits_without byte other text digits.1)
+digits_without byte other (d ∷ text) digits =
+    or_from _ _ (other d (digit_from_value d digits.0)) (digits_without byte other text digits.1)
 
 -- a number's text has no `.` and no `:`
 pub no_dot : (n : ℕ) → n < 2 ^ 64 → has dot (decimal n) ≡ false
-no_dot n small = digits_without dot (λ c digit. ne_eqb c dot (λ e. omega arith)) (decimal n) (decimal_is_IsNumeral n small).0.1
+no_dot n small =
+    digits_without dot (λ c digit. ne_eqb c dot (λ e. omega arith)) (decimal n) (decimal_is_IsNumeral n small).0.1
 
 pub no_colon : (n : ℕ) → n < 2 ^ 64 → has colon (decimal n) ≡ false
-no_colon n small = digits_without colon (λ c digit. ne_eqb c colon (λ e. omega arith)) (decimal n) (decimal_is_IsNumeral n small).0.1
+no_colon n small =
+    digits_without colon (λ c digit. ne_eqb c colon (λ e. omega arith)) (decimal n) (decimal_is_IsNumeral n small).0.1
 
 -- four octets as text
 abbrev dotted : ℕ → ℕ → ℕ → ℕ → List ℕ
@@ -37,7 +41,8 @@ no_colon-dotted a b c d a-is b-is c-is d-is =
     (no_colon d (omega arith))))
   where
     after : (n : ℕ) (rest : List ℕ) → n < 256 → has colon rest ≡ false → has colon (decimal n ++ rest) ≡ false
-    after n rest small none = list_any-append (λ b. eqb b colon) (decimal n) rest ∙ or_from _ _ (no_colon n (omega arith)) none
+    after n rest small none =
+        list_any-append (λ b. eqb b colon) (decimal n) rest ∙ or_from _ _ (no_colon n (omega arith)) none
 
 ip_read : (a b c d : ℕ) → a < 256 → b < 256 → c < 256 → d < 256 → ip_of (dotted a b c d) ≡ Some (a ∷ b ∷ c ∷ d ∷ [])
 ip_read a b c d a-is b-is c-is d-is =
@@ -63,10 +68,14 @@ four_of (a ∷ b ∷ c ∷ d ∷ x ∷ more) e = absurd (omega arith)
 pub address_read : (p : Address) → IsAddress p → address_of (address_text p) ≡ Some p
 address_read p is =
     let small : (k : ℕ) → k < 4 → get_or p.ip k 0 < 256 = λ k lt. is.octets k 0 (omega (arith, is.four)) in
-    let of_four = by (get_or p.ip 0 0) (get_or p.ip 1 0) (get_or p.ip 2 0) (get_or p.ip 3 0) p.port (small 0 (omega arith)) (small 1 (omega arith)) (small 2 (omega arith)) (small 3 (omega arith)) is.port.0 is.port.1 in
-    subst (λ (ip : List ℕ). address_of (address_text (record { ip = ip; port = p.port })) ≡ Some (record { ip = ip; port = p.port })) (sym (four_of p.ip is.four)) of_four
+    let of_four = by (get_or p.ip 0 0) (get_or p.ip 1 0) (get_or p.ip 2 0) (get_or p.ip 3 0) p.port
+    (small 0 (omega arith)) (small 1 (omega arith)) (small 2 (omega arith))
+    (small 3 (omega arith)) is.port.0 is.port.1 in
+    subst (λ (ip : List ℕ). address_of (address_text (record { ip = ip; port = p.port })) ≡ Some
+    (record { ip = ip; port = p.port })) (sym (four_of p.ip is.four)) of_four
   where
-    by : (a b c d port : ℕ) → a < 256 → b < 256 → c < 256 → d < 256 → 0 < port → port < 2 ^ 16 → address_of (dotted a b c d ++ (colon ∷ decimal port)) ≡ Some (record { ip = a ∷ b ∷ c ∷ d ∷ []; port = port })
+    by : (a b c d port : ℕ) → a < 256 → b < 256 → c < 256 → d < 256 → 0 < port → port < 2 ^ 16 →
+        address_of (dotted a b c d ++ (colon ∷ decimal port)) ≡ Some (record { ip = a ∷ b ∷ c ∷ d ∷ []; port = port })
     by a b c d port a-is b-is c-is d-is least most =
         rw (
           cut_at colon (dotted a b c d) (decimal port) (no_colon-dotted a b c d a-is b-is c-is d-is),
@@ -75,7 +84,8 @@ address_read p is =
         ) refl
 
 -- a value that a step gave, and what the steps after it gave of it
-bind_some : {A B : Type 0} (o : Option A) (f : A → Option B) (y : B) → (o >>= f) ≡ Some y → (x : A) × (o ≡ Some x) × (f x ≡ Some y)
+bind_some : {A B : Type 0} (o : Option A) (f : A → Option B) (y : B) → (o >>= f) ≡ Some y → (x : A) × (o ≡ Some x)
+    × (f x ≡ Some y)
 bind_some (Some x) f y e = (x, refl, e)
 bind_some None f y e = absurd cc
 
@@ -85,8 +95,10 @@ record AreOctets (text ip : List ℕ) : Type 0 where
   pub small : AllByRecursion (λ octet. octet < 256) ip
   pub joined : text ≡ join_with_byte dot (map decimal ip)
 
-joined : {text a b c d more last : List ℕ} (first second third fourth : ℕ) → text ≡ a ++ (dot ∷ more) → more ≡ b ++ (dot ∷ last) → last ≡ c ++ (dot ∷ d)
-    → a ≡ decimal first → b ≡ decimal second → c ≡ decimal third → d ≡ decimal fourth → text ≡ dotted first second third fourth
+joined : {text a b c d more last : List ℕ} (first second third fourth : ℕ) → text ≡ a ++ (dot ∷ more) →
+    more ≡ b ++ (dot ∷ last) → last ≡ c ++ (dot ∷ d)
+    → a ≡ decimal first → b ≡ decimal second → c ≡ decimal third → d ≡ decimal fourth →
+    text ≡ dotted first second third fourth
 joined first second third fourth e f g p q r s = cc
 
 ip_only : (text ip : List ℕ) → ip_of text ≡ Some ip → AreOctets text ip
@@ -106,7 +118,8 @@ ip_only text ip e =
     subst (λ (x : List ℕ). AreOctets text x) is (record {
       four = refl;
       small = (omega (arith, one.1), (omega (arith, two.1), (omega (arith, three.1), (omega (arith, four.1), tt))));
-      joined = joined first.0 second.0 third.0 fourth.0 (cut_joined dot text a.0 a.1) (cut_joined dot a.0.1 b.0 b.1) (cut_joined dot b.0.1 c.0 c.1) one.0 two.0 three.0 four.0;
+      joined = joined first.0 second.0 third.0 fourth.0 (cut_joined dot text a.0 a.1) (cut_joined dot a.0.1 b.0 b.1)
+          (cut_joined dot b.0.1 c.0 c.1) one.0 two.0 three.0 four.0;
     })
 
 -- and from no other text
@@ -120,9 +133,15 @@ address_only text p e =
     let made : Address = record { ip = ip.0; port = port.0 } in
     let is : made ≡ p = cc port.2 in
     subst (λ (x : Address). IsAddress x × (text ≡ address_text x)) is (
-      record { four = octets.four; octets = All-from_recursion (λ octet. octet < 256) ip.0 octets.small; port = (number.1, omega (arith, number.2)) },
+      record {
+        four = octets.four;
+        octets = All-from_recursion (λ octet. octet < 256) ip.0 octets.small;
+        port =
+            (number.1, omega (arith, number.2));
+      },
       cut_joined colon text parts.0 parts.1 ∙ whole octets.joined number.0,
     )
   where
-    whole : {host port host' port' : List ℕ} → host ≡ host' → port ≡ port' → host ++ (colon ∷ port) ≡ host' ++ (colon ∷ port')
+    whole : {host port host' port' : List ℕ} → host ≡ host' → port ≡ port' → host ++ (colon ∷ port) ≡ host' ++
+        (colon ∷ port')
     whole e f = cc

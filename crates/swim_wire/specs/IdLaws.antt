@@ -13,7 +13,8 @@ use Rattle.swim_wire.specs.Ids.{has, has_twice}
 
 none_same : (id : ℕ) (ids : List ℕ) → has ids id ≡ false → AllByRecursion (λ other. nat_eq id other ≡ false) ids
 none_same id [] none = tt
-none_same id (x ∷ ids) none = let parts = or_parts (nat_eq id x) (has ids id) none in (parts.0, none_same id ids parts.1)
+none_same id (x ∷ ids) none =
+    let parts = or_parts (nat_eq id x) (has ids id) none in (parts.0, none_same id ids parts.1)
 
 has_none : (id : ℕ) (ids : List ℕ) → AllByRecursion (λ other. nat_eq id other ≡ false) ids → has ids id ≡ false
 has_none id [] none = refl
@@ -29,7 +30,8 @@ differ (id ∷ ids) once =
 once_from_differ : (ids : List ℕ) → IsDistinct nat_eq ids → has_twice ids ≡ false
 once_from_differ [] d = refl
 once_from_differ (id ∷ ids) d =
-    or_from (has ids id) (has_twice ids) (has_none id ids (IsDistinct-head nat_eq id ids d)) (once_from_differ ids (IsDistinct-tail nat_eq id ids d))
+    or_from (has ids id) (has_twice ids) (has_none id ids (IsDistinct-head nat_eq id ids d))
+    (once_from_differ ids (IsDistinct-tail nat_eq id ids d))
 
 -- ---- another order
 
@@ -37,7 +39,8 @@ pub has-IsPermutation : (id : ℕ) (xs ys : List ℕ) → IsPermutation xs ys �
 has-IsPermutation id xs ys p = sym (list_any-IsPermutation (nat_eq id) xs ys p)
 
 pub once-IsPermutation : (xs ys : List ℕ) → IsPermutation xs ys → has_twice xs ≡ false → has_twice ys ≡ false
-once-IsPermutation xs ys p once = once_from_differ ys (IsDistinct-IsPermutation nat_eq nat_eq_equiv.symm xs ys p (differ xs once))
+once-IsPermutation xs ys p once =
+    once_from_differ ys (IsDistinct-IsPermutation nat_eq nat_eq_equiv.symm xs ys p (differ xs once))
 
 -- ---- a part that is chosen by a test
 
@@ -50,6 +53,7 @@ once_part p (id ∷ ids) once =
     let parts = or_parts (has ids id) (has_twice ids) once in
     by (p id) (has_part p id ids ∙ rw parts.0 refl) (once_part p ids parts.1)
   where
-    by : (b : Bool) → has (filter p ids) id ≡ false → has_twice (filter p ids) ≡ false → has_twice (cond b (id ∷ filter p ids) (filter p ids)) ≡ false
+    by : (b : Bool) → has (filter p ids) id ≡ false → has_twice (filter p ids) ≡ false →
+        has_twice (cond b (id ∷ filter p ids) (filter p ids)) ≡ false
     by true none again = or_from (has (filter p ids) id) (has_twice (filter p ids)) none again
     by false none again = again

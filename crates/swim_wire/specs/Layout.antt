@@ -1,11 +1,13 @@
 -- The layout of a datagram: the one text of a message, and the first fault of bytes that are none.
-use Rattle.std.specs.Prelude.{◌≡◌, ℕ, ◌<◌, ◌^◌, Bool, not, ◌&&◌, ◌||◌, ◌==◌, nat_lt, List, [], ◌∷◌, ◌++◌, length, take, drop, slice_index, Option, find, if◌then◌else◌, Some, None, Result, Ok, Err}
+use Rattle.std.specs.Prelude.{◌≡◌, ℕ, ◌<◌, ◌^◌, Bool, not, ◌&&◌, ◌||◌, ◌==◌, nat_lt, List, [], ◌∷◌, ◌++◌, length, take}
+use Rattle.std.specs.Prelude.{drop, slice_index, Option, find, if◌then◌else◌, Some, None, Result, Ok, Err}
 use Rattle.std.specs.Int.{w32, w64, to_be_bytes, from_be_bytes}
 use Rattle.swim_wire.specs.declared.messages.Kind.{Kind}
 use Rattle.swim_wire.specs.declared.messages.Kind.TheVariants.{Ping, PingReq, Ack}
 use Rattle.swim_wire.specs.declared.messages.Message.{Message}
 use Rattle.swim_wire.specs.declared.codec.WireFault.{WireFault}
-use Rattle.swim_wire.specs.declared.codec.WireFault.TheVariants.{Length, Magic, Version, UnknownKind, ZeroId, ZeroNumber}
+use Rattle.swim_wire.specs.declared.codec.WireFault.TheVariants.{Length, Magic, Version, UnknownKind, ZeroId}
+use Rattle.swim_wire.specs.declared.codec.WireFault.TheVariants.{ZeroNumber}
 
 -- the byte that says the kind
 abbrev pub code_of : Kind → ℕ
@@ -15,7 +17,9 @@ code_of Ack = 3
 
 -- the bytes of a message: the magic bytes, the version, the kind, three ids and the period's number, big-endian
 abbrev pub text_of : Message → List ℕ
-text_of m = 0x53 ∷ 0x57 ∷ 1 ∷ code_of m.kind ∷ (to_be_bytes w32 m.sender ++ (to_be_bytes w32 m.initiator ++ (to_be_bytes w32 m.target ++ to_be_bytes w64 m.number)))
+text_of m = 0x53 ∷ 0x57 ∷ 1 ∷ code_of m.kind ∷
+    (to_be_bytes w32 m.sender ++
+    (to_be_bytes w32 m.initiator ++ (to_be_bytes w32 m.target ++ to_be_bytes w64 m.number)))
 
 -- ids and number are in range, and none is 0
 pub record IsSound (m : Message) : Type 0 where
@@ -56,7 +60,14 @@ kind_of byte = if byte == 1 then Ping else (if byte == 2 then PingReq else Ack)
 
 -- the fields at their offsets
 abbrev pub message_at : List ℕ → Message
-message_at bytes = record { kind = kind_of (slice_index bytes 3); sender = id_at bytes 4; initiator = id_at bytes 8; target = id_at bytes 12; number = number_at bytes 16 }
+message_at bytes = record {
+  kind = kind_of (slice_index bytes 3);
+  sender = id_at bytes 4;
+  initiator =
+      id_at bytes 8;
+  target = id_at bytes 12;
+  number = number_at bytes 16;
+}
 
 -- the number of a fault
 abbrev pub fault_number : WireFault → ℕ

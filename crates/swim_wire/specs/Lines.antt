@@ -1,5 +1,6 @@
 -- Lines of a text, and what the reader of a line answers.
-use Rattle.std.specs.Prelude.{◌≡◌, ℕ, ◌+◌, ◌<◌, ◌≤◌, ◌==◌, Bool, true, false, List, [], ◌∷◌, ◌++◌, length, Option, Some, None, if◌then◌else◌}
+use Rattle.std.specs.Prelude.{◌≡◌, ℕ, ◌+◌, ◌<◌, ◌≤◌, ◌==◌, Bool, true, false, List, [], ◌∷◌, ◌++◌, length, Option, Some}
+use Rattle.std.specs.Prelude.{None, if◌then◌else◌}
 use Rattle.std.specs.List.{list_any, onto_first}
 use Rattle.swim_wire.specs.declared.lines.Taken.{Taken}
 use Rattle.swim_wire.specs.declared.lines.Taken.TheVariants.{Line, Long, Size, Over, Failed, Unsent}

@@ -14,4 +14,5 @@ same_key a b = a.initiator == b.initiator && a.target == b.target && a.number ==
 
 -- a message of that kind by that sender, of the same probe
 abbrev pub passed_on : Kind → ℕ → Message → Message
-passed_on kind sender m = record { kind = kind; sender = sender; initiator = m.initiator; target = m.target; number = m.number }
+passed_on kind sender m =
+    record { kind = kind; sender = sender; initiator = m.initiator; target = m.target; number = m.number }

@@ -17,6 +17,7 @@ pub waits_none : (key : Key) (rs : List Request) → peer_for key rs ≡ None �
 waits_none key [] none = refl
 waits_none key (r ∷ rs) none = by (same_key r.key key) refl (waits_none key rs)
   where
-    by : (b : Bool) → same_key r.key key ≡ b → (peer_for key rs ≡ None → waits key rs ≡ false) → (same_key r.key key || waits key rs) ≡ false
+    by : (b : Bool) → same_key r.key key ≡ b → (peer_for key rs ≡ None → waits key rs ≡ false) →
+        (same_key r.key key || waits key rs) ≡ false
     by true e again = absurd (cc (rw e at none))
     by false e again = rw (e, again (rw e at none)) refl

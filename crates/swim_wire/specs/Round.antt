@@ -1,5 +1,6 @@
 -- The two lists of a round (section 4.3 of the SWIM paper), and what changes them.
-use Rattle.std.specs.Prelude.{◌≡◌, ◌≢◌, ℕ, ◌-◌, List, [], ◌∷◌, ◌++◌, length, insert, if◌then◌else◌, nat_lt, Option, Some, None, IsPermutation}
+use Rattle.std.specs.Prelude.{◌≡◌, ◌≢◌, ℕ, ◌-◌, List, [], ◌∷◌, ◌++◌, length, insert, if◌then◌else◌, nat_lt, Option}
+use Rattle.std.specs.Prelude.{Some, None, IsPermutation}
 use Rattle.swim_wire.specs.Ids.{without}
 
 -- who was probed in this round, in order, and who is to be

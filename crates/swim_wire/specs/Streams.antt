@@ -1,5 +1,6 @@
 -- What reads and writes do to the bytes that a source has left and a sink was given, where those are known.
-use Rattle.std.specs.Prelude.{◌≡◌, ℕ, ◌+◌, ◌-◌, ◌^◌, min, Bool, true, false, List, [], ◌∷◌, ◌++◌, take, drop, Option, Some, None, refl}
+use Rattle.std.specs.Prelude.{◌≡◌, ℕ, ◌+◌, ◌-◌, ◌^◌, min, Bool, true, false, List, [], ◌∷◌, ◌++◌, take, drop, Option}
+use Rattle.std.specs.Prelude.{Some, None, refl}
 use Rattle.std.specs.Io.KnownBytes.{Keeps, Appends, Consumes, IsAtEnd}
 use Rattle.std.proofs.Common.{sym, ap, ◌∙◌, append_assoc, append-nil, take-append-drop}
 use Rattle.swim_wire.specs.declared.streams.Byte.{Byte}
@@ -80,7 +81,8 @@ kept_consumes (Some x) (Some y) None xs p q = absurd q
 kept_consumes (Some x) (Some y) (Some z) xs p q = sym p ∙ q
 
 -- one text written, and then another: all of both, or a front of both together
-pub puts_then : (o m n : Option (List ℕ)) (xs ys : List ℕ) (r : Bool) → Puts o m xs true → Puts m n ys r → Puts o n (xs ++ ys) r
+pub puts_then : (o m n : Option (List ℕ)) (xs ys : List ℕ) (r : Bool) → Puts o m xs true → Puts m n ys r →
+    Puts o n (xs ++ ys) r
 puts_then o m n xs ys true p q = appends_both o m n xs ys p q
 puts_then o m n xs ys false p q = record {
   front = xs ++ q.front;
@@ -117,7 +119,8 @@ puts_kept o m n xs false p q = record {
 }
 
 -- a write that failed after so many bytes
-pub front_put : (o m n : Option (List ℕ)) (text : List ℕ) (count : ℕ) → Appends o m (take count text) → Keeps m n → PutsFront o n text
+pub front_put : (o m n : Option (List ℕ)) (text : List ℕ) (count : ℕ) → Appends o m (take count text) → Keeps m n →
+    PutsFront o n text
 front_put o m n text count p q = record {
   front = take count text;
   unput = drop count text;

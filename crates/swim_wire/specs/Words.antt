@@ -25,12 +25,14 @@ abbrev pub words_after : ℕ → List ℕ → Option (List ℕ × List ℕ) → 
 words_after separator text None = text ∷ []
 words_after separator text (Some parts) = parts.0 ∷ words_by separator parts.1
 
-pub words_cut : (separator : ℕ) (text : List ℕ) → words_by separator text ≡ words_after separator text (cut separator text)
+pub words_cut : (separator : ℕ) (text : List ℕ) → words_by separator text ≡ words_after separator text
+    (cut separator text)
 words_cut separator [] = refl
 words_cut separator (b ∷ rest) = by (b == separator) (cut separator rest) (words_cut separator rest)
   where
     by : (c : Bool) (parts : Option (List ℕ × List ℕ)) → words_by separator rest ≡ words_after separator rest parts
-        → cond c ([] ∷ words_by separator rest) (onto_first b (words_by separator rest)) ≡ words_after separator (b ∷ rest) (cond c (Some ([], rest)) (option_map (λ parts. (b ∷ parts.0, parts.1)) parts))
+        → cond c ([] ∷ words_by separator rest) (onto_first b (words_by separator rest)) ≡ words_after separator
+        (b ∷ rest) (cond c (Some ([], rest)) (option_map (λ parts. (b ∷ parts.0, parts.1)) parts))
     by true parts again = refl
     by false None again = rw again refl
     by false (Some parts) again = rw again refl

@@ -1,6 +1,7 @@
 //! The buffer of a source or a sink.
 
-ghost use Rattle.std.specs.Prelude.{◌≡◌, ◌+◌, ◌-◌, ◌<◌, ◌≤◌, ◌==◌, [], ◌∷◌, ◌++◌, length, take, drop, IsTrue, ◌↔◌, IfSome, IfNone, Some, MatchOption};
+ghost use Rattle.std.specs.Prelude.{◌≡◌, ◌+◌, ◌-◌, ◌<◌, ◌≤◌, ◌==◌, [], ◌∷◌, ◌++◌, length, take, drop, IsTrue, ◌↔◌};
+ghost use Rattle.std.specs.Prelude.{IfSome, IfNone, Some, MatchOption};
 ghost use Rattle.std.specs.Bool.{MatchBool};
 ghost use Rattle.std.specs.Io.KnownBytes.{Keeps, Appends, Consumes, IsAtEnd, append_known};
 
@@ -119,8 +120,8 @@ impl Buffer {
         }
     }
 
-    /// Reads bytes from the reader, where none waits, and answers whether the read was done. At the end of the reader no byte
-    /// waits then either.
+    /// Reads bytes from the reader, where none waits, and answers whether the read was done. At the end of the reader
+    /// no byte waits then either.
     pub fn fill<R: Read>(&mut self, reader: &mut R) -> bool
         requires { self.old.held ≡ [] }
         ensures bytes { MatchBool result

@@ -3,7 +3,8 @@
 ghost use Rattle.std.specs.Prelude.{◌≡◌, ◌+◌, ◌<◌, ◌≤◌, Ok, Some, None, IfOk, IfErr, MatchResult, length};
 ghost use Rattle.std.specs.Option.{SomeIff};
 ghost use Rattle.swim_wire.specs.declared.messages.Message.{Message};
-ghost use Rattle.swim_wire.specs.Layout.{IsTextOf, first_fault, message_at, code_of, kind_of as kind_at, id_at, number_at, fault_number, decoded};
+ghost use Rattle.swim_wire.specs.Layout.{IsTextOf, first_fault, message_at, code_of, kind_of as kind_at, id_at};
+ghost use Rattle.swim_wire.specs.Layout.{number_at, fault_number, decoded};
 
 use crate::ids::{Id, PeriodNumber};
 use crate::messages::{Kind, Message};

@@ -1,6 +1,7 @@
 //! Lines of a source.
 
-ghost use Rattle.std.specs.Prelude.{◌≡◌, ℕ, ◌<◌, ◌≤◌, ◌++◌, length, false, None as none, Some as some, is_some, IfSome, IfNone};
+ghost use Rattle.std.specs.Prelude.{◌≡◌, ℕ, ◌<◌, ◌≤◌, ◌++◌, length, false, None as none, Some as some, is_some, IfSome};
+ghost use Rattle.std.specs.Prelude.{IfNone};
 ghost use Rattle.std.specs.Io.KnownBytes.{Keeps};
 ghost use Rattle.swim_wire.specs.Streams.{Gives, failures_then, failures_if};
 ghost use Rattle.swim_wire.specs.Lines.{TakesKnown, has_feed, ended, failures_read, failures_sent};
@@ -31,9 +32,9 @@ pub enum Taken {
     Unsent,
 }
 
-/// Reads the next line into `line`, without its line feed. What follows the last line feed is a line if it has a byte. Each
-/// byte of the line, with its line feed, lowers the budget by one. Before each read that may wait for the outside, the
-/// writer is flushed, so that whoever sits at the other end sees every answer first.
+/// Reads the next line into `line`, without its line feed. What follows the last line feed is a line if it has a
+/// byte. Each byte of the line, with its line feed, lowers the budget by one. Before each read that may wait for the
+/// outside, the writer is flushed, so that whoever sits at the other end sees every answer first.
 ///
 /// What `line` holds is told at `Taken::Line` alone.
 pub fn next_line<R: Source, W: Sink, const LIMIT: usize>(

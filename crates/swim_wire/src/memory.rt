@@ -1,6 +1,7 @@
 //! A source and a sink in memory, for tests: each can be told to fail once.
 
-ghost use Rattle.std.specs.Prelude.{◌≡◌, ◌↔◌, ℕ, ◌≤◌, List, Option, [], length, take, drop, Some, None, false, IsTrue, IfSome};
+ghost use Rattle.std.specs.Prelude.{◌≡◌, ◌↔◌, ℕ, ◌≤◌, List, Option, [], length, take, drop, Some, None, false, IsTrue};
+ghost use Rattle.std.specs.Prelude.{IfSome};
 ghost use Rattle.std.specs.Io.{StartsWith};
 ghost use Rattle.std.specs.Io.BufRead.{take_through};
 ghost use Rattle.std.specs.Io.KnownBytes.{Keeps, Consumes};
@@ -12,8 +13,9 @@ use crate::streams::{Byte, Sink, Source};
 use std::alloc::Global;
 use std::marker::Model;
 
-/// A source over bytes in memory. Like a terminal, it is ready within a line, and not where one begins: it gives the rest of
-/// the line at once. While it is yet to fail it is never ready, so that its bytes are read one by one up to the failure.
+/// A source over bytes in memory. Like a terminal, it is ready within a line, and not where one begins: it gives the
+/// rest of the line at once. While it is yet to fail it is never ready, so that its bytes are read one by one up to
+/// the failure.
 #[derive(Drop)]
 pub struct Text<'a> {
     left: &'a [u8],
@@ -27,7 +29,13 @@ impl<'a> Model for Text<'a> {
 
     ghost Value = { TextState };
 
-    ghost view = { λ t. record { left = t.left.now; in_line = t.is_in_line; fails_in = t.fails_in; failures = t.failures } };
+    ghost view = { λ t. record {
+      left = t.left.now;
+      in_line = t.is_in_line;
+      fails_in = t.fails_in;
+      failures =
+          t.failures;
+    } };
 }
 
 impl<'a> Text<'a> {
@@ -133,7 +141,13 @@ impl Model for Page {
 
     ghost Value = { PageState };
 
-    ghost view = { λ p. record { text = p.text.items; put_fails_in = p.put_fails_in; flush_fails_in = p.flush_fails_in; failures = p.failures } };
+    ghost view = { λ p. record {
+      text = p.text.items;
+      put_fails_in = p.put_fails_in;
+      flush_fails_in =
+          p.flush_fails_in;
+      failures = p.failures;
+    } };
 }
 
 impl Page {

@@ -30,7 +30,8 @@ fn parse(text: &[u8], limit: u64) -> Option<u64>
     Some(number)
 }
 
-// Whether the text, where std reads a number in it, is how that number is written: std also takes a `+` and zeros in front.
+// Whether the text, where std reads a number in it, is how that number is written: std also takes a `+` and zeros in
+// front.
 fn is_plain(text: &[u8]) -> bool
     ensures { IsTrue result ↔ IsPlain text.now }
 {

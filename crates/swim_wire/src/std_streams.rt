@@ -76,7 +76,8 @@ impl<R: Read> Source for ReadSource<R> {
 
     fn skip(&mut self, count: usize)
         requires { count ≤ length self.old.buffered }
-        ensures bytes { Consumes (left_of R.remaining self.old) (left_of R.remaining self.new) (take count self.old.buffered) }
+        ensures bytes { Consumes (left_of R.remaining self.old) (left_of R.remaining self.new)
+            (take count self.old.buffered) }
         ensures ready { self.new.buffered ≡ drop count self.old.buffered }
         ensures failures { self.new.failures ≡ self.old.failures }
     {
@@ -85,8 +86,8 @@ impl<R: Read> Source for ReadSource<R> {
 }
 
 /// A sink over a writer. It holds back up to 4096 bytes, and writes them where it is full or flushed. A write that is
-/// interrupted is tried again; the 16th interruption in a row is a failure, and so is any other, and a write of no byte. The
-/// bytes that were not written then are still held back.
+/// interrupted is tried again; the 16th interruption in a row is a failure, and so is any other, and a write of no
+/// byte. The bytes that were not written then are still held back.
 #[derive(Drop)]
 pub struct WriteSink<W: Write> {
     writer: W,
@@ -99,7 +100,13 @@ impl<W: Write> Model for WriteSink<W> {
 
     ghost Value = { Writing W };
 
-    ghost view = { λ s. record { writer = s.writer; buffered = s.buffer.held; room = s.buffer.room; failures = s.failures } };
+    ghost view = { λ s. record {
+      writer = s.writer;
+      buffered = s.buffer.held;
+      room = s.buffer.room;
+      failures =
+          s.failures;
+    } };
 }
 
 impl<W: Write> WriteSink<W> {

@@ -58,7 +58,8 @@ pub trait Sink {
         ensures bytes { Puts (written self.old) (written self.new) text.now result }
         ensures failures { failures self.new ≡ failures_if (failures self.old) result };
 
-    /// Hands on the bytes that it holds back, and answers whether it could. What it could not hand on, it still holds back.
+    /// Hands on the bytes that it holds back, and answers whether it could. What it could not hand on, it still holds
+    /// back.
     fn flush(&mut self) -> bool
         ensures bytes { Keeps (written self.old) (written self.new) }
         ensures failures { failures self.new ≡ failures_if (failures self.old) result };

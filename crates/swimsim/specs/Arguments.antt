@@ -1,5 +1,6 @@
 -- What the arguments of a line say.
-use Rattle.std.specs.Prelude.{◌≡◌, ℕ, nat_lt, List, [], ◌∷◌, length, Option, Some, None, Result, Ok, Err, if◌then◌else◌, option_and_then}
+use Rattle.std.specs.Prelude.{◌≡◌, ℕ, nat_lt, List, [], ◌∷◌, length, Option, Some, None, Result, Ok, Err, if◌then◌else◌}
+use Rattle.std.specs.Prelude.{option_and_then}
 use Rattle.std.specs.Option.{option_map}
 use Rattle.std.specs.Result.{result_ok}
 use Rattle.arrayvec.specs.ArrayVec.{ArrayVec}
@@ -26,7 +27,8 @@ with_words fault after None = Err fault
 with_words fault after (Some x) = Ok (x, after)
 
 -- the first word as an argument of that kind: a missing or refused one is the kind's fault
-abbrev pub argument : {A : Type 0} → LineFault → (List ℕ → Option A) → List (List ℕ) → Result (A × List (List ℕ)) LineFault
+abbrev pub argument : {A : Type 0} → LineFault → (List ℕ → Option A) → List (List ℕ) →
+    Result (A × List (List ℕ)) LineFault
 argument fault read [] = Err fault
 argument fault read (word ∷ after) = with_words fault after (read word)
 

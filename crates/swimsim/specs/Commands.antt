@@ -1,5 +1,6 @@
 -- What a line of a script says.
-use Rattle.std.specs.Prelude.{◌≡◌, ℕ, Bool, true, ◌==◌, List, [], ◌∷◌, Option, Some, None, Result, Ok, Err, codes, if◌then◌else◌}
+use Rattle.std.specs.Prelude.{◌≡◌, ℕ, Bool, true, ◌==◌, List, [], ◌∷◌, Option, Some, None, Result, Ok, Err, codes}
+use Rattle.std.specs.Prelude.{if◌then◌else◌}
 use Rattle.std.specs.Str.{bytes_eq}
 use Rattle.swim_wire.specs.Words.{words_of}
 use Rattle.swimsim.specs.declared.commands.LineFault.{LineFault}
@@ -10,8 +11,10 @@ use Rattle.swimsim.specs.declared.commands.Stage.TheVariants.{Blank, Header, Eve
 use Rattle.swimsim.specs.declared.commands.Word.{Word}
 use Rattle.swimsim.specs.declared.commands.Word.TheVariants as words
 use Rattle.swimsim.specs.declared.commands.Command.{Command}
-use Rattle.swimsim.specs.declared.commands.Command.TheVariants.{Open, Row, Order, Place, Seed, Tick, Hear, Join, Remove, Table, Gap}
-use Rattle.swimsim.specs.Arguments.{◌>>=◌, take_id, take_number, take_peer, take_order, take_seed, take_datagram, open_arguments}
+use Rattle.swimsim.specs.declared.commands.Command.TheVariants.{Open, Row, Order, Place, Seed, Tick, Hear, Join, Remove}
+use Rattle.swimsim.specs.declared.commands.Command.TheVariants.{Table, Gap}
+use Rattle.swimsim.specs.Arguments.{◌>>=◌, take_id, take_number, take_peer, take_order, take_seed, take_datagram}
+use Rattle.swimsim.specs.Arguments.{open_arguments}
 
 -- the word that tells a fault of a line's words
 abbrev pub fault_name : LineFault → List ℕ

@@ -1,6 +1,8 @@
--- What the lines of a script tell before the first event line. Lines are lists of bytes with their line feeds; a list of
+-- What the lines of a script tell before the first event line. Lines are lists of bytes with their line feeds; a
+-- list of
 -- lines is newest first, so that each line stands before the earlier ones.
-use Rattle.std.specs.Prelude.{ℕ, ◌+◌, Bool, true, false, ◌||◌, List, [], ◌∷◌, ◌++◌, length, Option, Some, None, Result, Ok, Err, if◌then◌else◌}
+use Rattle.std.specs.Prelude.{ℕ, ◌+◌, Bool, true, false, ◌||◌, List, [], ◌∷◌, ◌++◌, length, Option, Some, None, Result}
+use Rattle.std.specs.Prelude.{Ok, Err, if◌then◌else◌}
 use Rattle.swim_wire.specs.Address.{Address}
 use Rattle.swim_wire.specs.Lines.{bare}
 use Rattle.swim_history.specs.Setting.{Setting}
@@ -79,7 +81,8 @@ said head line = command_in (line_read (stage_of head) (bare line))
 
 abbrev pub head_then : ℕ → Option Command → Head → Head
 head_then n None head = head
-head_then n (Some command) head = record { told = told_then n command head.told; begun = is_event command || head.begun }
+head_then n (Some command) head =
+    record { told = told_then n command head.told; begun = is_event command || head.begun }
 
 -- after all these lines
 abbrev pub head_of : List (List ℕ) → Head

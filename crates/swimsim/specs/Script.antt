@@ -1,6 +1,7 @@
 -- A script: its first fault, its calls, and what is written for it. Lines are lists of bytes with their line feeds; a
 -- list of lines is newest first, so that each line stands before the earlier ones.
-use Rattle.std.specs.Prelude.{◌≡◌, ℕ, ◌+◌, ◌-◌, ◌==◌, Bool, true, false, not, ◌||◌, nat_lt, ◌⊎◌, List, [], ◌∷◌, ◌++◌, length, map, take, reverse, Option, Some, None, Result, Ok, Err, if◌then◌else◌}
+use Rattle.std.specs.Prelude.{◌≡◌, ℕ, ◌+◌, ◌-◌, ◌==◌, Bool, true, false, not, ◌||◌, nat_lt, ◌⊎◌, List, [], ◌∷◌, ◌++◌}
+use Rattle.std.specs.Prelude.{length, map, take, reverse, Option, Some, None, Result, Ok, Err, if◌then◌else◌}
 use Rattle.std.specs.List.{list_all}
 use Rattle.std.specs.Io.KnownBytes.{Appends}
 use Rattle.swim_wire.specs.Lines.{pieces, bare, has_feed}
@@ -49,7 +50,8 @@ fault_of_opening told = fault_of_setting told.opened (setting_in told)
 
 -- at the first event line the opening is checked
 abbrev pub fault_of_command : Head → Command → Option ScriptFault
-fault_of_command head command = if head.begun then None else (if is_event command then fault_of_opening head.told else None)
+fault_of_command head command =
+    if head.begun then None else (if is_event command then fault_of_opening head.told else None)
 
 -- the fault of a line by what it says
 abbrev pub fault_of_read : ℕ → Head → Result (Option Command) LineFault → Option ScriptFault
@@ -142,7 +144,8 @@ calls_then limit refused asked made = made
 abbrev pub calls_in : List Turn → List Call
 calls_in [] = []
 calls_in (turn ∷ before) =
-    calls_then (limit_in (head_of (lines_of before)).told) turn.refused (asked_in (lines_of before) turn.line) (calls_in before)
+    calls_then (limit_in (head_of (lines_of before)).told) turn.refused (asked_in (lines_of before) turn.line)
+    (calls_in before)
 
 -- what is written for a run's newest entry, after what is written for the run before it
 abbrev pub with_answer : Setting → (List Entry → List ℕ) → List Entry → List ℕ

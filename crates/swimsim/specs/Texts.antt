@@ -6,7 +6,8 @@ use Rattle.swim_wire.specs.Layout.{text_of, fault_number}
 use Rattle.swim_wire.specs.declared.messages.Message.{Message}
 use Rattle.swim_wire.specs.declared.codec.WireFault.{WireFault}
 use Rattle.swim_history.specs.declared.replies.Reply.{Reply}
-use Rattle.swim_history.specs.declared.replies.Reply.TheVariants.{Quiet, Started, Asked, Heard, Send, Dropped, Joined, Removed, Refused}
+use Rattle.swim_history.specs.declared.replies.Reply.TheVariants.{Quiet, Started, Asked, Heard, Send, Dropped, Joined}
+use Rattle.swim_history.specs.declared.replies.Reply.TheVariants.{Removed, Refused}
 use Rattle.swim_history.specs.declared.replies.Probe.{Probe}
 use Rattle.swim_history.specs.declared.replies.Relay.{Relay}
 use Rattle.swim_history.specs.declared.rows.Row.{Row}
@@ -44,7 +45,8 @@ relays_text (relay ∷ relays) = decimal relay.id ++ more_relays_text relays
 abbrev pub reply_text : Reply → List ℕ
 reply_text Quiet = codes "quiet"
 reply_text (Started judged probe) = codes "started judged " ++ (id_text judged ++ (codes " probe " ++ probe_text probe))
-reply_text (Asked target number relays) = codes "asked " ++ (decimal target ++ (codes " " ++ (decimal number ++ (codes " by " ++ relays_text relays.items))))
+reply_text (Asked target number relays) =
+    codes "asked " ++ (decimal target ++ (codes " " ++ (decimal number ++ (codes " by " ++ relays_text relays.items))))
 reply_text Heard = codes "heard"
 reply_text (Send peer message) = codes "sent"
 reply_text (Dropped why) = codes "dropped " ++ decimal (drop_number why)
@@ -95,7 +97,8 @@ table_text rows = rows_text rows ++ codes ".\n"
 -- the line of a gap, if there is one: the numbers of its periods, and how many were listed and joined
 abbrev pub gap_text : Option Gap → List ℕ
 gap_text None = codes "gap none\n"
-gap_text (Some gap) = codes "gap " ++ (decimal gap.a ++ (codes " " ++ (decimal gap.b ++ (codes " " ++ (decimal gap.n ++ feed)))))
+gap_text (Some gap) =
+    codes "gap " ++ (decimal gap.a ++ (codes " " ++ (decimal gap.b ++ (codes " " ++ (decimal gap.n ++ feed)))))
 
 -- the line of a datagram that is none
 abbrev pub wire_text : WireFault → List ℕ

@@ -4,7 +4,8 @@ ghost use Rattle.std.specs.Prelude.{◌≡◌, ◌++◌, codes, decimal, map};
 ghost use Rattle.swim_wire.specs.Address.{address_text};
 ghost use Rattle.swim_wire.specs.Streams.{Puts, failures_if};
 ghost use Rattle.swim_history.specs.Sends.{sends_of, to_each};
-ghost use Rattle.swimsim.specs.Texts.{feed, answer_text, reply_text, id_text, probe_text, relays_text, more_relays_text, datagram_text, line_text, lines_text, sends_text, wire_text};
+ghost use Rattle.swimsim.specs.Texts.{feed, answer_text, reply_text, id_text, probe_text, relays_text};
+ghost use Rattle.swimsim.specs.Texts.{more_relays_text, datagram_text, line_text, lines_text, sends_text, wire_text};
 
 use itoa::Buffer;
 use swim_history::{Opening, Probe, Relay, Reply};
@@ -151,7 +152,8 @@ fn put_pair<W: Sink>(writer: &mut W, id: Id, number: u64) -> bool
 
 fn put_asked<W: Sink>(writer: &mut W, target: Id, number: u64, relays: &[Relay]) -> bool
     ensures bytes { Puts (W.written writer.old) (W.written writer.new)
-        (codes "asked " ++ (decimal target ++ (codes " " ++ (decimal number ++ (codes " by " ++ relays_text relays.now))))) result }
+        (codes "asked "
+        ++ (decimal target ++ (codes " " ++ (decimal number ++ (codes " by " ++ relays_text relays.now))))) result }
     ensures failures { W.failures writer.new ≡ failures_if (W.failures writer.old) result }
 {
     if !put_numbered(writer, b"asked ", u64::from(target.get())) {

@@ -1,7 +1,8 @@
 //! The arguments of a line.
 
 ghost use Rattle.std.specs.Prelude.{◌≡◌};
-ghost use Rattle.swimsim.specs.Arguments.{TakesFrom, open_arguments, take_id, take_number, take_peer, take_order, take_seed, take_datagram, order_of, seed_of};
+ghost use Rattle.swimsim.specs.Arguments.{TakesFrom, open_arguments, take_id, take_number, take_peer, take_order};
+ghost use Rattle.swimsim.specs.Arguments.{take_seed, take_datagram, order_of, seed_of};
 
 use crate::commands::LineFault;
 use crate::datagrams::read_datagram;

@@ -1,7 +1,8 @@
 //! What a line of a script says.
 
 ghost use Rattle.std.specs.Prelude.{◌≡◌};
-ghost use Rattle.swimsim.specs.Commands.{fault_name, LineStandsAt, word_of, fault_of_word, command_after, line_read, is_skipped, words_read, said_by, nothing_left};
+ghost use Rattle.swimsim.specs.Commands.{fault_name, LineStandsAt, word_of, fault_of_word, command_after, line_read};
+ghost use Rattle.swimsim.specs.Commands.{is_skipped, words_read, said_by, nothing_left};
 
 use crate::arguments::{
     OpenArguments, OrderText, take_datagram, take_id, take_number, take_open, take_order,

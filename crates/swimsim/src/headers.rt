@@ -3,7 +3,8 @@
 ghost use Rattle.std.specs.Prelude.{◌≡◌, ◌∷◌, ◌++◌, [], List, ℕ, Some, None, Ok, MatchResult, if◌then◌else◌};
 ghost use Rattle.std.specs.Result.{is_ok};
 ghost use Rattle.swimsim.specs.declared.commands.Command.TheVariants as commands;
-ghost use Rattle.swimsim.specs.Headers.{nothing_told, told_then, draws_with, stage_told, setting_with, setting_in, limit_in, chooser_in};
+ghost use Rattle.swimsim.specs.Headers.{nothing_told, told_then, draws_with, stage_told, setting_with, setting_in};
+ghost use Rattle.swimsim.specs.Headers.{limit_in, chooser_in};
 ghost use Rattle.swimsim.specs.Script.{fault_of_setting, fault_of_header};
 ghost use Rattle.swimsim.specs.Holds.{first_rows, kept};
 
@@ -37,7 +38,15 @@ impl Model for Header {
 
     ghost Value = { Told };
 
-    ghost view = { λ h. record { opened = h.opened; rows = h.rows.items; orders = map (λ order. order.items) h.orders.items; places = h.places.items; seed = h.seed } };
+    ghost view = { λ h.
+        record {
+          opened = h.opened;
+          rows = h.rows.items;
+          orders = map (λ order. order.items) h.orders.items;
+          places =
+              h.places.items;
+          seed = h.seed;
+        } };
 }
 
 impl Header {
@@ -70,14 +79,16 @@ impl Header {
 
     /// An `order` line. Without memory nothing changes.
     pub fn add_order(&mut self, order: Order) -> Result<(), AllocError>
-        ensures { self.new ≡ (if is_ok result then record self.old { orders = self.old.orders ++ order.items ∷ [] } else self.old) }
+        ensures { self.new ≡ (if is_ok result then record self.old { orders = self.old.orders ++ order.items ∷ [] }
+            else self.old) }
     {
         Ok(self.orders.push(order)?)
     }
 
     /// A `place` line. Without memory nothing changes.
     pub fn add_place(&mut self, place: u32) -> Result<(), AllocError>
-        ensures { self.new ≡ (if is_ok result then record self.old { places = self.old.places ++ place ∷ [] } else self.old) }
+        ensures { self.new ≡ (if is_ok result then record self.old { places = self.old.places ++ place ∷ [] }
+            else self.old) }
     {
         Ok(self.places.push(place)?)
     }

@@ -1,6 +1,7 @@
 //! A script as it is played, line by line.
 
-ghost use Rattle.std.specs.Prelude.{◌≡◌, ◌≢◌, ◌+◌, ◌<◌, List, ℕ, Some, None, Ok, Err, MatchResult, OnOk, false, not, if◌then◌else◌};
+ghost use Rattle.std.specs.Prelude.{◌≡◌, ◌≢◌, ◌+◌, ◌<◌, List, ℕ, Some, None, Ok, Err, MatchResult, OnOk, false, not};
+ghost use Rattle.std.specs.Prelude.{if◌then◌else◌};
 ghost use Rattle.swim_wire.specs.Lines.{bare};
 ghost use Rattle.swim_wire.specs.Streams.{failures_if};
 ghost use Rattle.swim_history.specs.declared.calls.Call.TheVariants as calls;
@@ -9,7 +10,8 @@ ghost use Rattle.swimsim.specs.declared.commands.Command.TheVariants as commands
 ghost use Rattle.swimsim.specs.Texts.{wire_text};
 ghost use Rattle.swimsim.specs.Headers.{nothing_told, told_then};
 ghost use Rattle.swimsim.specs.Script.{Turn, is_write, result_kind};
-ghost use Rattle.swimsim.specs.Holds.{Done, Holds, Turned, Started, Called, Showed, table_of, gap_of, PlaysLine, ShowsLine, HearsLine, kept, ending, stage_in};
+ghost use Rattle.swimsim.specs.Holds.{Done, Holds, Turned, Started, Called, Showed, table_of, gap_of, PlaysLine};
+ghost use Rattle.swimsim.specs.Holds.{ShowsLine, HearsLine, kept, ending, stage_in};
 
 use crate::answers::put_wire_fault;
 use crate::arguments::{OpenArguments, OrderText};
@@ -59,7 +61,7 @@ impl Session {
 
     /// A fault in the line after those that were read.
     pub fn fault(&self, kind: FaultKind) -> ScriptFault
-        requires { self.now.lines < 4294967295 }
+        requires { self.now.lines < u32.MAX }
         ensures { result ≡ record { line = self.now.lines + 1; kind = kind } }
     {
         ScriptFault {
@@ -70,8 +72,9 @@ impl Session {
 
     /// Plays the next line of the script, and writes its answer.
     pub fn turn<W: Sink>(&mut self, line: &[u8], writer: &mut W) -> Result<(), ScriptFault>
-        requires { self.old.lines < 4294967295 }
-        ensures turned { (turns : List Turn) (run : List Entry) (text piece : List ℕ) → Holds turns run text self.old → bare piece ≡ line.now →
+        requires { self.old.lines < u32.MAX }
+        ensures turned { (turns : List Turn) (run : List Entry) (text piece : List ℕ) → Holds turns run text self.old →
+            bare piece ≡ line.now →
             Turned turns text piece self.new (W.written writer.old) (W.written writer.new) result }
         ensures failures { W.failures writer.new ≡ failures_if (W.failures writer.old) (not (is_write result)) }
         ensures count { OnOk result (self.new.lines ≡ self.old.lines + 1) }
@@ -108,7 +111,7 @@ impl Session {
         command: Command<'_>,
         writer: &mut W,
     ) -> Result<(), ScriptFault>
-        requires { self.old.lines < 4294967295 }
+        requires { self.old.lines < u32.MAX }
         ensures done { Done self.old self.new command.entry (W.written writer.old) (W.written writer.new) result }
         ensures count { OnOk result (self.new.lines ≡ self.old.lines + 1) }
         ensures unread { result_kind result ≢ Some FaultKind.Read }
@@ -140,23 +143,36 @@ impl Session {
 
     /// A line that says nothing.
     fn skip(&mut self)
-        requires { self.old.lines < 4294967295 }
+        requires { self.old.lines < u32.MAX }
         ensures { self.new ≡ record self.old { lines = self.old.lines + 1 } }
     {
         self.lines += 1;
     }
 
     fn open(&mut self, arguments: OpenArguments)
-        requires { self.old.lines < 4294967295 }
-        ensures { self.new ≡ record { lines = self.old.lines + 1; header = told_then (self.old.lines + 1) (commands.Open arguments) self.old.header; recorded = self.old.recorded } }
+        requires { self.old.lines < u32.MAX }
+        ensures { self.new ≡
+            record {
+              lines = self.old.lines + 1;
+              header =
+                  told_then (self.old.lines + 1) (commands.Open arguments) self.old.header;
+              recorded = self.old.recorded;
+            } }
     {
         self.lines += 1;
         self.header.open(self.lines, arguments);
     }
 
     fn add_row(&mut self, id: Id, peer: Peer)
-        requires { self.old.lines < 4294967295 }
-        ensures { self.new ≡ record { lines = self.old.lines + 1; header = kept (told_then (self.old.lines + 1) (commands.Row id peer) self.old.header); recorded = self.old.recorded } }
+        requires { self.old.lines < u32.MAX }
+        ensures { self.new ≡
+            record {
+              lines = self.old.lines + 1;
+              header =
+                  kept (told_then (self.old.lines + 1) (commands.Row id peer) self.old.header);
+              recorded =
+                  self.old.recorded;
+            } }
     {
         self.lines += 1;
         self.header.add_row(id, peer);
@@ -165,9 +181,13 @@ impl Session {
     // A function of its own, since the order is large.
     #[inline(never)]
     fn add_order(&mut self, order: OrderText<'_>) -> Result<(), ScriptFault>
-        requires { self.old.lines < 4294967295 }
+        requires { self.old.lines < u32.MAX }
         ensures { MatchResult result
-            (λ done. self.new ≡ record { lines = self.old.lines + 1; header = told_then (self.old.lines + 1) (commands.Order order.entry) self.old.header; recorded = self.old.recorded })
+            (λ done. self.new ≡ record {
+              lines = self.old.lines + 1;
+              header = told_then (self.old.lines + 1) (commands.Order order.entry) self.old.header;
+              recorded = self.old.recorded;
+            })
             (λ fault. fault ≡ record { line = self.old.lines + 1; kind = FaultKind.Memory }) }
     {
         self.lines += 1;
@@ -178,9 +198,13 @@ impl Session {
     }
 
     fn add_place(&mut self, place: u32) -> Result<(), ScriptFault>
-        requires { self.old.lines < 4294967295 }
+        requires { self.old.lines < u32.MAX }
         ensures { MatchResult result
-            (λ done. self.new ≡ record { lines = self.old.lines + 1; header = told_then (self.old.lines + 1) (commands.Place place) self.old.header; recorded = self.old.recorded })
+            (λ done. self.new ≡ record {
+              lines = self.old.lines + 1;
+              header = told_then (self.old.lines + 1) (commands.Place place) self.old.header;
+              recorded = self.old.recorded;
+            })
             (λ fault. fault ≡ record { line = self.old.lines + 1; kind = FaultKind.Memory }) }
     {
         self.lines += 1;
@@ -191,8 +215,14 @@ impl Session {
     }
 
     fn set_seed(&mut self, key: [u8; 32])
-        requires { self.old.lines < 4294967295 }
-        ensures { self.new ≡ record { lines = self.old.lines + 1; header = told_then (self.old.lines + 1) (commands.Seed key) self.old.header; recorded = self.old.recorded } }
+        requires { self.old.lines < u32.MAX }
+        ensures { self.new ≡
+            record {
+              lines = self.old.lines + 1;
+              header =
+                  told_then (self.old.lines + 1) (commands.Seed key) self.old.header;
+              recorded = self.old.recorded;
+            } }
     {
         self.lines += 1;
         self.header.set_seed(key);
@@ -235,7 +265,7 @@ impl Session {
         read: Result<Message, WireFault>,
         writer: &mut W,
     ) -> Result<(), ScriptFault>
-        requires { self.old.lines < 4294967295 }
+        requires { self.old.lines < u32.MAX }
         ensures done { HearsLine self.old self.new source read (W.written writer.old) (W.written writer.new) result }
         ensures unread { result_kind result ≢ Some FaultKind.Read }
         ensures failures { W.failures writer.new ≡ failures_if (W.failures writer.old) (not (is_write result)) }
@@ -248,7 +278,7 @@ impl Session {
 
     /// A call of the detector.
     fn call<W: Sink>(&mut self, call: Call, writer: &mut W) -> Result<(), ScriptFault>
-        requires { self.old.lines < 4294967295 }
+        requires { self.old.lines < u32.MAX }
         ensures done { PlaysLine self.old self.new call (W.written writer.old) (W.written writer.new) result }
         ensures unread { result_kind result ≢ Some FaultKind.Read }
         ensures failures { W.failures writer.new ≡ failures_if (W.failures writer.old) (not (is_write result)) }
@@ -259,8 +289,9 @@ impl Session {
     }
 
     fn apply<W: Sink>(&mut self, call: Call, writer: &mut W) -> bool
-        requires { self.old.lines < 4294967295 }
-        ensures called { Called self.old.recorded self.new.recorded call (W.written writer.old) (W.written writer.new) result }
+        requires { self.old.lines < u32.MAX }
+        ensures called { Called self.old.recorded self.new.recorded call (W.written writer.old)
+            (W.written writer.new) result }
         ensures count { self.new.lines ≡ self.old.lines + 1 }
         ensures failures { W.failures writer.new ≡ failures_if (W.failures writer.old) result }
     {
@@ -273,8 +304,9 @@ impl Session {
 
     /// A datagram that is none.
     fn tell_fault<W: Sink>(&mut self, fault: WireFault, writer: &mut W) -> Result<(), ScriptFault>
-        requires { self.old.lines < 4294967295 }
-        ensures done { ShowsLine self.old self.new (λ a. wire_text fault) (W.written writer.old) (W.written writer.new) result }
+        requires { self.old.lines < u32.MAX }
+        ensures done { ShowsLine self.old self.new (λ a. wire_text fault) (W.written writer.old)
+            (W.written writer.new) result }
         ensures unread { result_kind result ≢ Some FaultKind.Read }
         ensures failures { W.failures writer.new ≡ failures_if (W.failures writer.old) (not (is_write result)) }
     {
@@ -286,7 +318,7 @@ impl Session {
 
     /// The member table.
     fn show_table<W: Sink>(&mut self, writer: &mut W) -> Result<(), ScriptFault>
-        requires { self.old.lines < 4294967295 }
+        requires { self.old.lines < u32.MAX }
         ensures done { ShowsLine self.old self.new table_of (W.written writer.old) (W.written writer.new) result }
         ensures unread { result_kind result ≢ Some FaultKind.Read }
         ensures failures { W.failures writer.new ≡ failures_if (W.failures writer.old) (not (is_write result)) }
@@ -309,8 +341,9 @@ impl Session {
 
     /// The widest gap of a member.
     fn show_gap<W: Sink>(&mut self, member: Id, writer: &mut W) -> Result<(), ScriptFault>
-        requires { self.old.lines < 4294967295 }
-        ensures done { ShowsLine self.old self.new (gap_of member) (W.written writer.old) (W.written writer.new) result }
+        requires { self.old.lines < u32.MAX }
+        ensures done { ShowsLine self.old self.new (gap_of member) (W.written writer.old)
+            (W.written writer.new) result }
         ensures unread { result_kind result ≢ Some FaultKind.Read }
         ensures failures { W.failures writer.new ≡ failures_if (W.failures writer.old) (not (is_write result)) }
     {

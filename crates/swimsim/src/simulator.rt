@@ -20,8 +20,10 @@ pub fn run<R: Source, W: Sink>(
 ) -> Result<(), ScriptFault>
     ensures told { RunsKnown (R.left reader.old) (R.left reader.new)
         (W.written writer.old) (W.written writer.new) result }
-    ensures reads { R.failures reader.new ≡ (if is_read result then one_more (R.failures reader.old) else R.failures reader.old) }
-    ensures writes { W.failures writer.new ≡ (if is_write result then one_more (W.failures writer.old) else W.failures writer.old) }
+    ensures reads { R.failures reader.new ≡
+        (if is_read result then one_more (R.failures reader.old) else R.failures reader.old) }
+    ensures writes { W.failures writer.new ≡
+        (if is_write result then one_more (W.failures writer.old) else W.failures writer.old) }
 {
     let mut session = Session::new(alloc);
     let mut line = ArrayVec::<u8, LINE_BYTES>::new();

@@ -1,6 +1,7 @@
 //! Members with their addresses.
 
-ghost use Rattle.std.specs.Prelude.{◌≡◌, ◌≢◌, ◌+◌, ◌≤◌, true, false, Some, length, map, take, min, MatchOption, IsPermutation};
+ghost use Rattle.std.specs.Prelude.{◌≡◌, ◌≢◌, ◌+◌, ◌≤◌, true, false, Some, length, map, take, min, MatchOption};
+ghost use Rattle.std.specs.Prelude.{IsPermutation};
 ghost use Rattle.std.specs.List.{AllByRecursion};
 ghost use Rattle.swim_wire.specs.Round.{Lists};
 ghost use Rattle.swim_history.specs.Rows.{up, row_of, is_listed};
@@ -64,7 +65,8 @@ pub(super) fn relays_for<C: Chooser>(
 ) -> ArrayVec<Relay, MOST_RELAYS>
     requires { targets.now ≡ lists journal.now.opening journal.now.past }
     ensures relays { AreRelays journal.now.opening journal.now.past target result.items }
-    ensures drawn { DrawsRelays C.orders journal.now.opening.k (candidates journal.now.opening journal.now.past target) (map (λ relay. relay.id) result.items) chooser.old chooser.new }
+    ensures drawn { DrawsRelays C.orders journal.now.opening.k (candidates journal.now.opening journal.now.past target)
+        (map (λ relay. relay.id) result.items) chooser.old chooser.new }
 {
     let k = journal.opening().k();
     let mut others = targets.candidates(target);

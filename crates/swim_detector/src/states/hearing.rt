@@ -88,7 +88,8 @@ impl State {
         requires kind { message.now.kind ≡ PingReq }
         requires own { IsRequest journal.now.opening.me message.now }
         requires other { message.now.target ≢ journal.now.opening.me }
-        requires listed { row_of journal.now.opening journal.now.past message.now.target ≡ Some (up message.now.target peer) }
+        requires listed { row_of journal.now.opening journal.now.past message.now.target ≡ Some
+            (up message.now.target peer) }
         ensures { IsSettled journal.now.opening journal.now.past (Hear message.now source) result self.new }
     {
         let me = journal.opening().me();
@@ -132,7 +133,9 @@ impl State {
     /// Whether an ack is one of the aim, for this period.
     fn awaits(&self, journal: &Journal, message: &Message) -> bool
         requires { Mirrors journal.now.opening journal.now.past self.now }
-        ensures { IsTrue result ↔ ((aim journal.now.past ≡ Some message.now.target) × (message.now.number ≡ period_number journal.now.opening journal.now.past)) }
+        ensures { IsTrue result ↔
+            ((aim journal.now.past ≡ Some message.now.target)
+            × (message.now.number ≡ period_number journal.now.opening journal.now.past)) }
     {
         self.aim == Some(message.target) && message.number.get() == journal.last_number()
     }
@@ -160,7 +163,8 @@ fn requested_at(journal: &Journal, message: &Message) -> Result<Peer, DropReason
     ensures { MatchResult result
         (λ peer. IsRequest journal.now.opening.me message.now × (message.now.target ≢ journal.now.opening.me)
         × (row_of journal.now.opening journal.now.past message.now.target ≡ Some (up message.now.target peer)))
-        (λ why. (source : Address) → Hears journal.now.opening journal.now.past message.now source PingReq (Dropped why)) }
+        (λ why. (source : Address) →
+        Hears journal.now.opening journal.now.past message.now source PingReq (Dropped why)) }
 {
     let me = journal.opening().me();
     if message.initiator != message.sender {

@@ -26,7 +26,8 @@ impl State {
         peer: Peer,
     ) -> Answer
         requires { Mirrors journal.now.opening journal.now.past self.old }
-        ensures { IsAnswered C.orders C.places journal.now.opening journal.now.past (Join id peer) result self.new chooser.old chooser.new }
+        ensures { IsAnswered C.orders C.places journal.now.opening journal.now.past
+            (Join id peer) result self.new chooser.old chooser.new }
     {
         match refusal_to_join(journal, id) {
             Some(refusal) => self.refuse(journal, &Call::Join(id, peer), refusal),
@@ -44,7 +45,8 @@ impl State {
     ) -> Answer
         requires mirrors { Mirrors journal.now.opening journal.now.past self.old }
         requires listing { MayList journal.now.opening journal.now.past id }
-        ensures { IsAnswered C.orders C.places journal.now.opening journal.now.past (Join id _peer) result self.new chooser.old chooser.new }
+        ensures { IsAnswered C.orders C.places journal.now.opening journal.now.past
+            (Join id _peer) result self.new chooser.old chooser.new }
     {
         match self.targets.join(id, chooser) {
             Ok(place) => Answer::of(Reply::Joined { place }),

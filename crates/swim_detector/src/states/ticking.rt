@@ -22,7 +22,8 @@ impl State {
     #[inline(never)]
     pub(super) fn tick<C: Chooser>(&mut self, journal: &Journal, chooser: &mut C) -> Answer
         requires { Mirrors journal.now.opening journal.now.past self.old }
-        ensures { IsAnswered C.orders C.places journal.now.opening journal.now.past Tick result self.new chooser.old chooser.new }
+        ensures { IsAnswered C.orders C.places journal.now.opening journal.now.past
+            Tick result self.new chooser.old chooser.new }
     {
         if self.phase == 0 {
             if journal.last_number() == u64::MAX {
@@ -44,7 +45,8 @@ impl State {
         requires mirrors { Mirrors journal.now.opening journal.now.past self.old }
         requires begins { phase journal.now.opening journal.now.past ≡ 0 }
         requires unspent { period_number journal.now.opening journal.now.past < greatest_number }
-        ensures { IsAnswered C.orders C.places journal.now.opening journal.now.past Tick result self.new chooser.old chooser.new }
+        ensures { IsAnswered C.orders C.places journal.now.opening journal.now.past
+            Tick result self.new chooser.old chooser.new }
     {
         let judged = unheard(self.heard, self.aim);
         leave(&mut self.targets, &judged);
@@ -64,7 +66,8 @@ impl State {
         requires mirrors { Mirrors journal.now.opening journal.now.past self.old }
         requires timeout { phase journal.now.opening journal.now.past ≡ journal.now.opening.rtt }
         requires inside { phase journal.now.opening journal.now.past ≢ 0 }
-        ensures { IsAnswered C.orders C.places journal.now.opening journal.now.past Tick result self.new chooser.old chooser.new }
+        ensures { IsAnswered C.orders C.places journal.now.opening journal.now.past
+            Tick result self.new chooser.old chooser.new }
     {
         match unheard(self.heard, self.aim) {
             None => self.quiet_tick(journal),
@@ -77,7 +80,8 @@ impl State {
         requires mirrors { Mirrors journal.now.opening journal.now.past self.old }
         requires timeout { phase journal.now.opening journal.now.past ≡ journal.now.opening.rtt }
         requires unheard { unheard journal.now.opening journal.now.past ≡ Some target }
-        ensures { IsAnswered C.orders C.places journal.now.opening journal.now.past Tick result self.new chooser.old chooser.new }
+        ensures { IsAnswered C.orders C.places journal.now.opening journal.now.past
+            Tick result self.new chooser.old chooser.new }
     {
         self.pass(journal.opening().period());
         Answer::of(Reply::Asked {
@@ -91,7 +95,8 @@ impl State {
     fn quiet_tick(&mut self, journal: &Journal) -> Answer
         requires mirrors { Mirrors journal.now.opening journal.now.past self.old }
         requires inside { phase journal.now.opening journal.now.past ≢ 0 }
-        requires quiet { phase journal.now.opening journal.now.past ≡ journal.now.opening.rtt → unheard journal.now.opening journal.now.past ≡ None }
+        requires quiet { phase journal.now.opening journal.now.past ≡ journal.now.opening.rtt →
+            unheard journal.now.opening journal.now.past ≡ None }
         ensures { IsSettled journal.now.opening journal.now.past Tick result self.new }
     {
         self.pass(journal.opening().period());
@@ -101,8 +106,10 @@ impl State {
     /// The period goes on by a tick, and so do the requests that wait.
     fn pass(&mut self, period: u32)
         requires { self.old.phase < period }
-        ensures same { (self.new.targets ≡ self.old.targets) × (self.new.aim ≡ self.old.aim) × (self.new.heard ≡ self.old.heard) }
-        ensures requests { (self.new.requests.period ≡ self.old.requests.period) × (self.new.requests.waiting ≡ aged self.old.requests.waiting) }
+        ensures same { (self.new.targets ≡ self.old.targets) × (self.new.aim ≡ self.old.aim)
+            × (self.new.heard ≡ self.old.heard) }
+        ensures requests { (self.new.requests.period ≡ self.old.requests.period)
+            × (self.new.requests.waiting ≡ aged self.old.requests.waiting) }
         ensures phase { (ticks : ℕ) → self.old.phase ≡ ticks % period → self.new.phase ≡ (ticks + 1) % period }
     {
         self.requests.tick();

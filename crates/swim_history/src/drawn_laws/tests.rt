@@ -1,7 +1,7 @@
 ghost use Rattle.std.specs.Prelude.{◌≡◌, ⊤};
 ghost use Rattle.swim_history.specs.Setting.{Setting, IsSetting};
-ghost use Rattle.swim_history.specs.DrawnLaws.{DrawsOnce};
-ghost use Rattle.swim_history.specs.DrawnRuns.{DrawsAlways};
+ghost use Rattle.swim_history.specs.Laws.Drawn.{DrawsOnce};
+ghost use Rattle.swim_history.specs.Laws.DrawnRuns.{DrawsAlways};
 
 use super::*;
 
@@ -17,8 +17,10 @@ impl Drawing for Unmoved {
 }
 
 fn unmoved_draws_one_run()
-    ensures once { (o : Setting) → IsSetting o → DrawsOnce ⟦<Unmoved as Drawing>⟧.orders ⟦<Unmoved as Drawing>⟧.places ⟦<Unmoved as Drawing>⟧.same o }
-    ensures always { (o : Setting) → IsSetting o → DrawsAlways ⟦<Unmoved as Drawing>⟧.orders ⟦<Unmoved as Drawing>⟧.places o }
+    ensures once { (o : Setting) → IsSetting o →
+        DrawsOnce ⟦<Unmoved as Drawing>⟧.orders ⟦<Unmoved as Drawing>⟧.places ⟦<Unmoved as Drawing>⟧.same o }
+    ensures always { (o : Setting) → IsSetting o →
+        DrawsAlways ⟦<Unmoved as Drawing>⟧.orders ⟦<Unmoved as Drawing>⟧.places o }
 {
     calls_determine_a_drawn_run::<Unmoved>();
     calls_have_a_drawn_run::<Unmoved>();

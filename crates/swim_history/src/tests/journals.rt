@@ -4,7 +4,7 @@ ghost use Rattle.swim_history.specs.declared.entries.Choice.TheVariants.{Nothing
 ghost use Rattle.swim_history.specs.declared.replies.Refusal.TheVariants.{Spent};
 ghost use Rattle.swim_history.specs.declared.replies.Reply.TheVariants.{Quiet, Joined, Removed, Refused};
 ghost use Rattle.swim_history.specs.Run.{Continues};
-ghost use Rattle.swim_history.specs.Worked.{at, entry, round, starting, asking, two_members, first_start};
+ghost use Rattle.swim_history.specs.Worked.Histories.{at, entry, round, starting, asking, two_members, first_start};
 
 use super::{address, id, opening};
 use crate::*;
@@ -132,7 +132,7 @@ fn ask() -> Option<Entry>
 }
 
 pub(super) fn append(journal: &mut Journal, entry: &Entry) -> Result<(), Fail>
-    requires count { length journal.old.past < 4294967295 }
+    requires count { length journal.old.past < u32.MAX }
     requires continues { Continues journal.old.opening journal.old.past entry.now }
     ensures opening { OnOk result (journal.new.opening ≡ journal.old.opening) }
     ensures past { OnOk result (journal.new.past ≡ entry.now ∷ journal.old.past) }

@@ -21,8 +21,8 @@ impl Read for Stutter<'_> {
     }
 }
 
-/// A writer that is interrupted so many times, takes up to three bytes at a time, and none at one of its calls. It can't be
-/// flushed before it took a byte.
+/// A writer that is interrupted so many times, takes up to three bytes at a time, and none at one of its calls. It
+/// can't be flushed before it took a byte.
 #[derive(Drop)]
 struct Trickle<'a> {
     taken: &'a mut Vec<u8>,
@@ -53,7 +53,8 @@ impl Write for Trickle<'_> {
     }
 }
 
-/// What the second line of a text is taken as, where a line has at most 4 bytes, and the bytes of the budget that are left.
+/// What the second line of a text is taken as, where a line has at most 4 bytes, and the bytes of the budget that are
+/// left.
 fn second(text: &[u8], page: &mut Page, mut budget: u32) -> (Taken, ArrayVec<u8, 4>, u32) {
     let mut source = Text::new(text);
     let mut line = ArrayVec::new();

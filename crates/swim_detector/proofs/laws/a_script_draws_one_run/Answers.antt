@@ -1,7 +1,7 @@
 use Rattle.std.proofs.Common.{◌≡◌}
 use Rattle.swim_targets.specs.Script.{FollowsOrder, FollowsPlace}
-use Rattle.swim_history.specs.DrawnLaws.{drawn_once}
-use Rattle.swim_history.specs.DrawnRuns.{drawn_run}
+use Rattle.swim_history.specs.Laws.Drawn.{drawn_once}
+use Rattle.swim_history.specs.Laws.DrawnRuns.{drawn_run}
 use Rattle.swim_detector.specs.OneRun.{script_answers_once, script_answers_always}
 use Rattle.swim_detector.proofs.laws.a_script_draws_one_run.Goals as goal
 

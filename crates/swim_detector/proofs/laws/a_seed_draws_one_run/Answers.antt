@@ -1,6 +1,6 @@
 use Rattle.swim_targets.specs.Draws.{DrawsOrder, DrawsPlace, HaveSameWords}
-use Rattle.swim_history.specs.DrawnLaws.{drawn_once}
-use Rattle.swim_history.specs.DrawnRuns.{drawn_run}
+use Rattle.swim_history.specs.Laws.Drawn.{drawn_once}
+use Rattle.swim_history.specs.Laws.DrawnRuns.{drawn_run}
 use Rattle.swim_detector.specs.OneRun.{seed_answers_once, seed_answers_always}
 use Rattle.swim_detector.proofs.laws.a_seed_draws_one_run.Goals as goal
 

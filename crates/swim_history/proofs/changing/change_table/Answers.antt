@@ -1,4 +1,4 @@
-use Rattle.swim_history.specs.TableLaws.{change_ascends}
+use Rattle.swim_history.specs.Laws.Table.{change_ascends}
 use Rattle.swim_history.proofs.changing.change_table.Goals as goal
 
 pub returns-then-has_room-clause-ascends : goal.returns-then-has_room-clause-ascends

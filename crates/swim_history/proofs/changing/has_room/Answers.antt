@@ -3,7 +3,7 @@ use Rattle.std.proofs.Common.{inl, inr, sym, length, arith}
 use Rattle.std.proofs.lemmas.Bool.{le-leb}
 use Rattle.swim_history.specs.declared.rows.Change.TheVariants as change
 use Rattle.swim_history.specs.Changes.{after_change}
-use Rattle.swim_history.specs.TableLaws.{gone_length, failed_length}
+use Rattle.swim_history.specs.Laws.Table.{gone_length, failed_length}
 use Rattle.swim_history.proofs.Room.{room_left, room_known}
 use Rattle.swim_history.proofs.changing.has_room.Goals as goal
 

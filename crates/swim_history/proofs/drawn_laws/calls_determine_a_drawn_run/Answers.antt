@@ -1,4 +1,4 @@
-use Rattle.swim_history.specs.DrawnLaws.{drawn_once}
+use Rattle.swim_history.specs.Laws.Drawn.{drawn_once}
 use Rattle.swim_history.proofs.drawn_laws.calls_determine_a_drawn_run.Goals as goal
 
 pub returns : goal.returns

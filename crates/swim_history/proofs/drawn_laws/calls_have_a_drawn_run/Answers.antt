@@ -1,4 +1,4 @@
-use Rattle.swim_history.specs.DrawnRuns.{drawn_run}
+use Rattle.swim_history.specs.Laws.DrawnRuns.{drawn_run}
 use Rattle.swim_history.proofs.drawn_laws.calls_have_a_drawn_run.Goals as goal
 
 pub returns : goal.returns

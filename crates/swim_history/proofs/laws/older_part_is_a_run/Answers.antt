@@ -1,4 +1,4 @@
-use Rattle.swim_history.specs.RunLaws.{IsRun-older}
+use Rattle.swim_history.specs.Laws.Run.{IsRun-older}
 use Rattle.swim_history.proofs.laws.older_part_is_a_run.Goals as goal
 
 pub returns : goal.returns

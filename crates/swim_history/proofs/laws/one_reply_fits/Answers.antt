@@ -1,4 +1,4 @@
-use Rattle.swim_history.specs.Determined.{fits_once, starts_once}
+use Rattle.swim_history.specs.Laws.Determined.{fits_once, starts_once}
 use Rattle.swim_history.proofs.laws.one_reply_fits.Goals as goal
 
 pub returns-clause-settled : goal.returns-clause-settled

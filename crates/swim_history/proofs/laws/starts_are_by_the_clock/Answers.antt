@@ -1,4 +1,4 @@
-use Rattle.swim_history.specs.RunLaws.{start_by_clock}
+use Rattle.swim_history.specs.Laws.Run.{start_by_clock}
 use Rattle.swim_history.proofs.laws.starts_are_by_the_clock.Goals as goal
 
 pub returns : goal.returns

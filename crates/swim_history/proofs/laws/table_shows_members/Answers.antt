@@ -1,4 +1,4 @@
-use Rattle.swim_history.specs.TableLaws.{table_shows, table_ascends, table_bound}
+use Rattle.swim_history.specs.Laws.Table.{table_shows, table_ascends, table_bound}
 use Rattle.swim_history.proofs.laws.table_shows_members.Goals as goal
 
 pub returns-clause-shows : goal.returns-clause-shows

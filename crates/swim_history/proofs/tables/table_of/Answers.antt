@@ -1,7 +1,7 @@
 use Rattle.std.proofs.Common.{◌≡◌, ◌≤◌, ◌∷◌, [], ◌++◌, length, append_assoc, append-nil, length-append, sym, ap, ◌∙◌, arith}
 use Rattle.std.proofs.lemmas.List.{nil_from_length}
 use Rattle.swim_history.specs.Changes.{ascending, put}
-use Rattle.swim_history.specs.TableLaws.{ascending_ascends, ascending_length}
+use Rattle.swim_history.specs.Laws.Table.{ascending_ascends, ascending_length}
 use Rattle.swim_history.proofs.tables.table_of.Goals as goal
 
 pub loop-row-init : goal.loop-row-init

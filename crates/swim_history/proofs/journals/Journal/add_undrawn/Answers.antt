@@ -1,7 +1,7 @@
 use Rattle.std.proofs.Common.{◌<◌, reverse, length, min, arith}
 use Rattle.std.specs.HashMap.{spare}
 use Rattle.swim_history.specs.Run.{Continues}
-use Rattle.swim_history.specs.Written.{undrawn}
+use Rattle.swim_history.specs.Storing.Written.{undrawn}
 use Rattle.swim_history.proofs.Summing.{has_room, run_longer}
 use Rattle.swim_history.proofs.journals.Journal.add_undrawn.Goals as goal
 

@@ -1,5 +1,5 @@
 use Rattle.std.proofs.Common.{reverse}
-use Rattle.swim_history.specs.ProbeLaws.{probes_as_drawn}
+use Rattle.swim_history.specs.Laws.Probes.{probes_as_drawn}
 use Rattle.swim_history.proofs.journals.Journal.probes.Goals as goal
 
 pub returns-clause-drawn : goal.returns-clause-drawn

@@ -1,5 +1,5 @@
 use Rattle.std.proofs.Common.{reverse}
-use Rattle.swim_history.specs.TableLaws.{table_ascends, table_shows}
+use Rattle.swim_history.specs.Laws.Table.{table_ascends, table_shows}
 use Rattle.swim_history.proofs.journals.Journal.row.Goals as goal
 
 pub find_row-requires : goal.find_row-requires

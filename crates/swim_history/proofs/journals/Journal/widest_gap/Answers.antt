@@ -1,5 +1,5 @@
 use Rattle.std.proofs.Common.{reverse, ◌∙◌}
-use Rattle.swim_history.specs.GapLaws.{gap_bound, probed_in_time}
+use Rattle.swim_history.specs.Laws.Gap.{gap_bound, probed_in_time}
 use Rattle.swim_history.specs.LastProbe.{last_probe, widest_gap}
 use Rattle.swim_history.proofs.GapWalk.{walked, walked_widest, walked_none_left}
 use Rattle.swim_history.proofs.journals.Journal.widest_gap.Goals as goal

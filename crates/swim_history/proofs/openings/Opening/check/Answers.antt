@@ -1,7 +1,7 @@
 use Rattle.std.proofs.Common.{refl, sym, ◌∙◌}
 use Rattle.std.proofs.lemmas.Option.{none-some}
 use Rattle.swim_history.specs.Check.{setting_of}
-use Rattle.swim_history.specs.CheckLaws.{is_setting, no_fault}
+use Rattle.swim_history.specs.Laws.Check.{is_setting, no_fault}
 use Rattle.swim_history.proofs.openings.Opening.check.Goals as goal
 
 pub invariant_of-result : goal.invariant_of-result

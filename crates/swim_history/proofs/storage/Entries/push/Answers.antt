@@ -1,6 +1,6 @@
 use Rattle.std.proofs.Common.{◌≤◌, length, length-append, arith}
-use Rattle.swim_history.specs.Storage.{ids_in}
-use Rattle.swim_history.specs.StoredReplies.{relays_in}
+use Rattle.swim_history.specs.Storing.Storage.{ids_in}
+use Rattle.swim_history.specs.Storing.StoredReplies.{relays_in}
 use Rattle.swim_history.proofs.Storing.{entry_put, placed_then, within_then}
 use Rattle.swim_history.proofs.storage.Entries.push.Goals as goal
 

@@ -1,6 +1,6 @@
 use Rattle.std.proofs.Common.{◌≤◌, length, length-append, append-nil, arith}
-use Rattle.swim_history.specs.StoredReplies.{relays_in}
-use Rattle.swim_history.specs.Written.{undrawn}
+use Rattle.swim_history.specs.Storing.StoredReplies.{relays_in}
+use Rattle.swim_history.specs.Storing.Written.{undrawn}
 use Rattle.swim_history.proofs.Storing.{entry_put, placed_then, within_then}
 use Rattle.swim_history.proofs.storage.Entries.push_undrawn.Goals as goal
 

@@ -1,4 +1,4 @@
-use Rattle.swim_history.specs.WorkedGaps.{joined_is_run}
+use Rattle.swim_history.specs.Worked.Gaps.{joined_is_run}
 use Rattle.swim_history.proofs.tests.gaps.counts_joiners.Goals as goal
 
 pub replayed-requires-clause-run : goal.replayed-requires-clause-run

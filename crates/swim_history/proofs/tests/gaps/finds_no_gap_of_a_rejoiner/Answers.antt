@@ -1,4 +1,4 @@
-use Rattle.swim_history.specs.WorkedGaps.{rejoined_is_run}
+use Rattle.swim_history.specs.Worked.Gaps.{rejoined_is_run}
 use Rattle.swim_history.proofs.tests.gaps.finds_no_gap_of_a_rejoiner.Goals as goal
 
 pub replayed-requires-clause-run : goal.replayed-requires-clause-run

@@ -1,4 +1,4 @@
-use Rattle.swim_history.specs.WorkedGaps.{four_periods_are_run}
+use Rattle.swim_history.specs.Worked.Gaps.{four_periods_are_run}
 use Rattle.swim_history.proofs.tests.gaps.finds_the_widest_gaps.Goals as goal
 
 pub replayed-requires-clause-run : goal.replayed-requires-clause-run

@@ -1,4 +1,4 @@
-use Rattle.swim_history.specs.WorkedReturns.{judged_and_back_is_run}
+use Rattle.swim_history.specs.Worked.Returns.{judged_and_back_is_run}
 use Rattle.swim_history.proofs.tests.gaps.keeps_the_widest_gap_of_a_judged_member.Goals as goal
 
 pub replayed-requires-clause-run : goal.replayed-requires-clause-run

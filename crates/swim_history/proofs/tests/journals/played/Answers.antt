@@ -1,4 +1,4 @@
-use Rattle.swim_history.specs.Worked.{two_periods_are_run}
+use Rattle.swim_history.specs.Worked.Histories.{two_periods_are_run}
 use Rattle.swim_history.proofs.tests.journals.played.Goals as goal
 
 -- the second start follows the first entries of the worked run

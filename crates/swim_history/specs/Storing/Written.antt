@@ -12,7 +12,7 @@ use Rattle.swim_history.specs.Clock.{period_number}
 use Rattle.swim_history.specs.Changes.{table, change_by, rows_after, IsAscending}
 use Rattle.swim_history.specs.Events.{is_starting, judged_in, probe_in, is_joining, joins}
 use Rattle.swim_history.specs.Judgement.{judgements}
-use Rattle.swim_history.specs.MemberGaps.{IsKept, IsOpenTo, gaps_then}
+use Rattle.swim_history.specs.Storing.MemberGaps.{IsKept, IsOpenTo, gaps_then}
 
 pub record Written : Type 0 where
   pub opening : Setting
@@ -45,7 +45,8 @@ pub record IsNext (call : Call) (reply : Reply) (old new : Summary) : Type 0 whe
   pub number : new.number ≡ (if is_starting reply then old.number + 1 else old.number)
   pub judged : new.judged ≡ old.judged + length (option_to_list (judged_in reply))
   pub joins : new.joins ≡ (if is_joining call reply then old.joins + 1 else old.joins)
-  pub gaps : (m : ℕ) → get nat_eq new.gaps m ≡ gaps_then m call reply (length (filter (λ row. is_state_up row.state) new.rows.items)) old.joins (get nat_eq old.gaps m)
+  pub gaps : (m : ℕ) → get nat_eq new.gaps m ≡ gaps_then m call reply
+      (length (filter (λ row. is_state_up row.state) new.rows.items)) old.joins (get nat_eq old.gaps m)
   pub member : spare old.gaps ≤ spare new.gaps + 1
 
 -- it keeps the same, though perhaps with more room

@@ -1,5 +1,6 @@
 -- What passes the check is within the limits, and what is within the limits passes.
-use Rattle.std.proofs.Common.{◌≡◌, ℕ, ◌*◌, ◌<◌, ◌^◌, true, ◌||◌, nat_lt, nat_eq, List, [], ◌∷◌, length, None, refl, arith}
+use Rattle.std.proofs.Common.{◌≡◌, ℕ, ◌*◌, ◌<◌, ◌^◌, true, ◌||◌, nat_lt, nat_eq, List, [], ◌∷◌, length, None, refl}
+use Rattle.std.proofs.Common.{arith}
 use Rattle.std.proofs.lemmas.Bool.{ltb-false, le-ltb, eqb-false, ne_eqb, or_parts}
 use Rattle.std.specs.List.{list_all}
 use Rattle.swim_wire.specs.Address.{Address}
@@ -9,11 +10,13 @@ use Rattle.swim_history.specs.Check.{setting_of, rows_up, has_fault, first_fault
 use Rattle.swim_history.specs.declared.openings.OpeningFault.TheVariants.{Relays, Timing, TooManyRows, Myself, Twice}
 
 -- members that are up failed in no period
-are_past : (last : ℕ) (members : List (ℕ × Address)) → list_all (λ row. is_state_past last row.state) (rows_up members) ≡ true
+are_past : (last : ℕ) (members : List (ℕ × Address)) → list_all (λ row. is_state_past last row.state)
+    (rows_up members) ≡ true
 are_past last [] = refl
 are_past last (member ∷ members) = are_past last members
 
-pub is_setting : (me k rtt period : ℕ) (members : List (ℕ × Address)) (last : ℕ) → last < 2 ^ 64 → first_fault (setting_of me k rtt period members last) ≡ None → IsSetting (setting_of me k rtt period members last)
+pub is_setting : (me k rtt period : ℕ) (members : List (ℕ × Address)) (last : ℕ) → last < 2 ^ 64 →
+    first_fault (setting_of me k rtt period members last) ≡ None → IsSetting (setting_of me k rtt period members last)
 is_setting me k rtt period members last lt none =
     let rows = rows_up members in
     let test = has_fault (setting_of me k rtt period members last) in
@@ -26,7 +29,8 @@ is_setting me k rtt period members last lt none =
     let short = or_parts (nat_eq rtt 0) (nat_lt period (3 * rtt)) long.0 in
     record {
       relays = ltb-false 8 k relays.0;
-      timing = (omega (arith, eqb-false rtt 0 short.0), ltb-false period (3 * rtt) short.1, ltb-false 65535 period long.1);
+      timing =
+          (omega (arith, eqb-false rtt 0 short.0), ltb-false period (3 * rtt) short.1, ltb-false 65535 period long.1);
       rows = ltb-false 128 (length rows) many.0;
       others = myself.0;
       once = twice.0;

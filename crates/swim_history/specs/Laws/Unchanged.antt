@@ -23,10 +23,10 @@ use Rattle.swim_history.specs.Clock.{period_number}
 use Rattle.swim_history.specs.Aim.{since, unless, last_probed, aim, was_heard, unheard}
 use Rattle.swim_history.specs.Rows.{row_of}
 use Rattle.swim_history.specs.Changes.{change_by}
-use Rattle.swim_history.specs.TableLaws.{table_next}
+use Rattle.swim_history.specs.Laws.Table.{table_next}
 use Rattle.swim_history.specs.Round.{lists, lists_then}
 use Rattle.swim_history.specs.Waiting.{asked_in, sent_on_in}
-use Rattle.swim_history.specs.WaitingLaws.{waiting_same}
+use Rattle.swim_history.specs.Laws.Waiting.{waiting_same}
 use Rattle.swim_history.specs.Run.{Answers, Hears, Continues}
 use Rattle.swim_history.specs.Unchanged.{is_declining, IsUnchanged}
 
@@ -43,7 +43,8 @@ record ChangesNothing (o : Setting) (h : List Entry) (e : Entry) : Type 0 where
   unasked : asked_in e.call e.reply ≡ None
   unsent : sent_on_in e.call e.reply ≡ None
 
-number_stays : (o : Setting) (h : List Entry) (e : Entry) → is_tick e ≡ false → period_number o (e ∷ h) ≡ period_number o h
+number_stays : (o : Setting) (h : List Entry) (e : Entry) → is_tick e ≡ false →
+    period_number o (e ∷ h) ≡ period_number o h
 number_stays o h e idle = rw idle refl
 
 aim_stays : (o : Setting) (h : List Entry) (e : Entry) → ChangesNothing o h e → aim (e ∷ h) ≡ aim h
@@ -51,16 +52,19 @@ aim_stays o h e c =
     rw c.goes_on (ap (λ (gone : ℕ → Bool). option_and_then (λ m. unless (gone m) m) (last_probed h))
     (λ i m. (c.none_removed m i) || list_any (removes m) (since is_start h)))
 
-heard_stays : (o : Setting) (h : List Entry) (e : Entry) → ChangesNothing o h e → (m : ℕ) → aim h ≡ Some m → was_heard o (e ∷ h) m ≡ was_heard o h m
+heard_stays : (o : Setting) (h : List Entry) (e : Entry) → ChangesNothing o h e → (m : ℕ) → aim h ≡ Some m →
+    was_heard o (e ∷ h) m ≡ was_heard o h m
 heard_stays o h e c m aimed =
     let same = number_stays o h e c.idle in
     let unacked : acks o.me m (period_number o (e ∷ h)) e ≡ false = rw same (c.unacked m aimed) in
     rw (c.goes_on, unacked) (ap (λ number. list_any (acks o.me m number) (since is_start h)) same)
 
 unheard_stays : (o : Setting) (h : List Entry) (e : Entry) → ChangesNothing o h e → unheard o (e ∷ h) ≡ unheard o h
-unheard_stays o h e c = ap (λ a. option_and_then (λ m. unless (was_heard o (e ∷ h) m) m) a) (aim_stays o h e c) ∙ by (aim h) refl
+unheard_stays o h e c =
+    ap (λ a. option_and_then (λ m. unless (was_heard o (e ∷ h) m) m) a) (aim_stays o h e c) ∙ by (aim h) refl
   where
-    by : (a : Option ℕ) → aim h ≡ a → option_and_then (λ m. unless (was_heard o (e ∷ h) m) m) a ≡ option_and_then (λ m. unless (was_heard o h m) m) a
+    by : (a : Option ℕ) → aim h ≡ a → option_and_then (λ m. unless (was_heard o (e ∷ h) m) m) a ≡ option_and_then
+        (λ m. unless (was_heard o h m) m) a
     by None is = refl
     by (Some m) is = ap (λ b. unless b m) (heard_stays o h e c m is)
 
@@ -76,12 +80,14 @@ unchanged o h e c = record {
 }
 
 -- a message is never refused
-no_refusal : (o : Setting) (h : List Entry) (m : Message) (source : Address) (kind : Kind) (why : Refusal) → Hears o h m source kind (Refused why) → ⊥
+no_refusal : (o : Setting) (h : List Entry) (m : Message) (source : Address) (kind : Kind) (why : Refusal) →
+    Hears o h m source kind (Refused why) → ⊥
 no_refusal o h m source Ping why a = a
 no_refusal o h m source PingReq why a = a
 no_refusal o h m source Ack why a = a
 
-not_both : (own same_target same_number : Bool) → (same_target ≡ true → same_number ≡ true → ⊥) → (own && same_target && same_number) ≡ false
+not_both : (own same_target same_number : Bool) → (same_target ≡ true → same_number ≡ true → ⊥) →
+    (own && same_target && same_number) ≡ false
 not_both own true true never = absurd (never refl refl)
 not_both true true false never = refl
 not_both false true false never = refl
@@ -95,21 +101,25 @@ not_first true same_target same_number never = absurd (never refl)
 not_first false same_target same_number never = refl
 
 -- a dropped message is no ack of the aim for the period that runs
-no_ack : (o : Setting) (h : List Entry) (m : Message) (source : Address) (kind : Kind) (why : DropReason) → Hears o h m source kind (Dropped why) →
-    (target : ℕ) → aim h ≡ Some target → (is_ack kind && (m.initiator == o.me) && (m.target == target) && (m.number == period_number o h)) ≡ false
+no_ack : (o : Setting) (h : List Entry) (m : Message) (source : Address) (kind : Kind) (why : DropReason) →
+    Hears o h m source kind (Dropped why) →
+    (target : ℕ) → aim h ≡ Some target →
+    (is_ack kind && (m.initiator == o.me) && (m.target == target) && (m.number == period_number o h)) ≡ false
 no_ack o h m source Ping why a target aimed = refl
 no_ack o h m source PingReq why a target aimed = refl
 no_ack o h m source Ack Stray a target aimed =
     not_both (m.initiator == o.me) (m.target == target) (m.number == period_number o h)
     (λ same_target same_number.
-    a.1 (aimed ∙ ap Some (sym (eqb-true m.target target same_target))) (eqb-true m.number (period_number o h) same_number))
+    a.1 (aimed ∙ ap Some (sym (eqb-true m.target target same_target)))
+    (eqb-true m.number (period_number o h) same_number))
 no_ack o h m source Ack NoRequest a target aimed =
     not_first (m.initiator == o.me) (m.target == target) (m.number == period_number o h)
     (λ own. a.0 (eqb-true m.initiator o.me own))
 no_ack o h m source Ack why a target aimed = absurd a
 
 -- a call that is neither a message nor a tick, and is refused
-refused : (o : Setting) (h : List Entry) (seat number : ℕ) (call : Call) (why : Refusal) (choice : Choice) → Answers o h call (Refused why) choice →
+refused : (o : Setting) (h : List Entry) (seat number : ℕ) (call : Call) (why : Refusal) (choice : Choice) →
+    Answers o h call (Refused why) choice →
     ChangesNothing o h (record { seat = seat; number = number; call = call; choice = choice; reply = Refused why })
 refused o h seat number (Hear m source) why Nothing a = absurd (no_refusal o h m source m.kind why a)
 refused o h seat number (Hear m source) why (Round order) a = absurd a
@@ -147,7 +157,8 @@ refused o h seat number (Remove id) why choice a = record {
   unsent = refl;
 }
 
-dropped : (o : Setting) (h : List Entry) (seat number : ℕ) (call : Call) (why : DropReason) (choice : Choice) → Answers o h call (Dropped why) choice →
+dropped : (o : Setting) (h : List Entry) (seat number : ℕ) (call : Call) (why : DropReason) (choice : Choice) →
+    Answers o h call (Dropped why) choice →
     ChangesNothing o h (record { seat = seat; number = number; call = call; choice = choice; reply = Dropped why })
 dropped o h seat number Tick why choice a = absurd a
 dropped o h seat number (Join id peer) why choice a = absurd a
@@ -165,11 +176,14 @@ dropped o h seat number (Hear m source) why Nothing a = record {
   unsent = refl;
 }
 
-changes_nothing : (o : Setting) (h : List Entry) (seat number : ℕ) (call : Call) (reply : Reply) (choice : Choice) → Answers o h call reply choice → is_declining reply ≡ true →
+changes_nothing : (o : Setting) (h : List Entry) (seat number : ℕ) (call : Call) (reply : Reply) (choice : Choice) →
+    Answers o h call reply choice → is_declining reply ≡ true →
     ChangesNothing o h (record { seat = seat; number = number; call = call; choice = choice; reply = reply })
 changes_nothing o h seat number call (Dropped why) choice a declines = dropped o h seat number call why choice a
 changes_nothing o h seat number call (Refused why) choice a declines = refused o h seat number call why choice a
 changes_nothing o h seat number call reply choice a declines = absurd (false≢true declines)
 
-pub declining_changes_nothing : (o : Setting) (h : List Entry) (e : Entry) → Continues o h e → is_declining e.reply ≡ true → IsUnchanged o h e
-declining_changes_nothing o h e c declines = unchanged o h e (changes_nothing o h e.seat e.number e.call e.reply e.choice c.answer declines)
+pub declining_changes_nothing : (o : Setting) (h : List Entry) (e : Entry) → Continues o h e →
+    is_declining e.reply ≡ true → IsUnchanged o h e
+declining_changes_nothing o h e c declines =
+    unchanged o h e (changes_nothing o h e.seat e.number e.call e.reply e.choice c.answer declines)

@@ -13,7 +13,7 @@ use Rattle.swim_history.specs.declared.storage.Slot.TheVariants.{Quiet, Whole}
 use Rattle.swim_history.specs.declared.storage.Stored.{Stored}
 use Rattle.swim_history.specs.declared.stored_replies.StoredReply.TheVariants as stored_replies
 use Rattle.swim_history.specs.declared.replies.Relay.{Relay}
-use Rattle.swim_history.specs.StoredReplies.{reply_among, IsAskedWithin}
+use Rattle.swim_history.specs.Storing.StoredReplies.{reply_among, IsAskedWithin}
 
 pub record Storage : Type 0 where
   -- oldest first
@@ -38,7 +38,14 @@ choice_among ids (Round count start) = choices.Round (record { items = take coun
 
 -- an entry that is stored whole, among the ids of all orders and all relays
 abbrev pub entry_among : List ℕ → List Relay → Stored → Entry
-entry_among ids relays stored = record { seat = stored.seat; number = stored.number; call = stored.call; choice = choice_among ids stored.drawn; reply = reply_among relays stored.reply }
+entry_among ids relays stored = record {
+  seat = stored.seat;
+  number = stored.number;
+  call = stored.call;
+  choice =
+      choice_among ids stored.drawn;
+  reply = reply_among relays stored.reply;
+}
 
 -- what was drawn stands within so many ids, and an order has room for it
 abbrev pub IsWithin : ℕ → Drawn → Type 0
@@ -58,7 +65,8 @@ no_stored = record { seat = 0; number = 0; drawn = Nothing; call = Tick; reply =
 
 -- an entry, among those that are stored whole
 abbrev pub entry_in : List ℕ → List Relay → List Stored → Slot → Entry
-entry_in ids relays whole (Quiet seat number) = record { seat = seat; number = number; call = Tick; choice = choices.Nothing; reply = replies.Quiet }
+entry_in ids relays whole (Quiet seat number) =
+    record { seat = seat; number = number; call = Tick; choice = choices.Nothing; reply = replies.Quiet }
 entry_in ids relays whole (Whole place) = entry_among ids relays (slice_index_or whole place no_stored)
 
 -- an entry that is stored whole stands among so many of them

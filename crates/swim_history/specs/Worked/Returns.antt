@@ -9,8 +9,8 @@ use Rattle.swim_history.specs.declared.entries.Choice.TheVariants.{Nothing}
 use Rattle.swim_history.specs.declared.entries.Entry.{Entry}
 use Rattle.swim_history.specs.Run.{IsRun}
 use Rattle.swim_history.specs.Gap.{unlists, IsGap}
-use Rattle.swim_history.specs.Worked.{at, entry, round, starting, asking, first_start}
-use Rattle.swim_history.specs.WorkedGaps.{quiet, acked, acked_is_run, no_relays, four_periods, four_periods_are_run}
+use Rattle.swim_history.specs.Worked.Histories.{at, entry, round, starting, asking, first_start}
+use Rattle.swim_history.specs.Worked.Gaps.{quiet, acked, acked_is_run, no_relays, four_periods, four_periods_are_run}
 
 -- ---- removed
 
@@ -34,7 +34,18 @@ abbrev pub returned : List Entry
 returned = sixth_start ∷ acked 18 2 5 to_fifth
 
 returning_is_run : IsRun no_relays (returning ∷ leaving ∷ four_periods)
-returning_is_run = (record { seat = lit< tt; number = refl; answer = (λ e. absurd (omega arith), refl, λ e f. absurd (omega arith), omega arith) }, (record { seat = lit< tt; number = refl; answer = (λ e. absurd (omega arith), λ e. absurd cc) }, four_periods_are_run))
+returning_is_run = (
+  record {
+    seat = lit< tt;
+    number = refl;
+    answer =
+        (λ e. absurd (omega arith), refl, λ e f. absurd (omega arith), omega arith);
+  },
+  (
+    record { seat = lit< tt; number = refl; answer = (λ e. absurd (omega arith), λ e. absurd cc) },
+    four_periods_are_run,
+  ),
+)
 
 -- nobody is asked for, as the aim is gone
 aimless_is_run : IsRun no_relays (quiet 16 ∷ quiet 15 ∷ returning ∷ leaving ∷ four_periods)
@@ -44,10 +55,33 @@ aimless_is_run = (
 )
 
 fifth_is_run : IsRun no_relays to_fifth
-fifth_is_run = (record { seat = lit< tt; number = refl; answer = record { begins = refl; unspent = lit< tt; judges = refl; draws = (refl, λ e. absurd cc, IsPermutation-refl _); probes = (at 2, refl, refl) } }, aimless_is_run)
+fifth_is_run = (
+  record {
+    seat = lit< tt;
+    number = refl;
+    answer =
+        record {
+          begins = refl;
+          unspent = lit< tt;
+          judges = refl;
+          draws =
+              (refl, λ e. absurd cc, IsPermutation-refl _);
+          probes = (at 2, refl, refl);
+        };
+  },
+  aimless_is_run,
+)
 
 pub returned_is_run : IsRun no_relays returned
-returned_is_run = (record { seat = lit< tt; number = refl; answer = record { begins = refl; unspent = lit< tt; judges = refl; draws = λ e. absurd cc; probes = (at 3, refl, refl) } }, acked_is_run no_relays 18 2 5 to_fifth refl refl refl refl (λ e. absurd cc) (λ e. absurd cc) refl refl fifth_is_run)
+returned_is_run = (
+  record {
+    seat = lit< tt;
+    number = refl;
+    answer =
+        record { begins = refl; unspent = lit< tt; judges = refl; draws = λ e. absurd cc; probes = (at 3, refl, refl) };
+  },
+  acked_is_run no_relays 18 2 5 to_fifth refl refl refl refl (λ e. absurd cc) (λ e. absurd cc) refl refl fifth_is_run,
+)
 
 -- between its last two probes it wasn't listed all the time
 not_listed_between : list_any (unlists 2) (quiet 16 ∷ quiet 15 ∷ returning ∷ leaving ∷ []) ≡ true
@@ -58,7 +92,8 @@ gap_with_returner : IsGap no_relays returned 3 3 6 3
 gap_with_returner = record {
   newer = [];
   second = sixth_start;
-  between = acked 18 2 5 (fifth_start ∷ quiet 16 ∷ quiet 15 ∷ returning ∷ leaving ∷ starting 12 None 2 4 Nothing ∷ acked 9 3 3 []);
+  between = acked 18 2 5
+      (fifth_start ∷ quiet 16 ∷ quiet 15 ∷ returning ∷ leaving ∷ starting 12 None 2 4 Nothing ∷ acked 9 3 3 []);
   first = starting 8 None 3 3 (round (3 ∷ 2 ∷ []));
   before = acked 5 3 2 (starting 4 None 3 2 Nothing ∷ acked 1 2 1 (first_start ∷ []));
   split = refl;
@@ -94,14 +129,51 @@ judged_and_back = back_start ∷ acked 17 3 5 to_judged
 silent_is_run : IsRun no_relays (quiet 14 ∷ asking 13 2 4 [] ∷ four_periods)
 silent_is_run = (
   record { seat = lit< tt; number = refl; answer = (λ e. absurd cc, λ e. absurd cc) },
-  (record { seat = lit< tt; number = refl; answer = (refl, refl, refl, record { count = refl; once = refl; each = tt }) }, four_periods_are_run),
+  (
+    record {
+      seat = lit< tt;
+      number = refl;
+      answer =
+          (refl, refl, refl, record { count = refl; once = refl; each = tt });
+    },
+    four_periods_are_run,
+  ),
 )
 
 judged_is_run : IsRun no_relays to_judged
 judged_is_run = (
-  record { seat = lit< tt; number = refl; answer = (λ e. absurd (omega arith), refl, λ e f. absurd (omega arith), omega arith) },
-  (record { seat = lit< tt; number = refl; answer = record { begins = refl; unspent = lit< tt; judges = refl; draws = (refl, λ e. absurd cc, IsPermutation-refl _); probes = (at 3, refl, refl) } }, silent_is_run),
+  record {
+    seat = lit< tt;
+    number = refl;
+    answer =
+        (λ e. absurd (omega arith), refl, λ e f. absurd (omega arith), omega arith);
+  },
+  (
+    record {
+      seat = lit< tt;
+      number = refl;
+      answer =
+          record {
+            begins = refl;
+            unspent = lit< tt;
+            judges = refl;
+            draws =
+                (refl, λ e. absurd cc, IsPermutation-refl _);
+            probes = (at 3, refl, refl);
+          };
+    },
+    silent_is_run,
+  ),
 )
 
 pub judged_and_back_is_run : IsRun no_relays judged_and_back
-judged_and_back_is_run = (record { seat = lit< tt; number = refl; answer = record { begins = refl; unspent = lit< tt; judges = refl; draws = λ e. absurd cc; probes = (at 2, refl, refl) } }, acked_is_run no_relays 17 3 5 to_judged refl refl refl refl (λ e. absurd cc) (λ e. absurd cc) refl refl judged_is_run)
+judged_and_back_is_run = (
+  record {
+    seat = lit< tt;
+    number = refl;
+    answer =
+        record { begins = refl; unspent = lit< tt; judges = refl; draws = λ e. absurd cc; probes = (at 2, refl, refl) };
+  },
+  acked_is_run no_relays 17 3 5 to_judged refl refl refl refl (λ e. absurd cc)
+      (λ e. absurd cc) refl refl judged_is_run,
+)

@@ -1,5 +1,6 @@
 -- What is kept of a member that was probed, so that nobody has to walk through its history.
-use Rattle.std.specs.Prelude.{◌≡◌, ℕ, ◌+◌, ◌-◌, ◌≤◌, List, Option, Some, None, IfSome, is_some, option_and_then, if◌then◌else◌}
+use Rattle.std.specs.Prelude.{◌≡◌, ℕ, ◌+◌, ◌-◌, ◌≤◌, List, Option, Some, None, IfSome, is_some, option_and_then}
+use Rattle.std.specs.Prelude.{if◌then◌else◌}
 use Rattle.std.specs.List.{list_any}
 use Rattle.std.specs.Option.{option_map}
 use Rattle.swim_history.specs.declared.calls.Call.{Call}
@@ -15,7 +16,8 @@ use Rattle.swim_history.specs.LastProbe.{probed_at, gap_since, wider, last_probe
 
 -- a probe, seen after so many joins
 abbrev pub last_at : ℕ → Option ProbeStart → Option LastProbe
-last_at joins start = option_map (λ start. record { number = start.number; n = start.listed + (joins - start.joins) }) start
+last_at joins start =
+    option_map (λ start. record { number = start.number; n = start.listed + (joins - start.joins) }) start
 
 -- the last probe of a member that is listed since, and its widest gap
 abbrev pub last_in : Option MemberGaps → Option ProbeStart
@@ -39,11 +41,17 @@ unlisted kept = record { last = None; widest = kept.widest }
 
 -- of a member that is probed
 abbrev pub probed_again : ProbeStart → Option MemberGaps → MemberGaps
-probed_again start kept = record { last = Some start; widest = wider (widest_in kept) (gap_since (last_at start.joins (last_in kept)) start.number) }
+probed_again start kept =
+    record {
+      last = Some start;
+      widest =
+          wider (widest_in kept) (gap_since (last_at start.joins (last_in kept)) start.number);
+    }
 
 abbrev pub probed_then : Option ℕ → ℕ → ℕ → Option MemberGaps → Option MemberGaps
 probed_then None up joins kept = kept
-probed_then (Some number) up joins kept = Some (probed_again (record { number = number; joins = joins; listed = up }) kept)
+probed_then (Some number) up joins kept =
+    Some (probed_again (record { number = number; joins = joins; listed = up }) kept)
 
 -- of any member: up is how many are listed after the entry, and joins is how many joins were accepted before it
 abbrev pub gaps_then : ℕ → Call → Reply → ℕ → ℕ → Option MemberGaps → Option MemberGaps

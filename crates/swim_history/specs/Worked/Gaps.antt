@@ -14,11 +14,13 @@ use Rattle.swim_history.specs.Clock.{period_number, phase}
 use Rattle.swim_history.specs.Aim.{aim, unheard}
 use Rattle.swim_history.specs.Run.{calls_of, IsRun}
 use Rattle.swim_history.specs.Gap.{probes_member, unlists, IsGap, IsStretch}
-use Rattle.swim_history.specs.Worked.{at, known, of_members, entry, round, starting, first_start}
+use Rattle.swim_history.specs.Worked.Histories.{at, known, of_members, entry, round, starting, first_start}
 
 -- the entries of a period after its start: the aim's ack, then two quiet ticks
 abbrev pub heard : ℕ → ℕ → ℕ → Entry
-heard place target number = entry place (Hear (record { kind = Ack; sender = target; initiator = 1; target = target; number = number }) (at target)) Heard Nothing
+heard place target number =
+    entry place (Hear (record { kind = Ack; sender = target; initiator = 1; target = target; number = number })
+    (at target)) Heard Nothing
 
 abbrev pub quiet : ℕ → Entry
 quiet place = entry place Tick Quiet Nothing
@@ -26,9 +28,12 @@ quiet place = entry place Tick Quiet Nothing
 abbrev pub acked : ℕ → ℕ → ℕ → List Entry → List Entry
 acked place target number before = quiet (place + 2) ∷ quiet (place + 1) ∷ heard place target number ∷ before
 
-pub acked_is_run : (o : Setting) (place target number : ℕ) (before : List Entry) → o.me ≡ 1 → place ≡ calls_of 0 before → aim before ≡ Some target → number ≡ period_number o before
+pub acked_is_run : (o : Setting) (place target number : ℕ) (before : List Entry) → o.me ≡ 1 →
+    place ≡ calls_of 0 before → aim before ≡ Some target → number ≡ period_number o before
     → phase o before ≢ 0 → phase o (quiet (place + 1) ∷ heard place target number ∷ before) ≢ 0
-    → unheard o (heard place target number ∷ before) ≡ None → unheard o (quiet (place + 1) ∷ heard place target number ∷ before) ≡ None → IsRun o before → IsRun o (acked place target number before)
+    → unheard o (heard place target number ∷ before) ≡ None →
+    unheard o (quiet (place + 1) ∷ heard place target number ∷ before) ≡ None → IsRun o before →
+    IsRun o (acked place target number before)
 acked_is_run o place target number before me calls aimed now first second none still run = (
   record { seat = lit< tt; number = omega (arith, calls); answer = (second, λ e. still) },
   (
@@ -63,16 +68,64 @@ abbrev pub four_periods : List Entry
 four_periods = fourth_start ∷ acked 9 3 3 to_third
 
 first_is_run : IsRun no_relays (first_start ∷ [])
-first_is_run = (record { seat = lit< tt; number = refl; answer = record { begins = refl; unspent = lit< tt; judges = refl; draws = (refl, λ e. absurd cc, IsPermutation-refl _); probes = (at 2, refl, refl) } }, tt)
+first_is_run = (
+  record {
+    seat = lit< tt;
+    number = refl;
+    answer =
+        record {
+          begins = refl;
+          unspent = lit< tt;
+          judges = refl;
+          draws =
+              (refl, λ e. absurd cc, IsPermutation-refl _);
+          probes = (at 2, refl, refl);
+        };
+  },
+  tt,
+)
 
 second_is_run : IsRun no_relays to_second
-second_is_run = (record { seat = lit< tt; number = refl; answer = record { begins = refl; unspent = lit< tt; judges = refl; draws = λ e. absurd cc; probes = (at 3, refl, refl) } }, acked_is_run no_relays 1 2 1 (first_start ∷ []) refl refl refl refl (λ e. absurd cc) (λ e. absurd cc) refl refl first_is_run)
+second_is_run = (
+  record {
+    seat = lit< tt;
+    number = refl;
+    answer =
+        record { begins = refl; unspent = lit< tt; judges = refl; draws = λ e. absurd cc; probes = (at 3, refl, refl) };
+  },
+  acked_is_run no_relays 1 2 1 (first_start ∷ []) refl refl refl refl (λ e. absurd cc)
+      (λ e. absurd cc) refl refl first_is_run,
+)
 
 third_is_run : IsRun no_relays to_third
-third_is_run = (record { seat = lit< tt; number = refl; answer = record { begins = refl; unspent = lit< tt; judges = refl; draws = (refl, λ e. absurd cc, swapped); probes = (at 3, refl, refl) } }, acked_is_run no_relays 5 3 2 to_second refl refl refl refl (λ e. absurd cc) (λ e. absurd cc) refl refl second_is_run)
+third_is_run = (
+  record {
+    seat = lit< tt;
+    number = refl;
+    answer =
+        record {
+          begins = refl;
+          unspent = lit< tt;
+          judges = refl;
+          draws = (refl, λ e. absurd cc, swapped);
+          probes =
+              (at 3, refl, refl);
+        };
+  },
+  acked_is_run no_relays 5 3 2 to_second refl refl refl refl (λ e. absurd cc)
+      (λ e. absurd cc) refl refl second_is_run,
+)
 
 pub four_periods_are_run : IsRun no_relays four_periods
-four_periods_are_run = (record { seat = lit< tt; number = refl; answer = record { begins = refl; unspent = lit< tt; judges = refl; draws = λ e. absurd cc; probes = (at 2, refl, refl) } }, acked_is_run no_relays 9 3 3 to_third refl refl refl refl (λ e. absurd cc) (λ e. absurd cc) refl refl third_is_run)
+four_periods_are_run = (
+  record {
+    seat = lit< tt;
+    number = refl;
+    answer =
+        record { begins = refl; unspent = lit< tt; judges = refl; draws = λ e. absurd cc; probes = (at 2, refl, refl) };
+  },
+  acked_is_run no_relays 9 3 3 to_third refl refl refl refl (λ e. absurd cc) (λ e. absurd cc) refl refl third_is_run,
+)
 
 -- the first member's probes are three periods apart, and two members are listed
 widest_of_two : IsGap no_relays four_periods 2 1 4 2
@@ -119,7 +172,15 @@ abbrev three_starts : List Entry
 three_starts = fourth_start ∷ acked 9 3 3 (third_start ∷ acked 5 3 2 (second_start ∷ []))
 
 in_time : IsStretch no_relays four_periods 2 2 three_starts
-in_time = record { newer = []; before = acked 1 2 1 (first_start ∷ []); split = refl; listed_at_first = refl; stays = refl; count = refl }
+in_time = record {
+  newer = [];
+  before = acked 1 2 1 (first_start ∷ []);
+  split = refl;
+  listed_at_first = refl;
+  stays =
+      refl;
+  count = refl;
+}
 
 third_start_probes : (length (filter is_start three_starts) ≡ 3) × (list_any (probes_member 2) three_starts ≡ true)
 third_start_probes = (refl, refl)
@@ -147,13 +208,54 @@ abbrev pub joined : List Entry
 joined = next_round ∷ acked 10 3 3 to_later
 
 joiner_is_run : IsRun no_relays to_joiner
-joiner_is_run = (record { seat = lit< tt; number = refl; answer = record { begins = refl; unspent = lit< tt; judges = refl; draws = λ e. absurd cc; probes = (at 4, refl, refl) } }, (record { seat = lit< tt; number = refl; answer = (λ e. absurd (omega arith), refl, λ e f. absurd (omega arith), omega arith) }, acked_is_run no_relays 1 2 1 (first_start ∷ []) refl refl refl refl (λ e. absurd cc) (λ e. absurd cc) refl refl first_is_run))
+joiner_is_run = (
+  record {
+    seat = lit< tt;
+    number = refl;
+    answer =
+        record { begins = refl; unspent = lit< tt; judges = refl; draws = λ e. absurd cc; probes = (at 4, refl, refl) };
+  },
+  (
+    record {
+      seat = lit< tt;
+      number = refl;
+      answer =
+          (λ e. absurd (omega arith), refl, λ e f. absurd (omega arith), omega arith);
+    },
+    acked_is_run no_relays 1 2 1
+        (first_start ∷ []) refl refl refl refl (λ e. absurd cc) (λ e. absurd cc) refl refl first_is_run,
+  ),
+)
 
 later_is_run : IsRun no_relays to_later
-later_is_run = (record { seat = lit< tt; number = refl; answer = record { begins = refl; unspent = lit< tt; judges = refl; draws = λ e. absurd cc; probes = (at 3, refl, refl) } }, acked_is_run no_relays 6 4 2 to_joiner refl refl refl refl (λ e. absurd cc) (λ e. absurd cc) refl refl joiner_is_run)
+later_is_run = (
+  record {
+    seat = lit< tt;
+    number = refl;
+    answer =
+        record { begins = refl; unspent = lit< tt; judges = refl; draws = λ e. absurd cc; probes = (at 3, refl, refl) };
+  },
+  acked_is_run no_relays 6 4 2 to_joiner refl refl refl refl (λ e. absurd cc)
+      (λ e. absurd cc) refl refl joiner_is_run,
+)
 
 pub joined_is_run : IsRun no_relays joined
-joined_is_run = (record { seat = lit< tt; number = refl; answer = record { begins = refl; unspent = lit< tt; judges = refl; draws = (refl, λ e. absurd cc, IsPermutation-refl _); probes = (at 2, refl, refl) } }, acked_is_run no_relays 10 3 3 to_later refl refl refl refl (λ e. absurd cc) (λ e. absurd cc) refl refl later_is_run)
+joined_is_run = (
+  record {
+    seat = lit< tt;
+    number = refl;
+    answer =
+        record {
+          begins = refl;
+          unspent = lit< tt;
+          judges = refl;
+          draws =
+              (refl, λ e. absurd cc, IsPermutation-refl _);
+          probes = (at 2, refl, refl);
+        };
+  },
+  acked_is_run no_relays 10 3 3 to_later refl refl refl refl (λ e. absurd cc) (λ e. absurd cc) refl refl later_is_run,
+)
 
 -- two members were listed just after the first probe, and one joined
 gap_with_joiner : IsGap no_relays joined 2 1 4 3
@@ -195,13 +297,46 @@ abbrev pub rejoined : List Entry
 rejoined = last_start ∷ acked 11 2 3 to_rejoined
 
 rejoiner_is_run : IsRun no_relays (rejoiner ∷ removal ∷ to_second)
-rejoiner_is_run = (record { seat = lit< tt; number = refl; answer = (λ e. absurd (omega arith), refl, λ e f. absurd (omega arith), omega arith) }, (record { seat = lit< tt; number = refl; answer = (λ e. absurd (omega arith), λ e. absurd cc) }, second_is_run))
+rejoiner_is_run = (
+  record {
+    seat = lit< tt;
+    number = refl;
+    answer =
+        (λ e. absurd (omega arith), refl, λ e f. absurd (omega arith), omega arith);
+  },
+  (record { seat = lit< tt; number = refl; answer = (λ e. absurd (omega arith), λ e. absurd cc) }, second_is_run),
+)
 
 rejoined_start_is_run : IsRun no_relays to_rejoined
-rejoined_start_is_run = (record { seat = lit< tt; number = refl; answer = record { begins = refl; unspent = lit< tt; judges = refl; draws = (refl, λ e. absurd cc, IsPermutation-refl _); probes = (at 2, refl, refl) } }, acked_is_run no_relays 7 3 2 (rejoiner ∷ removal ∷ to_second) refl refl refl refl (λ e. absurd cc) (λ e. absurd cc) refl refl rejoiner_is_run)
+rejoined_start_is_run = (
+  record {
+    seat = lit< tt;
+    number = refl;
+    answer =
+        record {
+          begins = refl;
+          unspent = lit< tt;
+          judges = refl;
+          draws =
+              (refl, λ e. absurd cc, IsPermutation-refl _);
+          probes = (at 2, refl, refl);
+        };
+  },
+  acked_is_run no_relays 7 3 2
+      (rejoiner ∷ removal ∷ to_second) refl refl refl refl (λ e. absurd cc) (λ e. absurd cc) refl refl rejoiner_is_run,
+)
 
 pub rejoined_is_run : IsRun no_relays rejoined
-rejoined_is_run = (record { seat = lit< tt; number = refl; answer = record { begins = refl; unspent = lit< tt; judges = refl; draws = λ e. absurd cc; probes = (at 3, refl, refl) } }, acked_is_run no_relays 11 2 3 to_rejoined refl refl refl refl (λ e. absurd cc) (λ e. absurd cc) refl refl rejoined_start_is_run)
+rejoined_is_run = (
+  record {
+    seat = lit< tt;
+    number = refl;
+    answer =
+        record { begins = refl; unspent = lit< tt; judges = refl; draws = λ e. absurd cc; probes = (at 3, refl, refl) };
+  },
+  acked_is_run no_relays 11 2 3 to_rejoined refl refl refl refl (λ e. absurd cc)
+      (λ e. absurd cc) refl refl rejoined_start_is_run,
+)
 
 -- between its probes it wasn't listed all the time
 not_all_the_time : list_any (unlists 2) (acked 7 3 2 (rejoiner ∷ removal ∷ second_start ∷ acked 1 2 1 [])) ≡ true

@@ -1,7 +1,9 @@
 -- Where a chooser always answers, each list of calls has a drawn run.
-use Rattle.std.proofs.Common.{◌≡◌, ◌≢◌, ◌⊎◌, ℕ, ◌+◌, ◌<◌, ◌≤◌, Bool, true, false, cond, List, [], ◌∷◌, ◌++◌, length, Option, Some, None, refl, sym, ap, subst, ◌∙◌, inl, inr, arith}
+use Rattle.std.proofs.Common.{◌≡◌, ◌≢◌, ◌⊎◌, ℕ, ◌+◌, ◌<◌, ◌≤◌, Bool, true, false, cond, List, [], ◌∷◌, ◌++◌, length}
+use Rattle.std.proofs.Common.{Option, Some, None, refl, sym, ap, subst, ◌∙◌, inl, inr, arith}
 use Rattle.std.proofs.lemmas.Option.{same_Some}
-use Rattle.std.proofs.lemmas.Bool.{false≢true, cases_eq, cases_lt, and_parts, or_left, or_right, or_parts, or_from, eq-eqb}
+use Rattle.std.proofs.lemmas.Bool.{false≢true, cases_eq, cases_lt, and_parts, or_left, or_right, or_parts, or_from}
+use Rattle.std.proofs.lemmas.Bool.{eq-eqb}
 use Rattle.std.proofs.lemmas.List.{length-map, length-take, take-append-drop}
 use Rattle.std.proofs.lemmas.List.Folds.{list_any-append}
 use Rattle.std.proofs.lemmas.List.Sorted.{length_permutation}
@@ -19,10 +21,12 @@ use Rattle.swim_wire.specs.declared.messages.Message.{Message}
 use Rattle.swim_history.specs.declared.calls.Call.{Call}
 use Rattle.swim_history.specs.declared.calls.Call.TheVariants.{Tick, Hear, Join, Remove}
 use Rattle.swim_history.specs.declared.replies.Reply.{Reply}
-use Rattle.swim_history.specs.declared.replies.Reply.TheVariants.{Quiet, Started, Asked, Heard, Send, Dropped, Joined, Removed, Refused}
+use Rattle.swim_history.specs.declared.replies.Reply.TheVariants.{Quiet, Started, Asked, Heard, Send, Dropped, Joined}
+use Rattle.swim_history.specs.declared.replies.Reply.TheVariants.{Removed, Refused}
 use Rattle.swim_history.specs.declared.replies.Probe.{Probe}
 use Rattle.swim_history.specs.declared.replies.Relay.{Relay}
-use Rattle.swim_history.specs.declared.replies.DropReason.TheVariants.{NotForMe, Borrowed, AboutMe, Unlisted, TableFull, Stray, NoRequest}
+use Rattle.swim_history.specs.declared.replies.DropReason.TheVariants.{NotForMe, Borrowed, AboutMe, Unlisted, TableFull}
+use Rattle.swim_history.specs.declared.replies.DropReason.TheVariants.{Stray, NoRequest}
 use Rattle.swim_history.specs.declared.replies.Refusal.TheVariants.{Myself, Listed, Full, Unknown, Spent}
 use Rattle.swim_history.specs.declared.rows.Row.{Row}
 use Rattle.swim_history.specs.declared.entries.Choice.{Choice}
@@ -34,23 +38,29 @@ use Rattle.swim_history.specs.Aim.{aim, unheard}
 use Rattle.swim_history.specs.Events.{is_start}
 use Rattle.swim_history.specs.Rows.{up, row_of, is_listed}
 use Rattle.swim_history.specs.Changes.{known_count}
-use Rattle.swim_history.specs.TableLaws.{table_bound, listed_row}
+use Rattle.swim_history.specs.Laws.Table.{table_bound, listed_row}
 use Rattle.swim_history.specs.Round.{drawn, lists, listed}
 use Rattle.swim_history.specs.Waiting.{waiting}
-use Rattle.swim_history.specs.Run.{greatest_number, IsProbe, candidates, IsRequest, most_waiting, is_waiting, Hears, Answers, calls_of, IsRun}
-use Rattle.swim_history.specs.RunLaws.{begins, number_then}
-use Rattle.swim_history.specs.ListedLaws.{no_longer, all-redraw, next_is_in, stays_from, once_judged, listed_is, listed_once, listed_bound, room_to_join}
+use Rattle.swim_history.specs.Run.{greatest_number, IsProbe, candidates, IsRequest, most_waiting, is_waiting, Hears}
+use Rattle.swim_history.specs.Run.{Answers, calls_of, IsRun}
+use Rattle.swim_history.specs.Laws.Run.{begins, number_then}
+use Rattle.swim_history.specs.Laws.Listed.{no_longer, all-redraw, next_is_in, stays_from, once_judged, listed_is}
+use Rattle.swim_history.specs.Laws.Listed.{listed_once, listed_bound, room_to_join}
 use Rattle.swim_history.specs.Drawn.{DrawsEntry, IsDrawn}
-use Rattle.swim_history.specs.DrawnLaws.{calls_in}
+use Rattle.swim_history.specs.Laws.Drawn.{calls_in}
 
 -- choosers always answer: with an order of at most 128 ids of which none stands twice, and with one of at most
 -- 128 places
-pub record IsTotal {S : Type 0} (orders : S → List ℕ → List ℕ → S → Type 0) (places : S → ℕ → ℕ → S → Type 0) : Type 0 where
-  pub order : (before : S) (ids : List ℕ) → length ids ≤ 128 → has_twice ids ≡ false → (order : List ℕ) × (after : S) × IsPermutation ids order × orders before ids order after
-  pub place : (before : S) (last : ℕ) → last < 128 → (place : ℕ) × (after : S) × (place ≤ last) × places before last place after
+pub record IsTotal {S : Type 0} (orders : S → List ℕ → List ℕ → S → Type 0)
+    (places : S → ℕ → ℕ → S → Type 0) : Type 0 where
+  pub order : (before : S) (ids : List ℕ) → length ids ≤ 128 → has_twice ids ≡ false → (order : List ℕ) × (after : S)
+      × IsPermutation ids order × orders before ids order after
+  pub place : (before : S) (last : ℕ) → last < 128 → (place : ℕ) × (after : S) × (place ≤ last)
+      × places before last place after
 
 -- a drawn run of those calls
-pub record HasDrawnRun {S : Type 0} (orders : S → List ℕ → List ℕ → S → Type 0) (places : S → ℕ → ℕ → S → Type 0) (o : Setting) (start : S) (calls : List (ℕ × Call)) : Type 0 where
+pub record HasDrawnRun {S : Type 0} (orders : S → List ℕ → List ℕ → S → Type 0) (places : S → ℕ → ℕ → S → Type 0)
+    (o : Setting) (start : S) (calls : List (ℕ × Call)) : Type 0 where
   pub run : List Entry
   pub now : S
   pub is_run : IsRun o run
@@ -59,7 +69,8 @@ pub record HasDrawnRun {S : Type 0} (orders : S → List ℕ → List ℕ → S 
 
 -- each list of calls by seats that there are has a drawn run, whatever the chooser is before it
 abbrev pub DrawsAlways : {S : Type 0} → (S → List ℕ → List ℕ → S → Type 0) → (S → ℕ → ℕ → S → Type 0) → Setting → Type 0
-DrawsAlways {S} orders places o = (start : S) (calls : List (ℕ × Call)) → AllByRecursion (λ asked. asked.0 < 4) calls → HasDrawnRun orders places o start calls
+DrawsAlways {S} orders places o = (start : S) (calls : List (ℕ × Call)) → AllByRecursion (λ asked. asked.0 < 4) calls →
+    HasDrawnRun orders places o start calls
 
 -- ---- messages
 
@@ -67,7 +78,8 @@ DrawsAlways {S} orders places o = (start : S) (calls : List (ℕ × Call)) → A
 abbrev HasReply : Setting → List Entry → Message → Address → Kind → Type 0
 HasReply o h m source kind = (reply : Reply) × Hears o h m source kind reply
 
-relay_reply : (o : Setting) (h : List Entry) (m : Message) (source : Address) → IsRequest o.me m → m.target ≢ o.me → HasReply o h m source PingReq
+relay_reply : (o : Setting) (h : List Entry) (m : Message) (source : Address) → IsRequest o.me m → m.target ≢ o.me →
+    HasReply o h m source PingReq
 relay_reply o h m source request away = by (is_listed o h m.target) refl where
   found : is_listed o h m.target ≡ true → (waits : Bool) → is_waiting o h m ≡ waits → HasReply o h m source PingReq
   found is true waits =
@@ -84,7 +96,8 @@ relay_reply o h m source request away = by (is_listed o h m.target) refl where
   by false is = (Dropped Unlisted, (request, away, is))
   by true is = found is (is_waiting o h m) refl
 
-ack_reply : (o : Setting) (h : List Entry) (m : Message) (source : Address) → m.initiator ≡ o.me → HasReply o h m source Ack
+ack_reply : (o : Setting) (h : List Entry) (m : Message) (source : Address) → m.initiator ≡ o.me →
+    HasReply o h m source Ack
 ack_reply o h m source mine = by (aim h) refl where
   by : (aimed : Option ℕ) → aim h ≡ aimed → HasReply o h m source Ack
   by None at = (Dropped Stray, (mine, λ is. absurd cc))
@@ -98,7 +111,8 @@ ack_reply o h m source mine = by (aim h) refl where
         | inr other ↦ (Dropped Stray, (mine, λ is. absurd (other (same_Some id m.target (sym at ∙ is)))))
       ]
 
-forward_reply : (o : Setting) (h : List Entry) (m : Message) (source : Address) → m.initiator ≢ o.me → HasReply o h m source Ack
+forward_reply : (o : Setting) (h : List Entry) (m : Message) (source : Address) → m.initiator ≢ o.me →
+    HasReply o h m source Ack
 forward_reply o h m source other = by (peer_for (key_of m) (waiting o h)) refl where
   by : (peer : Option Address) → peer_for (key_of m) (waiting o h) ≡ peer → HasReply o h m source Ack
   by None is = (Dropped NoRequest, (other, is))
@@ -135,21 +149,25 @@ hear_reply o h m source Ack =
 pub number_bound : (o : Setting) (h : List Entry) → IsSetting o → IsRun o h → period_number o h ≤ greatest_number
 number_bound o [] s run = omega (arith, s.last)
 number_bound o (e ∷ h) s run = by (is_start e) refl (number_then o h e s run.0) (number_bound o h s run.1) where
-  by : (b : Bool) → is_start e ≡ b → period_number o (e ∷ h) ≡ cond (is_start e) (period_number o h + 1) (period_number o h) → period_number o h ≤ greatest_number → period_number o (e ∷ h) ≤ greatest_number
+  by : (b : Bool) → is_start e ≡ b → period_number o (e ∷ h) ≡ cond (is_start e) (period_number o h + 1)
+      (period_number o h) → period_number o h ≤ greatest_number → period_number o (e ∷ h) ≤ greatest_number
   by true starts then most =
       let b = begins o h e.call e.reply e.choice run.0.answer starts in
       omega (arith, rw starts at then, b.fits.unspent)
   by false starts then most = omega (arith, rw starts at then)
 
 -- ids of listed members, none twice, are at most 128
-few : (o : Setting) (h : List Entry) → IsSetting o → IsRun o h → (ids : List ℕ) → has_twice ids ≡ false → ((id : ℕ) → has ids id ≡ true → has (listed o h) id ≡ true) → length ids ≤ 128
-few o h s run ids once within = omega (arith, no_longer ids (listed o h) once within, listed_bound o h s run, table_bound o h s run)
+few : (o : Setting) (h : List Entry) → IsSetting o → IsRun o h → (ids : List ℕ) → has_twice ids ≡ false →
+    ((id : ℕ) → has ids id ≡ true → has (listed o h) id ≡ true) → length ids ≤ 128
+few o h s run ids once within =
+    omega (arith, no_longer ids (listed o h) once within, listed_bound o h s run, table_bound o h s run)
 
 once_front : (xs ys : List ℕ) → has_twice (xs ++ ys) ≡ false → has_twice xs ≡ false
 once_front [] ys once = refl
 once_front (x ∷ xs) ys once =
     let parts = or_parts (has (xs ++ ys) x) (has_twice (xs ++ ys)) once in
-    or_from (has xs x) (has_twice xs) (or_parts (has xs x) (has ys x) (sym (list_any-append (nat_eq x) xs ys) ∙ parts.0)).0 (once_front xs ys parts.1)
+    or_from (has xs x) (has_twice xs)
+    (or_parts (has xs x) (has ys x) (sym (list_any-append (nat_eq x) xs ys) ∙ parts.0)).0 (once_front xs ys parts.1)
 
 has_in_front : (id : ℕ) (xs ys : List ℕ) → has xs id ≡ true → has (xs ++ ys) id ≡ true
 has_in_front id xs ys is = list_any-append (nat_eq id) xs ys ∙ or_left (has xs id) (has ys id) is
@@ -157,25 +175,30 @@ has_in_front id xs ys is = list_any-append (nat_eq id) xs ys ∙ or_left (has xs
 -- ---- an entry
 
 -- an entry that may follow a history, with what the chooser answers for it
-record HasAnswer {S : Type 0} (orders : S → List ℕ → List ℕ → S → Type 0) (places : S → ℕ → ℕ → S → Type 0) (o : Setting) (h : List Entry) (call : Call) (before : S) : Type 0 where
+record HasAnswer {S : Type 0} (orders : S → List ℕ → List ℕ → S → Type 0) (places : S → ℕ → ℕ → S → Type 0)
+    (o : Setting) (h : List Entry) (call : Call) (before : S) : Type 0 where
   reply : Reply
   choice : Choice
   after : S
   fits : Answers o h call reply choice
   draws : DrawsEntry orders places o h call reply choice before after
 
-module _ {S : Type 0} (orders : S → List ℕ → List ℕ → S → Type 0) (places : S → ℕ → ℕ → S → Type 0) (total : IsTotal orders places) (o : Setting) (h : List Entry) (s : IsSetting o) (run : IsRun o h) (before : S) where
+module _ {S : Type 0} (orders : S → List ℕ → List ℕ → S → Type 0) (places : S → ℕ → ℕ → S → Type 0)
+    (total : IsTotal orders places) (o : Setting) (h : List Entry) (s : IsSetting o) (run : IsRun o h)
+    (before : S) where
   -- the order of a new round, where one begins
   record HasRound (r : Lists) : Type 0 where
     choice : Choice
     after : S
     may : MayDraw (drawn choice) r
-    draws : (judged : Option ℕ) (probe : Option Probe) → leave_judged judged (lists o h) ≡ r → DrawsEntry orders places o h Tick (Started judged probe) choice before after
+    draws : (judged : Option ℕ) (probe : Option Probe) → leave_judged judged (lists o h) ≡ r →
+        DrawsEntry orders places o h Tick (Started judged probe) choice before after
 
   round_drawn : (r : Lists) → length r.probed ≤ 128 → has_twice r.probed ≡ false → HasRound r
   round_drawn r most once = by r.rest r.probed refl refl where
     by : (rest probed : List ℕ) → r.rest ≡ rest → r.probed ≡ probed → HasRound r
-    by (id ∷ rest) probed is was = record { choice = Nothing; after = before; may = λ none. absurd cc; draws = λ judged probe same. refl }
+    by (id ∷ rest) probed is was =
+        record { choice = Nothing; after = before; may = λ none. absurd cc; draws = λ judged probe same. refl }
     by [] [] is was = record { choice = Nothing; after = before; may = λ none. was; draws = λ judged probe same. refl }
     by [] (id ∷ probed) is was =
         let order = total.order before r.probed most once in
@@ -187,7 +210,8 @@ module _ {S : Type 0} (orders : S → List ℕ → List ℕ → S → Type 0) (p
         }
 
   -- the probe of who is next
-  next_probed : (number : ℕ) (next : Option ℕ) → ((id : ℕ) → next ≡ Some id → is_listed o h id ≡ true) → (probe : Option Probe) × IsProbe o h number next probe
+  next_probed : (number : ℕ) (next : Option ℕ) → ((id : ℕ) → next ≡ Some id → is_listed o h id ≡ true) →
+      (probe : Option Probe) × IsProbe o h number next probe
   next_probed number None listed = (None, refl)
   next_probed number (Some id) listed =
       let row = listed_row o h id (listed id refl) in
@@ -198,12 +222,15 @@ module _ {S : Type 0} (orders : S → List ℕ → List ℕ → S → Type 0) (p
       let judged = unheard o h in
       let r = leave_judged judged (lists o h) in
       let in_lists = λ (id : ℕ) (is : has (all_of r) id ≡ true). stays_from judged (lists o h) id is in
-      let once : has_twice r.probed ≡ false = once_front r.probed r.rest (once_judged judged (lists o h) (listed_once o h s run)) in
+      let once : has_twice r.probed ≡ false =
+      once_front r.probed r.rest (once_judged judged (lists o h) (listed_once o h s run)) in
       let most = few o h s run r.probed once (λ id is. in_lists id (has_in_front id r.probed r.rest is)) in
       let round = round_drawn r most once in
       let next = redraw (drawn round.choice) r in
-      let is_next : (id : ℕ) → front next.rest ≡ Some id → is_listed o h id ≡ true = λ id e. sym (listed_is o h s run id)
-      ∙ in_lists id (sym (has-IsPermutation id (all_of r) (all_of next) (all-redraw (drawn round.choice) r round.may)) ∙ next_is_in next id e) in
+      let is_next : (id : ℕ) → front next.rest ≡ Some id → is_listed o h id ≡ true =
+      λ id e. sym (listed_is o h s run id)
+      ∙ in_lists id (sym (has-IsPermutation id (all_of r) (all_of next) (all-redraw (drawn round.choice) r round.may))
+      ∙ next_is_in next id e) in
       let probe = next_probed (period_number o h + 1) (front next.rest) is_next in
       record {
         reply = Started judged probe.0;
@@ -217,15 +244,21 @@ module _ {S : Type 0} (orders : S → List ℕ → List ℕ → S → Type 0) (p
   record HasRelays (target : ℕ) (ids : List ℕ) : Type 0 where
     relays : List Relay
     are : map (λ relay. relay.id) relays ≡ ids
-    each : AllByRecursion (λ relay. (has (candidates o h target) relay.id ≡ true) × (row_of o h relay.id ≡ Some (up relay.id relay.peer))) relays
+    each : AllByRecursion
+        (λ relay. (has (candidates o h target) relay.id ≡ true)
+        × (row_of o h relay.id ≡ Some (up relay.id relay.peer))) relays
 
   candidate_listed : (target id : ℕ) → has (candidates o h target) id ≡ true → has (listed o h) id ≡ true
-  candidate_listed target id is = (and_parts (has (listed o h) id) (not (nat_eq id target)) (sym (has_part (λ other. not (nat_eq other target)) id (listed o h)) ∙ is)).0
+  candidate_listed target id is =
+      (and_parts (has (listed o h) id) (not (nat_eq id target))
+      (sym (has_part (λ other. not (nat_eq other target)) id (listed o h)) ∙ is)).0
 
-  relays_of : (target : ℕ) (ids : List ℕ) → ((id : ℕ) → has ids id ≡ true → has (candidates o h target) id ≡ true) → HasRelays target ids
+  relays_of : (target : ℕ) (ids : List ℕ) → ((id : ℕ) → has ids id ≡ true → has (candidates o h target) id ≡ true) →
+      HasRelays target ids
   relays_of target [] within = record { relays = []; are = refl; each = tt }
   relays_of target (id ∷ ids) within =
-      let first : has (candidates o h target) id ≡ true = within id (or_left (nat_eq id id) (has ids id) (eq-eqb id id refl)) in
+      let first : has (candidates o h target) id ≡ true =
+      within id (or_left (nat_eq id id) (has ids id) (eq-eqb id id refl)) in
       let row = listed_row o h id (sym (listed_is o h s run id) ∙ candidate_listed target id first) in
       let others = relays_of target ids (λ q is. within q (or_right (nat_eq q id) (has ids q) is)) in
       record {
@@ -234,7 +267,8 @@ module _ {S : Type 0} (orders : S → List ℕ → List ℕ → S → Type 0) (p
         each = ((first, row.1), others.each);
       }
 
-  nobody_asked : (target : ℕ) → phase o h ≡ o.rtt → unheard o h ≡ Some target → (o.k ≡ 0) ⊎ (candidates o h target ≡ []) → HasAnswer orders places o h Tick before
+  nobody_asked : (target : ℕ) → phase o h ≡ o.rtt → unheard o h ≡ Some target →
+      (o.k ≡ 0) ⊎ (candidates o h target ≡ []) → HasAnswer orders places o h Tick before
   nobody_asked target timeout silent none =
       let count : 0 ≡ min o.k (length (candidates o h target)) =
       elim none [
@@ -249,23 +283,39 @@ module _ {S : Type 0} (orders : S → List ℕ → List ℕ → S → Type 0) (p
         draws = inl (none, refl);
       }
 
-  some_asked : (target : ℕ) → phase o h ≡ o.rtt → unheard o h ≡ Some target → o.k ≢ 0 → candidates o h target ≢ [] → HasAnswer orders places o h Tick before
+  some_asked : (target : ℕ) → phase o h ≡ o.rtt → unheard o h ≡ Some target → o.k ≢ 0 → candidates o h target ≢ [] →
+      HasAnswer orders places o h Tick before
   some_asked target timeout silent some others =
       let ids = candidates o h target in
-      let once : has_twice ids ≡ false = once_part (λ other. not (nat_eq other target)) (listed o h) (listed_once o h s run) in
+      let once : has_twice ids ≡ false =
+      once_part (λ other. not (nat_eq other target)) (listed o h) (listed_once o h s run) in
       let order = total.order before ids (few o h s run ids once (candidate_listed target)) once in
       let front = take o.k order.0 in
       let whole = take-append-drop o.k order.0 in
-      let within : (id : ℕ) → has front id ≡ true → has ids id ≡ true = λ id is. sym (has-IsPermutation id ids order.0 order.2) ∙ ap (λ (xs : List ℕ). has xs id) (sym whole) ∙ has_in_front id front (drop o.k order.0) is in
+      let within : (id : ℕ) → has front id ≡ true → has ids id ≡ true =
+      λ id is. sym (has-IsPermutation id ids order.0 order.2) ∙ ap (λ (xs : List ℕ). has xs id) (sym whole)
+      ∙ has_in_front id front (drop o.k order.0) is in
       let drawn = relays_of target front within in
       let count : length drawn.relays ≡ min o.k (length ids) =
-      sym (length-map drawn.relays (λ relay. relay.id)) ∙ ap (λ (xs : List ℕ). length xs) drawn.are ∙ length-take o.k order.0 ∙ ap (min o.k) (length_permutation ids order.0 order.2) in
-      let differ : has_twice front ≡ false = once_front front (drop o.k order.0) (ap has_twice whole ∙ once-IsPermutation ids order.0 order.2 once) in
+      sym (length-map drawn.relays (λ relay. relay.id)) ∙ ap (λ (xs : List ℕ). length xs) drawn.are
+      ∙ length-take o.k order.0 ∙ ap (min o.k) (length_permutation ids order.0 order.2) in
+      let differ : has_twice front ≡ false =
+      once_front front (drop o.k order.0) (ap has_twice whole ∙ once-IsPermutation ids order.0 order.2 once) in
       record {
         reply = Asked target (period_number o h) (record { items = drawn.relays });
         choice = Nothing;
         after = order.1;
-        fits = (timeout, silent, refl, record { count = count; once = ap has_twice drawn.are ∙ differ; each = drawn.each });
+        fits = (
+          timeout,
+          silent,
+          refl,
+          record {
+            count = count;
+            once = ap has_twice drawn.are ∙ differ;
+            each =
+                drawn.each;
+          },
+        );
         draws = inr (some, others, order.0, order.3, drawn.are);
       }
 
@@ -281,7 +331,8 @@ module _ {S : Type 0} (orders : S → List ℕ → List ℕ → S → Type 0) (p
       by some (id ∷ ids) is = some_asked target timeout silent some (λ none. absurd cc)
 
   -- what is answered without asking the chooser
-  plain : (call : Call) (reply : Reply) → Answers o h call reply Nothing → DrawsEntry orders places o h call reply Nothing before before → HasAnswer orders places o h call before
+  plain : (call : Call) (reply : Reply) → Answers o h call reply Nothing →
+      DrawsEntry orders places o h call reply Nothing before before → HasAnswer orders places o h call before
   plain call reply fits draws = record { reply = reply; choice = Nothing; after = before; fits = fits; draws = draws }
 
   within_period : phase o h ≢ 0 → HasAnswer orders places o h Tick before
@@ -313,12 +364,21 @@ module _ {S : Type 0} (orders : S → List ℕ → List ℕ → S → Type 0) (p
         | inr other ↦ by other (is_listed o h id) refl (row_of o h id) refl
       ]
     where
-      placed : id ≢ o.me → is_listed o h id ≡ false → (row_of o h id ≡ None → known_count o h ≢ 128) → HasAnswer orders places o h (Join id peer) before
+      placed : id ≢ o.me → is_listed o h id ≡ false → (row_of o h id ≡ None → known_count o h ≢ 128) →
+          HasAnswer orders places o h (Join id peer) before
       placed other down room =
           let place = total.place before (length (listed o h)) (room_to_join o h id s run down room) in
-          record { reply = Joined place.0; choice = Nothing; after = place.1; fits = (other, down, room, place.2); draws = place.3 }
+          record {
+            reply = Joined place.0;
+            choice = Nothing;
+            after = place.1;
+            fits =
+                (other, down, room, place.2);
+            draws = place.3;
+          }
 
-      by : id ≢ o.me → (b : Bool) → is_listed o h id ≡ b → (row : Option Row) → row_of o h id ≡ row → HasAnswer orders places o h (Join id peer) before
+      by : id ≢ o.me → (b : Bool) → is_listed o h id ≡ b → (row : Option Row) → row_of o h id ≡ row →
+          HasAnswer orders places o h (Join id peer) before
       by other true is row known = plain (Join id peer) (Refused Listed) (other, is) refl
       by other false is (Some row) known = placed other is (λ unknown. absurd cc)
       by other false is None unknown =
@@ -347,12 +407,21 @@ module _ {S : Type 0} (orders : S → List ℕ → List ℕ → S → Type 0) (p
 -- ---- a run
 
 -- each list of calls has a drawn run
-pub drawn_run : {S : Type 0} (orders : S → List ℕ → List ℕ → S → Type 0) (places : S → ℕ → ℕ → S → Type 0) → IsTotal orders places → (o : Setting) → IsSetting o → DrawsAlways orders places o
-drawn_run orders places total o s start [] seats = record { run = []; now = start; is_run = tt; is_drawn = refl; of_calls = refl }
+pub drawn_run : {S : Type 0} (orders : S → List ℕ → List ℕ → S → Type 0) (places : S → ℕ → ℕ → S → Type 0) →
+    IsTotal orders places → (o : Setting) → IsSetting o → DrawsAlways orders places o
+drawn_run orders places total o s start [] seats =
+    record { run = []; now = start; is_run = tt; is_drawn = refl; of_calls = refl }
 drawn_run orders places total o s start (asked ∷ calls) seats =
     let earlier = drawn_run orders places total o s start calls seats.1 in
     let answer = answered orders places total o earlier.run s earlier.is_run earlier.now asked.1 in
-    let entry : Entry = record { seat = asked.0; number = calls_of asked.0 earlier.run; call = asked.1; choice = answer.choice; reply = answer.reply } in
+    let entry : Entry = record {
+      seat = asked.0;
+      number = calls_of asked.0 earlier.run;
+      call = asked.1;
+      choice =
+          answer.choice;
+      reply = answer.reply;
+    } in
     record {
       run = entry ∷ earlier.run;
       now = answer.after;

@@ -28,7 +28,8 @@ reply_at start (replies.Refused reason) = stored.Refused reason
 abbrev pub reply_among : List Relay → StoredReply → Reply
 reply_among relays stored.Quiet = replies.Quiet
 reply_among relays (stored.Started judged probe) = replies.Started judged probe
-reply_among relays (stored.Asked target number count start) = replies.Asked target number (record { items = take count (drop start relays) })
+reply_among relays (stored.Asked target number count start) =
+    replies.Asked target number (record { items = take count (drop start relays) })
 reply_among relays stored.Heard = replies.Heard
 reply_among relays (stored.Send peer message) = replies.Send peer message
 reply_among relays (stored.Dropped reason) = replies.Dropped reason

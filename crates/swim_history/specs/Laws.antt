@@ -1,0 +1,14 @@
+pub mod Table
+pub mod Determined
+pub mod Unchanged
+pub mod Check
+pub mod Clock
+pub mod Run
+pub mod Judgement
+pub mod Probes
+pub mod Waiting
+pub mod Listed
+pub mod UntilProbed
+pub mod Gap
+pub mod Drawn
+pub mod DrawnRuns

@@ -1,0 +1,4 @@
+pub mod MemberGaps
+pub mod StoredReplies
+pub mod Storage
+pub mod Written
