@@ -25,7 +25,8 @@ use Rattle.swim_history.specs.Rows.{up, row_of}
 use Rattle.swim_history.specs.Waiting.{waiting, asked_in, sent_on_in}
 use Rattle.swim_history.specs.Laws.Waiting.{waiting_asked, waiting_answered, waiting_same}
 use Rattle.swim_history.specs.Laws.Run.{hears_no_start}
-use Rattle.swim_history.specs.Run.{Hears, IsRequest, is_waiting, most_waiting}
+use Rattle.swim_history.specs.Run.{Hears, IsRequest, is_waiting}
+use Rattle.swim_wire.specs.Requests.{most_waiting}
 use Rattle.swim_detector.specs.declared.states.State.{State}
 use Rattle.swim_relays.specs.Waiting.{Waiting}
 use Rattle.swim_detector.specs.Mirrors.{Mirrors, AreRequests, IsSettled}

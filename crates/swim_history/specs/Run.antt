@@ -6,7 +6,7 @@ use Rattle.std.specs.List.{AllByRecursion}
 use Rattle.swim_wire.specs.Address.{Address}
 use Rattle.swim_wire.specs.Ids.{most_members, has, has_twice, without, front}
 use Rattle.swim_wire.specs.Probe.{key_of, passed_on}
-use Rattle.swim_wire.specs.Requests.{waits, peer_for}
+use Rattle.swim_wire.specs.Requests.{most_waiting, waits, peer_for}
 use Rattle.swim_wire.specs.Round.{leave_judged, MayDraw, redraw}
 use Rattle.swim_wire.specs.declared.messages.Kind.{Kind}
 use Rattle.swim_wire.specs.declared.messages.Kind.TheVariants.{Ping, PingReq, Ack}
@@ -67,10 +67,6 @@ pub record AreRelays (o : Setting) (h : List Entry) (m : ℕ) (relays : List Rel
 -- a request that its sender began, of a member other than this one
 abbrev pub IsRequest : ℕ → Message → Type 0
 IsRequest me m = (m.initiator ≡ m.sender) × (m.initiator ≢ me)
-
--- at most so many requests wait
-abbrev pub most_waiting : ℕ
-most_waiting = 64
 
 -- whether a probe is among those that wait
 abbrev pub is_waiting : Setting → List Entry → Message → Bool

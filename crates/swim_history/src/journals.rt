@@ -122,8 +122,8 @@ impl Journal {
         ensures kept { self.old.room ≤ self.new.room }
         ensures succeeds { 0 < self.old.room → IsOk result }
     {
-        self.summary.reserve()?;
-        self.entries.reserve()
+        self.summary.room()?;
+        self.entries.room()
     }
 
     /// Puts an entry last. It can't be refused, since room for it was made.

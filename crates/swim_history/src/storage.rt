@@ -110,7 +110,7 @@ impl Entries {
     }
 
     /// Makes room for one more entry. `Err` only where the memory for it was refused.
-    pub(crate) fn reserve(&mut self) -> Result<(), AllocError>
+    pub(crate) fn room(&mut self) -> Result<(), AllocError>
         ensures items { self.new.items ≡ self.old.items }
         ensures room { OnOk result (0 < self.new.room) }
         ensures kept { self.old.room ≤ self.new.room }

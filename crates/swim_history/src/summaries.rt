@@ -44,7 +44,7 @@ impl Summary {
 
     /// Makes room for one more entry: it may be the first that probes its member. `Err` only where the
     /// memory for it was refused.
-    pub(crate) fn reserve(&mut self) -> Result<(), AllocError>
+    pub(crate) fn room(&mut self) -> Result<(), AllocError>
         ensures same { IsSame self.old self.new }
         ensures room { OnOk result (0 < spare self.new.gaps) }
         ensures kept { spare self.old.gaps ≤ spare self.new.gaps }

@@ -1,4 +1,4 @@
--- Entries that are due at counts of ticks, as the requests that they are.
+-- DueRequests that are due at counts of ticks, as the requests that they are.
 use Rattle.std.specs.Prelude.{◌≡◌, ℕ, ◌+◌, ◌-◌, ◌%◌, ◌^◌, ◌<◌, ◌≤◌, Bool, true, false, ◌||◌, ◌==◌, not, nat_lt, List, [], ◌∷◌, ◌++◌, length, remove, drop, position, find, Some, None, is_some, zero, suc}
 use Rattle.std.specs.List.{AllByRecursion, list_any, prefix_len, position_or_len}
 use Rattle.std.specs.List.Sorted.{IsNonDecreasingBy}
@@ -12,7 +12,7 @@ use Rattle.swim_wire.specs.Address.{Address}
 use Rattle.swim_wire.specs.Probe.{same_key}
 use Rattle.swim_wire.specs.Requests.{Request, waits, forget, peer_for, one_less, aged}
 use Rattle.swim_wire.specs.RequestLaws.{forget_none}
-use Rattle.swim_relays.specs.declared.waiting.Entry.{Entry}
+use Rattle.swim_relays.specs.declared.waiting.DueRequest.{DueRequest}
 use Rattle.swim_relays.specs.Waiting.{waits_twice}
 use Rattle.swim_relays.specs.Due.{ticks_to, request_at, requests_at, AreKept}
 use Rattle.swim_relays.proofs.Tables.{key_is, room_after, forgets, asks, ages, all_push}
@@ -54,17 +54,17 @@ some_if : {X : Type 0} (b : Bool) (x : X) → is_some (cond b (Some x) None) ≡
 some_if true x = refl
 some_if false x = refl
 
-any_at : (count : ℕ) (key : Key) (es : List Entry) → list_any (λ entry. same_key entry.key key) es ≡ waits key (requests_at count es)
+any_at : (count : ℕ) (key : Key) (es : List DueRequest) → list_any (λ entry. same_key entry.key key) es ≡ waits key (requests_at count es)
 any_at count key [] = refl
 any_at count key (e ∷ es) = ap (λ b. same_key e.key key || b) (any_at count key es)
 
 -- a place is found where a request waits
-pub waits_at : (count : ℕ) (key : Key) (es : List Entry) → is_some (position (λ entry. same_key entry.key key) es) ≡ waits key (requests_at count es)
+pub waits_at : (count : ℕ) (key : Key) (es : List DueRequest) → is_some (position (λ entry. same_key entry.key key) es) ≡ waits key (requests_at count es)
 waits_at count key es =
-    let is_key : Entry → Bool = λ entry. same_key entry.key key in
+    let is_key : DueRequest → Bool = λ entry. same_key entry.key key in
     some_if (nat_lt (position_or_len is_key es) (length es)) (position_or_len is_key es) ∙ (position_any is_key es ∙ any_at count key es)
 
-pub waits_none : (count : ℕ) (key : Key) (es : List Entry) → None ≡ position (λ entry. same_key entry.key key) es → waits key (requests_at count es) ≡ false
+pub waits_none : (count : ℕ) (key : Key) (es : List DueRequest) → None ≡ position (λ entry. same_key entry.key key) es → waits key (requests_at count es) ≡ false
 waits_none count key es none = sym (waits_at count key es) ∙ sym (ap is_some none)
 
 found : {X : Type 0} (p : X → Bool) (xs : List X) (place : ℕ) → Some place ≡ position p xs → place ≡ position_or_len p xs
@@ -75,7 +75,7 @@ found p xs place e = by (nat_lt (position_or_len p xs) (length xs)) e where
 
 -- ---- one request taken out
 
-first_gone : (count : ℕ) (key : Key) (es : List Entry) → waits_twice (requests_at count es) ≡ false
+first_gone : (count : ℕ) (key : Key) (es : List DueRequest) → waits_twice (requests_at count es) ≡ false
     → requests_at count (remove es (position_or_len (λ entry. same_key entry.key key) es)) ≡ forget key (requests_at count es)
 first_gone count key [] once = refl
 first_gone count key (e ∷ es) once =
@@ -88,26 +88,26 @@ first_gone count key (e ∷ es) once =
         ≡ cond (not b) (request_at count e ∷ forget key (requests_at count es)) (forget key (requests_at count es))
     by true same others again = sym (forget_none key (requests_at count es) (subst (λ k. waits k (requests_at count es) ≡ false) (key_is e.key key same) others))
     by false other others again =
-        let is_suc : 1 + position_or_len (λ (entry : Entry). same_key entry.key key) es ≡ suc (position_or_len (λ (entry : Entry). same_key entry.key key) es) = omega arith in
+        let is_suc : 1 + position_or_len (λ (entry : DueRequest). same_key entry.key key) es ≡ suc (position_or_len (λ (entry : DueRequest). same_key entry.key key) es) = omega arith in
         rw is_suc (ap (λ rs. request_at count e ∷ rs) again)
 
-pub forget_at : (count : ℕ) (key : Key) (es : List Entry) (place : ℕ) → Some place ≡ position (λ entry. same_key entry.key key) es → waits_twice (requests_at count es) ≡ false
+pub forget_at : (count : ℕ) (key : Key) (es : List DueRequest) (place : ℕ) → Some place ≡ position (λ entry. same_key entry.key key) es → waits_twice (requests_at count es) ≡ false
     → requests_at count (remove es place) ≡ forget key (requests_at count es)
 forget_at count key es place at once = rw (found (λ entry. same_key entry.key key) es place at) (first_gone count key es once)
 
-first_peer : (count : ℕ) (key : Key) (es : List Entry) (x : Entry) → waits key (requests_at count es) ≡ true
+first_peer : (count : ℕ) (key : Key) (es : List DueRequest) (x : DueRequest) → waits key (requests_at count es) ≡ true
     → x ≡ get_or es (position_or_len (λ entry. same_key entry.key key) es) x → Some x.peer ≡ peer_for key (requests_at count es)
 first_peer count key [] x there is = absurd cc
 first_peer count key (e ∷ es) x there is = by (same_key e.key key) there is (first_peer count key es x) where
   by : (b : Bool) → (b || waits key (requests_at count es)) ≡ true → x ≡ get_or (e ∷ es) (cond (not b) (1 + position_or_len (λ entry. same_key entry.key key) es) 0) x
       → (waits key (requests_at count es) ≡ true → x ≡ get_or es (position_or_len (λ entry. same_key entry.key key) es) x → Some x.peer ≡ peer_for key (requests_at count es))
       → Some x.peer ≡ option_map (λ (request : Request). request.peer) (cond b (Some (request_at count e)) (find (λ request. same_key request.key key) (requests_at count es)))
-  by true there is again = ap (λ (entry : Entry). Some entry.peer) is
+  by true there is again = ap (λ (entry : DueRequest). Some entry.peer) is
   by false there is again =
-      let is_suc : 1 + position_or_len (λ (entry : Entry). same_key entry.key key) es ≡ suc (position_or_len (λ (entry : Entry). same_key entry.key key) es) = omega arith in
+      let is_suc : 1 + position_or_len (λ (entry : DueRequest). same_key entry.key key) es ≡ suc (position_or_len (λ (entry : DueRequest). same_key entry.key key) es) = omega arith in
       again there (rw is_suc at is)
 
-pub peer_at : (count : ℕ) (key : Key) (es : List Entry) (place : ℕ) (x : Entry) → Some place ≡ position (λ entry. same_key entry.key key) es → x ≡ get_or es place x
+pub peer_at : (count : ℕ) (key : Key) (es : List DueRequest) (place : ℕ) (x : DueRequest) → Some place ≡ position (λ entry. same_key entry.key key) es → x ≡ get_or es place x
     → Some x.peer ≡ peer_for key (requests_at count es)
 peer_at count key es place x at is =
     first_peer count key es x (sym (waits_at count key es) ∙ sym (ap is_some at)) (rw (found (λ entry. same_key entry.key key) es place at) at is)
@@ -118,7 +118,7 @@ all_removed P [] (suc place) all = tt
 all_removed P (x ∷ xs) zero all = all.1
 all_removed P (x ∷ xs) (suc place) all = (all.0, all_removed P xs place all.1)
 
-pub takes : (key : Key) (period count : ℕ) (es : List Entry) (place : ℕ) → Some place ≡ position (λ entry. same_key entry.key key) es → AreKept period count es → AreKept period count (remove es place)
+pub takes : (key : Key) (period count : ℕ) (es : List DueRequest) (place : ℕ) → Some place ≡ position (λ entry. same_key entry.key key) es → AreKept period count es → AreKept period count (remove es place)
 takes key period count es place at kept = record {
   waiting = rw (forget_at count key es place at kept.waiting.once) (forgets key period count (requests_at count es) kept.waiting);
   due = all_removed (λ entry. entry.due < 2 ^ 32) es place kept.due;
@@ -126,20 +126,20 @@ takes key period count es place at kept = record {
 
 -- ---- one more request
 
-abbrev asked : Key → Address → ℕ → ℕ → Entry
+abbrev asked : Key → Address → ℕ → ℕ → DueRequest
 asked key peer period count = record { key = key; peer = peer; due = (count + period) % 2 ^ 32 }
 
 -- there is room for it
-pub room_left : (key : Key) (rs : List Request) (count : ℕ) (es : List Entry) → requests_at count es ≡ forget key rs → (waits key rs || nat_lt (length rs) 64) ≡ true → length rs ≤ 64 → length es < 64
+pub room_left : (key : Key) (rs : List Request) (count : ℕ) (es : List DueRequest) → requests_at count es ≡ forget key rs → (waits key rs || nat_lt (length rs) 64) ≡ true → length rs ≤ 64 → length es < 64
 room_left key rs count es left room most = omega (arith, length-map es (request_at count), ap length left, room_after key rs room most)
 
-pub asked_at : (key : Key) (peer : Address) (period count : ℕ) (es : List Entry) → AreKept period count es
+pub asked_at : (key : Key) (peer : Address) (period count : ℕ) (es : List DueRequest) → AreKept period count es
     → requests_at count (es ++ asked key peer period count ∷ []) ≡ requests_at count es ++ record { key = key; peer = peer; left = period } ∷ []
 asked_at key peer period count es kept =
     map-append (request_at count) es (asked key peer period count ∷ [])
     ∙ ap (λ left. requests_at count es ++ record { key = key; peer = peer; left = left } ∷ []) (ticks_to_sum count period kept.waiting.count (omega (arith, kept.waiting.period.1)))
 
-pub pushes : (key : Key) (peer : Address) (period count : ℕ) (es : List Entry) → AreKept period count es → waits key (requests_at count es) ≡ false → length es < 64
+pub pushes : (key : Key) (peer : Address) (period count : ℕ) (es : List DueRequest) → AreKept period count es → waits key (requests_at count es) ≡ false → length es < 64
     → AreKept period count (es ++ asked key peer period count ∷ [])
 pushes key peer period count es kept none room = record {
   waiting = rw (asked_at key peer period count es kept) (asks key peer period count (requests_at count es) kept.waiting none (omega (arith, length-map es (request_at count), room)));
@@ -148,11 +148,11 @@ pushes key peer period count es kept none room = record {
 
 -- ---- a tick
 
-abbrev is_due : ℕ → Entry → Bool
+abbrev is_due : ℕ → DueRequest → Bool
 is_due count entry = entry.due == count
 
 -- where each has more than one tick left, none is forgotten
-none_due : (count : ℕ) (es : List Entry) → count < 2 ^ 32 → AllByRecursion (λ entry. entry.due < 2 ^ 32) es → AllByRecursion (λ request. 2 ≤ request.left) (requests_at count es)
+none_due : (count : ℕ) (es : List DueRequest) → count < 2 ^ 32 → AllByRecursion (λ entry. entry.due < 2 ^ 32) es → AllByRecursion (λ request. 2 ≤ request.left) (requests_at count es)
     → aged (requests_at count es) ≡ requests_at (next count) es
 none_due count [] c due later = refl
 none_due count (e ∷ es) c due later =
@@ -164,7 +164,7 @@ all_later least [] h = tt
 all_later least (r ∷ rs) h = (h 0 r (omega arith), all_later least rs (λ place d lt. h (suc place) d (omega (arith, lt))))
 
 -- those that are due stand in front
-pub expired : (count : ℕ) (es : List Entry) → count < 2 ^ 32 → AllByRecursion (λ entry. entry.due < 2 ^ 32) es → AllByRecursion (λ request. 1 ≤ request.left) (requests_at count es)
+pub expired : (count : ℕ) (es : List DueRequest) → count < 2 ^ 32 → AllByRecursion (λ entry. entry.due < 2 ^ 32) es → AllByRecursion (λ request. 1 ≤ request.left) (requests_at count es)
     → IsNonDecreasingBy (λ request. request.left) (requests_at count es)
     → requests_at (next count) (drop (prefix_len (λ entry. entry.due == next count) es) es) ≡ aged (requests_at count es)
 expired count [] c due ticks order = refl
@@ -176,7 +176,7 @@ expired count (e ∷ es) c due ticks order =
         → requests_at (next count) (drop (cond b (1 + prefix_len (λ entry. entry.due == next count) es) 0) (e ∷ es)) ≡ aged (requests_at count (e ∷ es))
     by true now again =
         let one : ticks_to count e.due ≡ 1 = omega (arith, eqb-true e.due (next count) now, ticks.0, c) in
-        let is_suc : 1 + prefix_len (λ (entry : Entry). entry.due == next count) es ≡ suc (prefix_len (λ (entry : Entry). entry.due == next count) es) = omega arith in
+        let is_suc : 1 + prefix_len (λ (entry : DueRequest). entry.due == next count) es ≡ suc (prefix_len (λ (entry : DueRequest). entry.due == next count) es) = omega arith in
         rw (is_suc, one) (again tt)
     by false other again =
         let some : 2 ≤ ticks_to count e.due = omega (arith, eqb-false e.due (next count) other, ticks.0, c, due.0) in
@@ -191,11 +191,11 @@ some_left : (period : ℕ) (rs : List Request) → AllByRecursion (λ request. (
 some_left period [] all = tt
 some_left period (r ∷ rs) all = (all.0.0, some_left period rs all.1)
 
-pub expires : (period count : ℕ) (es : List Entry) → AreKept period count es
+pub expires : (period count : ℕ) (es : List DueRequest) → AreKept period count es
     → requests_at (next count) (drop (prefix_len (λ entry. entry.due == next count) es) es) ≡ aged (requests_at count es)
 expires period count es kept = expired count es kept.waiting.count kept.due (some_left period (requests_at count es) kept.waiting.ticks) kept.waiting.order
 
-pub ticks_on : (period count : ℕ) (es : List Entry) → AreKept period count es → AreKept period (next count) (drop (prefix_len (λ entry. entry.due == next count) es) es)
+pub ticks_on : (period count : ℕ) (es : List DueRequest) → AreKept period count es → AreKept period (next count) (drop (prefix_len (λ entry. entry.due == next count) es) es)
 ticks_on period count es kept = record {
   waiting = rw (expires period count es kept) (ages period count (next count) (requests_at count es) (omega arith) kept.waiting);
   due = all_drop (λ entry. entry.due < 2 ^ 32) (prefix_len (λ entry. entry.due == next count) es) es kept.due;

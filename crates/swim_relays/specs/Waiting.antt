@@ -2,7 +2,7 @@
 use Rattle.std.specs.Prelude.{◌≡◌, ℕ, ◌<◌, ◌≤◌, ◌^◌, Bool, false, ◌||◌, List, [], ◌∷◌, length}
 use Rattle.std.specs.List.{AllByRecursion}
 use Rattle.std.specs.List.Sorted.{IsNonDecreasingBy}
-use Rattle.swim_wire.specs.Requests.{Request, waits}
+use Rattle.swim_wire.specs.Requests.{Request, most_waiting, waits}
 
 -- the ticks of a period, for which a request waits, the count of ticks, modulo 2^32, and the requests, the oldest first
 pub record Waiting : Type 0 where
@@ -20,6 +20,6 @@ pub record AreWaiting (w : Waiting) : Type 0 where
   pub period : (1 ≤ w.period) × (w.period ≤ 65535)
   pub count : w.count < 2 ^ 32
   pub once : waits_twice w.waiting ≡ false
-  pub bound : length w.waiting ≤ 64
+  pub bound : length w.waiting ≤ most_waiting
   pub ticks : AllByRecursion (λ request. (1 ≤ request.left) × (request.left ≤ w.period)) w.waiting
   pub order : IsNonDecreasingBy (λ request. request.left) w.waiting

@@ -6,7 +6,7 @@ ghost use Rattle.std.specs.Option.{option_map};
 ghost use Rattle.swim_wire.specs.Requests.{waits, forget, peer_for, aged};
 ghost use Rattle.swim_relays.specs.Waiting.{AreWaiting};
 
-use crate::waiting::{Entries, Entry, expire, place_of};
+use crate::waiting::{DueRequest, DueRequests, MOST_WAITING, expire, place_of};
 use std::marker::Model;
 use swim_wire::{Key, Peer};
 
@@ -20,7 +20,7 @@ pub struct TableFull;
 pub struct Relays {
     period: u32,
     count: u32,
-    entries: Entries,
+    entries: DueRequests,
 }
 
 impl Model for Relays {
@@ -57,7 +57,7 @@ impl Relays {
         Relays {
             period,
             count: now,
-            entries: Entries::new(),
+            entries: DueRequests::new(),
         }
     }
 
@@ -67,7 +67,7 @@ impl Relays {
         ensures ok { OnOk result (self.new ≡ record self.old {
           waiting = forget key self.old.waiting ++ record { key = key; peer = peer; left = self.old.period } ∷ [];
         }) }
-        ensures full { IsErr result ↔ ((waits key self.old.waiting ≡ false) × (length self.old.waiting ≡ 64)) }
+        ensures full { IsErr result ↔ ((waits key self.old.waiting ≡ false) × (length self.old.waiting ≡ MOST_WAITING)) }
         ensures err { OnErr result (self.new ≡ self.old) }
         ensures kept { AreWaiting self.new }
     {
@@ -75,7 +75,7 @@ impl Relays {
             return Err(TableFull);
         }
         self.take(&key);
-        self.entries.push(Entry {
+        self.entries.push(DueRequest {
             key,
             peer,
             due: self.count.wrapping_add(self.period),
@@ -85,7 +85,7 @@ impl Relays {
 
     // Whether a request of that probe waits, or there is room for one more.
     fn has_room(&self, key: &Key) -> bool
-        ensures value { result ≡ (waits key.now self.now.waiting || nat_lt (length self.now.waiting) 64) }
+        ensures value { result ≡ (waits key.now self.now.waiting || nat_lt (length self.now.waiting) MOST_WAITING) }
         ensures kept { AreWaiting self.now }
     {
         self.waits(key) || !self.entries.is_full()

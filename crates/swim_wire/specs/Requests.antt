@@ -12,6 +12,10 @@ pub record Request : Type 0 where
   pub peer : Address
   pub left : ℕ
 
+-- how many requests may wait
+abbrev pub most_waiting : ℕ
+most_waiting = 64
+
 -- a request of that probe waits
 abbrev pub waits : Key → List Request → Bool
 waits key requests = list_any (λ request. same_key request.key key) requests

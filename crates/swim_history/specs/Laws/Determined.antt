@@ -34,7 +34,8 @@ use Rattle.swim_history.specs.Gap.{is_member}
 use Rattle.swim_history.specs.Rows.{up, row_of, is_listed}
 use Rattle.swim_history.specs.Changes.{known_count}
 use Rattle.swim_history.specs.Waiting.{waiting}
-use Rattle.swim_history.specs.Run.{Answers, Hears, IsProbe, greatest_number, most_waiting, is_waiting}
+use Rattle.swim_history.specs.Run.{Answers, Hears, IsProbe, greatest_number, is_waiting}
+use Rattle.swim_wire.specs.Requests.{most_waiting}
 
 -- a reply without what is free
 abbrev pub settled : Reply → Reply

@@ -41,7 +41,8 @@ use Rattle.swim_history.specs.Changes.{known_count}
 use Rattle.swim_history.specs.Laws.Table.{table_bound, listed_row}
 use Rattle.swim_history.specs.Round.{drawn, lists, listed}
 use Rattle.swim_history.specs.Waiting.{waiting}
-use Rattle.swim_history.specs.Run.{greatest_number, IsProbe, candidates, IsRequest, most_waiting, is_waiting, Hears}
+use Rattle.swim_history.specs.Run.{greatest_number, IsProbe, candidates, IsRequest, is_waiting, Hears}
+use Rattle.swim_wire.specs.Requests.{most_waiting}
 use Rattle.swim_history.specs.Run.{Answers, calls_of, IsRun}
 use Rattle.swim_history.specs.Laws.Run.{begins, number_then}
 use Rattle.swim_history.specs.Laws.Listed.{no_longer, all-redraw, next_is_in, stays_from, once_judged, listed_is}

@@ -52,7 +52,7 @@ fn entry_at(place: u32) -> Result<Entry, Fail> {
 fn keeps_orders_apart(rt: HostRuntime) -> Result<(), Fail> {
     let mut entries = Entries::new(rt.alloc());
     for place in 0..6 {
-        entries.reserve()?;
+        entries.room()?;
         entries.push(&entry_at(place)?);
     }
     assert_eq!(rt; entries.len(), 6);
@@ -94,7 +94,7 @@ fn reply_at(place: u32) -> Result<Reply, Fail> {
 fn keeps_relays_apart(rt: HostRuntime) -> Result<(), Fail> {
     let mut entries = Entries::new(rt.alloc());
     for place in 0..6 {
-        entries.reserve()?;
+        entries.room()?;
         entries.push_undrawn(3, place, &Call::Tick, &reply_at(place)?);
     }
     for place in 0..6 {
