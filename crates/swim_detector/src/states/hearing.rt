@@ -20,6 +20,7 @@ use swim_wire::{Kind, Message, Peer};
 
 impl State {
     /// A message came from this address.
+    // Out of line, so that its locals are cleared only where it is called.
     #[inline(never)]
     pub(super) fn hear(&mut self, journal: &Journal, message: &Message, source: Peer) -> Answer
         requires { Mirrors journal.now.opening journal.now.past self.old }
@@ -28,7 +29,7 @@ impl State {
         match message.kind {
             Kind::Ping => self.hear_ping(journal, message, source),
             Kind::PingReq => self.hear_request(journal, message, source),
-            Kind::Ack => self.hear_ack(journal, message, source),
+            Kind::Ack => self.hear_ack(journal, message),
         }
     }
 
@@ -57,21 +58,18 @@ impl State {
     {
         match requested_at(journal, message) {
             Ok(peer) => self.take_request(journal, message, source, peer),
-            Err(why) => self.drop_request(journal, message, source, why),
+            Err(why) => self.drop_request(journal, message, why),
         }
     }
 
-    fn drop_request(
-        &self,
-        journal: &Journal,
-        message: &Message,
-        _source: Peer,
-        why: DropReason,
-    ) -> Answer
+    /// The request is dropped, wherever it came from.
+    fn drop_request(&self, journal: &Journal, message: &Message, why: DropReason) -> Answer
         requires mirrors { Mirrors journal.now.opening journal.now.past self.now }
         requires kind { message.now.kind ≡ PingReq }
-        requires fits { Hears journal.now.opening journal.now.past message.now _source PingReq (Dropped why) }
-        ensures { IsSettled journal.now.opening journal.now.past (Hear message.now _source) result self.now }
+        requires fits { (source : Address) →
+            Hears journal.now.opening journal.now.past message.now source PingReq (Dropped why) }
+        ensures { (source : Address) →
+            IsSettled journal.now.opening journal.now.past (Hear message.now source) result self.now }
     {
         Answer::of(Reply::Dropped(why))
     }
@@ -103,24 +101,26 @@ impl State {
     }
 
     /// An ack: of this member's own probe, or one that another member waits for.
-    fn hear_ack(&mut self, journal: &Journal, message: &Message, source: Peer) -> Answer
+    fn hear_ack(&mut self, journal: &Journal, message: &Message) -> Answer
         requires mirrors { Mirrors journal.now.opening journal.now.past self.old }
         requires kind { message.now.kind ≡ Ack }
-        ensures { IsSettled journal.now.opening journal.now.past (Hear message.now source) result self.new }
+        ensures { (source : Address) →
+            IsSettled journal.now.opening journal.now.past (Hear message.now source) result self.new }
     {
         if message.initiator == journal.opening().me() {
-            self.hear_own_ack(journal, message, source)
+            self.hear_own_ack(journal, message)
         } else {
-            self.forward_ack(journal, message, source)
+            self.forward_ack(journal, message)
         }
     }
 
     /// An ack of this member's own probe counts if it is awaited.
-    fn hear_own_ack(&mut self, journal: &Journal, message: &Message, _source: Peer) -> Answer
+    fn hear_own_ack(&mut self, journal: &Journal, message: &Message) -> Answer
         requires mirrors { Mirrors journal.now.opening journal.now.past self.old }
         requires kind { message.now.kind ≡ Ack }
         requires own { message.now.initiator ≡ journal.now.opening.me }
-        ensures { IsSettled journal.now.opening journal.now.past (Hear message.now _source) result self.new }
+        ensures { (source : Address) →
+            IsSettled journal.now.opening journal.now.past (Hear message.now source) result self.new }
     {
         if self.awaits(journal, message) {
             self.heard = true;
@@ -141,11 +141,12 @@ impl State {
     }
 
     /// An ack of another member's probe is sent on, if that member waits for it.
-    fn forward_ack(&mut self, journal: &Journal, message: &Message, _source: Peer) -> Answer
+    fn forward_ack(&mut self, journal: &Journal, message: &Message) -> Answer
         requires mirrors { Mirrors journal.now.opening journal.now.past self.old }
         requires kind { message.now.kind ≡ Ack }
         requires other { message.now.initiator ≢ journal.now.opening.me }
-        ensures { IsSettled journal.now.opening journal.now.past (Hear message.now _source) result self.new }
+        ensures { (source : Address) →
+            IsSettled journal.now.opening journal.now.past (Hear message.now source) result self.new }
     {
         let me = journal.opening().me();
         match self.requests.answer(&message.key()) {

@@ -1,6 +1,7 @@
 //! Joins and removals (section 4.3 of the SWIM paper).
 
 ghost use Rattle.std.specs.Prelude.{◌≡◌, ◌≢◌, ◌==◌, None, option_and_then};
+ghost use Rattle.swim_wire.specs.Address.{Address};
 ghost use Rattle.swim_history.specs.Aim.{unless};
 ghost use Rattle.swim_history.specs.declared.calls.Call.TheVariants.{Join, Remove};
 ghost use Rattle.swim_history.specs.declared.replies.Reply.TheVariants.{Refused};
@@ -17,6 +18,7 @@ use swim_wire::{Id, Peer};
 
 impl State {
     /// A member is to be listed.
+    // Out of line, so that its locals are cleared only where it is called.
     #[inline(never)]
     pub(super) fn join<C: Chooser>(
         &mut self,
@@ -31,22 +33,16 @@ impl State {
     {
         match refusal_to_join(journal, id) {
             Some(refusal) => self.refuse(journal, &Call::Join(id, peer), refusal),
-            None => self.list(journal, chooser, id, peer),
+            None => self.list(journal, chooser, id),
         }
     }
 
     /// The joiner is listed at a place that the chooser draws.
-    fn list<C: Chooser>(
-        &mut self,
-        journal: &Journal,
-        chooser: &mut C,
-        id: Id,
-        _peer: Peer,
-    ) -> Answer
+    fn list<C: Chooser>(&mut self, journal: &Journal, chooser: &mut C, id: Id) -> Answer
         requires mirrors { Mirrors journal.now.opening journal.now.past self.old }
         requires listing { MayList journal.now.opening journal.now.past id }
-        ensures { IsAnswered C.orders C.places journal.now.opening journal.now.past
-            (Join id _peer) result self.new chooser.old chooser.new }
+        ensures { (peer : Address) → IsAnswered C.orders C.places journal.now.opening journal.now.past
+            (Join id peer) result self.new chooser.old chooser.new }
     {
         match self.targets.join(id, chooser) {
             Ok(place) => Answer::of(Reply::Joined { place }),
@@ -55,6 +51,7 @@ impl State {
     }
 
     /// A member is to be forgotten.
+    // Out of line, so that its locals are cleared only where it is called.
     #[inline(never)]
     pub(super) fn remove(&mut self, journal: &Journal, id: Id) -> Answer
         requires { Mirrors journal.now.opening journal.now.past self.old }

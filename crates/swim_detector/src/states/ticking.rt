@@ -19,6 +19,7 @@ use swim_wire::Id;
 
 impl State {
     /// One tick passes.
+    // Out of line, so that its locals are cleared only where it is called.
     #[inline(never)]
     pub(super) fn tick<C: Chooser>(&mut self, journal: &Journal, chooser: &mut C) -> Answer
         requires { Mirrors journal.now.opening journal.now.past self.old }
@@ -40,6 +41,7 @@ impl State {
 
     /// A period ends, and the next begins: an aim that no ack came of is judged failed, and the next
     /// member is probed.
+    // Out of line, so that its locals are cleared only where it is called.
     #[inline(never)]
     fn start<C: Chooser>(&mut self, journal: &Journal, chooser: &mut C) -> Answer
         requires mirrors { Mirrors journal.now.opening journal.now.past self.old }
@@ -75,6 +77,8 @@ impl State {
         }
     }
 
+    /// Relays are asked to ping the aim, as no ack of it came.
+    // Out of line, so that its locals are cleared only where it is called.
     #[inline(never)]
     fn ask<C: Chooser>(&mut self, journal: &Journal, chooser: &mut C, target: Id) -> Answer
         requires mirrors { Mirrors journal.now.opening journal.now.past self.old }

@@ -9,6 +9,6 @@ unreachable-requires g c =
     (λ is. c.in-Err.ensures.listed.0 (ap Err is)) (λ is. (c.in-Err.ensures.full.0 (ap Err is)).1)
 
 pub returns : goal.returns
-returns g c =
-    rw c.of.ensures (joined g.C.Chooser.orders g.C.Chooser.places c.args.journal.now.opening c.args.journal.now.past c.args.id c.in-Ok.place c.args._peer c.args.self.now _ c.args.chooser.now c.join.new.chooser
+returns g c peer =
+    rw c.of.ensures (joined g.C.Chooser.orders g.C.Chooser.places c.args.journal.now.opening c.args.journal.now.past c.args.id c.in-Ok.place peer c.args.self.now _ c.args.chooser.now c.join.new.chooser
     c.requires.mirrors c.requires.listing c.in-Ok.ensures.place c.in-Ok.ensures.drawn c.in-Ok.ensures.ok refl refl refl refl)
