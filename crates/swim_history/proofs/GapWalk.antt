@@ -1,4 +1,4 @@
--- A walk through a run in order: after each entry the last probe of a member is kept, and its widest gap.
+-- Along a run: what the last probe of a member is after each entry, and its widest gap.
 use Rattle.std.proofs.Common.{◌≡◌, ℕ, ◌+◌, ◌-◌, ◌<◌, ◌≤◌, ◌⊎◌, ◌↔◌, inl, inr, Bool, true, false, cond, nat_lt, List, [], ◌∷◌, ◌++◌, length, Option, Some, None, refl, sym, ap, subst, ◌∙◌, arith}
 use Rattle.std.proofs.lemmas.Bool.{ltb-true, ltb-false}
 use Rattle.std.proofs.lemmas.Option.{same_Some}
@@ -20,7 +20,7 @@ use Rattle.swim_history.specs.Laws.Gap.{number_after, probing_starts, gap_bound}
 use Rattle.swim_history.specs.LastProbe.{probed_at, with_joiner, kept, last_of, last_then, gap_since, gap_then, wider, last_probe, widest_gap}
 use Rattle.swim_history.proofs.LastProbes.{IsLast, no_split, ProbesIt, probes_it, probes_other, last_new, only_last, was_last, still_last, gap_older, gap_new, gap_cases}
 
--- what the walk keeps
+-- what is known of them after a history
 pub record IsWalked (o : Setting) (h : List Entry) (m : ℕ) (last : Option LastProbe) (widest : Option Gap) : Type 0 where
   pub last_is : (l : LastProbe) → last ≡ Some l → IsLast o h m l.number l.n
   pub last_found : (a n : ℕ) → IsLast o h m a n → last ≡ Some (record { number = a; n = n })
@@ -215,7 +215,7 @@ module _ (o : Setting) (h : List Entry) (e : Entry) (m b : ℕ) (last : Option L
       it : ProbesIt m e b
       it = probes_it m e b at
 
--- ---- the step of the walk
+-- ---- any entry
 
 pub walked_then : (o : Setting) (h : List Entry) (e : Entry) (m : ℕ) (last : Option LastProbe) (widest : Option Gap) → IsSetting o → IsRun o (e ∷ h) → IsWalked o h m last widest
     → IsWalked o (e ∷ h) m (last_then m e.call e.reply (length (listed o (e ∷ h))) last) (wider widest (gap_then m e.reply last))
@@ -252,7 +252,7 @@ pub walked : (o : Setting) (h : List Entry) (m : ℕ) → IsSetting o → IsRun 
 walked o [] m s run = walked_none o m
 walked o (e ∷ h) m s run = walked_then o h e m (last_probe o m h) (widest_gap o m h) s run (walked o h m s run.1)
 
--- what the walk kept in the end
+-- so the widest gap is what it says
 pub walked_widest : (o : Setting) (h : List Entry) (m : ℕ) (last : Option LastProbe) (widest : Option Gap) → IsWalked o h m last widest → IfSome widest (λ g. IsWidest o h m g.a g.b g.n)
 walked_widest o h m last widest w = by widest refl
   where

@@ -7,8 +7,8 @@ use Rattle.swim_history.specs.declared.replies.Reply.{Reply}
 use Rattle.swim_history.specs.declared.replies.Reply.TheVariants.{Quiet, Started}
 use Rattle.swim_history.specs.declared.entries.Choice.TheVariants.{Nothing}
 use Rattle.swim_history.specs.declared.entries.Entry.{Entry}
-use Rattle.swim_history.specs.Setting.{Setting}
 use Rattle.swim_history.specs.declared.stored_replies.Start.{Start}
+use Rattle.swim_history.specs.Setting.{Setting}
 use Rattle.swim_history.specs.Events.{is_start, is_starting, judged_in, probe_in}
 use Rattle.swim_history.specs.Storing.StoredReplies.{start_in}
 use Rattle.swim_history.specs.Clock.{period_number}
