@@ -21,6 +21,7 @@ mod storage;
 mod stored_replies;
 mod summaries;
 mod tables;
+mod texts;
 
 pub use calls::Call;
 pub use changing::{change_table, copy_table};
@@ -36,6 +37,7 @@ pub use seats::Kept;
 pub use sending::sends;
 pub use swim_wire::{KNOWN_MEMBERS, Order};
 pub use tables::table_of;
+pub use texts::{put_gap, put_table};
 
 #[cfg(test)]
 mod tests;

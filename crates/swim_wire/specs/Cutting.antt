@@ -162,7 +162,7 @@ TakesPart met part is_ended line longer limit now after was_long is_long =
     (mid new : Option (List ℕ)) (budget : ℕ) → Consumes mid new (part ++ feed_if is_ended) →
     Steps met mid new line longer limit budget now after was_long is_long
 
-has_feed_then : (taken part : List ℕ) → has_feed taken ≡ false → has_feed part ≡ false →
+pub has_feed_then : (taken part : List ℕ) → has_feed taken ≡ false → has_feed part ≡ false →
     has_feed (taken ++ part) ≡ false
 has_feed_then taken part h e = list_any-append (λ b. b == 10) taken part ∙ cc
 

@@ -1,5 +1,6 @@
 pub mod Address
 pub mod AddressLaws
+pub mod Arguments
 pub mod Buffers
 pub mod Cutting
 pub mod First
@@ -14,5 +15,7 @@ pub mod Probe
 pub mod Requests
 pub mod RequestLaws
 pub mod Round
+pub mod ShortLines
 pub mod Streams
+pub mod TwoPuts
 pub mod Words

@@ -2,6 +2,7 @@
 //! words that programs read and write.
 #![tactic(auto)]
 
+mod arguments;
 mod buffers;
 mod codec;
 mod ids;
@@ -12,10 +13,13 @@ mod numbers;
 mod orders;
 mod parts;
 mod peers;
+mod short_lines;
 mod std_streams;
 mod streams;
+mod texts;
 mod words;
 
+pub use arguments::{nothing_left, take_id, take_peer};
 pub use codec::{DATAGRAM_BYTES, WireFault, decode, encode};
 pub use ids::{Id, PeriodNumber};
 pub use lines::{Taken, next_line};
@@ -24,8 +28,10 @@ pub use messages::{Key, Kind, Message};
 pub use numbers::read_number;
 pub use orders::{KNOWN_MEMBERS, Order};
 pub use peers::Peer;
+pub use short_lines::{LineEnd, next_short_line};
 pub use std_streams::{ReadSource, WriteSink};
 pub use streams::{Byte, Sink, Source};
+pub use texts::{put_address, put_number, put_numbered};
 pub use words::Words;
 
 #[cfg(test)]

@@ -91,7 +91,7 @@ fn read_ready<R: Source, const LIMIT: usize>(
 }
 
 /// The first line of some bytes without its line feed, and whether it has one.
-fn first_part(bytes: &[u8]) -> (&[u8], bool)
+pub(crate) fn first_part(bytes: &[u8]) -> (&[u8], bool)
     ensures { IsPart bytes.now result.0.now result.1 }
 {
     match cut(bytes, LINE_FEED) {
@@ -182,7 +182,7 @@ fn at_end(is_empty: bool, is_long: bool) -> Taken
 }
 
 /// The next byte, after the writer was flushed, since the read may wait; `None` where it could not be flushed.
-fn next_byte<R: Source, W: Sink>(reader: &mut R, writer: &mut W) -> Option<Byte>
+pub(crate) fn next_byte<R: Source, W: Sink>(reader: &mut R, writer: &mut W) -> Option<Byte>
     ensures bytes { IfSome result (λ b. Gives (R.left reader.old) (R.left reader.new) b) }
     ensures reads { IfSome result (λ b. R.failures reader.new ≡ failures_then (R.failures reader.old) b) }
     ensures unread { IfNone result (reader.new ≡ reader.old) }

@@ -1,4 +1,5 @@
 mod addresses;
 mod datagrams;
 mod decimals;
+mod short_lines;
 mod streams;

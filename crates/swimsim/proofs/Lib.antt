@@ -8,4 +8,3 @@ pub mod OrderParts
 pub mod SentLines
 pub mod StandingLines
 pub mod Turns
-pub mod TwoPuts

@@ -7,7 +7,8 @@ use Rattle.swimsim.specs.declared.commands.Word.{Word}
 use Rattle.swimsim.specs.declared.commands.Word.TheVariants as words
 use Rattle.swimsim.specs.declared.commands.Command.{Command}
 use Rattle.swimsim.specs.declared.commands.Command.TheVariants.{Open, Row, Order, Place, Seed, Tick, Hear, Join, Remove, Table, Gap}
-use Rattle.swimsim.specs.Arguments.{◌>>=◌, take_id, take_number, take_peer, take_order, take_seed, take_datagram, open_arguments}
+use Rattle.swim_wire.specs.Arguments.{◌>>=◌}
+use Rattle.swimsim.specs.Arguments.{take_id, take_number, take_peer, take_order, take_seed, take_datagram, open_arguments}
 use Rattle.swimsim.specs.Commands.{alone, command_after, word_of, fault_of_word, word_read, known_read, words_read, said_by, is_skipped, line_read, word_for, LineStandsAt}
 
 -- the value of a step that did not fail

@@ -6,6 +6,7 @@ use Rattle.std.specs.Result.{result_ok}
 use Rattle.arrayvec.specs.ArrayVec.{ArrayVec}
 use Rattle.hex.specs.Hex.{decode_of, decode_sized}
 use Rattle.swim_wire.specs.Address.{Address, address_of}
+use Rattle.swim_wire.specs.Arguments.{◌>>=◌, argument}
 use Rattle.swim_wire.specs.Numbers.{number_of, id_of}
 use Rattle.swim_wire.specs.Layout.{decoded}
 use Rattle.swim_wire.specs.Words.{words_by}
@@ -14,28 +15,6 @@ use Rattle.swim_wire.specs.declared.codec.WireFault.{WireFault}
 use Rattle.swimsim.specs.declared.commands.LineFault.{LineFault}
 use Rattle.swimsim.specs.declared.commands.LineFault.TheVariants.{Number, Peer, Hex, Order}
 use Rattle.swimsim.specs.declared.arguments.OpenArguments.{OpenArguments}
-
--- a step after another that may fail
-infixl 10 ◌>>=◌
-abbrev pub ◌>>=◌ : {A B : Type 0} → Result A LineFault → (A → Result B LineFault) → Result B LineFault
-(Ok x) >>= f = f x
-(Err fault) >>= f = Err fault
-
--- the value of a word that was read, and the words after it
-abbrev pub with_words : {A : Type 0} → LineFault → List (List ℕ) → Option A → Result (A × List (List ℕ)) LineFault
-with_words fault after None = Err fault
-with_words fault after (Some x) = Ok (x, after)
-
--- the first word as an argument of that kind: a missing or refused one is the kind's fault
-abbrev pub argument : {A : Type 0} → LineFault → (List ℕ → Option A) → List (List ℕ) →
-    Result (A × List (List ℕ)) LineFault
-argument fault read [] = Err fault
-argument fault read (word ∷ after) = with_words fault after (read word)
-
--- what was taken from the words, of which those are left
-abbrev pub TakesFrom : {A : Type 0} → Result A LineFault → List (List ℕ) → Result (A × List (List ℕ)) LineFault → Type 0
-TakesFrom (Ok x) after read = read ≡ Ok (x, after)
-TakesFrom (Err fault) after read = read ≡ Err fault
 
 -- the datagram that the digits spell, or its fault
 abbrev pub datagram_of : List ℕ → Option (Result Message WireFault)

@@ -2,6 +2,7 @@
 use Rattle.std.specs.Prelude.{◌≡◌, ℕ, Bool, true, ◌==◌, List, [], ◌∷◌, Option, Some, None, Result, Ok, Err, codes}
 use Rattle.std.specs.Prelude.{if◌then◌else◌}
 use Rattle.std.specs.Str.{bytes_eq}
+use Rattle.swim_wire.specs.Arguments.{◌>>=◌, nothing_left}
 use Rattle.swim_wire.specs.Words.{words_of}
 use Rattle.swimsim.specs.declared.commands.LineFault.{LineFault}
 use Rattle.swimsim.specs.declared.commands.LineFault.TheVariants as faults
@@ -13,7 +14,7 @@ use Rattle.swimsim.specs.declared.commands.Word.TheVariants as words
 use Rattle.swimsim.specs.declared.commands.Command.{Command}
 use Rattle.swimsim.specs.declared.commands.Command.TheVariants.{Open, Row, Order, Place, Seed, Tick, Hear, Join, Remove}
 use Rattle.swimsim.specs.declared.commands.Command.TheVariants.{Table, Gap}
-use Rattle.swimsim.specs.Arguments.{◌>>=◌, take_id, take_number, take_peer, take_order, take_seed, take_datagram}
+use Rattle.swimsim.specs.Arguments.{take_id, take_number, take_peer, take_order, take_seed, take_datagram}
 use Rattle.swimsim.specs.Arguments.{open_arguments}
 
 -- the word that tells a fault of a line's words
@@ -58,12 +59,8 @@ fault_of_word (Header Seeded) words.Place = Some faults.Seed
 fault_of_word stage word = None
 
 -- the command, where no words are left over
-abbrev pub nothing_left : List (List ℕ) → Result (Unit {0}) LineFault
-nothing_left [] = Ok tt
-nothing_left (word ∷ after) = Err faults.Extra
-
 abbrev pub alone : Command → List (List ℕ) → Result Command LineFault
-alone command after = nothing_left after >>= λ done. Ok command
+alone command after = nothing_left faults.Extra after >>= λ done. Ok command
 
 -- what the words after the first say
 unfoldable pub command_after : Word → List (List ℕ) → Result Command LineFault

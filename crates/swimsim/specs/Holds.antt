@@ -27,7 +27,8 @@ use Rattle.swimsim.specs.Choosers.{ChoosesOrder, ChoosesPlace}
 use Rattle.swimsim.specs.Commands.{line_read}
 use Rattle.swimsim.specs.Headers.{Told, told_then, stage_told, stage_of, said, head_of, setting_in, limit_in}
 use Rattle.swimsim.specs.Headers.{chooser_in}
-use Rattle.swimsim.specs.Texts.{answer_text, table_text, gap_text, wire_text, full_text, no_memory_text}
+use Rattle.swim_history.specs.Texts.{table_text, gap_text}
+use Rattle.swimsim.specs.Texts.{answer_text, wire_text, full_text, no_memory_text}
 use Rattle.swimsim.specs.Script.{Turn, lines_of, calls_in, output_of, IsRunOf, takes_memory, is_answered, fault_of}
 use Rattle.swimsim.specs.Script.{fault_from, fault_of_read, fault_of_header, at_line, bytes_of}
 

@@ -28,7 +28,8 @@ use Rattle.swimsim.specs.declared.faults.ScriptFault.{ScriptFault}
 use Rattle.swimsim.specs.Choosers.{ChoosesOrder, ChoosesPlace}
 use Rattle.swimsim.specs.Commands.{line_read}
 use Rattle.swimsim.specs.Headers.{Told, is_event, Head, stage_of, said, head_of, setting_in, limit_in, chooser_in}
-use Rattle.swimsim.specs.Texts.{answer_text, table_text, gap_text, wire_text, full_text, no_memory_text}
+use Rattle.swim_history.specs.Texts.{table_text, gap_text}
+use Rattle.swimsim.specs.Texts.{answer_text, wire_text, full_text, no_memory_text}
 
 -- ---- faults
 

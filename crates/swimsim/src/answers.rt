@@ -4,12 +4,15 @@ ghost use Rattle.std.specs.Prelude.{◌≡◌, ◌++◌, codes, decimal, map};
 ghost use Rattle.swim_wire.specs.Address.{address_text};
 ghost use Rattle.swim_wire.specs.Streams.{Puts, failures_if};
 ghost use Rattle.swim_history.specs.Sends.{sends_of, to_each};
-ghost use Rattle.swimsim.specs.Texts.{feed, answer_text, reply_text, id_text, probe_text, relays_text};
-ghost use Rattle.swimsim.specs.Texts.{more_relays_text, datagram_text, line_text, lines_text, sends_text, wire_text};
+ghost use Rattle.swim_history.specs.Texts.{feed};
+ghost use Rattle.swimsim.specs.Texts.{answer_text, reply_text, id_text, probe_text, relays_text, more_relays_text};
+ghost use Rattle.swimsim.specs.Texts.{datagram_text, line_text, lines_text, sends_text, wire_text};
 
-use itoa::Buffer;
 use swim_history::{Opening, Probe, Relay, Reply};
-use swim_wire::{DATAGRAM_BYTES, Id, Kind, Message, Peer, PeriodNumber, Sink, WireFault, encode};
+use swim_wire::{
+    DATAGRAM_BYTES, Id, Kind, Message, Peer, PeriodNumber, Sink, WireFault, encode, put_address,
+    put_number, put_numbered,
+};
 
 /// The lines of a reply: its text, and a line for each message that it sends.
 pub fn put_answer<W: Sink>(writer: &mut W, reply: &Reply, opening: &Opening) -> bool
@@ -64,25 +67,6 @@ fn put_reply<W: Sink>(writer: &mut W, reply: &Reply) -> bool
         Reply::Removed => writer.put(b"removed"),
         Reply::Refused(why) => put_numbered(writer, b"refused ", u64::from(why.number())),
     }
-}
-
-/// A word and a number.
-pub fn put_numbered<W: Sink>(writer: &mut W, word: &[u8], number: u64) -> bool
-    ensures bytes { Puts (W.written writer.old) (W.written writer.new) (word.now ++ decimal number) result }
-    ensures failures { W.failures writer.new ≡ failures_if (W.failures writer.old) result }
-{
-    if !writer.put(word) {
-        return false;
-    }
-    put_number(writer, number)
-}
-
-pub fn put_number<W: Sink>(writer: &mut W, number: u64) -> bool
-    ensures bytes { Puts (W.written writer.old) (W.written writer.new) (decimal number) result }
-    ensures failures { W.failures writer.new ≡ failures_if (W.failures writer.old) result }
-{
-    let mut digits = Buffer::new();
-    writer.put(digits.format(number).as_bytes())
 }
 
 fn put_started<W: Sink>(writer: &mut W, judged: Option<Id>, probe: Option<Probe>) -> bool
@@ -316,17 +300,4 @@ fn datagram_of(message: &Message) -> [u8; 2 * DATAGRAM_BYTES + 2]
     text[0] = b' ';
     let _ = hex::encode_to_slice(bytes.as_slice(), &mut text[1..=2 * DATAGRAM_BYTES]);
     text
-}
-
-/// A word and an address.
-pub fn put_address<W: Sink>(writer: &mut W, word: &[u8], peer: &Peer) -> bool
-    ensures bytes { Puts (W.written writer.old) (W.written writer.new)
-        (word.now ++ address_text peer.now) result }
-    ensures failures { W.failures writer.new ≡ failures_if (W.failures writer.old) result }
-{
-    if !writer.put(word) {
-        return false;
-    }
-    let text = peer.write();
-    writer.put(text.as_str().as_bytes())
 }

@@ -1,14 +1,15 @@
 //! The arguments of a line.
 
 ghost use Rattle.std.specs.Prelude.{◌≡◌};
-ghost use Rattle.swimsim.specs.Arguments.{TakesFrom, open_arguments, take_id, take_number, take_peer, take_order};
-ghost use Rattle.swimsim.specs.Arguments.{take_seed, take_datagram, order_of, seed_of};
+ghost use Rattle.swim_wire.specs.Arguments.{TakesFrom};
+ghost use Rattle.swimsim.specs.Arguments.{open_arguments, take_number, take_order, take_seed, take_datagram, order_of};
+ghost use Rattle.swimsim.specs.Arguments.{seed_of};
 
 use crate::commands::LineFault;
 use crate::datagrams::read_datagram;
 use std::marker::Model;
 use swim_targets::Order;
-use swim_wire::{Id, Message, Peer, WireFault, Words, read_number};
+use swim_wire::{Id, Message, WireFault, Words, read_number, take_id};
 
 /// The arguments of an `open` line.
 #[derive(Clone, Copy, Debug, PartialEq, Eq)]
@@ -62,7 +63,7 @@ impl<'a> OrderText<'a> {
 pub fn take_open(words: &mut Words<'_>) -> Result<OpenArguments, LineFault>
     ensures { TakesFrom result words.new (open_arguments words.old) }
 {
-    let me = take_id(words)?;
+    let me = take_id(words, LineFault::Number)?;
     let k = take_number(words)?;
     let rtt = take_number(words)?;
     let period = take_number(words)?;
@@ -78,13 +79,6 @@ pub fn take_open(words: &mut Words<'_>) -> Result<OpenArguments, LineFault>
     })
 }
 
-pub fn take_id(words: &mut Words<'_>) -> Result<Id, LineFault>
-    ensures { TakesFrom result words.new (take_id words.old) }
-{
-    let word = words.next().ok_or(LineFault::Number)?;
-    Id::read(word).ok_or(LineFault::Number)
-}
-
 pub fn take_number(words: &mut Words<'_>) -> Result<u32, LineFault>
     ensures { TakesFrom result words.new (take_number 4294967295 words.old) }
 {
@@ -98,13 +92,6 @@ fn take_long_number(words: &mut Words<'_>) -> Result<u64, LineFault>
 {
     let word = words.next().ok_or(LineFault::Number)?;
     read_number(word, u64::MAX).ok_or(LineFault::Number)
-}
-
-pub fn take_peer(words: &mut Words<'_>) -> Result<Peer, LineFault>
-    ensures { TakesFrom result words.new (take_peer words.old) }
-{
-    let word = words.next().ok_or(LineFault::Peer)?;
-    Peer::read(word).ok_or(LineFault::Peer)
 }
 
 pub fn take_datagram(words: &mut Words<'_>) -> Result<Result<Message, WireFault>, LineFault>

@@ -2,13 +2,12 @@
 
 ghost use Rattle.std.specs.Prelude.{◌≡◌};
 ghost use Rattle.swimsim.specs.Commands.{fault_name, LineStandsAt, word_of, fault_of_word, command_after, line_read};
-ghost use Rattle.swimsim.specs.Commands.{is_skipped, words_read, said_by, nothing_left};
+ghost use Rattle.swimsim.specs.Commands.{is_skipped, words_read, said_by};
 
 use crate::arguments::{
-    OpenArguments, OrderText, take_datagram, take_id, take_number, take_open, take_order,
-    take_peer, take_seed,
+    OpenArguments, OrderText, take_datagram, take_number, take_open, take_order, take_seed,
 };
-use swim_wire::{Id, Message, Peer, WireFault, Words};
+use swim_wire::{Id, Message, Peer, WireFault, Words, nothing_left, take_id, take_peer};
 
 /// The longest line of a script, in bytes without its line feed.
 pub const LINE_BYTES: usize = 2048;
@@ -201,70 +200,59 @@ fn read_command<'a>(word: Word, words: &mut Words<'a>) -> Result<Option<Command<
     match word {
         Word::Open => {
             let arguments = take_open(words)?;
-            nothing_left(words)?;
+            nothing_left(words, LineFault::Extra)?;
             Ok(Some(Command::Open(arguments)))
         }
         Word::Row => {
-            let id = take_id(words)?;
-            let peer = take_peer(words)?;
-            nothing_left(words)?;
+            let id = take_id(words, LineFault::Number)?;
+            let peer = take_peer(words, LineFault::Peer)?;
+            nothing_left(words, LineFault::Extra)?;
             Ok(Some(Command::Row(id, peer)))
         }
         Word::Order => {
             let order = take_order(words)?;
-            nothing_left(words)?;
+            nothing_left(words, LineFault::Extra)?;
             Ok(Some(Command::Order(order)))
         }
         Word::Place => {
             let place = take_number(words)?;
-            nothing_left(words)?;
+            nothing_left(words, LineFault::Extra)?;
             Ok(Some(Command::Place(place)))
         }
         Word::Seed => {
             let seed = take_seed(words)?;
-            nothing_left(words)?;
+            nothing_left(words, LineFault::Extra)?;
             Ok(Some(Command::Seed(seed)))
         }
         Word::Tick => {
-            nothing_left(words)?;
+            nothing_left(words, LineFault::Extra)?;
             Ok(Some(Command::Tick))
         }
         Word::Hear => {
-            let peer = take_peer(words)?;
+            let peer = take_peer(words, LineFault::Peer)?;
             let datagram = take_datagram(words)?;
-            nothing_left(words)?;
+            nothing_left(words, LineFault::Extra)?;
             Ok(Some(Command::Hear(peer, datagram)))
         }
         Word::Join => {
-            let id = take_id(words)?;
-            let peer = take_peer(words)?;
-            nothing_left(words)?;
+            let id = take_id(words, LineFault::Number)?;
+            let peer = take_peer(words, LineFault::Peer)?;
+            nothing_left(words, LineFault::Extra)?;
             Ok(Some(Command::Join(id, peer)))
         }
         Word::Remove => {
-            let id = take_id(words)?;
-            nothing_left(words)?;
+            let id = take_id(words, LineFault::Number)?;
+            nothing_left(words, LineFault::Extra)?;
             Ok(Some(Command::Remove(id)))
         }
         Word::Table => {
-            nothing_left(words)?;
+            nothing_left(words, LineFault::Extra)?;
             Ok(Some(Command::Table))
         }
         Word::Gap => {
-            let id = take_id(words)?;
-            nothing_left(words)?;
+            let id = take_id(words, LineFault::Number)?;
+            nothing_left(words, LineFault::Extra)?;
             Ok(Some(Command::Gap(id)))
         }
-    }
-}
-
-/// That no words are left over.
-fn nothing_left(words: &Words<'_>) -> Result<(), LineFault>
-    ensures { result ≡ nothing_left words.now }
-{
-    if words.is_empty() {
-        Ok(())
-    } else {
-        Err(LineFault::Extra)
     }
 }

@@ -9,12 +9,10 @@ mod choosers;
 mod commands;
 mod datagrams;
 mod faults;
-mod gaps;
 mod headers;
 mod playing;
 mod session;
 mod simulator;
-mod tables;
 
 use faults::{FaultKind, ScriptFault};
 use std::process::ExitCode;

@@ -18,15 +18,13 @@ use crate::arguments::{OpenArguments, OrderText};
 use crate::choosers::Drawer;
 use crate::commands::{Command, Stage, read_line};
 use crate::faults::{FaultKind, ScriptFault};
-use crate::gaps::put_gap;
 use crate::headers::Header;
 use crate::playing::play;
-use crate::tables::put_table;
 use std::alloc::Global;
 use std::marker::Model;
 use std::mem;
 use swim_detector::Recorder;
-use swim_history::Call;
+use swim_history::{Call, put_gap, put_table};
 use swim_wire::{Id, Message, Peer, Sink, WireFault};
 
 /// Where a script has come: its header, and the recorder once an event line was met.

@@ -1,7 +1,7 @@
 use Rattle.std.proofs.Common.{List, sym, ap}
 use Rattle.swim_history.specs.declared.replies.Relay.{Relay}
 use Rattle.swimsim.specs.Texts.{line_text, lines_text}
-use Rattle.swimsim.proofs.TwoPuts.{first_failed, both_put, first_and_others, others_of}
+use Rattle.swim_wire.specs.TwoPuts.{first_failed, both_put, first_and_others, others_of}
 use Rattle.swimsim.proofs.answers.+put_lines.Goals as goal
 
 pub returns-then-not-put_line-clause-bytes : goal.returns-then-not-put_line-clause-bytes

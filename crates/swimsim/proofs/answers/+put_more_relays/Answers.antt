@@ -1,6 +1,6 @@
 use Rattle.std.proofs.Common.{sym, ap, ◌++◌, decimal, codes}
 use Rattle.swimsim.specs.Texts.{more_relays_text}
-use Rattle.swimsim.proofs.TwoPuts.{first_failed, both_put, first_and_others, others_of}
+use Rattle.swim_wire.specs.TwoPuts.{first_failed, both_put, first_and_others, others_of}
 use Rattle.swimsim.proofs.answers.+put_more_relays.Goals as goal
 
 pub returns-then-not-put_numbered-clause-bytes : goal.returns-then-not-put_numbered-clause-bytes

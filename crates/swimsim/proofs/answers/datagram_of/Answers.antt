@@ -1,7 +1,7 @@
 use Rattle.std.proofs.Common.{◌≡◌, ◌*◌, ◌∷◌, ◌++◌, List, ℕ, length, Result, Ok, Err, refl, ap, ◌∙◌}
 use Rattle.std.specs.Prelude.{IsOk, OnOk}
 use Rattle.hex.specs.Hex.{encode_lower}
-use Rattle.swimsim.specs.Texts.{feed}
+use Rattle.swim_history.specs.Texts.{feed}
 use Rattle.swimsim.proofs.answers.datagram_of.Goals as goal
 
 on_ok : {T E : Type 0} (result : Result T E) (P : Type 0) → IsOk result → OnOk result P → P

@@ -1,7 +1,8 @@
 use Rattle.std.proofs.Common.{refl, ◌++◌}
 use Rattle.swim_history.specs.Sends.{sends_of}
-use Rattle.swimsim.specs.Texts.{feed, reply_text, answer_text, sends_text}
-use Rattle.swimsim.proofs.TwoPuts.{first_failed, both_put}
+use Rattle.swim_history.specs.Texts.{feed}
+use Rattle.swimsim.specs.Texts.{reply_text, answer_text, sends_text}
+use Rattle.swim_wire.specs.TwoPuts.{first_failed, both_put}
 use Rattle.swimsim.proofs.answers.put_answer.Goals as goal
 
 pub returns-then-not-put_reply-clause-bytes : goal.returns-then-not-put_reply-clause-bytes

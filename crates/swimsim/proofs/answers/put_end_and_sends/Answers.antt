@@ -1,7 +1,8 @@
 use Rattle.std.proofs.Common.{refl, ◌++◌}
 use Rattle.swim_history.specs.Sends.{sends_of}
-use Rattle.swimsim.specs.Texts.{feed, sends_text}
-use Rattle.swimsim.proofs.TwoPuts.{first_failed, both_put}
+use Rattle.swim_history.specs.Texts.{feed}
+use Rattle.swimsim.specs.Texts.{sends_text}
+use Rattle.swim_wire.specs.TwoPuts.{first_failed, both_put}
 use Rattle.swimsim.proofs.answers.put_end_and_sends.Goals as goal
 
 pub returns-then-not-put-clause-bytes : goal.returns-then-not-put-clause-bytes

@@ -1,6 +1,6 @@
 use Rattle.std.proofs.Common.{refl, ◌++◌, decimal}
 use Rattle.swimsim.specs.Texts.{more_relays_text}
-use Rattle.swimsim.proofs.TwoPuts.{first_failed, both_put}
+use Rattle.swim_wire.specs.TwoPuts.{first_failed, both_put}
 use Rattle.swimsim.proofs.answers.put_first_relay.Goals as goal
 
 pub returns-then-not-put_number-clause-bytes : goal.returns-then-not-put_number-clause-bytes

@@ -1,6 +1,6 @@
 use Rattle.std.proofs.Common.{refl, ◌++◌, codes}
 use Rattle.swimsim.specs.Texts.{id_text}
-use Rattle.swimsim.proofs.TwoPuts.{first_failed, both_put}
+use Rattle.swim_wire.specs.TwoPuts.{first_failed, both_put}
 use Rattle.swimsim.proofs.answers.put_judged.Goals as goal
 
 pub returns-then-not-put-clause-bytes : goal.returns-then-not-put-clause-bytes

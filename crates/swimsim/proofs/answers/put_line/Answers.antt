@@ -1,7 +1,7 @@
 use Rattle.std.proofs.Common.{refl, ◌++◌, codes}
 use Rattle.swim_wire.specs.Address.{address_text}
 use Rattle.swimsim.specs.Texts.{line_text}
-use Rattle.swimsim.proofs.TwoPuts.{first_failed, both_put}
+use Rattle.swim_wire.specs.TwoPuts.{first_failed, both_put}
 use Rattle.swimsim.proofs.answers.put_line.Goals as goal
 
 pub returns-then-not-put_address-clause-bytes : goal.returns-then-not-put_address-clause-bytes

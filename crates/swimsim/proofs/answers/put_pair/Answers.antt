@@ -1,5 +1,5 @@
 use Rattle.std.proofs.Common.{refl, ◌++◌, decimal, codes}
-use Rattle.swimsim.proofs.TwoPuts.{first_failed, both_put}
+use Rattle.swim_wire.specs.TwoPuts.{first_failed, both_put}
 use Rattle.swimsim.proofs.answers.put_pair.Goals as goal
 
 pub returns-then-not-put_number-clause-bytes : goal.returns-then-not-put_number-clause-bytes

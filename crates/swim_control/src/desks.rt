@@ -1,0 +1,60 @@
+//! Who is asked what control lines ask.
+
+ghost use Rattle.swim_control.specs.declared.desks.Command.{Command};
+ghost use Rattle.swim_control.specs.Desks.{Told, Shows, Measures, Answers};
+
+use std::alloc::Global;
+use std::sync::Wait;
+use swim_history::{Gap, Table};
+use swim_wire::{Id, Peer};
+
+/// What a control line asks of a desk.
+#[derive(Clone, Copy, Debug, PartialEq, Eq)]
+pub enum Command {
+    /// Which members are known?
+    List,
+    /// The member joins, at this address.
+    Join(Id, Peer),
+    /// The member is removed.
+    Remove(Id),
+    /// How far apart were the probes of the member?
+    Gap(Id),
+}
+
+/// What a desk answers to a join or a removal.
+#[derive(Clone, Copy, Debug, PartialEq, Eq)]
+pub enum Answer {
+    /// The member joined, at this place of those that are probed in turn.
+    Joined(u32),
+    /// The member is unknown from now on.
+    Removed,
+    /// The detector refused, for the reason of this number.
+    Refused(u8),
+    /// The journal has as many entries as it may have; nothing changed.
+    JournalFull,
+    /// Memory was refused; nothing changed.
+    NoMemory,
+}
+
+/// Somebody who is asked what control lines ask. What a desk tells is a matter of each desk: its member says it. Each
+/// call may wait.
+pub trait Desk {
+    /// The desk before, a command, what it tells, and the desk after.
+    ghost asks: { Self → Command → Told → Self → Type 0 };
+
+    /// The members that are known, ascending by id; `None` where there is no table any more.
+    fn list<R: Wait>(&mut self, rt: &R) -> Option<Table>
+        ensures { asks self.old Command.List (Shows result) self.new };
+
+    /// Lets a member join.
+    fn join<R: Wait>(&mut self, rt: &R, alloc: Global, id: Id, peer: Peer) -> Answer
+        ensures { asks self.old (Command.Join id peer) (Answers result) self.new };
+
+    /// Removes a member.
+    fn remove<R: Wait>(&mut self, rt: &R, alloc: Global, id: Id) -> Answer
+        ensures { asks self.old (Command.Remove id) (Answers result) self.new };
+
+    /// The widest gap between successive probes of a member, if there is one.
+    fn gap<R: Wait>(&mut self, rt: &R, id: Id) -> Option<Gap>
+        ensures { asks self.old (Command.Gap id) (Measures result) self.new };
+}

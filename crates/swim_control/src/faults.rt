@@ -1,0 +1,44 @@
+//! What is wrong with a control line.
+
+ghost use Rattle.std.specs.Prelude.{◌≡◌};
+ghost use Rattle.swim_control.specs.Commands.{fault_number};
+
+/// What is wrong with the words of a line.
+#[derive(Clone, Copy, Debug, PartialEq, Eq)]
+pub enum LineFault {
+    /// An unknown first word.
+    UnknownWord,
+    /// A missing or refused id.
+    BadId,
+    /// A missing or refused address.
+    BadPeer,
+    /// Words left over.
+    Extra,
+}
+
+/// What is wrong with a line.
+#[derive(Clone, Copy, Debug, PartialEq, Eq)]
+pub enum Fault {
+    /// A byte more than a line may have came before a line feed.
+    LongLine,
+    /// The input ended within the line.
+    Unended,
+    /// Its words are wrong.
+    Words(LineFault),
+}
+
+impl Fault {
+    /// The number that tells the fault.
+    pub fn number(self) -> u8
+        ensures { result ≡ fault_number self }
+    {
+        match self {
+            Fault::LongLine => 1,
+            Fault::Words(LineFault::UnknownWord) => 2,
+            Fault::Words(LineFault::BadId) => 3,
+            Fault::Words(LineFault::BadPeer) => 4,
+            Fault::Words(LineFault::Extra) => 5,
+            Fault::Unended => 6,
+        }
+    }
+}

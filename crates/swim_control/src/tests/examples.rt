@@ -1,0 +1,154 @@
+//! Lines and their answers, as they are written down in docs/FORMATS.md.
+
+use super::groups::{Group, serve_at_once, serve_bytes, serve_lines};
+use crate::Served;
+use swim_wire::Page;
+
+#[test]
+fn answers_a_dialogue(rt: HostRuntime) {
+    let text = b"list\njoin 0 1.2.3.4:5\nlis".as_slice();
+    let answers = b"2 10.0.0.2:7000 up\n3 10.0.0.3:7000 up\n.\nfault 3\nfault 6\n".as_slice();
+    let mut page = Page::new(rt.alloc());
+    let end = serve_lines(&rt, rt.alloc(), text, &mut page, &mut Group::of_two());
+    assert_eq!(rt; end, Served::Unended);
+    assert_eq!(rt; page.text(), answers);
+}
+
+#[test]
+fn answers_however_the_bytes_come(rt: HostRuntime) {
+    let text = b"list\njoin 0 1.2.3.4:5\nlis".as_slice();
+    let answers = b"2 10.0.0.2:7000 up\n3 10.0.0.3:7000 up\n.\nfault 3\nfault 6\n".as_slice();
+    let mut page = Page::new(rt.alloc());
+    let end = serve_bytes(&rt, rt.alloc(), text, &mut page, &mut Group::of_two());
+    assert_eq!(rt; end, Served::Unended);
+    assert_eq!(rt; page.text(), answers);
+    let mut page = Page::new(rt.alloc());
+    let end = serve_at_once(&rt, rt.alloc(), text, &mut page, &mut Group::of_two());
+    assert_eq!(rt; end, Served::Unended);
+    assert_eq!(rt; page.text(), answers);
+}
+
+#[test]
+fn answers_one_after_another(rt: HostRuntime) {
+    let text =
+        b"gap 2\njoin 5 10.0.0.5:7000\njoin 5 10.0.0.5:7000\njoin 6\njoin 6 10.0.0.6:7000 x\nremove 9\nremove 5\nList\nlist \nstop\ngap 2\n".as_slice();
+    let answers =
+        b"gap none\njoined 2\nrefused 2\nfault 4\nfault 5\nrefused 4\nremoved\nfault 2\nfault 5\nstopping\n".as_slice();
+    let mut page = Page::new(rt.alloc());
+    let end = serve_lines(&rt, rt.alloc(), text, &mut page, &mut Group::of_two());
+    assert_eq!(rt; end, Served::Stopped);
+    assert_eq!(rt; page.text(), answers);
+}
+
+#[test]
+fn shows_what_joined(rt: HostRuntime) {
+    let text = b"join 5 10.0.0.5:7000\nlist\nremove 2\nlist\ngap 3\n".as_slice();
+    let answers =
+        b"joined 2\n2 10.0.0.2:7000 up\n3 10.0.0.3:7000 up\n5 10.0.0.5:7000 up\n.\nremoved\n3 10.0.0.3:7000 up\n5 10.0.0.5:7000 up\n.\ngap 2 4 3\n".as_slice();
+    let mut page = Page::new(rt.alloc());
+    let end = serve_lines(&rt, rt.alloc(), text, &mut page, &mut Group::of_two());
+    assert_eq!(rt; end, Served::Ended);
+    assert_eq!(rt; page.text(), answers);
+}
+
+#[test]
+fn tells_faults(rt: HostRuntime) {
+    let table = [
+        (b"\n".as_slice(), b"fault 2\n".as_slice()),
+        (b" list\n", b"fault 2\n"),
+        (b"list\r\n", b"fault 2\n"),
+        (b"list \r\n", b"fault 5\n"),
+        (b"stop now\n", b"fault 5\n"),
+        (b"lis\0\n", b"fault 2\n"),
+        (b"\xfflist\n", b"fault 2\n"),
+        (b"gap\n", b"fault 3\n"),
+        (b"gap \n", b"fault 3\n"),
+        (b"gap 05\n", b"fault 3\n"),
+        (b"gap +5\n", b"fault 3\n"),
+        (b"gap 4294967296\n", b"fault 3\n"),
+        (b"gap \xff\n", b"fault 3\n"),
+        (b"gap 2 \n", b"fault 5\n"),
+        (b"remove 0\n", b"fault 3\n"),
+        (b"remove 2 \xff\n", b"fault 5\n"),
+        (b"join 0 1.2.3.4\n", b"fault 3\n"),
+        (b"join 5 \n", b"fault 4\n"),
+        (b"join 5 1.2.3.4:0 x\n", b"fault 4\n"),
+        (b"join 5 1.2.3.\xff:5\n", b"fault 4\n"),
+        (b"join 5  1.2.3.4:5\n", b"fault 4\n"),
+    ];
+    for (text, answer) in table {
+        let mut page = Page::new(rt.alloc());
+        let end = serve_lines(&rt, rt.alloc(), text, &mut page, &mut Group::of_two());
+        assert_eq!(rt; end, Served::Ended);
+        assert_eq!(rt; page.text(), answer);
+    }
+}
+
+#[test]
+fn ends_in_every_place_of_a_line(rt: HostRuntime) {
+    let line = b"join 5 10.0.0.5:7000\n";
+    for count in 1..line.len() {
+        let mut page = Page::new(rt.alloc());
+        let end = serve_lines(
+            &rt,
+            rt.alloc(),
+            &line[..count],
+            &mut page,
+            &mut Group::of_two(),
+        );
+        assert_eq!(rt; end, Served::Unended);
+        assert_eq!(rt; page.text(), b"fault 6\n".as_slice());
+    }
+    let mut page = Page::new(rt.alloc());
+    let end = serve_lines(&rt, rt.alloc(), line, &mut page, &mut Group::of_two());
+    assert_eq!(rt; end, Served::Ended);
+    assert_eq!(rt; page.text(), b"joined 2\n".as_slice());
+}
+
+#[test]
+fn ends_an_empty_text(rt: HostRuntime) {
+    let mut page = Page::new(rt.alloc());
+    let end = serve_lines(&rt, rt.alloc(), b"", &mut page, &mut Group::of_two());
+    assert_eq!(rt; end, Served::Ended);
+    assert!(rt; page.text().is_empty());
+}
+
+#[test]
+fn ends_at_a_full_journal(rt: HostRuntime) {
+    let text = b"join 5 10.0.0.5:7000\nremove 9\nlist\nremove 2\nlist\n".as_slice();
+    let answers =
+        b"joined 2\nrefused 4\n2 10.0.0.2:7000 up\n3 10.0.0.3:7000 up\n5 10.0.0.5:7000 up\n.\njournal full\n".as_slice();
+    let mut page = Page::new(rt.alloc());
+    let end = serve_lines(&rt, rt.alloc(), text, &mut page, &mut Group::with_room(2));
+    assert_eq!(rt; end, Served::JournalFull);
+    assert_eq!(rt; page.text(), answers);
+}
+
+#[test]
+fn goes_on_without_memory(rt: HostRuntime) {
+    let text = b"join 5 10.0.0.5:7000\njoin 5 10.0.0.5:7000\nremove 1\n".as_slice();
+    let mut page = Page::new(rt.alloc());
+    let end = serve_lines(
+        &rt,
+        rt.alloc(),
+        text,
+        &mut page,
+        &mut Group::with_memory_for(0),
+    );
+    assert_eq!(rt; end, Served::Ended);
+    assert_eq!(rt; page.text(), b"no memory\njoined 2\nrefused 1\n".as_slice());
+}
+
+#[test]
+fn tells_that_there_is_no_table(rt: HostRuntime) {
+    let mut page = Page::new(rt.alloc());
+    let end = serve_lines(
+        &rt,
+        rt.alloc(),
+        b"list\ngap 2\n",
+        &mut page,
+        &mut Group::closed(),
+    );
+    assert_eq!(rt; end, Served::Ended);
+    assert_eq!(rt; page.text(), b"closed\ngap none\n".as_slice());
+}

@@ -1,0 +1,86 @@
+//! One line of a connection: it is read, its command is carried out, and it is answered.
+
+ghost use Rattle.std.specs.Prelude.{◌≡◌, not, Ok};
+ghost use Rattle.swim_wire.specs.Streams.{failures_if};
+ghost use Rattle.swim_control.specs.declared.commands.Said.TheVariants.{Asks};
+ghost use Rattle.swim_control.specs.Commands.{line_said, said_by};
+ghost use Rattle.swim_control.specs.Serving.{is_write_fault};
+ghost use Rattle.swim_control.specs.Turns.{Turned, end_of_answer, closed};
+
+use crate::commands::{Said, read_line};
+use crate::desks::{Answer, Command, Desk};
+use crate::faults::Fault;
+use crate::serving::Served;
+use crate::texts::{put_answer, put_fault, put_list};
+use std::alloc::Global;
+use std::sync::Wait;
+use swim_history::put_gap;
+use swim_wire::Sink;
+
+/// Answers a line, and tells how serving ends with it, if it does.
+pub fn turn<R: Wait, W: Sink, D: Desk>(
+    rt: &R,
+    alloc: Global,
+    line: &[u8],
+    writer: &mut W,
+    desk: &mut D,
+) -> Option<Served>
+    ensures turned { Turned D.asks (said_by (line_said line.now)) desk.old desk.new (W.written writer.old)
+        (W.written writer.new) result }
+    ensures failures { W.failures writer.new ≡ failures_if (W.failures writer.old) (not (is_write_fault result)) }
+{
+    match read_line(line) {
+        Err(fault) => close(put_fault(writer, Fault::Words(fault)), None),
+        Ok(Said::Stop) => close(writer.put(b"stopping\n"), Some(Served::Stopped)),
+        Ok(Said::Asks(command)) => carry_out(rt, alloc, command, writer, desk),
+    }
+}
+
+/// Does what a command asks, and answers it.
+fn carry_out<R: Wait, W: Sink, D: Desk>(
+    rt: &R,
+    alloc: Global,
+    command: Command,
+    writer: &mut W,
+    desk: &mut D,
+) -> Option<Served>
+    ensures turned { Turned D.asks (Ok (Asks command)) desk.old desk.new (W.written writer.old)
+        (W.written writer.new) result }
+    ensures failures { W.failures writer.new ≡ failures_if (W.failures writer.old) (not (is_write_fault result)) }
+{
+    match command {
+        Command::List => {
+            let table = desk.list(rt);
+            close(put_list(writer, &table), None)
+        }
+        Command::Gap(id) => {
+            let gap = desk.gap(rt, id);
+            close(put_gap(writer, gap), None)
+        }
+        Command::Join(id, peer) => {
+            let answer = desk.join(rt, alloc, id, peer);
+            close(put_answer(writer, answer), end_of(answer))
+        }
+        Command::Remove(id) => {
+            let answer = desk.remove(rt, alloc, id);
+            close(put_answer(writer, answer), end_of(answer))
+        }
+    }
+}
+
+/// How serving ends with an answer, if it does.
+fn end_of(answer: Answer) -> Option<Served>
+    ensures { result ≡ end_of_answer answer }
+{
+    match answer {
+        Answer::JournalFull => Some(Served::JournalFull),
+        _ => None,
+    }
+}
+
+/// How serving ends with an answer that was written, or was not.
+fn close(done: bool, end: Option<Served>) -> Option<Served>
+    ensures { result ≡ closed done end }
+{
+    if done { end } else { Some(Served::WriteFault) }
+}
