@@ -67,7 +67,8 @@ impl Relays {
         ensures ok { OnOk result (self.new ≡ record self.old {
           waiting = forget key self.old.waiting ++ record { key = key; peer = peer; left = self.old.period } ∷ [];
         }) }
-        ensures full { IsErr result ↔ ((waits key self.old.waiting ≡ false) × (length self.old.waiting ≡ MOST_WAITING)) }
+        ensures full { IsErr result
+            ↔ ((waits key self.old.waiting ≡ false) × (length self.old.waiting ≡ MOST_WAITING)) }
         ensures err { OnErr result (self.new ≡ self.old) }
         ensures kept { AreWaiting self.new }
     {
