@@ -12,13 +12,16 @@ use std::alloc::Global;
 use std::marker::Model;
 use swim_history::{Call, Change, Entry, Journal, Opening, Reply, SEATS, Table};
 use swim_targets::Chooser;
+use thiserror::Error;
 
 /// Why a call got no reply. The detector, the chooser and the journal are as before.
-#[derive(Clone, Copy, Debug, PartialEq, Eq)]
+#[derive(Clone, Copy, Debug, PartialEq, Eq, Error)]
 pub enum ApplyFault {
     /// The journal has as many entries as it may have.
+    #[error("the journal is full")]
     JournalFull,
     /// Memory for one more entry was refused.
+    #[error("memory was refused")]
     NoMemory,
 }
 

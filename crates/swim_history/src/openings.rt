@@ -8,6 +8,7 @@ ghost use Rattle.swim_history.specs.Check.{first_fault, fault_number, setting_of
 use crate::rows::{Row, RowState, Table};
 use std::marker::Model;
 use swim_wire::{Id, KNOWN_MEMBERS, Peer};
+use thiserror::Error;
 
 /// The most members that are asked for an indirect probe.
 pub const MOST_RELAYS: usize = 8;
@@ -16,17 +17,22 @@ pub const MOST_RELAYS: usize = 8;
 pub const LONGEST_PERIOD: u32 = 65535;
 
 /// Why a detector can't start so. The first that applies is told.
-#[derive(Clone, Copy, Debug, PartialEq, Eq)]
+#[derive(Clone, Copy, Debug, PartialEq, Eq, Error)]
 pub enum OpeningFault {
     /// More than [`MOST_RELAYS`] relays.
+    #[error("more than 8 relays")]
     Relays,
     /// A timeout of 0 ticks, a period of less than three timeouts, or one of more than 65535 ticks.
+    #[error("a timeout of 0 ticks, or a period of less than three timeouts or of more than 65535 ticks")]
     Timing,
     /// More than [`KNOWN_MEMBERS`] members.
+    #[error("more than 128 members")]
     TooManyRows,
     /// This member is among the others.
+    #[error("this member is among the others")]
     Myself,
     /// A member stands twice.
+    #[error("a member stands twice")]
     Twice,
 }
 

@@ -7,6 +7,7 @@ use swim_detector::Recorder;
 use swim_history::{Call, Reply};
 use swim_targets::Chooser;
 use swim_wire::WireFault;
+use thiserror::Error;
 
 /// The answer to a call.
 #[derive(Drop)]
@@ -23,22 +24,27 @@ pub struct Receipt<N: Naming> {
 }
 
 /// Why a call got no reply. The seat is as it was, and the call is not in the journal.
-#[derive(Clone, Copy, Debug, PartialEq, Eq)]
+#[derive(Clone, Copy, Debug, PartialEq, Eq, Error)]
 pub enum CallFault {
     /// The bytes are no datagram. Only `hear` answers so, before it takes the lock.
+    #[error("no datagram: {0}")]
     Wire(WireFault),
     /// The journal has as many entries as it may have.
+    #[error("the journal is full")]
     JournalFull,
     /// Memory was refused.
+    #[error("memory was refused")]
     NoMemory,
 }
 
 /// Why a node can't be opened.
-#[derive(Clone, Copy, Debug, PartialEq, Eq)]
+#[derive(Clone, Copy, Debug, PartialEq, Eq, Error)]
 pub enum OpenFault {
     /// Memory was refused.
+    #[error("memory was refused")]
     NoMemory,
     /// No reader of the table was to be had.
+    #[error("no place for a reader")]
     NoPlace,
 }
 

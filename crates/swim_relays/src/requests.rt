@@ -9,9 +9,11 @@ ghost use Rattle.swim_relays.specs.Waiting.{AreWaiting};
 use crate::waiting::{DueRequest, DueRequests, MOST_WAITING, expire, place_of};
 use std::marker::Model;
 use swim_wire::{Key, Peer};
+use thiserror::Error;
 
 /// 64 requests wait, and none of them is of this probe.
-#[derive(Clone, Copy, Debug, PartialEq, Eq)]
+#[derive(Clone, Copy, Debug, PartialEq, Eq, Error)]
+#[error("64 requests wait")]
 pub struct TableFull;
 
 /// The requests that wait for an ack of their target, at most 64, and each probe's at most once (section

@@ -10,13 +10,16 @@ use crate::Chooser;
 use crate::places::{has, has_twice, place_of};
 use std::marker::Model;
 use swim_wire::{Id, KNOWN_MEMBERS, Order};
+use thiserror::Error;
 
 /// Why members are not taken. The first that applies is told.
-#[derive(Clone, Copy, Debug, PartialEq, Eq)]
+#[derive(Clone, Copy, Debug, PartialEq, Eq, Error)]
 pub enum JoinFault {
     /// A member is listed already, or twice.
+    #[error("a member is listed already")]
     Listed,
     /// There are more than [`KNOWN_MEMBERS`].
+    #[error("more than 128 members")]
     Full,
 }
 

@@ -8,24 +8,31 @@ ghost use Rattle.swim_wire.specs.Layout.{number_at, fault_number, decoded};
 
 use crate::ids::{Id, PeriodNumber};
 use crate::messages::{Kind, Message};
+use thiserror::Error;
 
 /// The length of a datagram, in bytes.
 pub const DATAGRAM_BYTES: usize = 24;
 
 /// Why bytes are no datagram. The first that applies is told.
-#[derive(Clone, Copy, Debug, PartialEq, Eq)]
+#[derive(Clone, Copy, Debug, PartialEq, Eq, Error)]
 pub enum WireFault {
     /// Not 24 bytes.
+    #[error("not 24 bytes")]
     Length,
     /// Bytes 0 and 1 are not `53 57`.
+    #[error("the first two bytes are not 53 57")]
     Magic,
     /// Byte 2 is not `01`.
+    #[error("not of version 1")]
     Version,
     /// Byte 3 is none of `01`, `02`, `03`.
+    #[error("neither a ping, nor a ping-req, nor an ack")]
     UnknownKind,
     /// One of the three ids is 0.
+    #[error("an id is 0")]
     ZeroId,
     /// The period number is 0.
+    #[error("the period number is 0")]
     ZeroNumber,
 }
 
