@@ -5,9 +5,8 @@ use Rattle.std.specs.Io.KnownBytes.{Keeps, Appends}
 use Rattle.std.proofs.lemmas.Bool.{lt-ltb, le-ltb}
 use Rattle.std.proofs.lemmas.Option.{same_Some}
 use Rattle.std.proofs.lemmas.List.{append_assoc, length-append, reverse-append}
-use Rattle.std.proofs.lemmas.List.Folds.{list_any-append}
 use Rattle.swim_wire.specs.Cutting.{pieces_at, pieces_last, bare_at, bare_last}
-use Rattle.swim_wire.specs.Lines.{pieces, bare, has_feed}
+use Rattle.swim_wire.specs.Lines.{pieces, has_feed}
 use Rattle.swim_wire.specs.ShortLines.{IsTaken}
 use Rattle.swim_wire.specs.Streams.{Puts, PutsFront, appends_none, appends_both, kept_appends, appends_kept, keeps_self}
 use Rattle.swim_control.specs.declared.desks.Answer.TheVariants as answers

@@ -11,7 +11,6 @@ use Rattle.swim_control.specs.declared.faults.LineFault.{LineFault}
 use Rattle.swim_control.specs.declared.faults.LineFault.TheVariants.{UnknownWord, BadId, BadPeer, Extra}
 use Rattle.swim_control.specs.declared.faults.Fault.{Fault}
 use Rattle.swim_control.specs.declared.faults.Fault.TheVariants.{LongLine, Unended, Words}
-use Rattle.swim_control.specs.declared.desks.Command.{Command}
 use Rattle.swim_control.specs.declared.desks.Command.TheVariants.{List as Lists, Join, Remove, Gap}
 use Rattle.swim_control.specs.declared.commands.Word.{Word}
 use Rattle.swim_control.specs.declared.commands.Word.TheVariants as words

@@ -1,11 +1,10 @@
 -- What serving a connection does: the text that came is cut into lines, and each line is answered. Lines are lists
--- of bytes
--- with their line feeds; lists of lines, of commands and of what a desk told are newest first.
+-- of bytes with their line feeds; lists of lines, of commands and of what a desk told are newest first.
 use Rattle.std.specs.Prelude.{◌≡◌, ℕ, ◌+◌, ◌<◌, ◌≤◌, Bool, true, false, ◌⊎◌, List, [], ◌∷◌, ◌++◌, length, reverse}
-use Rattle.std.specs.Prelude.{Option, Some, None, Result, Ok, Err, if◌then◌else◌}
+use Rattle.std.specs.Prelude.{Option, Some, None, Result, Ok, Err}
 use Rattle.std.specs.Io.KnownBytes.{Appends}
 use Rattle.swim_wire.specs.Lines.{pieces, has_feed}
-use Rattle.swim_wire.specs.Streams.{Puts, one_more}
+use Rattle.swim_wire.specs.Streams.{one_more}
 use Rattle.swim_control.specs.declared.desks.Answer.TheVariants as answers
 use Rattle.swim_control.specs.declared.desks.Command.{Command}
 use Rattle.swim_control.specs.declared.commands.Said.{Said}
@@ -16,7 +15,7 @@ use Rattle.swim_control.specs.declared.serving.Served.{Served}
 use Rattle.swim_control.specs.declared.serving.Served.TheVariants.{Ended, Unended, TooLong, Stopped, JournalFull}
 use Rattle.swim_control.specs.declared.serving.Served.TheVariants.{ReadFault, WriteFault}
 use Rattle.swim_control.specs.Commands.{said}
-use Rattle.swim_control.specs.Desks.{Told, Shows, Measures, Answers}
+use Rattle.swim_control.specs.Desks.{Told, Answers}
 use Rattle.swim_control.specs.Texts.{fault_text, stopping_text, told_text}
 
 -- ---- commands and what is told

@@ -1,12 +1,12 @@
 -- What one line of a connection does.
-use Rattle.std.specs.Prelude.{◌≡◌, ℕ, Bool, true, false, ◌⊎◌, List, [], ◌∷◌, Option, Some, None, Result, Ok, Err}
+use Rattle.std.specs.Prelude.{◌≡◌, ℕ, Bool, true, false, ◌⊎◌, List, [], ◌∷◌, Option, Some, None, Result, Ok}
 use Rattle.std.specs.Io.KnownBytes.{Appends}
 use Rattle.swim_wire.specs.Streams.{Puts, PutsFront}
 use Rattle.swim_control.specs.declared.desks.Answer.{Answer}
 use Rattle.swim_control.specs.declared.desks.Answer.TheVariants as answers
 use Rattle.swim_control.specs.declared.desks.Command.{Command}
 use Rattle.swim_control.specs.declared.commands.Said.{Said}
-use Rattle.swim_control.specs.declared.commands.Said.TheVariants.{Stop, Asks}
+use Rattle.swim_control.specs.declared.commands.Said.TheVariants.{Asks}
 use Rattle.swim_control.specs.declared.faults.Fault.{Fault}
 use Rattle.swim_control.specs.declared.serving.Served.{Served}
 use Rattle.swim_control.specs.declared.serving.Served.TheVariants as ends

@@ -30,21 +30,56 @@ fn answers_however_the_bytes_come(rt: HostRuntime) {
 
 #[test]
 fn answers_one_after_another(rt: HostRuntime) {
-    let text =
-        b"gap 2\njoin 5 10.0.0.5:7000\njoin 5 10.0.0.5:7000\njoin 6\njoin 6 10.0.0.6:7000 x\nremove 9\nremove 5\nList\nlist \nstop\ngap 2\n".as_slice();
-    let answers =
-        b"gap none\njoined 2\nrefused 2\nfault 4\nfault 5\nrefused 4\nremoved\nfault 2\nfault 5\nstopping\n".as_slice();
+    let table = [
+        (b"gap 2\n".as_slice(), b"gap none\n".as_slice()),
+        (b"join 5 10.0.0.5:7000\n", b"joined 2\n"),
+        (b"join 5 10.0.0.5:7000\n", b"refused 2\n"),
+        (b"join 6\n", b"fault 4\n"),
+        (b"join 6 10.0.0.6:7000 x\n", b"fault 5\n"),
+        (b"remove 9\n", b"refused 4\n"),
+        (b"remove 5\n", b"removed\n"),
+        (b"List\n", b"fault 2\n"),
+        (b"list \n", b"fault 5\n"),
+        (b"gap 3\n", b"gap 2 4 3\n"),
+    ];
+    let mut group = Group::of_two();
+    for (text, answer) in table {
+        let mut page = Page::new(rt.alloc());
+        let end = serve_lines(&rt, rt.alloc(), text, &mut page, &mut group);
+        assert_eq!(rt; end, Served::Ended);
+        assert_eq!(rt; page.text(), answer);
+    }
+}
+
+#[test]
+fn stops_where_it_is_asked_to(rt: HostRuntime) {
     let mut page = Page::new(rt.alloc());
-    let end = serve_lines(&rt, rt.alloc(), text, &mut page, &mut Group::of_two());
+    let end = serve_lines(
+        &rt,
+        rt.alloc(),
+        b"gap 2\nstop\ngap 2\n",
+        &mut page,
+        &mut Group::of_two(),
+    );
     assert_eq!(rt; end, Served::Stopped);
-    assert_eq!(rt; page.text(), answers);
+    assert_eq!(rt; page.text(), b"gap none\nstopping\n".as_slice());
 }
 
 #[test]
 fn shows_what_joined(rt: HostRuntime) {
-    let text = b"join 5 10.0.0.5:7000\nlist\nremove 2\nlist\ngap 3\n".as_slice();
+    let text = b"join 5 10.0.0.5:7000\nlist\n";
     let answers =
-        b"joined 2\n2 10.0.0.2:7000 up\n3 10.0.0.3:7000 up\n5 10.0.0.5:7000 up\n.\nremoved\n3 10.0.0.3:7000 up\n5 10.0.0.5:7000 up\n.\ngap 2 4 3\n".as_slice();
+        b"joined 2\n2 10.0.0.2:7000 up\n3 10.0.0.3:7000 up\n5 10.0.0.5:7000 up\n.\n".as_slice();
+    let mut page = Page::new(rt.alloc());
+    let end = serve_lines(&rt, rt.alloc(), text, &mut page, &mut Group::of_two());
+    assert_eq!(rt; end, Served::Ended);
+    assert_eq!(rt; page.text(), answers);
+}
+
+#[test]
+fn shows_nobody_who_was_removed(rt: HostRuntime) {
+    let text = b"remove 2\nlist\n";
+    let answers = b"removed\n3 10.0.0.3:7000 up\n.\n".as_slice();
     let mut page = Page::new(rt.alloc());
     let end = serve_lines(&rt, rt.alloc(), text, &mut page, &mut Group::of_two());
     assert_eq!(rt; end, Served::Ended);
@@ -115,9 +150,8 @@ fn ends_an_empty_text(rt: HostRuntime) {
 
 #[test]
 fn ends_at_a_full_journal(rt: HostRuntime) {
-    let text = b"join 5 10.0.0.5:7000\nremove 9\nlist\nremove 2\nlist\n".as_slice();
-    let answers =
-        b"joined 2\nrefused 4\n2 10.0.0.2:7000 up\n3 10.0.0.3:7000 up\n5 10.0.0.5:7000 up\n.\njournal full\n".as_slice();
+    let text = b"remove 3\nremove 9\nlist\nremove 2\nlist\n";
+    let answers = b"removed\nrefused 4\n2 10.0.0.2:7000 up\n.\njournal full\n".as_slice();
     let mut page = Page::new(rt.alloc());
     let end = serve_lines(&rt, rt.alloc(), text, &mut page, &mut Group::with_room(2));
     assert_eq!(rt; end, Served::JournalFull);

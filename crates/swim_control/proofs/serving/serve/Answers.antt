@@ -1,13 +1,7 @@
-use Rattle.std.proofs.Common.{ℕ, List, Some, None, refl, sym, ap, subst, ◌∙◌}
-use Rattle.swim_wire.specs.ShortLines.{ComesKnown}
-use Rattle.swim_wire.specs.Streams.{failures_if}
-use Rattle.swim_wire.specs.declared.short_lines.LineEnd.TheVariants as lines
-use Rattle.swim_control.specs.declared.faults.Fault.TheVariants.{LongLine, Unended}
-use Rattle.swim_control.specs.declared.serving.Served.TheVariants as ends
+use Rattle.std.proofs.Common.{ℕ, List, Some, None, refl, subst, ◌∙◌}
 use Rattle.swim_control.specs.Commands.{said_by, line_said}
-use Rattle.swim_control.specs.Texts.{fault_text}
 use Rattle.swim_control.specs.Turns.{Turned}
-use Rattle.swim_control.proofs.Known.{start_known, next_known, turn_known, long_known, unended_known, over_known, spent_known, are_spent, failed_known, unsent_known, no_read_failed, no_read_failed_or, no_read_failed_last, spent_reads, turn_ends}
+use Rattle.swim_control.proofs.Known.{start_known, next_known, turn_known, long_known, unended_known, over_known, spent_known, failed_known, unsent_known}
 use Rattle.swim_control.proofs.serving.serve.Goals as goal
 
 pub loop-line-init : goal.loop-line-init

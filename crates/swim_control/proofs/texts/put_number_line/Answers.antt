@@ -1,4 +1,4 @@
-use Rattle.std.proofs.Common.{◌++◌, decimal, sym}
+use Rattle.std.proofs.Common.{◌++◌, decimal}
 use Rattle.std.proofs.lemmas.List.{append_assoc}
 use Rattle.swim_history.specs.Texts.{feed}
 use Rattle.swim_wire.specs.TwoPuts.{first_failed, both_put}

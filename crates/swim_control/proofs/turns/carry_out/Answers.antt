@@ -1,4 +1,4 @@
-use Rattle.std.proofs.Common.{Bool, Option, ◌∙◌, ap}
+use Rattle.std.proofs.Common.{Option, ◌∙◌, ap}
 use Rattle.swim_control.specs.declared.desks.Command.TheVariants.{List as Lists, Join, Remove, Gap}
 use Rattle.swim_control.specs.declared.serving.Served.{Served}
 use Rattle.swim_control.specs.Desks.{Shows, Measures, Answers}

@@ -1,4 +1,4 @@
-use Rattle.std.proofs.Common.{Err, Ok, sym, ◌∙◌, ap}
+use Rattle.std.proofs.Common.{Ok, sym, ◌∙◌, ap}
 use Rattle.swim_control.specs.Commands.{line_said}
 use Rattle.swim_control.proofs.LineTurns.{fault_turned, stop_turned}
 use Rattle.swim_control.proofs.turns.turn.Goals as goal
