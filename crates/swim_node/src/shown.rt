@@ -30,7 +30,7 @@ impl Model for ShownTable {
 
 impl ShownTable {
     /// The table of these rows, after the changes of a beginning without any.
-    #[tactic(auto, using(swim_history::specs::TableLaws::ascending_ascends))]
+    #[tactic(auto, using(swim_history::specs::Laws::Table::ascending_ascends))]
     pub(crate) fn new(rows: &[Row], shown: Beginning) -> ShownTable
         requires { length rows.now ≤ KNOWN_MEMBERS }
         ensures { result ≡ record { rows = ascending rows.now; shown = shown } }
