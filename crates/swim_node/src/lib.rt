@@ -23,3 +23,6 @@ pub use parts::Parts;
 pub use receipts::{CallFault, CloseFault, OpenFault, Receipt};
 pub use seats::Seat;
 pub use viewers::Viewer;
+
+#[cfg(test)]
+mod tests;

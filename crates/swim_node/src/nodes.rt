@@ -135,7 +135,7 @@ impl<N: Naming, C: Chooser, H: Wait + Drop> Node<N, C, H> {
     }
 
     /// The gap of a member with the greatest distance between successive probes, the earliest of equals; `None` if it
-    /// has none. It walks through the journal under the lock. The seat stays as it was.
+    /// has none. It looks up what the journal keeps. The seat stays as it was.
     pub fn gap<R: Wait>(&self, rt: &R, seat: &mut Seat<N>, member: Id) -> Option<Gap>
         ensures seat { seat.new ≡ seat.old }
         ensures gap { IsGapAtMoment N.opening seat.old member result }
