@@ -2,16 +2,12 @@
 use Rattle.std.proofs.Common.{◌≡◌, ◌≢◌, ℕ, ◌+◌, ◌%◌, Bool, true, false, ◌||◌, List, ◌∷◌, None, refl, sym, ap, ◌∙◌, add-one}
 use Rattle.std.specs.Prelude.{option_and_then}
 use Rattle.std.specs.List.{list_any}
-use Rattle.swim_wire.specs.Address.{Address}
 use Rattle.swim_wire.specs.Requests.{aged}
-use Rattle.swim_wire.specs.declared.messages.Message.{Message}
 use Rattle.swim_history.specs.declared.calls.Call.{Call}
 use Rattle.swim_history.specs.declared.calls.Call.TheVariants.{Tick, Hear, Join, Remove}
 use Rattle.swim_history.specs.declared.replies.Reply.{Reply}
 use Rattle.swim_history.specs.declared.replies.Reply.TheVariants.{Quiet, Started, Asked, Joined, Refused}
 use Rattle.swim_history.specs.declared.replies.Refusal.{Refusal}
-use Rattle.swim_wire.specs.declared.messages.Kind.{Kind}
-use Rattle.swim_wire.specs.declared.messages.Kind.TheVariants.{Ping, PingReq, Ack}
 use Rattle.swim_history.specs.declared.entries.Choice.{Choice}
 use Rattle.swim_history.specs.declared.entries.Choice.TheVariants.{Nothing, Round}
 use Rattle.swim_history.specs.declared.entries.Entry.{Entry}
@@ -23,7 +19,8 @@ use Rattle.swim_history.specs.Laws.Run.{period_number-within, period_number-same
 use Rattle.swim_history.specs.Waiting.{waiting, asked_in, sent_on_in}
 use Rattle.swim_history.specs.Round.{lists, lists_then}
 use Rattle.swim_history.specs.Laws.Waiting.{waiting_tick, waiting_same}
-use Rattle.swim_history.specs.Run.{Answers, Hears}
+use Rattle.swim_history.specs.Laws.Unchanged.{no_refusal}
+use Rattle.swim_history.specs.Run.{Answers}
 use Rattle.swim_history.specs.Drawn.{DrawsEntry}
 use Rattle.swim_detector.specs.declared.states.State.{State}
 use Rattle.swim_detector.specs.declared.answers.Answer.{Answer}
@@ -68,12 +65,6 @@ stays o h s e m idle goes_on same unremoved unacked unasked unsent =
           m.heard_is target (sym same_aim ∙ is) ∙ rw (goes_on, unacked target (period_number o (e ∷ h))) (ap (λ n. list_any (acks o.me target n) (since is_start h)) (sym same_number));
       phase_is = m.phase_is ∙ rw idle refl;
     }
-
--- a message is never refused
-no_refusal : (o : Setting) (h : List Entry) (m : Message) (source : Address) (kind : Kind) (why : Refusal) → Hears o h m source kind (Refused why) → ⊥
-no_refusal o h m source Ping why a = a
-no_refusal o h m source PingReq why a = a
-no_refusal o h m source Ack why a = a
 
 -- a call is refused: nothing changes
 pub refused : (o : Setting) (h : List Entry) (s : State) (call : Call) (why : Refusal) → Mirrors o h s → Answers o h call (Refused why) Nothing → IsSettled o h call (plain (Refused why)) s

@@ -80,7 +80,7 @@ unchanged o h e c = record {
 }
 
 -- a message is never refused
-no_refusal : (o : Setting) (h : List Entry) (m : Message) (source : Address) (kind : Kind) (why : Refusal) →
+pub no_refusal : (o : Setting) (h : List Entry) (m : Message) (source : Address) (kind : Kind) (why : Refusal) →
     Hears o h m source kind (Refused why) → ⊥
 no_refusal o h m source Ping why a = a
 no_refusal o h m source PingReq why a = a
