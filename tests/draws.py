@@ -1,5 +1,6 @@
 """What a seeded chooser chooses, computed apart from the programs: rand 0.10's shuffle and its draw from a range, over the
-words of ChaCha20 with the seed as key, a nonce of zeros and a counter from 0 (RFC 8439's cipher with a counter of 64 bits).
+words of ChaCha20 with the seed as key, the stream's number as nonce, which is 0 but for later lives of a detector, and a
+counter from 0 (RFC 8439's cipher with a counter and a nonce of 64 bits).
 
 It was written after those descriptions and not after this repository's code. Of a seed of zeros it gives the words that
 RFC 8439 lists for a key of zeros, and the orders and places that crates/swim_targets/src/tests/choices.rt expects.
@@ -12,10 +13,10 @@ def rotated(value, count):
     return (value << count | value >> (32 - count)) % WORD
 
 
-def block(key, counter):
-    """The sixteen words of a block."""
+def block(key, counter, stream):
+    """The sixteen words of a block of the stream of that number."""
     words = lambda data: [int.from_bytes(data[i : i + 4], "little") for i in range(0, len(data), 4)]
-    start = words(b"expand 32-byte k") + words(key) + [counter % WORD, counter // WORD, 0, 0]
+    start = words(b"expand 32-byte k") + words(key) + [counter % WORD, counter // WORD, stream % WORD, stream // WORD]
     state = list(start)
 
     def quarter(a, b, c, d):
@@ -34,8 +35,8 @@ def block(key, counter):
 class Draws:
     """The choices of a seed, in the order of asking."""
 
-    def __init__(self, seed):
-        self.words = (word for counter in iter(range(2**63)) for word in block(seed, counter))
+    def __init__(self, seed, stream=0):
+        self.words = (word for counter in iter(range(2**63)) for word in block(seed, counter, stream))
 
     def below(self, bound):
         """A number below the bound: the high half of a word times it. Where the low half might carry, a second word tells."""

@@ -124,12 +124,22 @@ impl<C: Chooser> Recorder<C> {
         ensures within { length self.old.past ≤ self.old.limit }
     {
         self.ready()?;
+        self.record_ready(seat, &call);
+        Ok(())
+    }
+
+    /// As `record`, after `ready` was answered `Ok`: it has no refusal left.
+    pub fn record_ready(&mut self, seat: u8, call: &Call)
+        requires seat { seat < SEATS }
+        requires room { 0 < self.old.room }
+        requires limit { length self.old.past < self.old.limit }
+        ensures { RecordsCall C.orders C.places self.old self.new seat call.now }
+    {
         let number = self.counts[seat as usize];
-        self.answer = self.state.answer(&self.journal, &mut self.chooser, &call);
+        self.answer = self.state.answer(&self.journal, &mut self.chooser, call);
         let (journal, state) = (&mut self.journal, &self.state);
         add(journal, state, seat, number, call, &self.answer);
         self.counts[seat as usize] = number + 1;
-        Ok(())
     }
 
     /// The reply of the newest entry; `Quiet` where there is none.
@@ -171,36 +181,43 @@ impl<C: Chooser> Recorder<C> {
 }
 
 /// Adds the entry of a call.
-fn add(journal: &mut Journal, state: &State, seat: u8, number: u32, call: Call, answer: &Answer)
+fn add(journal: &mut Journal, state: &State, seat: u8, number: u32, call: &Call, answer: &Answer)
     requires room { 0 < journal.old.room }
     requires count { length journal.old.past < u32.MAX }
     requires continues { Continues journal.old.opening journal.old.past
-        (entry_of seat number call answer.now state.now) }
+        (entry_of seat number call.now answer.now state.now) }
     ensures opening { journal.new.opening ≡ journal.old.opening }
-    ensures past { journal.new.past ≡ entry_of seat number call answer.now state.now ∷ journal.old.past }
+    ensures past { journal.new.past ≡ entry_of seat number call.now answer.now state.now ∷ journal.old.past }
 {
     if answer.begins_round {
         add_start(journal, state, seat, number, call, &answer.reply);
     } else {
-        journal.add_undrawn(seat, number, &call, &answer.reply);
+        journal.add_undrawn(seat, number, call, &answer.reply);
     }
 }
 
 /// Adds the entry of a call by which a round began.
 // A function of its own, since an entry is large, and few calls begin a round.
 #[inline(never)]
-fn add_start(journal: &mut Journal, state: &State, seat: u8, number: u32, call: Call, reply: &Reply)
+fn add_start(
+    journal: &mut Journal,
+    state: &State,
+    seat: u8,
+    number: u32,
+    call: &Call,
+    reply: &Reply,
+)
     requires room { 0 < journal.old.room }
     requires count { length journal.old.past < u32.MAX }
     requires continues { Continues journal.old.opening journal.old.past
-        (round_entry seat number call reply.now state.now) }
+        (round_entry seat number call.now reply.now state.now) }
     ensures opening { journal.new.opening ≡ journal.old.opening }
-    ensures past { journal.new.past ≡ round_entry seat number call reply.now state.now ∷ journal.old.past }
+    ensures past { journal.new.past ≡ round_entry seat number call.now reply.now state.now ∷ journal.old.past }
 {
     journal.add(&Entry {
         seat,
         number,
-        call,
+        call: *call,
         choice: state.round(),
         reply: reply.copy(),
     });

@@ -1,4 +1,5 @@
 mod limits;
+mod lives;
 mod long_journals;
 mod members;
 mod periods;
@@ -39,15 +40,20 @@ fn opening(k: u32, others: &[u8], last: u64) -> Result<Opening, Fail> {
     Ok(Opening::check(id(1)?, k, 1, 3, rows.as_slice(), last).map_err(|_| "an opening")?)
 }
 
-// The detector of member 1, whose chooser leaves each order as it is and takes each last place.
+// The detector of member 1, which knows these others.
 fn recorder(
     rt: HostRuntime,
     k: u32,
     others: &[u8],
     limit: u32,
 ) -> Result<Recorder<Scripted>, Fail> {
+    Ok(opened(rt, opening(k, others, 0)?, limit))
+}
+
+// The detector of that opening, whose chooser leaves each order as it is and takes each last place.
+fn opened(rt: HostRuntime, opening: Opening, limit: u32) -> Recorder<Scripted> {
     let chooser = Scripted::new(Vec::new(rt.alloc()), Vec::new(rt.alloc()));
-    Ok(Recorder::open(rt.alloc(), opening(k, others, 0)?, chooser, limit))
+    Recorder::open(rt.alloc(), opening, chooser, limit)
 }
 
 fn message(

@@ -12,3 +12,4 @@ pub mod UntilProbed
 pub mod Gap
 pub mod Drawn
 pub mod DrawnRuns
+pub mod After

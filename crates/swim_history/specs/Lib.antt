@@ -19,6 +19,7 @@ pub mod Seats
 pub mod Reasons
 pub mod Sends
 pub mod Unchanged
+pub mod After
 pub mod Texts
 pub mod Laws
 pub mod Storing

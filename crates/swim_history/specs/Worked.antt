@@ -1,3 +1,4 @@
 pub mod Histories
 pub mod Gaps
 pub mod Returns
+pub mod After

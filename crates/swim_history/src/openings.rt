@@ -4,7 +4,10 @@ ghost use Rattle.std.specs.Prelude.{◌≡◌, ℕ, ◌↔◌, ◌≤◌, Some, 
 ghost use Rattle.swim_wire.specs.Ids.{has, has_twice as stands_twice};
 ghost use Rattle.swim_history.specs.Setting.{IsSetting, ids_of};
 ghost use Rattle.swim_history.specs.Check.{first_fault, fault_number, setting_of, rows_up};
+ghost use Rattle.swim_history.specs.After.{setting_after, NumbersGoOn};
 
+use crate::changing::copy_table;
+use crate::journals::Journal;
 use crate::rows::{Row, RowState, Table};
 use std::marker::Model;
 use swim_wire::{Id, KNOWN_MEMBERS, Peer};
@@ -109,6 +112,39 @@ impl Opening {
                 rows: rows_of(rows),
                 last,
             }),
+        }
+    }
+
+    /// What a detector goes on from after a journal: the same parameters, the members that are known at its end, up or
+    /// failed, ascending by id, and the last period number that it used. Each period begun from it has a greater
+    /// number than every one of the journal.
+    #[tactic(auto, using(crate::specs::Laws::After::setting_after_is, crate::specs::Laws::After::numbers_go_on))]
+    pub fn after(journal: &Journal) -> Opening
+        ensures exact { result ≡ setting_after journal.now.opening journal.now.past }
+        ensures numbers { NumbersGoOn journal.now.opening journal.now.past }
+    {
+        let opening = journal.opening();
+        Opening {
+            me: opening.me,
+            k: opening.k,
+            rtt: opening.rtt,
+            period: opening.period,
+            rows: journal.rows(),
+            last: journal.last_number(),
+        }
+    }
+
+    /// The same opening again. It takes no memory.
+    pub fn copy(&self) -> Opening
+        ensures { result ≡ self.now }
+    {
+        Opening {
+            me: self.me,
+            k: self.k,
+            rtt: self.rtt,
+            period: self.period,
+            rows: copy_table(self.rows()),
+            last: self.last,
         }
     }
 

@@ -1,6 +1,6 @@
 pub mod Adding
 pub mod Counting
-pub mod Matching
+pub mod Filing
 pub mod Prefixes
 pub mod Publishing
 pub mod Telling

@@ -11,6 +11,7 @@ use Rattle.swim_history.specs.declared.gaps.Gap.{Gap}
 use Rattle.swim_history.specs.Setting.{Setting}
 use Rattle.swim_history.specs.Changes.{changes}
 use Rattle.swim_history.specs.Run.{calls_of, IsRun}
+use Rattle.swim_history.specs.Seats.{kept_of}
 use Rattle.swim_history.specs.Gap.{IsWidest, HasNoGap}
 use Rattle.swim_node.specs.declared.receipts.CallFault.{CallFault}
 use Rattle.swim_node.specs.declared.receipts.CallFault.TheVariants.{Wire, JournalFull, NoMemory}
@@ -47,8 +48,7 @@ pub record IsMoment (o : Setting) (seat : Seated) (past : List Entry) : Type 0 w
   pub calls : calls_of seat.number past ≡ length seat.calls
 
 -- why a call may be refused under the lock: at such a moment the journal had as many entries as it may have, or
--- memory was
--- refused
+-- memory was refused
 abbrev pub MayRefuse : Setting → ℕ → Seated → CallFault → Type 0
 MayRefuse o limit seat (Wire fault) = ⊥
 MayRefuse o limit seat JournalFull = (past : List Entry) × IsMoment o seat past × (length past ≡ limit)
@@ -60,8 +60,9 @@ MayRefuseBytes bytes o limit seat (Wire fault) = first_fault bytes ≡ Some faul
 MayRefuseBytes bytes o limit seat JournalFull = MayRefuse o limit seat JournalFull
 MayRefuseBytes bytes o limit seat NoMemory = MayRefuse o limit seat NoMemory
 
--- what is told of a member's widest gap is true of one such history
+-- what is told of a member's widest gap is true of a history with these calls of the seat
 abbrev pub IsGapAtMoment : Setting → Seated → ℕ → Option Gap → Type 0
 IsGapAtMoment o seat member gap =
-    (past : List Entry) × IsMoment o seat past × IfSome gap (λ g. IsWidest o past member g.a g.b g.n)
+    (past : List Entry) × IsRun o past × (seat.calls ≡ kept_of seat.number past)
+    × IfSome gap (λ g. IsWidest o past member g.a g.b g.n)
     × ((gap ≡ None) ↔ HasNoGap o past member)

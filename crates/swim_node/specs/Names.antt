@@ -4,11 +4,12 @@ use Rattle.logbook.specs.Pages.{Book}
 use Rattle.swim_history.specs.declared.entries.Entry.{Entry}
 use Rattle.swim_history.specs.Run.{calls_of}
 
--- the parts of a node: how many entries its journal may have, its ledgers, and its list of changes
+-- the parts of a node: how many entries its journal may have, its ledgers, its list of changes, and its cells
 pub record PartNames : Type 0 where
   pub limit : ℕ
   pub ledgers : List ℕ
   pub log : Book
+  pub cells : List ℕ
 
 -- a seat, and how many calls of it were counted
 pub record Count : Type 0 where

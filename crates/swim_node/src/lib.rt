@@ -3,8 +3,8 @@
 #![tactic(auto)]
 
 mod board;
+mod cells;
 mod change_log;
-mod closing;
 mod ledgers;
 mod locked;
 mod naming;
@@ -12,15 +12,17 @@ mod news;
 mod nodes;
 mod parts;
 mod receipts;
+mod remembered;
 mod seats;
 mod shown;
+mod start;
 mod viewers;
 
 pub use naming::Naming;
 pub use news::News;
 pub use nodes::Node;
 pub use parts::Parts;
-pub use receipts::{CallFault, CloseFault, OpenFault, Receipt};
+pub use receipts::{CallFault, OpenFault, Receipt};
 pub use seats::Seat;
 pub use viewers::Viewer;
 

@@ -1,20 +1,21 @@
 //! What lies under a node's lock.
 
-ghost use Rattle.std.specs.Prelude.{◌≡◌, Err, IfOk, IfErr, IfSome, IsOk, OnErr};
-ghost use Rattle.swim_history.specs.Setting.{IsSetting};
-ghost use Rattle.swim_history.specs.Run.{IsRun};
+ghost use Rattle.std.specs.Prelude.{◌≡◌, ◌+◌, length, IfOk, IfErr, OnErr};
+ghost use Rattle.swim_history.specs.Seats.{kept_of};
 ghost use Rattle.swim_node.specs.News.{SawNothing, EndsWithChange};
-ghost use Rattle.swim_node.specs.Seats.{AreNew, AreTheSeats};
-ghost use Rattle.swim_node.specs.Answered.{kept, IsAnswered, MayRefuse, IsGapAtMoment};
+ghost use Rattle.swim_node.specs.Seats.{Seated, AreNew, AreTheSeats};
+ghost use Rattle.swim_node.specs.Names.{counted};
+ghost use Rattle.swim_node.specs.Cells.{noted};
+ghost use Rattle.swim_node.specs.Answered.{EndsARun, MayRefuse, IsGapAtMoment};
 ghost use Rattle.swim_node.specs.OneHistory.{HoldsCalls, IsOneHistory};
 
 use crate::board::Board;
-use crate::closing::hold_calls;
-use crate::ledgers::Books;
+use crate::cells::{CellNote, Cells, Filed};
+use crate::ledgers::{Books, Tally};
 use crate::naming::Naming;
 use crate::news::News;
 use crate::parts::Parts;
-use crate::receipts::{CallFault, OpenFault, Receipt};
+use crate::receipts::{CallFault, OpenFault};
 use crate::seats::{Seat, seats_of};
 use crate::viewers::Viewer;
 use std::alloc::Global;
@@ -25,14 +26,26 @@ use swim_history::{Call, Gap, Journal, Kept, Opening};
 use swim_targets::Chooser;
 use swim_wire::Id;
 
-/// What lies under a node's lock: the detector with its journal, how many calls each seat was answered, and what was
-/// published. Whenever the lock is free, the journal is a run of the node's opening, each seat's count is how many
-/// entries of it the journal has, and what is published are the journal's changes. A contract sees the detector.
+/// What lies under a node's lock: the detector with its journal, how many calls each seat was answered, what was
+/// published, and notes of the cells. Whenever the lock is free, the journal is a run of the node's opening, each
+/// seat's count is how many entries of it the journal has, what is published are the journal's changes, and each
+/// entry stands in the cell of its place. A contract sees the detector.
 #[derive(Drop)]
 pub(crate) struct Locked<N: Naming, C: Chooser, H: Wait + Drop> {
     recorder: Recorder<C>,
     books: Books<N>,
     board: Board<N, H>,
+    // One of each entry: that it stands in the cell of its place.
+    notes: Vec<CellNote>,
+}
+
+/// What a call was answered under the lock: the call as its seat is to keep it, the news, and that it stands in the
+/// cell of its place.
+#[derive(Drop)]
+pub(crate) struct Answered<N: Naming> {
+    pub(crate) kept: Kept,
+    pub(crate) news: News<N>,
+    pub(crate) note: CellNote,
 }
 
 impl<N: Naming, C: Chooser, H: Wait + Drop> Model for Locked<N, C, H> {
@@ -40,6 +53,7 @@ impl<N: Naming, C: Chooser, H: Wait + Drop> Model for Locked<N, C, H> {
     ghost use Rattle.swim_detector.specs.Recording.{Recording};
     ghost use Rattle.swim_history.specs.Changes.{changes};
     ghost use Rattle.swim_node.specs.Names.{AreCounts};
+    ghost use Rattle.swim_node.specs.Cells.{notes_of};
 
     ghost Value = { Recording C };
 
@@ -47,11 +61,12 @@ impl<N: Naming, C: Chooser, H: Wait + Drop> Model for Locked<N, C, H> {
 
     ghost invariant = { λ l. (l.recorder.opening ≡ N.opening) × (l.recorder.limit ≡ N.limit)
         × AreCounts l.books l.recorder.past
-        × (l.board ≡ changes N.opening l.recorder.past) };
+        × (l.board ≡ changes N.opening l.recorder.past)
+        × (l.notes.items ≡ notes_of N.cells l.recorder.past) };
 }
 
 impl<N: Naming, C: Chooser, H: Wait + Drop> Locked<N, C, H> {
-    /// A detector that wasn't called yet, with the seats and viewers of its node.
+    /// A detector that wasn't called yet, with the seats and viewers of its node, and its cells.
     pub(crate) fn open(
         alloc: Global,
         rt: H,
@@ -59,17 +74,18 @@ impl<N: Naming, C: Chooser, H: Wait + Drop> Locked<N, C, H> {
         opening: Opening,
         chooser: C,
         limit: u32,
-    ) -> Result<(Locked<N, C, H>, [Seat<N>; 4], [Viewer<N>; 4]), OpenFault>
-        requires parts { parts ≡ record { limit = N.limit; ledgers = N.ledgers; log = N.log } }
+    ) -> Result<(Locked<N, C, H>, Cells<N>, [Seat<N>; 4], [Viewer<N>; 4]), OpenFault>
+        requires parts { parts ≡ record { limit = N.limit; ledgers = N.ledgers; log = N.log; cells = N.cells } }
         requires opening { opening ≡ N.opening }
         requires limit { limit ≡ N.limit }
-        ensures seats { IfOk result (λ opened. AreNew opened.1) }
-        ensures viewers { IfOk result (λ opened. SawNothing opened.2) }
+        ensures seats { IfOk result (λ opened. AreNew opened.2) }
+        ensures viewers { IfOk result (λ opened. SawNothing opened.3) }
     {
         let Parts {
             limit: _,
             ledgers,
             log,
+            cells,
         } = parts;
         let (board, viewers) = Board::open(alloc, rt, &opening, log)?;
         let counting = Books::open(ledgers);
@@ -78,91 +94,146 @@ impl<N: Naming, C: Chooser, H: Wait + Drop> Locked<N, C, H> {
             recorder: Recorder::open(alloc, opening, chooser, limit),
             books,
             board,
+            notes: Vec::new(alloc),
         };
-        Ok((locked, seats_of(alloc, tallies), viewers))
+        Ok((locked, Cells::new(cells), seats_of(alloc, tallies), viewers))
     }
 
-    /// Answers a call of a seat. In this order: the journal's limit; every growth of memory; and from then on nothing
-    /// is refused: the detector's answer and entry, the count, the publication of the change, the receipt.
-    pub(crate) fn call(&mut self, seat: &mut Seat<N>, call: &Call) -> Result<Receipt<N>, CallFault>
-        ensures ok { IfOk result (λ r. let k = kept r.position r.number r.call r.reply in
-            IsAnswered N.opening seat.old seat.new call.now k r.news) }
-        ensures change { IfOk result (λ r. EndsWithChange r.call r.reply r.news) }
-        ensures number { seat.new.number ≡ seat.old.number }
-        ensures err { OnErr result (seat.new ≡ seat.old) }
-        ensures refuses { IfErr result (MayRefuse N.opening N.limit seat.old) }
+    /// Answers a call of a seat that made so many before. In this order: the journal's limit; every growth of memory
+    /// under the lock; and from then on nothing is refused: the detector's answer and entry, the count, the publication
+    /// of the change, the cell.
+    pub(crate) fn call<R: Wait>(
+        &mut self,
+        rt: &R,
+        cells: &Cells<N>,
+        tally: &mut Tally<N>,
+        number: usize,
+        call: &Call,
+        filed: Box<Filed>,
+    ) -> Result<Answered<N>, CallFault>
+        requires { number ≡ tally.old.calls }
+        ensures ok { IfOk result (λ a. (a.kept.call ≡ call.now) × (a.kept.number ≡ number)
+            × (tally.new ≡ counted tally.old.seat (number + 1))
+            × EndsARun N.opening tally.old.seat a.kept a.news
+            × (a.note ≡ noted N.cells tally.old.seat a.kept)) }
+        ensures change { IfOk result (λ a. EndsWithChange a.kept.call a.kept.reply a.news) }
+        ensures err { OnErr result (tally.new ≡ tally.old) }
+        ensures refuses { IfErr result (λ fault. (seat : Seated) → seat.number ≡ tally.old.seat →
+            length seat.calls ≡ number → MayRefuse N.opening N.limit seat fault) }
     {
         // These two take no time, and show what the seat's count and the journal are.
-        self.books.audit(&mut seat.tally);
+        self.books.audit(tally);
         let position = self.recorder.journal().len();
         match self.recorder.ready() {
             Ok(()) => {}
             Err(ApplyFault::JournalFull) => return Err(CallFault::JournalFull),
             Err(ApplyFault::NoMemory) => return Err(CallFault::NoMemory),
         }
-        if seat.calls.reserve(1).is_err() {
-            return Err(CallFault::NoMemory);
-        }
+        self.notes.reserve(1)?;
         let change = self.recorder.change(call);
-        let number = seat.calls.len() as u32;
-        match self.recorder.record(seat.tally.seat(), *call) {
-            Ok(()) => {}
-            Err(_) => unreachable!(),
-        }
-        self.books.add(&mut seat.tally);
+        let seat = tally.seat();
+        self.recorder.record_ready(seat, call);
+        self.books.add(tally);
         self.board.publish_if(&change);
-        let reply = self.recorder.reply();
-        let receipt = Receipt {
+        let kept = Kept {
             position,
-            number,
+            number: number as u32,
             call: *call,
-            reply: reply.copy(),
-            news: self.board.news(),
+            reply: self.recorder.reply().copy(),
         };
-        seat.calls.push_reserved(Kept {
-            position,
-            number,
-            call: *call,
-            reply: reply.copy(),
-        });
-        Ok(receipt)
+        let mut note = cells.file(rt, seat, &kept, filed);
+        self.notes.push_reserved(note.again());
+        Ok(Answered {
+            kept,
+            news: self.board.news(),
+            note,
+        })
+    }
+
+    /// Why a call of a seat is refused that finds no memory: where the journal is full, that is told.
+    pub(crate) fn refusal(&mut self, tally: &mut Tally<N>) -> CallFault
+        ensures tally { tally.new ≡ tally.old }
+        ensures may { (seat : Seated) → seat.number ≡ tally.old.seat → length seat.calls ≡ tally.old.calls →
+            MayRefuse N.opening N.limit seat result }
+    {
+        self.books.audit(tally);
+        let _run = self.recorder.journal().len();
+        match self.recorder.ready() {
+            Err(ApplyFault::JournalFull) => CallFault::JournalFull,
+            Ok(()) | Err(ApplyFault::NoMemory) => CallFault::NoMemory,
+        }
+    }
+
+    /// Shows that the journal holds a seat's calls, by the notes of them and by the counts.
+    #[tactic(auto, using(crate::proofs::Filing::placed_notes, crate::proofs::Filing::hold_calls))]
+    fn compare<R: Wait>(&mut self, rt: &R, seat: &mut Seat<N>)
+        ensures locked { self.new ≡ self.old }
+        ensures seat { seat.new ≡ seat.old }
+        ensures calls { seat.old.calls ≡ kept_of seat.old.number self.old.past }
+    {
+        self.books.audit(&mut seat.tally);
+        let _run = self.recorder.journal().len();
+        seat.compare(rt, &mut self.notes);
     }
 
     /// The widest gap of a member in the journal as it is.
-    pub(crate) fn gap(&mut self, seat: &mut Seat<N>, member: Id) -> Option<Gap>
+    pub(crate) fn gap<R: Wait>(&mut self, rt: &R, seat: &mut Seat<N>, member: Id) -> Option<Gap>
         ensures locked { self.new ≡ self.old }
         ensures seat { seat.new ≡ seat.old }
         ensures gap { IsGapAtMoment N.opening seat.old member result }
     {
-        self.books.audit(&mut seat.tally);
+        self.compare(rt, seat);
         let journal = self.recorder.journal();
         let _run = journal.len();
         journal.widest_gap(member)
     }
 
-    /// Ends the publication, and hands the journal back, with the seats, whose calls it holds. `Err` where a seat's
-    /// calls are not the journal's entries of that seat.
-    pub(crate) fn close(
+    /// Ends the publication, and hands the journal back, with the seats, whose calls it holds.
+    pub(crate) fn close<R: Wait>(
         self,
+        rt: &R,
         seats: [Seat<N>; 4],
-    ) -> Result<(Journal, [Seat<N>; 4], News<N>), (Recorder<C>, [Seat<N>; 4])>
+    ) -> (Journal, [Seat<N>; 4], News<N>)
         requires { AreTheSeats seats }
-        ensures ok { IfOk result (λ closed. (closed.0.opening ≡ N.opening) × (closed.1 ≡ seats)
-            × IsOneHistory N.opening closed.0.past seats closed.2) }
-        ensures differs { IfErr result (λ fault. (fault.0.opening ≡ N.opening) × (fault.1 ≡ seats)
-            × IsRun N.opening fault.0.past × (HoldsCalls fault.0.past seats → ⊥)) }
+        ensures opening { result.0.opening ≡ N.opening }
+        ensures seats { result.1 ≡ seats }
+        ensures history { IsOneHistory N.opening result.0.past seats result.2 }
     {
+        let mut locked = self;
+        let seats = locked.compare_all(rt, seats);
         let Locked {
             recorder,
             books: _,
             board,
-        } = self;
-        let journal = recorder.journal();
-        let _run = journal.len();
-        if !hold_calls(journal, &seats) {
-            return Err((recorder, seats));
-        }
+            notes: _,
+        } = locked;
+        let _run = recorder.journal().len();
         let news = board.news();
-        Ok((recorder.into_journal(), seats, news))
+        (recorder.into_journal(), seats, news)
+    }
+
+    // As `compare`, of all seats.
+    fn compare_all<R: Wait>(&mut self, rt: &R, seats: [Seat<N>; 4]) -> [Seat<N>; 4]
+        ensures locked { self.new ≡ self.old }
+        ensures seats { result ≡ seats }
+        ensures calls { HoldsCalls self.old.past seats }
+    {
+        let [first, second, third, fourth] = seats;
+        [
+            self.compared(rt, first),
+            self.compared(rt, second),
+            self.compared(rt, third),
+            self.compared(rt, fourth),
+        ]
+    }
+
+    fn compared<R: Wait>(&mut self, rt: &R, seat: Seat<N>) -> Seat<N>
+        ensures locked { self.new ≡ self.old }
+        ensures seat { result ≡ seat }
+        ensures calls { seat.calls ≡ kept_of seat.number self.old.past }
+    {
+        let mut seat = seat;
+        self.compare(rt, &mut seat);
+        seat
     }
 }

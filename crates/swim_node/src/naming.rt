@@ -21,6 +21,9 @@ pub trait Naming {
 
     /// Its list of changes.
     ghost log: { Book };
+
+    /// Its cells, one for each entry.
+    ghost cells: { List ℕ };
 }
 
 impl Naming for Brand {
@@ -33,4 +36,6 @@ impl Naming for Brand {
     ghost ledgers = { [] };
 
     ghost log = { record { number = 0; log_name = 0; cells_name = 0 } };
+
+    ghost cells = { [] };
 }

@@ -1,23 +1,23 @@
 //! The node: one detector for four callers.
 
-ghost use Rattle.std.specs.Prelude.{◌≡◌, Err, Some, List, IfOk, IfErr, OnErr};
+ghost use Rattle.std.specs.Prelude.{◌≡◌, Err, Some, IfOk, IfErr, OnErr};
 ghost use Rattle.swim_wire.specs.declared.codec.WireFault.{WireFault};
 ghost use Rattle.swim_wire.specs.declared.messages.Message.{Message};
 ghost use Rattle.swim_wire.specs.Layout.{IsTextOf, first_fault};
-ghost use Rattle.swim_detector.specs.Recording.{Recording};
 ghost use Rattle.swim_history.specs.declared.calls.Call.TheVariants as call;
-ghost use Rattle.swim_history.specs.Run.{IsRun};
 ghost use Rattle.swim_node.specs.News.{SawNothing, EndsWithChange};
-ghost use Rattle.swim_node.specs.Seats.{Seated, AreNew, AreTheSeats};
+ghost use Rattle.swim_node.specs.Seats.{AreNew, AreTheSeats};
 ghost use Rattle.swim_node.specs.Answered.{kept, IsAnswered, MayRefuse, MayRefuseBytes, IsGapAtMoment};
-ghost use Rattle.swim_node.specs.OneHistory.{HoldsCalls, IsOneHistory};
+ghost use Rattle.swim_node.specs.OneHistory.{IsOneHistory};
 
-use crate::locked::Locked;
+use crate::cells::{Cells, Filed};
+use crate::locked::{Answered, Locked};
 use crate::naming::Naming;
 use crate::news::News;
 use crate::parts::Parts;
-use crate::receipts::{CallFault, CloseFault, OpenFault, Receipt};
+use crate::receipts::{CallFault, OpenFault, Receipt};
 use crate::seats::Seat;
+use crate::start::Start;
 use crate::viewers::Viewer;
 use std::alloc::Global;
 use std::sync::{Mutex, Wait};
@@ -32,6 +32,8 @@ use swim_wire::{Id, Peer, decode};
 /// `H` is with what it waits for readers that look at an old table, also where it is closed or dropped.
 #[derive(Drop)]
 pub struct Node<N: Naming, C: Chooser, H: Wait + Drop> {
+    start: Start<N>,
+    cells: Cells<N>,
     locked: Mutex<Locked<N, C, H>>,
 }
 
@@ -47,18 +49,28 @@ impl<N: Naming, C: Chooser, H: Wait + Drop> Node<N, C, H> {
         chooser: C,
         limit: u32,
     ) -> Result<(Node<N, C, H>, [Seat<N>; 4], [Viewer<N>; 4]), OpenFault>
-        requires parts { parts ≡ record { limit = N.limit; ledgers = N.ledgers; log = N.log } }
+        requires parts { parts ≡ record { limit = N.limit; ledgers = N.ledgers; log = N.log; cells = N.cells } }
         requires opening { opening ≡ N.opening }
         requires limit { limit ≡ N.limit }
         ensures seats { IfOk result (λ opened. AreNew opened.1) }
         ensures viewers { IfOk result (λ opened. SawNothing opened.2) }
     {
+        let start = Start::new(opening.copy());
         let opened = Locked::open(alloc, rt, parts, opening, chooser, limit)?;
-        let (locked, seats, viewers) = opened;
+        let (locked, cells, seats, viewers) = opened;
         let node = Node {
+            start,
+            cells,
             locked: Mutex::new(locked),
         };
         Ok((node, seats, viewers))
+    }
+
+    /// What its detector started from. It takes no lock.
+    pub fn opening(&self) -> &Opening
+        ensures { result.now ≡ N.opening }
+    {
+        self.start.opening()
     }
 
     /// A datagram came from this address. `Wire` exactly where the bytes are none, and then before the lock.
@@ -79,10 +91,7 @@ impl<N: Naming, C: Chooser, H: Wait + Drop> Node<N, C, H> {
         ensures wire { (f : WireFault) → first_fault bytes.now ≡ Some f → result ≡ Err (CallFault.Wire f) }
     {
         match decode(bytes) {
-            Ok(message) => self
-                .locked
-                .lock(rt)
-                .call(seat, &Call::Hear(message, source)),
+            Ok(message) => self.call(rt, seat, &Call::Hear(message, source)),
             Err(fault) => Err(CallFault::Wire(fault)),
         }
     }
@@ -96,7 +105,7 @@ impl<N: Naming, C: Chooser, H: Wait + Drop> Node<N, C, H> {
         ensures err { OnErr result (seat.new ≡ seat.old) }
         ensures refuses { IfErr result (MayRefuse N.opening N.limit seat.old) }
     {
-        self.locked.lock(rt).call(seat, &Call::Tick)
+        self.call(rt, seat, &Call::Tick)
     }
 
     /// A member at this address is to be listed.
@@ -114,7 +123,7 @@ impl<N: Naming, C: Chooser, H: Wait + Drop> Node<N, C, H> {
         ensures err { OnErr result (seat.new ≡ seat.old) }
         ensures refuses { IfErr result (MayRefuse N.opening N.limit seat.old) }
     {
-        self.locked.lock(rt).call(seat, &Call::Join(id, peer))
+        self.call(rt, seat, &Call::Join(id, peer))
     }
 
     /// A member is to be forgotten.
@@ -131,7 +140,7 @@ impl<N: Naming, C: Chooser, H: Wait + Drop> Node<N, C, H> {
         ensures err { OnErr result (seat.new ≡ seat.old) }
         ensures refuses { IfErr result (MayRefuse N.opening N.limit seat.old) }
     {
-        self.locked.lock(rt).call(seat, &Call::Remove(id))
+        self.call(rt, seat, &Call::Remove(id))
     }
 
     /// The gap of a member with the greatest distance between successive probes, the earliest of equals; `None` if it
@@ -140,28 +149,68 @@ impl<N: Naming, C: Chooser, H: Wait + Drop> Node<N, C, H> {
         ensures seat { seat.new ≡ seat.old }
         ensures gap { IsGapAtMoment N.opening seat.old member result }
     {
-        self.locked.lock(rt).gap(seat, member)
+        self.locked.lock(rt).gap(rt, seat, member)
     }
 
     /// Closes the node: from then on its viewers list nothing. The journal is handed back with the seats, whose calls
     /// it holds, and the closing news, which a viewer may still learn. It waits for viewers that look.
-    pub fn close(
-        self,
-        seats: [Seat<N>; 4],
-    ) -> Result<(Journal, [Seat<N>; 4], News<N>), CloseFault<N, C>>
+    pub fn close<R: Wait>(self, rt: &R, seats: [Seat<N>; 4]) -> (Journal, [Seat<N>; 4], News<N>)
         requires { AreTheSeats seats }
-        ensures ok { IfOk result (λ closed. (closed.0.opening ≡ N.opening) × (closed.1 ≡ seats)
-            × IsOneHistory N.opening closed.0.past seats closed.2) }
-        ensures differs { (recorder : Recording C) (others : List Seated) →
-            result ≡ Err (CloseFault.Differs recorder others) → (recorder.opening ≡ N.opening) × (others ≡ seats)
-            × IsRun N.opening recorder.past × (HoldsCalls recorder.past seats → ⊥) }
+        ensures opening { result.0.opening ≡ N.opening }
+        ensures seats { result.1 ≡ seats }
+        ensures history { IsOneHistory N.opening result.0.past seats result.2 }
     {
-        match self.locked.into_inner().close(seats) {
-            Ok(closed) => Ok(closed),
-            Err(kept_back) => {
-                let (recorder, seats) = kept_back;
-                Err(CloseFault::Differs(recorder, seats))
-            }
-        }
+        self.locked.into_inner().close(rt, seats)
+    }
+
+    fn call<R: Wait>(
+        &self,
+        rt: &R,
+        seat: &mut Seat<N>,
+        call: &Call,
+    ) -> Result<Receipt<N>, CallFault>
+        ensures ok { IfOk result (λ r. let k = kept r.position r.number r.call r.reply in
+            IsAnswered N.opening seat.old seat.new call.now k r.news) }
+        ensures change { IfOk result (λ r. EndsWithChange r.call r.reply r.news) }
+        ensures number { seat.new.number ≡ seat.old.number }
+        ensures err { OnErr result (seat.new ≡ seat.old) }
+        ensures refuses { IfErr result (MayRefuse N.opening N.limit seat.old) }
+    {
+        let Ok(()) = seat.calls.reserve(1) else {
+            return Err(self.refusal(rt, seat));
+        };
+        let Ok(()) = seat.notes.reserve(1) else {
+            return Err(self.refusal(rt, seat));
+        };
+        let Ok(filed) = Filed::blank(*seat.calls.allocator()) else {
+            return Err(self.refusal(rt, seat));
+        };
+        let number = seat.calls.len();
+        let answered = self
+            .locked
+            .lock(rt)
+            .call(rt, &self.cells, &mut seat.tally, number, call, filed);
+        // The lock is free again: what is left to do touches the seat alone.
+        let (kept, news, note) = match answered {
+            Ok(Answered { kept, news, note }) => (kept, news, note),
+            Err(fault) => return Err(fault),
+        };
+        let receipt = Receipt {
+            position: kept.position,
+            number: kept.number,
+            call: kept.call,
+            reply: kept.reply.copy(),
+            news,
+        };
+        seat.notes.push_reserved(note);
+        seat.calls.push_reserved(kept);
+        Ok(receipt)
+    }
+    // Why a call is refused to which the seat has no room: where the journal is full, that is told.
+    fn refusal<R: Wait>(&self, rt: &R, seat: &mut Seat<N>) -> CallFault
+        ensures seat { seat.new ≡ seat.old }
+        ensures may { MayRefuse N.opening N.limit seat.old result }
+    {
+        self.locked.lock(rt).refusal(&mut seat.tally)
     }
 }

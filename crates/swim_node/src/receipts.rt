@@ -2,10 +2,8 @@
 
 use crate::naming::Naming;
 use crate::news::News;
-use crate::seats::Seat;
-use swim_detector::Recorder;
+use std::alloc::AllocError;
 use swim_history::{Call, Reply};
-use swim_targets::Chooser;
 use swim_wire::WireFault;
 use thiserror::Error;
 
@@ -37,6 +35,17 @@ pub enum CallFault {
     NoMemory,
 }
 
+impl From<AllocError> for CallFault {
+    ghost use Rattle.std.specs.Prelude.{◌≡◌};
+    ghost use Rattle.swim_node.specs.declared.receipts.CallFault.TheVariants.{NoMemory};
+
+    ghost from_gives = { λ _ fault. fault ≡ NoMemory };
+
+    fn from(_refused: AllocError) -> CallFault {
+        CallFault::NoMemory
+    }
+}
+
 /// Why a node can't be opened.
 #[derive(Clone, Copy, Debug, PartialEq, Eq, Error)]
 pub enum OpenFault {
@@ -46,12 +55,4 @@ pub enum OpenFault {
     /// No reader of the table was to be had.
     #[error("no place for a reader")]
     NoPlace,
-}
-
-/// Why a closed node doesn't hand its journal back.
-#[derive(Drop)]
-pub enum CloseFault<N: Naming, C: Chooser> {
-    /// The calls of some seat are not the journal's entries of that seat. Here are the node's detector, with the
-    /// journal, and the seats.
-    Differs(Recorder<C>, [Seat<N>; 4]),
 }

@@ -2,6 +2,7 @@ ghost use Rattle.std.specs.Prelude.{◌≡◌, IfOk};
 
 mod gaps;
 mod limits;
+mod refusals;
 mod replays;
 mod soak;
 mod threads;
@@ -80,7 +81,7 @@ fn open<N: Naming, C: Chooser, R: Wait + Copy + Drop>(
     chooser: C,
     limit: u32,
 ) -> Result<(Node<N, C, R>, Four<Seat<N>>, Four<Viewer<N>>), Fail>
-    requires parts { parts ≡ record { limit = N.limit; ledgers = N.ledgers; log = N.log } }
+    requires parts { parts ≡ record { limit = N.limit; ledgers = N.ledgers; log = N.log; cells = N.cells } }
     requires opening { opening ≡ N.opening }
     requires limit { limit ≡ N.limit }
     ensures { IfOk result (λ o. (o.1.0.0.number ≡ 0) × (o.1.0.1.number ≡ 1)
@@ -101,20 +102,16 @@ fn open<N: Naming, C: Chooser, R: Wait + Copy + Drop>(
 
 // The journal of a node at its end, and its seats.
 fn close<N: Naming, R: Wait + Copy + Drop>(
+    rt: &R,
     node: Node<N, Scripted, R>,
     callers: Four<Seat<N>>,
-) -> Result<(Journal, Four<Seat<N>>), Fail>
+) -> (Journal, Four<Seat<N>>)
     requires listening { (callers.0.0.number ≡ 0) × (callers.0.1.number ≡ 1) }
     requires changing { (callers.1.0.number ≡ 2) × (callers.1.1.number ≡ 3) }
 {
     let ((first, second), (third, fourth)) = callers;
-    match node.close([first, second, third, fourth]) {
-        Ok(closed) => {
-            let (journal, seats, _news) = closed;
-            Ok((journal, four_of(seats)))
-        }
-        Err(_) => Err(Fail::new("the seats' calls are the journal's")),
-    }
+    let (journal, seats, _news) = node.close(rt, [first, second, third, fourth]);
+    (journal, four_of(seats))
 }
 
 // A message of a member, about its own probe.

@@ -26,13 +26,21 @@ impl Model for Seeded {
 }
 
 impl Seeded {
-    /// The chooser at the start of the stream of that seed.
+    /// The chooser of that key at the start of its stream 0.
     pub fn new(key: [u8; 32]) -> Seeded
         ensures { result ≡ of_seed key }
     {
-        Seeded {
-            rng: ChaCha20Rng::from_seed(key),
-        }
+        Seeded::life(key, 0)
+    }
+
+    /// The chooser of that key at the start of that stream. A detector that begins anew, with the same key, takes the
+    /// next stream for each life, and so draws other words than in the lives before.
+    pub fn life(key: [u8; 32], stream: u64) -> Seeded
+        ensures { result ≡ record (of_seed key) { stream = stream } }
+    {
+        let mut rng = ChaCha20Rng::from_seed(key);
+        rng.set_stream(stream);
+        Seeded { rng }
     }
 }
 

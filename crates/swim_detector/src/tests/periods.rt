@@ -87,8 +87,7 @@ fn relays_are_drawn(rt: HostRuntime) -> Result<(), Fail> {
 
 #[test]
 fn numbers_are_used_up(rt: HostRuntime) -> Result<(), Fail> {
-    let chooser = Scripted::new(Vec::new(rt.alloc()), Vec::new(rt.alloc()));
-    let mut recorder = Recorder::open(rt.alloc(), opening(1, &[2], u64::MAX - 1)?, chooser, 9);
+    let mut recorder = opened(rt, opening(1, &[2], u64::MAX - 1)?, 9);
     let spent = last_reply(&mut recorder, &[Call::Tick; 4])?;
     assert_eq!(rt; spent, Reply::Refused(Refusal::Spent));
     assert_eq!(rt; recorder.change(&Call::Tick), None);

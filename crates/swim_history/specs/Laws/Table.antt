@@ -108,7 +108,7 @@ table_shows o (e ∷ h) id =
     ∙ ap (row_then e.call e.reply (period_number o h) id) (table_shows o h id)
 
 -- what holds of each row holds after a change, where it holds of the rows that the change makes
-put_each : (P : Row → Type 0) (new : Row) (rows : List Row) → P new → AllByRecursion P rows →
+pub put_each : (P : Row → Type 0) (new : Row) (rows : List Row) → P new → AllByRecursion P rows →
     AllByRecursion P (put new rows)
 put_each P new [] here each = (here, tt)
 put_each P new (row ∷ rows) here each =
@@ -116,8 +116,9 @@ put_each P new (row ∷ rows) here each =
     (λ _. cond_both (new.id == row.id) _ _ (AllByRecursion P) (λ _. (here, each.1))
     (λ _. (each.0, put_each P new rows here each.1)))
 
-failed_each : (P : Row → Type 0) (judged number : ℕ) (rows : List Row) → ((row : Row) → P row → P (failed number row)) →
-    AllByRecursion P rows → AllByRecursion P (after_change (change.Failed judged number) rows)
+pub failed_each : (P : Row → Type 0) (judged number : ℕ) (rows : List Row) →
+    ((row : Row) → P row → P (failed number row)) → AllByRecursion P rows →
+    AllByRecursion P (after_change (change.Failed judged number) rows)
 failed_each P judged number [] stays each = tt
 failed_each P judged number (row ∷ rows) stays each = (
   cond_both (row.id == judged) _ _ P (λ _. stays row each.0)
@@ -125,12 +126,16 @@ failed_each P judged number (row ∷ rows) stays each = (
   failed_each P judged number rows stays each.1,
 )
 
-gone_each : (P : Row → Type 0) (gone : ℕ) (rows : List Row) → AllByRecursion P rows →
+pub gone_each : (P : Row → Type 0) (gone : ℕ) (rows : List Row) → AllByRecursion P rows →
     AllByRecursion P (after_change (change.Gone gone) rows)
 gone_each P gone [] each = tt
 gone_each P gone (row ∷ rows) each =
     cond_both (not (row.id == gone)) _ _ (AllByRecursion P) (λ _. (each.0, gone_each P gone rows each.1))
     (λ _. gone_each P gone rows each.1)
+
+pub ascending_each : (P : Row → Type 0) (rows : List Row) → AllByRecursion P rows → AllByRecursion P (ascending rows)
+ascending_each P [] each = tt
+ascending_each P (row ∷ rows) each = put_each P row (ascending rows) each.0 (ascending_each P rows each.1)
 
 -- what is above an id is above those that are not above it
 each_above : (low high : ℕ) (rows : List Row) → low ≤ high → AllByRecursion (λ row. high < row.id) rows →

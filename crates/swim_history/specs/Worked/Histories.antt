@@ -118,7 +118,7 @@ two_members = of_members 1 0 (known 2 ∷ known 3 ∷ [])
 abbrev pub first_start : Entry
 first_start = starting 0 None 2 1 (round (2 ∷ 3 ∷ []))
 
-abbrev two_periods : List Entry
+abbrev pub two_periods : List Entry
 two_periods =
     starting 3 (Some 2) 3 2 Nothing
     ∷ entry 2 Tick Quiet Nothing

@@ -30,32 +30,3 @@ fn a_full_table_stays(rt: HostRuntime) -> Result<(), Fail> {
     assert_eq!(rt; copy_table(table.as_slice()).as_slice(), table.as_slice());
     Ok(())
 }
-
-#[test]
-fn replies_are_compared(rt: HostRuntime) -> Result<(), Fail> {
-    let heard = Reply::Joined { place: 1 };
-    assert!(rt; is_same_reply(&heard, &Reply::Joined { place: 1 }));
-    assert!(rt; !is_same_reply(&heard, &Reply::Joined { place: 2 }));
-    let one = asked(&[3, 4])?;
-    assert!(rt; is_same_reply(&one, &asked(&[3, 4])?));
-    assert!(rt; !is_same_reply(&one, &asked(&[3])?));
-    assert!(rt; !is_same_reply(&one, &asked(&[4, 3])?));
-    assert!(rt; !is_same_reply(&one, &heard));
-    Ok(())
-}
-
-// Member 2 is to be pinged, by these members.
-fn asked(members: &[u8]) -> Result<Reply, Fail> {
-    let mut relays = arrayvec::ArrayVec::new();
-    for number in members {
-        relays.try_push(Relay {
-            id: member(u32::from(*number))?,
-            peer: address(*number),
-        })?;
-    }
-    Ok(Reply::Asked {
-        target: member(2)?,
-        number: 9,
-        relays,
-    })
-}

@@ -32,3 +32,18 @@ fn checks_openings(rt: HostRuntime) -> Result<(), Fail> {
     assert!(rt; Opening::check(me, 0, 21845, 65535, none.as_slice(), 0).is_ok());
     Ok(())
 }
+
+#[test]
+fn copies_an_opening(rt: HostRuntime) -> Result<(), Fail> {
+    let member = (id(2).ok_or("an id")?, address(2));
+    let me = id(1).ok_or("an id")?;
+    let opening = Opening::check(me, 3, 2, 6, &[member], 9).map_err(|_| "an opening")?;
+    let copy = opening.copy();
+    assert_eq!(rt; copy.me(), me);
+    assert_eq!(rt;
+        (copy.k(), copy.rtt(), copy.period(), copy.last()),
+        (3, 2, 6, 9)
+    );
+    assert!(rt; copy.rows() == opening.rows());
+    Ok(())
+}

@@ -7,7 +7,7 @@ use swim_history::Gap;
 // same.
 #[test]
 fn gaps_are_those_of_all_calls(rt: HostRuntime) -> Result<(), Fail> {
-    gaps_through_a_node::<Brand, _>(rt, rt.alloc(), Parts::make(1000), opening(0)?)
+    gaps_through_a_node::<Brand, _>(rt, rt.alloc(), Parts::make(rt.alloc(), 1000)?, opening(0)?)
 }
 
 fn gaps_through_a_node<N: Naming, R: Wait + Abort + Copy + Drop>(
@@ -16,7 +16,7 @@ fn gaps_through_a_node<N: Naming, R: Wait + Abort + Copy + Drop>(
     parts: Parts,
     opening: Opening,
 ) -> Result<(), Fail>
-    requires parts { parts ≡ record { limit = N.limit; ledgers = N.ledgers; log = N.log } }
+    requires parts { parts ≡ record { limit = N.limit; ledgers = N.ledgers; log = N.log; cells = N.cells } }
     requires opening { opening ≡ N.opening }
     requires limit { N.limit ≡ 1000 }
 {

@@ -5,7 +5,7 @@ use super::*;
 // A journal of two entries: two calls are answered, and after them each call is refused, and leaves the seat's calls.
 #[test]
 fn a_full_journal_refuses(rt: HostRuntime) -> Result<(), Fail> {
-    full_after_two::<Brand, _>(rt, rt.alloc(), Parts::make(2), opening(1)?)
+    full_after_two::<Brand, _>(rt, rt.alloc(), Parts::make(rt.alloc(), 2)?, opening(1)?)
 }
 
 fn full_after_two<N: Naming, R: Wait + Abort + Copy + Drop>(
@@ -14,7 +14,7 @@ fn full_after_two<N: Naming, R: Wait + Abort + Copy + Drop>(
     parts: Parts,
     opening: Opening,
 ) -> Result<(), Fail>
-    requires parts { parts ≡ record { limit = N.limit; ledgers = N.ledgers; log = N.log } }
+    requires parts { parts ≡ record { limit = N.limit; ledgers = N.ledgers; log = N.log; cells = N.cells } }
     requires opening { opening ≡ N.opening }
     requires limit { N.limit ≡ 2 }
 {
@@ -23,7 +23,7 @@ fn full_after_two<N: Naming, R: Wait + Abort + Copy + Drop>(
     drop(readers);
     let ((first, second), others) = callers;
     let first = refused_after_two(&rt, &node, first);
-    let (journal, _callers) = close(node, ((first, second), others))?;
+    let (journal, _callers) = close(&rt, node, ((first, second), others));
     assert_eq!(rt; journal.len(), 2);
     Ok(())
 }

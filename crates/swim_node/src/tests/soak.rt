@@ -15,7 +15,12 @@ const TABLES: usize = 1_000;
 
 #[test]
 fn four_callers_and_four_readers(rt: HostRuntime) -> Result<(), Fail> {
-    soaked::<Brand, _>(rt, rt.alloc(), Parts::make(4 * CALLS), opening(1)?)
+    soaked::<Brand, _>(
+        rt,
+        rt.alloc(),
+        Parts::make(rt.alloc(), 4 * CALLS)?,
+        opening(1)?,
+    )
 }
 
 fn soaked<N: Naming + Send + Sync, R: Threads + Wait + Abort + Send + Sync + Copy + Drop>(
@@ -24,7 +29,7 @@ fn soaked<N: Naming + Send + Sync, R: Threads + Wait + Abort + Send + Sync + Cop
     parts: Parts,
     start: Opening,
 ) -> Result<(), Fail>
-    requires parts { parts ≡ record { limit = N.limit; ledgers = N.ledgers; log = N.log } }
+    requires parts { parts ≡ record { limit = N.limit; ledgers = N.ledgers; log = N.log; cells = N.cells } }
     requires opening { start ≡ N.opening }
     requires limit { N.limit ≡ 80000 }
 {
@@ -32,7 +37,7 @@ fn soaked<N: Naming + Send + Sync, R: Threads + Wait + Abort + Send + Sync + Cop
     let (node, callers, readers) = opened;
     let ended = call_and_look(&rt, alloc, &node, callers, readers);
     let (callers, lists) = ended;
-    let journal = close_drawn(node, callers)?;
+    let journal = close_drawn(&rt, node, callers);
     assert_eq!(rt; journal.len(), 4 * CALLS);
     let ((one, two), (three, four)) = lists;
     let mut watched = Vec::new(alloc);
@@ -44,17 +49,16 @@ fn soaked<N: Naming + Send + Sync, R: Threads + Wait + Abort + Send + Sync + Cop
 }
 
 fn close_drawn<N: Naming, R: Wait + Copy + Drop>(
+    rt: &R,
     node: Node<N, Seeded, R>,
     callers: Four<Seat<N>>,
-) -> Result<Journal, Fail>
+) -> Journal
     requires listening { (callers.0.0.number ≡ 0) × (callers.0.1.number ≡ 1) }
     requires changing { (callers.1.0.number ≡ 2) × (callers.1.1.number ≡ 3) }
 {
     let ((first, second), (third, fourth)) = callers;
-    match node.close([first, second, third, fourth]) {
-        Ok(closed) => Ok(closed.0),
-        Err(_) => Err(Fail::new("the seats' calls are the journal's")),
-    }
+    let (journal, _seats, _news) = node.close(rt, [first, second, third, fourth]);
+    journal
 }
 
 fn call_and_look<N: Naming + Send + Sync, R: Threads + Wait + Abort + Send + Sync + Copy + Drop>(

@@ -6,7 +6,7 @@ use swim_history::{Judged, Refusal};
 // One thread hears pings while another ticks. Members 2 and 3 never answer.
 #[test]
 fn two_threads(rt: HostRuntime) -> Result<(), Fail> {
-    two_in_threads::<Brand, _>(rt, rt.alloc(), Parts::make(1000), opening(1)?)
+    two_in_threads::<Brand, _>(rt, rt.alloc(), Parts::make(rt.alloc(), 1000)?, opening(1)?)
 }
 
 fn two_in_threads<N: Naming + Send + Sync, R: Threads + Wait + Abort + Send + Sync + Copy + Drop>(
@@ -15,7 +15,7 @@ fn two_in_threads<N: Naming + Send + Sync, R: Threads + Wait + Abort + Send + Sy
     parts: Parts,
     opening: Opening,
 ) -> Result<(), Fail>
-    requires parts { parts ≡ record { limit = N.limit; ledgers = N.ledgers; log = N.log } }
+    requires parts { parts ≡ record { limit = N.limit; ledgers = N.ledgers; log = N.log; cells = N.cells } }
     requires opening { opening ≡ N.opening }
     requires limit { N.limit ≡ 1000 }
 {
@@ -24,7 +24,7 @@ fn two_in_threads<N: Naming + Send + Sync, R: Threads + Wait + Abort + Send + Sy
     drop(readers);
     let ((first, second), others) = callers;
     let callers = hear_and_tick(&rt, &node, first, second);
-    let (journal, callers) = close(node, (callers, others))?;
+    let (journal, callers) = close(&rt, node, (callers, others));
     let ((first, second), _others) = callers;
     assert_calls(&rt, &first, 0, 100);
     assert_calls(&rt, &second, 1, 90);
@@ -99,7 +99,7 @@ fn tick_often<N: Naming, R: Wait + Copy + Drop>(
 // Four threads at once: pings, ticks, joins of a member that joined already, removals of one that nobody knows.
 #[test]
 fn four_threads(rt: HostRuntime) -> Result<(), Fail> {
-    four_in_threads::<Brand, _>(rt, rt.alloc(), Parts::make(1000), opening(1)?)
+    four_in_threads::<Brand, _>(rt, rt.alloc(), Parts::make(rt.alloc(), 1000)?, opening(1)?)
 }
 
 fn four_in_threads<N: Naming + Send + Sync, R: Threads + Wait + Abort + Send + Sync + Copy + Drop>(
@@ -108,7 +108,7 @@ fn four_in_threads<N: Naming + Send + Sync, R: Threads + Wait + Abort + Send + S
     parts: Parts,
     opening: Opening,
 ) -> Result<(), Fail>
-    requires parts { parts ≡ record { limit = N.limit; ledgers = N.ledgers; log = N.log } }
+    requires parts { parts ≡ record { limit = N.limit; ledgers = N.ledgers; log = N.log; cells = N.cells } }
     requires opening { opening ≡ N.opening }
     requires limit { N.limit ≡ 1000 }
 {
@@ -117,7 +117,7 @@ fn four_in_threads<N: Naming + Send + Sync, R: Threads + Wait + Abort + Send + S
     drop(readers);
     let (listening, changing) = callers;
     let callers = call_at_once(&rt, &node, listening, changing);
-    let (journal, callers) = close(node, callers)?;
+    let (journal, callers) = close(&rt, node, callers);
     let ((first, second), (third, fourth)) = callers;
     assert_calls(&rt, &first, 0, 100);
     assert_calls(&rt, &second, 1, 90);

@@ -4,7 +4,7 @@ use super::*;
 
 #[test]
 fn a_viewer_lists_a_join_it_learnt_of(rt: HostRuntime) -> Result<(), Fail> {
-    joined_then_listed::<Brand, _>(rt, rt.alloc(), Parts::make(1000), opening(1)?)
+    joined_then_listed::<Brand, _>(rt, rt.alloc(), Parts::make(rt.alloc(), 1000)?, opening(1)?)
 }
 
 fn joined_then_listed<N: Naming, R: Wait + Abort + Copy + Drop>(
@@ -13,7 +13,7 @@ fn joined_then_listed<N: Naming, R: Wait + Abort + Copy + Drop>(
     parts: Parts,
     opening: Opening,
 ) -> Result<(), Fail>
-    requires parts { parts ≡ record { limit = N.limit; ledgers = N.ledgers; log = N.log } }
+    requires parts { parts ≡ record { limit = N.limit; ledgers = N.ledgers; log = N.log; cells = N.cells } }
     requires opening { opening ≡ N.opening }
     requires limit { N.limit ≡ 1000 }
 {
@@ -24,7 +24,7 @@ fn joined_then_listed<N: Naming, R: Wait + Abort + Copy + Drop>(
     drop(others);
     let (third, readers) = join_and_list(&rt, &node, third, readers);
     let first = probes_the_joiner(&rt, &node, first);
-    let (journal, _callers) = close(node, ((first, second), (third, fourth)))?;
+    let (journal, _callers) = close(&rt, node, ((first, second), (third, fourth)));
     lists_nothing(&rt, readers);
     assert_eq!(rt; journal.len(), 2);
     Ok(())
@@ -95,7 +95,7 @@ fn lists_nothing<N: Naming, R: Abort>(rt: &R, readers: (Viewer<N>, Viewer<N>)) {
 // The last call makes no change; who learns its news lists all that the journal's rows show.
 #[test]
 fn the_last_news_shows_all(rt: HostRuntime) -> Result<(), Fail> {
-    listed_as_the_journal::<Brand, _>(rt, rt.alloc(), Parts::make(1000), opening(1)?)
+    listed_as_the_journal::<Brand, _>(rt, rt.alloc(), Parts::make(rt.alloc(), 1000)?, opening(1)?)
 }
 
 fn listed_as_the_journal<N: Naming, R: Wait + Abort + Copy + Drop>(
@@ -104,7 +104,7 @@ fn listed_as_the_journal<N: Naming, R: Wait + Abort + Copy + Drop>(
     parts: Parts,
     opening: Opening,
 ) -> Result<(), Fail>
-    requires parts { parts ≡ record { limit = N.limit; ledgers = N.ledgers; log = N.log } }
+    requires parts { parts ≡ record { limit = N.limit; ledgers = N.ledgers; log = N.log; cells = N.cells } }
     requires opening { opening ≡ N.opening }
     requires limit { N.limit ≡ 1000 }
 {
@@ -114,7 +114,7 @@ fn listed_as_the_journal<N: Naming, R: Wait + Abort + Copy + Drop>(
     let (readers, others) = readers;
     drop(others);
     let (first, table) = join_and_wait(&rt, &node, first, readers);
-    let (journal, _callers) = close(node, ((first, second), callers))?;
+    let (journal, _callers) = close(&rt, node, ((first, second), callers));
     assert!(rt; journal.rows().as_slice() == table.as_slice());
     assert_eq!(rt; table.len(), 3);
     Ok(())

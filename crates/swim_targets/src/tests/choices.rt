@@ -48,6 +48,36 @@ fn a_seed_places(rt: HostRuntime) {
     }
 }
 
+// The same, with the stream's number as nonce. The words of stream 1 begin with the bytes ef 3f df d6.
+#[test]
+fn a_later_life_chooses_anew(rt: HostRuntime) -> Result<(), Fail> {
+    let mut chooser = Seeded::life([0; 32], 1);
+    for expected in [[2, 1, 4, 5, 3], [3, 4, 1, 5, 2]] {
+        let mut ids = order_of(&[1, 2, 3, 4, 5])?;
+        chooser.order(ids.as_mut_slice());
+        assert_eq!(rt; ids, order_of(&expected)?);
+    }
+    for expected in [7, 5, 2, 6] {
+        assert_eq!(rt; chooser.place(9), expected);
+    }
+    Ok(())
+}
+
+#[test]
+fn the_last_life_chooses(rt: HostRuntime) {
+    let mut chooser = Seeded::life([0; 32], u64::MAX);
+    for (last, expected) in [
+        (0, 0),
+        (1, 0),
+        (5, 4),
+        (127, 127),
+        (128, 26),
+        (u32::MAX, 988207724),
+    ] {
+        assert_eq!(rt; chooser.place(last), expected);
+    }
+}
+
 #[test]
 fn a_script_is_followed_to_its_end(rt: HostRuntime) -> Result<(), Fail> {
     let orders = vec![in rt.alloc();

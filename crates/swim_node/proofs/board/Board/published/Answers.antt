@@ -1,4 +1,4 @@
-use Rattle.std.proofs.Common.{◌≡◌, ◌≤◌, ◌++◌, ◌∷◌, [], List, length, drop, fold, refl, sym, ap, subst, ◌∙◌}
+use Rattle.std.proofs.Common.{◌≡◌, ◌≤◌, ◌++◌, ◌∷◌, [], length, drop, fold, refl, sym, ap, subst, ◌∙◌}
 use Rattle.swim_history.specs.Changes.{table_after}
 use Rattle.swim_node.specs.declared.shown.Update.{Update}
 use Rattle.swim_node.specs.Shown.{Showing, showing, shown_after, IsOfNode}

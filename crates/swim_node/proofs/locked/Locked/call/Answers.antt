@@ -3,11 +3,11 @@ use Rattle.swim_node.proofs.Counting.{calls_within}
 use Rattle.swim_node.proofs.Telling.{changes_within, change_fits}
 use Rattle.swim_node.proofs.locked.Locked.call.Goals as goal
 
-pub overflow_cast-number : goal.overflow_cast-number
-overflow_cast-number g c =
-    let seat = c.seat.inside.tally.seat in
+pub overflow_cast-kept : goal.overflow_cast-kept
+overflow_cast-kept g c =
+    let seat = c.args.tally.now.seat in
     let past = c.self.inside.recorder.past in
-    omega (arith, c.len-number.ensures, c.reserve.ensures.len, c.reserve.ensures.items, c.seat.invariant, c.audit.ensures.count, c.self.invariant.2 seat c.audit.ensures.seat, calls_within seat past, c.len-position.ensures.value, c.len-position.auto, ap length c.journal.ensures.past)
+    omega (arith, c.requires, c.audit.ensures.count, c.self.invariant.2 seat c.audit.ensures.seat, calls_within seat past, c.len-position.ensures.value, c.len-position.auto, ap length c.journal.ensures.past)
 
 pub publish_if-requires-clause-room : goal.publish_if-requires-clause-room
 publish_if-requires-clause-room g c =
@@ -15,7 +15,7 @@ publish_if-requires-clause-room g c =
 
 pub publish_if-requires-clause-fits : goal.publish_if-requires-clause-fits
 publish_if-requires-clause-fits g c =
-    let recorded = c.in-Ok-record.ensures.ok in
+    let recorded = c.record_ready.ensures in
     let before = c.ready.new.self in
     change_fits g.N.Naming.opening before.opening c.self.inside.recorder.past before.past c.args.call.now c.change-change.result c.self.inside.board recorded.0 (search rules) (search rules) (search rules) (search rules) (search rules) (search rules)
     c.change-change.ensures (search rules)
