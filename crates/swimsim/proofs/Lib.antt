@@ -8,3 +8,4 @@ pub mod OrderParts
 pub mod SentLines
 pub mod StandingLines
 pub mod Turns
+pub mod CommandLine

@@ -6,3 +6,5 @@ pub mod Holds
 pub mod Script
 pub mod Texts
 pub mod FaultTexts
+pub mod Options
+pub mod Meanings

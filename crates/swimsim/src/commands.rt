@@ -193,8 +193,10 @@ fn fault_of_word(stage: Stage, word: Word) -> Option<LineFault>
 }
 
 /// What the words after the first say.
+// It is put in place for each line, also beside the lines that are read for their words alone.
 #[tactic(auto, unfolding(crate::specs::Commands::command_after))]
-fn read_command<'a>(word: Word, words: &mut Words<'a>) -> Result<Option<Command<'a>>, LineFault>
+#[inline(always)]
+pub fn read_command<'a>(word: Word, words: &mut Words<'a>) -> Result<Option<Command<'a>>, LineFault>
     ensures { result ≡ said_by (command_after word words.old) }
 {
     match word {

@@ -1,0 +1,35 @@
+use Rattle.std.proofs.Common.{ap, ◌∙◌, ◌≡◌, map, codes, sym, subst}
+use Rattle.clap.specs.Words.{App, HasKind, fault_of, first_of, found_of, is_simple, is_simple_and_free, matches_of, one_of, one_text}
+use Rattle.clap.proofs.WalkLemmas.{first_value-rows, one_text-rows}
+use Rattle.swimsim.specs.Options.{command_line}
+use Rattle.swimsim.proofs.CommandLine.{is_simple_line, is_free_line, passed_on}
+use Rattle.swimsim.proofs.options.read_options.Goals as goal
+
+pub returns-in_err-matches-clause-refused : goal.returns-in_err-matches-clause-refused
+returns-in_err-matches-clause-refused g c =
+    let words = map g.S.AsStr.text c.args.words.now in
+    let has_kind = c.in_err-matches.ensures.kinds (ap is_simple_and_free c.in_ok-command.ensures ∙ is_free_line) in
+    passed_on _ c.from_residual-in_err-matches.result c.in_err-matches.field-0.0 c.from_residual-in_err-matches.ensures.1
+    (subst (λ (a : App). HasKind (fault_of a words) c.in_err-matches.field-0.0) c.in_ok-command.ensures has_kind)
+
+pub returns-clause-told : goal.returns-clause-told
+returns-clause-told g c =
+    let words = map g.S.AsStr.text c.args.words.now in
+    let rows = (c.in_ok-matches.ensures.matches (ap is_simple c.in_ok-command.ensures ∙ is_simple_line)).0 in
+    c.get_str.ensures ∙ (first_value-rows (found_of c.in_ok-matches.matches) (codes "FILE")
+    ∙ ap (first_of (codes "FILE")) (rows ∙ ap (λ (a : App). matches_of a words) c.in_ok-command.ensures))
+
+pub returns-clause-decode : goal.returns-clause-decode
+returns-clause-decode g c =
+    let words = map g.S.AsStr.text c.args.words.now in
+    let rows = (c.in_ok-matches.ensures.matches (ap is_simple c.in_ok-command.ensures ∙ is_simple_line)).0 in
+    let written : one_text (found_of c.in_ok-matches.matches) (codes "decode") ≡ one_of (codes "decode") (matches_of command_line words)
+    = one_text-rows (found_of c.in_ok-matches.matches) (codes "decode")
+    ∙ ap (one_of (codes "decode")) (rows ∙ ap (λ (a : App). matches_of a words) c.in_ok-command.ensures) in
+    (λ e. c.get_flag.ensures.none (written ∙ e), λ e. c.get_flag.ensures.value (written ∙ e), λ e. c.get_flag.ensures.other (written ∙ e))
+
+pub returns-clause-refused : goal.returns-clause-refused
+returns-clause-refused g c =
+    let words = map g.S.AsStr.text c.args.words.now in
+    sym (ap (λ (a : App). fault_of a words) c.in_ok-command.ensures)
+    ∙ c.in_ok-matches.ensures.kinds (ap is_simple_and_free c.in_ok-command.ensures ∙ is_free_line)

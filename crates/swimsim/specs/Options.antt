@@ -1,0 +1,35 @@
+-- The words of the command line.
+use Rattle.std.specs.Prelude.{◌≡◌, List, Option, Some, None, Bool, codes, true, false}
+use Rattle.clap.specs.Words.{App, Rule, Shape, Text, first_of, matches_of, new_app, new_rule, one_of, with_rule}
+use Rattle.clap.specs.Simple.{on_top}
+use Rattle.clap.specs.declared.builder.ArgAction.TheVariants.{SetTrue}
+
+-- the path of the script
+abbrev pub script_rule : Rule
+script_rule = new_rule (codes "FILE")
+
+-- an option that takes no value
+abbrev pub flag_rule : Text → Rule
+flag_rule name = record (new_rule name) { long = Some name; action = Some SetTrue }
+
+abbrev pub versioned : Shape → Shape
+versioned s = record s { has_version = true }
+
+-- beside what clap gives each program that has a version, `--help` and `--version`: at most one word that is no option,
+-- and the flags
+abbrev pub command_line : App
+command_line =
+    with_rule (with_rule (on_top versioned (new_app (codes "swimsim"))) script_rule) (flag_rule (codes "decode"))
+
+-- the path of the script that the words name, if any
+abbrev pub script_in : List Text → Option Text
+script_in words = first_of (codes "FILE") (matches_of command_line words)
+
+-- what the words say of a flag, as clap writes it
+abbrev pub flag_in : Text → List Text → Option Text
+flag_in name words = one_of name (matches_of command_line words)
+
+-- the flag is as it is written
+abbrev pub TellsFlag : Bool → Option Text → Type 0
+TellsFlag flag written = (written ≡ None → flag ≡ false) × (written ≡ Some (codes "true") → flag ≡ true)
+    × (written ≡ Some (codes "false") → flag ≡ false)
