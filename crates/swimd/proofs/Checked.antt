@@ -1,0 +1,68 @@
+-- What checking does with the bytes that were read.
+use Rattle.std.proofs.Common.{◌≡◌, ℕ, ◌<◌, ◌≤◌, Bool, true, false, List, length, take, Option, Some, None, Result, Ok, Err}
+use Rattle.std.proofs.Common.{refl, sym, ap, ◌∙◌, arith, ltb, inl, inr}
+use Rattle.std.proofs.lemmas.Bool.{cases_Bool, ltb-true, lt-ltb, ltb-false}
+use Rattle.std.proofs.lemmas.List.{take_all, length-take}
+use Rattle.swimd.specs.declared.config.Config.{Config}
+use Rattle.swimd.specs.declared.config_fault.ConfigFault.{ConfigFault}
+use Rattle.swimd.specs.declared.config_fault.ConfigFault.TheVariants.{Size}
+use Rattle.swimd.specs.declared.outcomes.Outcome.{Outcome}
+use Rattle.swimd.specs.declared.outcomes.Outcome.TheVariants.{Checked, Usage, Unread, Refused, Unwritten}
+use Rattle.swimd.specs.Checking.{ChecksKnown, Shows, IsShown, IsRefused}
+use Rattle.swimd.specs.Configuration.{config_of}
+use Rattle.swimd.specs.Inputs.{IsRead}
+use Rattle.swimd.specs.Reading.{OrNoMemory}
+
+-- of a text that is too large, the first bytes tell as much
+pub config_of_first : (text : List ℕ) → config_of (take 65537 text) ≡ config_of text
+config_of_first text = elim (cases_Bool (ltb 65536 (length text))) [
+  | inl large ↦
+      let above = ltb-true 65536 (length text) large in
+      let first : 65536 < length (take 65537 text) = omega (arith, length-take 65537 text) in
+      rw (lt-ltb 65536 (length (take 65537 text)) first, large) refl
+  | inr small ↦
+      let below : length text ≤ 65537 = omega (arith, ltb-false 65536 (length text) small) in
+      rw (take_all 65537 text below) refl
+]
+
+pub large_read : (text : List ℕ) → 65536 < length text → 65536 < length (take 65537 text)
+large_read text large = omega (arith, length-take 65537 text)
+
+-- a configuration that was read was shown
+known_shown : (text items : List ℕ) (config : Config) → items ≡ take 65537 text →
+    OrNoMemory (Ok config) (config_of items) → config_of text ≡ Ok config
+known_shown text items config read is = elim is [
+  | inl refused ↦ absurd cc
+  | inr same ↦ sym (same ∙ (ap config_of read ∙ config_of_first text))
+]
+
+pub shown : (left old new : Option (List ℕ)) (items : List ℕ) (config : Config) (outcome : Outcome) →
+    IsRead left items true → OrNoMemory (Ok config) (config_of items) → Shows config old new outcome →
+    ChecksKnown left old new outcome
+shown None old new items config Checked read is shows = tt
+shown None old new items config Unwritten read is shows = tt
+shown None old new items config Usage read is shows = absurd shows
+shown None old new items config Unread read is shows = absurd shows
+shown None old new items config (Refused fault) read is shows = absurd shows
+shown (Some text) old new items config Checked read is shows =
+    record { config = config; is = known_shown text items config read is; shows = shows }
+shown (Some text) old new items config Unwritten read is shows =
+    record { config = config; is = known_shown text items config read is; shows = shows }
+shown (Some text) old new items config Usage read is shows = absurd shows
+shown (Some text) old new items config Unread read is shows = absurd shows
+shown (Some text) old new items config (Refused fault) read is shows = absurd shows
+
+-- a fault was told
+abbrev pub refusal : ConfigFault → Result Config ConfigFault
+refusal fault = Err fault
+
+pub told : (left written : Option (List ℕ)) (items : List ℕ) (fault : ConfigFault) → IsRead left items true →
+    OrNoMemory (refusal fault) (config_of items) → (65536 < length items → refusal fault ≡ refusal Size) → ChecksKnown left written written (Refused fault)
+told None written items fault read is size = tt
+told (Some text) written items fault read is size =
+    let same : config_of items ≡ config_of text = ap config_of read ∙ config_of_first text in
+    record {
+      kept = refl;
+      is = rw (← same) is;
+      size = λ (large : 65536 < length text). let e = size (rw read (large_read text large)) in cc;
+    }

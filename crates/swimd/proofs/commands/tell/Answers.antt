@@ -1,0 +1,10 @@
+use Rattle.swim_wire.specs.Streams.{puts_kept}
+use Rattle.swimd.specs.Outcomes.{outcome_text}
+use Rattle.swimd.proofs.commands.tell.Goals as goal
+
+pub returns : goal.returns
+returns g c = record {
+  done = c.put_outcome-is_put.result;
+  put = puts_kept (g.F.Sink.written c.args.faults.now) (g.F.Sink.written c.put_outcome-is_put.new.writer) (g.F.Sink.written c.flush-is_sent.new.self) (outcome_text c.args.outcome) c.put_outcome-is_put.result c.put_outcome-is_put.ensures.bytes c.flush-is_sent.ensures.bytes;
+  is = c.status.ensures;
+}

@@ -1,0 +1,51 @@
+-- What checking a configuration does.
+use Rattle.std.specs.Prelude.{◌≡◌, ℕ, ◌<◌, Bool, true, false, List, length, Option, Some, None, Result, Ok, Err}
+use Rattle.std.specs.Io.KnownBytes.{Appends}
+use Rattle.swim_wire.specs.Streams.{PutsFront}
+use Rattle.swimd.specs.declared.config.Config.{Config}
+use Rattle.swimd.specs.declared.config_fault.ConfigFault.{ConfigFault}
+use Rattle.swimd.specs.declared.config_fault.ConfigFault.TheVariants.{Size}
+use Rattle.swimd.specs.declared.outcomes.Outcome.{Outcome}
+use Rattle.swimd.specs.declared.outcomes.Outcome.TheVariants.{Checked, Usage, Unread, Refused, Unwritten}
+use Rattle.swimd.specs.Configuration.{config_of}
+use Rattle.swimd.specs.Reading.{OrNoMemory}
+use Rattle.swimd.specs.Summary.{summary_text}
+
+-- the summary was written, or a front of it, and nothing else
+abbrev pub Shows : Config → Option (List ℕ) → Option (List ℕ) → Outcome → Type 0
+Shows config old new Checked = Appends old new (summary_text config)
+Shows config old new Unwritten = PutsFront old new (summary_text config)
+Shows config old new outcome = ⊥
+
+-- the configuration that the text is was shown
+pub record IsShown (text : List ℕ) (old new : Option (List ℕ)) (outcome : Outcome) : Type 0 where
+  pub config : Config
+  pub is : config_of text ≡ Ok config
+  pub shows : Shows config old new outcome
+
+-- nothing was written; the fault is the text's, or memory was refused, but for a text that is too large
+pub record IsRefused (text : List ℕ) (old new : Option (List ℕ)) (fault : ConfigFault) : Type 0 where
+  pub kept : new ≡ old
+  pub is : OrNoMemory {A = Config} (Err fault) (config_of text)
+  pub size : 65536 < length text → fault ≡ Size
+
+abbrev pub Checks : List ℕ → Option (List ℕ) → Option (List ℕ) → Outcome → Type 0
+Checks text old new Checked = IsShown text old new Checked
+Checks text old new Unwritten = IsShown text old new Unwritten
+Checks text old new (Refused fault) = IsRefused text old new fault
+Checks text old new Unread = new ≡ old
+Checks text old new Usage = ⊥
+
+-- the same of a reader whose bytes are known
+abbrev pub ChecksKnown : Option (List ℕ) → Option (List ℕ) → Option (List ℕ) → Outcome → Type 0
+ChecksKnown (Some text) old new outcome = Checks text old new outcome
+ChecksKnown None old new Usage = ⊥
+ChecksKnown None old new outcome = Unit {0}
+
+abbrev pub is_unread : Outcome → Bool
+is_unread Unread = true
+is_unread outcome = false
+
+abbrev pub is_unwritten : Outcome → Bool
+is_unwritten Unwritten = true
+is_unwritten outcome = false

@@ -1,0 +1,64 @@
+-- What a desk over a node does.
+use Rattle.std.specs.Prelude.{◌≡◌, ◌⊎◌, List, IfSome}
+use mathlib.Core.List.{IsPrefix}
+use Rattle.swim_history.specs.declared.calls.Call.{Call}
+use Rattle.swim_history.specs.declared.calls.Call.TheVariants as calls
+use Rattle.swim_history.specs.declared.replies.Reply.{Reply}
+use Rattle.swim_history.specs.declared.replies.Reply.TheVariants as replies
+use Rattle.swim_history.specs.declared.rows.Change.{Change}
+use Rattle.swim_history.specs.declared.seats.Kept.{Kept}
+use Rattle.swim_history.specs.Setting.{Setting}
+use Rattle.swim_history.specs.Changes.{table_after}
+use Rattle.swim_history.specs.Reasons.{refusal_number}
+use Rattle.swim_control.specs.declared.desks.Answer.{Answer}
+use Rattle.swim_control.specs.declared.desks.Answer.TheVariants.{Joined, Removed, Refused, JournalFull, NoMemory}
+use Rattle.swim_control.specs.declared.desks.Command.{Command}
+use Rattle.swim_control.specs.declared.desks.Command.TheVariants.{List as Lists, Join, Remove, Gap}
+use Rattle.swim_control.specs.Desks.{Told, Shows, Measures, Answers}
+use Rattle.swim_node.specs.Seats.{Seated}
+use Rattle.swim_node.specs.News.{IsLongerOf}
+use Rattle.swim_node.specs.Answered.{IsAnswered, IsGapAtMoment}
+
+-- what a contract sees of a desk: its seat, and the changes that its viewer has seen
+pub record AtDesk : Type 0 where
+  pub seat : Seated
+  pub seen : List Change
+
+-- there is an answer that tells the reply
+abbrev pub IsTold : Reply → Type 0
+IsTold (replies.Joined place) = Unit {0}
+IsTold replies.Removed = Unit {0}
+IsTold (replies.Refused why) = Unit {0}
+IsTold reply = ⊥
+
+-- the answer that tells a reply
+abbrev pub Tells : Reply → Answer → Type 0
+Tells (replies.Joined place) answer = answer ≡ Joined place
+Tells replies.Removed answer = answer ≡ Removed
+Tells (replies.Refused why) answer = answer ≡ Refused (refusal_number why)
+Tells reply answer = ⊥
+
+-- a call was answered: it is the next one of the seat, its reply is told, and its news was learnt
+pub record IsDone (o : Setting) (old : AtDesk) (call : Call) (answer : Answer) (new : AtDesk) : Type 0 where
+  pub kept : Kept
+  pub news : List Change
+  pub answered : IsAnswered o old.seat new.seat call kept news
+  pub told : Tells kept.reply answer
+  pub learnt : IsLongerOf old.seen news new.seen
+
+-- a call was refused, for a full journal or for memory, and nothing changed
+abbrev pub IsRefused : AtDesk → Answer → AtDesk → Type 0
+IsRefused old answer new = (new ≡ old) × ((answer ≡ JournalFull) ⊎ (answer ≡ NoMemory))
+
+-- a call got this answer
+abbrev pub Calls : Setting → AtDesk → Call → Answer → AtDesk → Type 0
+Calls o old call answer new = IsDone o old call answer new ⊎ IsRefused old answer new
+
+-- what a command does, and what it is told
+abbrev pub Asks : Setting → AtDesk → Command → Told → AtDesk → Type 0
+Asks o old Lists (Shows table) new =
+    (new.seat ≡ old.seat) × IsPrefix old.seen new.seen × IfSome table (λ rows. rows.items ≡ table_after o new.seen)
+Asks o old (Gap member) (Measures gap) new = (new ≡ old) × IsGapAtMoment o old.seat member gap
+Asks o old (Join id peer) (Answers answer) new = Calls o old (calls.Join id peer) answer new
+Asks o old (Remove id) (Answers answer) new = Calls o old (calls.Remove id) answer new
+Asks o old command told new = ⊥

@@ -1,0 +1,40 @@
+-- How a life ends, and what its workers counted.
+use Rattle.std.specs.Prelude.{◌≡◌, ℕ, ◌+◌, ◌-◌, ◌^◌, ◌≤◌, List, codes, min, Option, Some, None, Result, Ok, Err}
+use Rattle.swim_node.specs.declared.receipts.CallFault.{CallFault}
+use Rattle.swim_node.specs.declared.receipts.CallFault.TheVariants as faults
+use Rattle.swimd.specs.declared.counts.Counts.{Counts}
+use Rattle.swimd.specs.declared.counts.Why.{Why}
+use Rattle.swimd.specs.declared.counts.Why.TheVariants.{JournalFull, NoMemory, Socket, Stopped}
+
+-- of several reasons the gravest is told
+abbrev pub gravity : Why → ℕ
+gravity JournalFull = 3
+gravity NoMemory = 2
+gravity Socket = 1
+gravity Stopped = 0
+
+-- a reason's words
+abbrev pub why_text : Why → List ℕ
+why_text JournalFull = codes "journal full"
+why_text NoMemory = codes "no memory"
+why_text Socket = codes "socket"
+why_text Stopped = codes "stopped"
+
+-- two counts together; a count stops at 2^64-1
+abbrev pub both : ℕ → ℕ → ℕ
+both one other = min (one + other) (2 ^ 64 - 1)
+
+abbrev pub together : Counts → Counts → Counts
+together one other = record {
+  unsent = both one.unsent other.unsent;
+  wire = both one.wire other.wire;
+  refused = both one.refused other.refused;
+}
+
+-- what a worker does about the answer to a call: it counts what got no reply, and ends where the journal is full, but
+-- for nothing else
+abbrev pub IsFinished : {A : Type 0} → Result A CallFault → Counts → Option Why → Counts → Type 0
+IsFinished (Ok receipt) old end new = (end ≡ None) × (new ≡ record old { unsent = new.unsent })
+IsFinished (Err (faults.Wire fault)) old end new = (end ≡ None) × (new ≡ record old { wire = both old.wire 1 })
+IsFinished (Err faults.NoMemory) old end new = (end ≡ None) × (new ≡ record old { refused = both old.refused 1 })
+IsFinished (Err faults.JournalFull) old end new = (end ≡ Some JournalFull) × (new ≡ old)

@@ -1,0 +1,16 @@
+pub mod Checking
+pub mod Commands
+pub mod Configuration
+pub mod Desk
+pub mod Endings
+pub mod Ends
+pub mod FaultTexts
+pub mod Gates
+pub mod Inputs
+pub mod Outcomes
+pub mod Pacing
+pub mod Parts
+pub mod Reading
+pub mod Summary
+pub mod Words
+pub mod Worked

@@ -1,0 +1,83 @@
+//! The failure detector of one group member as a daemon, and a test of its configuration.
+#![tactic(auto)]
+
+mod ask;
+mod checking;
+mod commands;
+mod config;
+mod config_fault;
+mod counts;
+mod daemon;
+mod endings;
+mod fault_texts;
+mod gates;
+mod holding;
+mod inputs;
+mod life;
+mod lives;
+mod members;
+mod node_desk;
+mod outcomes;
+mod parts;
+mod settings;
+mod sleeping_pace;
+mod socket_path;
+mod summaries;
+mod threads;
+mod udp_line;
+mod unix_door;
+mod values;
+mod words;
+mod workers;
+
+use config_fault::ConfigFault;
+use outcomes::Outcome;
+use std::alloc::{AllocError, Global};
+use std::env;
+use std::io::ErrorKind;
+use std::process::ExitCode;
+use swim_wire::{ReadSource, WriteSink};
+
+fn main(rt: HostRuntime) -> ExitCode {
+    let mut reader = ReadSource::new(rt.stdin());
+    let mut writer = WriteSink::new(rt.stdout());
+    let mut faults = WriteSink::new(rt.stderr());
+    let alloc = rt.alloc();
+    let status = match words_given(&rt) {
+        Ok(texts) => match words_in(alloc, texts.as_slice()) {
+            Ok(words) => commands::command(
+                &rt,
+                alloc,
+                words.as_slice(),
+                &mut reader,
+                &mut writer,
+                &mut faults,
+            ),
+            Err(_) => commands::tell(Outcome::Refused(ConfigFault::NoMemory), &mut faults),
+        },
+        Err(outcome) => commands::tell(outcome, &mut faults),
+    };
+    ExitCode::from(status)
+}
+
+/// The program's name and the words after it. One that is no UTF-8 asks nothing.
+fn words_given(rt: &HostRuntime) -> Result<Vec<String>, Outcome> {
+    let no_memory = Outcome::Refused(ConfigFault::NoMemory);
+    match env::args(rt) {
+        Ok(texts) => texts.collect(rt.alloc()).map_err(|_| no_memory),
+        Err(fault) if fault.kind() == ErrorKind::OutOfMemory => Err(no_memory),
+        Err(_) => Err(Outcome::Usage),
+    }
+}
+
+/// The words after the program's name.
+fn words_in(alloc: Global, texts: &[String]) -> Result<Vec<&str>, AllocError> {
+    let mut words = Vec::new(alloc);
+    for text in texts.iter().skip(1) {
+        words.push(text.as_str())?;
+    }
+    Ok(words)
+}
+
+#[cfg(test)]
+mod tests;

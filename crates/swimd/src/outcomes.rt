@@ -1,0 +1,51 @@
+//! How a command of the program ended.
+
+ghost use Rattle.std.specs.Prelude.{◌≡◌};
+ghost use Rattle.swim_wire.specs.Streams.{Puts, failures_if};
+ghost use Rattle.swimd.specs.Outcomes.{status_of, outcome_text};
+
+use crate::config_fault::ConfigFault;
+use crate::fault_texts::put_fault;
+use swim_wire::Sink;
+
+/// How a command ended.
+#[derive(Clone, Copy, Debug, PartialEq, Eq)]
+pub enum Outcome {
+    /// The configuration was checked, and its summary written.
+    Checked,
+    /// There is no such command.
+    Usage,
+    /// The configuration can't be read.
+    Unread,
+    /// The configuration is refused, or memory was.
+    Refused(ConfigFault),
+    /// The summary can't be written.
+    Unwritten,
+}
+
+impl Outcome {
+    /// The status with which the program ends.
+    pub fn status(self) -> u8
+        ensures { result ≡ status_of self }
+    {
+        match self {
+            Outcome::Checked => 0,
+            Outcome::Usage => 2,
+            Outcome::Refused(ConfigFault::NoMemory) => 4,
+            Outcome::Refused(_) | Outcome::Unread | Outcome::Unwritten => 1,
+        }
+    }
+}
+
+/// Writes the line that tells an outcome, if it has one, and answers whether the sink took it.
+pub fn put_outcome<W: Sink>(writer: &mut W, outcome: Outcome) -> bool
+    ensures bytes { Puts (W.written writer.old) (W.written writer.new) (outcome_text outcome) result }
+    ensures failures { W.failures writer.new ≡ failures_if (W.failures writer.old) result }
+{
+    match outcome {
+        Outcome::Checked | Outcome::Unwritten => writer.put(b""),
+        Outcome::Usage => writer.put(b"usage\n"),
+        Outcome::Unread => writer.put(b"configuration file\n"),
+        Outcome::Refused(fault) => put_fault(writer, fault),
+    }
+}

@@ -1,0 +1,82 @@
+//! The summary of a configuration.
+
+ghost use Rattle.std.specs.Prelude.{◌≡◌, ◌++◌};
+ghost use Rattle.swim_wire.specs.Streams.{Puts, failures_if};
+ghost use Rattle.swimd.specs.Summary.{head_text, member_text, members_text, summary_text};
+
+use crate::config::Config;
+use crate::parts::{Part, put_parts};
+use swim_history::{Row, table_of};
+use swim_wire::Sink;
+
+/// Writes what a configuration says, its members ascending by id, and answers whether the sink took it.
+pub fn summary<W: Sink>(config: &Config, writer: &mut W) -> bool
+    ensures bytes { Puts (W.written writer.old) (W.written writer.new) (summary_text config.now) result }
+    ensures failures { W.failures writer.new ≡ failures_if (W.failures writer.old) result }
+{
+    if !put_head(writer, config) {
+        return false;
+    }
+    let members = table_of(config.opening.rows());
+    put_members(writer, members.as_slice())
+}
+
+/// All lines but those of the members.
+fn put_head<W: Sink>(writer: &mut W, config: &Config) -> bool
+    ensures bytes { Puts (W.written writer.old) (W.written writer.new) (head_text config.now) result }
+    ensures failures { W.failures writer.new ≡ failures_if (W.failures writer.old) result }
+{
+    let opening = &config.opening;
+    let parts = [
+        Part::Text(b"id "),
+        Part::Number(u64::from(opening.me().get())),
+        Part::Text(b"\nlisten "),
+        Part::Address(config.listen),
+        Part::Text(b"\ncontrol "),
+        Part::Text(config.control.as_str().as_bytes()),
+        Part::Text(b"\nk "),
+        Part::Number(u64::from(opening.k())),
+        Part::Text(b" rtt "),
+        Part::Number(u64::from(opening.rtt())),
+        Part::Text(b" period "),
+        Part::Number(u64::from(opening.period())),
+        Part::Text(b" tick_ms "),
+        Part::Number(u64::from(config.tick_ms)),
+        Part::Text(b" last "),
+        Part::Number(opening.last()),
+        Part::Text(b" journal "),
+        Part::Number(u64::from(config.journal)),
+        Part::Text(b"\nmembers "),
+        Part::Number(opening.rows().len() as u64),
+        Part::Text(b"\n"),
+    ];
+    put_parts(writer, &parts)
+}
+
+/// A line for each member.
+fn put_members<W: Sink>(writer: &mut W, members: &[Row]) -> bool
+    ensures bytes { Puts (W.written writer.old) (W.written writer.new) (members_text members.now) result }
+    ensures failures { W.failures writer.new ≡ failures_if (W.failures writer.old) result }
+{
+    let [first, others @ ..] = members else {
+        return writer.put(b"");
+    };
+    if !put_member(writer, first) {
+        return false;
+    }
+    put_members(writer, others)
+}
+
+/// The line of a member.
+fn put_member<W: Sink>(writer: &mut W, member: &Row) -> bool
+    ensures bytes { Puts (W.written writer.old) (W.written writer.new) (member_text member.now) result }
+    ensures failures { W.failures writer.new ≡ failures_if (W.failures writer.old) result }
+{
+    let parts = [
+        Part::Number(u64::from(member.id.get())),
+        Part::Text(b" "),
+        Part::Address(member.peer),
+        Part::Text(b"\n"),
+    ];
+    put_parts(writer, &parts)
+}

@@ -1,0 +1,38 @@
+ghost use Rattle.std.specs.Prelude.{◌≡◌};
+
+mod configurations;
+mod gates;
+mod lives;
+mod two;
+
+use crate::counts::Why;
+use crate::lives::{Past, live};
+use std::process::Abort;
+use std::rt::Clock;
+use std::test::*;
+use swim_history::{Journal, Opening, Probe, Reply};
+use swim_node::OpenFault;
+use swim_targets::Seeded;
+use swim_wire::{Id, Peer};
+
+fn id(number: u32) -> Id {
+    Id::new(number).unwrap_or_default()
+}
+
+// Members stand at 10.0.0.2:7000, 10.0.0.3:7000, ..
+fn at(last: u8) -> Peer {
+    Peer {
+        ip: [10, 0, 0, last],
+        port: 7000,
+    }
+}
+
+// Member 1, which knows members 2 and 3, asks one relay, and has a timeout of one tick and a period of three.
+fn opening() -> Result<Opening, Fail> {
+    let rows = [(id(2), at(2)), (id(3), at(3))];
+    Ok(Opening::check(id(1), 1, 1, 3, &rows, 0).map_err(|_| "an opening")?)
+}
+
+fn chooser() -> Seeded {
+    Seeded::new([0; 32])
+}
