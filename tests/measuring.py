@@ -1,15 +1,18 @@
-"""What a run of a program costs: processor time, memory and instructions."""
+"""What a run of a program costs: processor time, the time that passes, memory and instructions."""
 
 import filecmp
 import os
 import re
 import shutil
 import subprocess
+import time
 from typing import NamedTuple
 
 
 class Cost(NamedTuple):
+    # Of processors, and those that passed.
     seconds: float
+    passed: float
     peak_bytes: int
 
 
@@ -17,21 +20,23 @@ class BenchFault(Exception):
     pass
 
 
-def run(words, script, output=os.devnull):
+def run(words, script=os.devnull, output=os.devnull):
     """Runs a program on a script, and says what it cost. The child's own resources are asked for."""
     with open(script, "rb") as source, open(output, "wb") as sink:
+        start = time.perf_counter()
         child = subprocess.Popen(words, stdin=source, stdout=sink)
         _, status, usage = os.wait4(child.pid, 0)
+        passed = time.perf_counter() - start
         child.returncode = os.waitstatus_to_exitcode(status) if hasattr(os, "waitstatus_to_exitcode") else status
     if child.returncode:
         raise BenchFault(f"{' '.join(words)} ended with status {child.returncode} on {os.path.basename(script)}")
-    return Cost(usage.ru_utime + usage.ru_stime, usage.ru_maxrss * 1024)
+    return Cost(usage.ru_utime + usage.ru_stime, passed, usage.ru_maxrss * 1024)
 
 
 def least(runs, rounds):
-    """The least costs of each run, which is a program's words and a script. They take turns, and so share what else
-    goes on."""
-    costs = [[run(words, script) for words, script in runs] for _ in range(rounds)]
+    """The least costs of each run, which is a program's words and a script, if it reads one. They take turns, and so
+    share what else goes on."""
+    costs = [[run(*it) for it in runs] for _ in range(rounds)]
     return [Cost(*(min(kind) for kind in zip(*(turn[place] for turn in costs)))) for place in range(len(runs))]
 
 

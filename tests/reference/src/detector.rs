@@ -4,7 +4,7 @@ use crate::choosers::Chooser;
 use crate::gaps::Gaps;
 use crate::header::Opening;
 use crate::journal::Drawn;
-use crate::members::Members;
+use crate::members::{Members, State};
 use crate::replies::{DropReason, Probe, Refusal, Reply};
 use crate::requests::Requests;
 use crate::round::Round;
@@ -52,6 +52,24 @@ impl Detector {
             gaps: Gaps::default(),
             candidates: Vec::new(),
             relays: Vec::new(),
+        }
+    }
+
+    /// A detector that goes on from this one, without an aim and without waiting requests.
+    pub fn after(&self, chooser: Chooser) -> Detector {
+        let rows = self.members.rows().iter();
+        let listed = rows.filter(|row| row.state == State::Up);
+        let opening = Opening {
+            me: self.me,
+            k: self.k as u32,
+            rtt: self.rtt,
+            period: self.period,
+            last: self.number,
+            rows: listed.map(|row| (row.id, row.peer)).collect(),
+        };
+        Detector {
+            members: self.members.clone(),
+            ..Detector::new(&opening, chooser)
         }
     }
 

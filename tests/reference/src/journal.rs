@@ -1,5 +1,5 @@
-//! The journal: each call that made an entry, with its reply and what was drawn for it. No line of a script asks for it:
-//! it is there to show what keeping it costs.
+//! The journal: each call that made an entry, with its reply and what was drawn for it. Nobody asks for it: it is there to
+//! show what keeping it costs.
 #![allow(dead_code)]
 
 use crate::events::Event;
@@ -25,7 +25,9 @@ pub struct Journal {
 }
 
 impl Journal {
-    pub fn add(&mut self, entry: Entry) {
+    /// Adds an entry, and lends it.
+    pub fn add(&mut self, entry: Entry) -> &Entry {
         self.entries.push(entry);
+        &self.entries[self.entries.len() - 1]
     }
 }

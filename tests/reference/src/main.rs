@@ -5,9 +5,14 @@
 //! and the last probe and the widest gap of each member stand in a hash map, so it needs no journal. With the argument
 //! `--journal` it keeps one beside all that. It reads its script whole before it answers, and takes it that there is
 //! memory.
+//!
+//! `reference run --config FILE` is an ordinary daemon over the same detector, with the threads, the journal, the control
+//! lines and the closing line of `swimd run`; `reference ask --control PATH` is the same of `swimd ask`.
 
 mod chacha;
 mod choosers;
+mod control;
+mod daemon;
 mod detector;
 mod events;
 mod faults;
@@ -17,12 +22,14 @@ mod header;
 mod input;
 mod journal;
 mod members;
+mod node;
 mod output;
 mod replies;
 mod requests;
 mod round;
 mod script;
 mod session;
+mod settings;
 mod wire;
 
 #[cfg(test)]
@@ -31,14 +38,22 @@ mod tests;
 use std::process::ExitCode;
 
 fn main() -> ExitCode {
-    let keeps_journal = match std::env::args().nth(1).as_deref() {
-        None => false,
-        Some("--journal") => true,
-        Some(_) => {
-            eprintln!("usage: reference [--journal]");
-            return ExitCode::from(2);
+    let words: Vec<String> = std::env::args().skip(1).collect();
+    let words: Vec<&str> = words.iter().map(String::as_str).collect();
+    match words[..] {
+        [] => play(false),
+        ["--journal"] => play(true),
+        ["run", "--config", file] => daemon::run(file),
+        ["ask", "--control", path] => daemon::ask(path),
+        _ => {
+            eprintln!("usage: reference [--journal | run --config FILE | ask --control PATH]");
+            ExitCode::from(2)
         }
-    };
+    }
+}
+
+/// Plays the script on standard input.
+fn play(keeps_journal: bool) -> ExitCode {
     let input = input::Input::read(std::io::stdin().lock());
     let mut output = output::Output::new(std::io::stdout().lock());
     match script::run(&input, &mut output, keeps_journal) {

@@ -11,13 +11,14 @@ pub enum State {
     Failed(u64),
 }
 
+#[derive(Clone, Copy)]
 pub struct Row {
     pub id: u32,
     pub peer: Peer,
     pub state: State,
 }
 
-#[derive(Default)]
+#[derive(Clone, Default)]
 pub struct Members {
     rows: Vec<Row>,
 }

@@ -151,12 +151,12 @@ impl<W: Write> Output<W> {
         self.text.extend_from_slice(text.as_bytes());
     }
 
-    fn line(&mut self, text: &str) {
+    pub fn line(&mut self, text: &str) {
         self.put(text);
         self.put("\n");
     }
 
-    fn numbered(&mut self, text: &str, number: u64) {
+    pub fn numbered(&mut self, text: &str, number: u64) {
         self.put(text);
         self.number(number);
         self.put("\n");

@@ -3,7 +3,7 @@
 use crate::wire::{Message, Peer};
 
 /// What a call is answered. The relays of an ask are the detector's.
-#[derive(Debug, PartialEq)]
+#[derive(Clone, Copy, Debug, PartialEq)]
 pub enum Reply {
     Quiet,
     Started {
@@ -22,7 +22,7 @@ pub enum Reply {
     Refused(Refusal),
 }
 
-#[derive(Debug, PartialEq)]
+#[derive(Clone, Copy, Debug, PartialEq)]
 pub struct Probe {
     pub target: u32,
     pub peer: Peer,

@@ -56,6 +56,15 @@ impl Message {
         }
     }
 
+    /// The message of a datagram, or the first fault.
+    #[allow(dead_code)] // The plain node alone hears datagrams as bytes.
+    pub fn of_datagram(datagram: &[u8]) -> Result<Message, WireFault> {
+        match datagram.try_into() {
+            Ok(bytes) => Message::of_bytes(bytes),
+            Err(_) => Err(WireFault::Length),
+        }
+    }
+
     /// The message that an even number of hexadecimal digits spell, or the first fault.
     pub fn of_digits(digits: &[u8]) -> Result<Message, WireFault> {
         match bytes_of(digits) {
@@ -64,7 +73,7 @@ impl Message {
         }
     }
 
-    fn of_bytes(bytes: &[u8; 24]) -> Result<Message, WireFault> {
+    pub fn of_bytes(bytes: &[u8; 24]) -> Result<Message, WireFault> {
         if bytes[..2] != [0x53, 0x57] {
             return Err(WireFault::Magic);
         }

@@ -1,0 +1,186 @@
+"""Configurations of swimd, and what `swimd check` has to write, all worked out by hand from docs/FORMATS.md.
+
+`worked_configs()` gives (name, document, standard output, standard error, status).
+"""
+
+ZEROS = "0" * 64
+FULL = f"""\
+id = 1
+listen = "10.0.0.1:7000"
+control = "/tmp/swimd.sock"
+k = 1
+rtt = 1
+period = 3
+tick_ms = 1000
+seed = "{ZEROS}"
+journal = 1000
+
+[[member]]
+id = 3
+at = "10.0.0.3:7000"
+
+[[member]]
+id = 2
+at = "10.0.0.2:7000"
+"""
+SUMMARY = """\
+id 1
+listen 10.0.0.1:7000
+control /tmp/swimd.sock
+k 1 rtt 1 period 3 tick_ms 1000 last 0 journal 1000
+members 2
+2 10.0.0.2:7000
+3 10.0.0.3:7000
+"""
+ALONE = FULL.split("\n\n", 1)[0] + "\n"
+SUMMARY_ALONE = SUMMARY.split("members", 1)[0] + "members 0\n"
+LINES = {line.split(" = ")[0]: line for line in ALONE.splitlines()}
+
+
+def good(name, document, stdout):
+    return name, document.encode(), stdout.encode(), b"", 0
+
+
+def bad(name, document, fault):
+    text = document if isinstance(document, bytes) else document.encode()
+    return name, text, b"", f"configuration {fault}\n".encode(), 1
+
+
+def replaced(line, other, document=FULL):
+    """The document with another line in the place of one, or without it."""
+    if document.count(f"{line}\n") != 1:
+        raise ValueError(f"{line} doesn't stand there once")
+    return document.replace(f"{line}\n", f"{other}\n" if other else "")
+
+
+def with_value(key, value, document=FULL):
+    return replaced(LINES[key], f"{key} = {value}", document)
+
+
+def with_member(lines):
+    return f"{ALONE}\n[[member]]\n{lines}\n"
+
+
+def numbered_members(first, count):
+    return "".join(f'\n[[member]]\nid = {id}\nat = "10.0.0.2:{id}"\n' for id in range(first, first + count))
+
+
+def with_summary(old, new):
+    return SUMMARY.replace(old, new)
+
+
+def accepted():
+    yield good("a group of three", FULL, SUMMARY)
+    yield good("nobody else", ALONE, SUMMARY_ALONE)
+    lines = FULL.split("\n")
+    yield good("keys in another order", "\n".join(lines[8::-1] + lines[9:]), SUMMARY)
+    yield good("carriage returns and comments", FULL.replace("\n", " # a comment\r\n"), SUMMARY)
+    inline = ALONE + 'member = [{id = 3, at = "10.0.0.3:7000"}, {at = "10.0.0.2:7000", id = 2}]\n'
+    yield good("members in one line", inline, SUMMARY)
+    last_comma = ALONE + 'member = [{id = 3, at = "10.0.0.3:7000",},\n {at = "10.0.0.2:7000",\n id = 2},]\n'
+    yield good("a last comma, and lines within braces", last_comma, SUMMARY)
+    yield good("an escape of two digits", with_value("control", r'"\x2ftmp/swimd.sock"'), SUMMARY)
+    yield good("an array of no members", ALONE + "member = []\n", SUMMARY_ALONE)
+    yield good("other spellings of numbers", with_value("tick_ms", "1_000", with_value("journal", "0x3e8")), SUMMARY)
+    yield good("a sign", with_value("k", "+1"), SUMMARY)
+    yield good("quoted keys, and other quotes", with_value("listen", "'10.0.0.1:7000'").replace("k =", '"k" ='), SUMMARY)
+    yield good("escapes", with_value("control", r'"\u002ftmp/swimd.sock"'), SUMMARY)
+    yield good("digits of either case", with_value("seed", f'"aAbBcCdDeEfF{ZEROS[12:]}"'), SUMMARY)
+    yield good("the last number used", "last = 9223372036854775807\n" + FULL, with_summary("last 0", f"last {2**63 - 1}"))
+    most = with_value("id", "4294967295", with_value("journal", "1000000", with_value("tick_ms", "60000")))
+    stdout = with_summary("id 1\n", "id 4294967295\n").replace("journal 1000", "journal 1000000")
+    yield good("the largest numbers", most, stdout.replace("tick_ms 1000", "tick_ms 60000"))
+    yield good("the longest path", with_value("control", f'"{"~" * 100}"'), with_summary("/tmp/swimd.sock", "~" * 100))
+    signs = "".join(chr(it) for it in range(0x20, 0x7F) if not chr(it).isalnum())
+    yield good("all signs", with_value("control", f"'''{signs}'''"), with_summary("/tmp/swimd.sock", signs))
+    rows = "".join(f"{id} 10.0.0.2:{id}\n" for id in range(2, 130))
+    yield good("128 members", ALONE + numbered_members(2, 128), SUMMARY_ALONE.replace("members 0", "members 128") + rows)
+    padding = "#" * (65_536 - len(FULL))
+    yield good("as long as may be", FULL + padding, SUMMARY)
+
+
+def texts():
+    yield bad("a byte too many", FULL + "#" * (65_537 - len(FULL)), "1")
+    yield bad("a byte too many, and no TOML", "=" * 65_537, "1")
+    yield bad("no TOML", "id\n", "2")
+    yield bad("a key twice", FULL.replace("k = 1\n", "k = 1\nk = 1\n"), "2")
+    yield bad("an integer of no 64 bits", "last = 9223372036854775808\n" + FULL, "2")
+    yield bad("no UTF-8", FULL.encode().replace(b"/tmp", b"/\xff"), "2")
+    yield bad("a NUL", FULL.encode() + b"\x00", "2")
+    yield bad("no document at all", "", "4 id")
+    yield bad("a comment alone", "# nothing\n", "4 id")
+
+
+def keys():
+    yield bad("an unknown key", "name = 1\n" + FULL, "3")
+    yield bad("an unknown key, and a missing one", replaced(LINES["id"], "name = 1"), "3")
+    yield bad("an unknown table", FULL + "\n[more]\n", "3")
+    yield bad("a key of another case", replaced(LINES["k"], "K = 1"), "3")
+    for key, line in LINES.items():
+        yield bad(f"no `{key}`", replaced(line, ""), f"4 {key}")
+        other = '"1"' if line[-1] != '"' else "1"
+        yield bad(f"`{key}` of another kind", with_value(key, other), f"5 {key}")
+    for key, text in {"rtt": "1.0", "k": "true", "id": "2020-01-01", "seed": "[]", "listen": "{}"}.items():
+        yield bad(f"`{key}` is {text}", with_value(key, text), f"5 {key}")
+    yield bad("`last` of another kind", "last = false\n" + FULL, "5 last")
+    yield bad("two missing", replaced(LINES["rtt"], "", replaced(LINES["seed"], "")), "4 rtt")
+    yield bad("a kind before what is missing", with_value("listen", "1", replaced(LINES["k"], "")), "5 listen")
+    yield bad("what is missing before a kind", with_value("k", "''", replaced(LINES["listen"], "")), "4 listen")
+
+
+def ranges():
+    beyond = {
+        "id": ["0", "-1", "4294967296"],
+        "k": ["-1", "4294967296"],
+        "rtt": ["-1", "4294967296"],
+        "period": ["-1", "4294967296"],
+        "tick_ms": ["0", "60001"],
+        "journal": ["0", "1000001", "-9223372036854775808"],
+        "control": ['""', f'"{"x" * 101}"', '"\\t"', '"\\u007f"', '"\u00e9"', '"a\\nb"'],
+    }
+    for key, texts_of_key in beyond.items():
+        for text in texts_of_key:
+            yield bad(f"`{key}` is {text[:20]!r}", with_value(key, text), f"6 {key}")
+    yield bad("`last` below 0", "last = -1\n" + FULL, "6 last")
+    for text in ("", "10.0.0.1", "10.0.0.01:7000", "256.0.0.1:1", "1.2.3.4:0", "1.2.3.4:65536", "1.2.3.4:05", "::1:5"):
+        yield bad(f"`listen` is {text!r}", with_value("listen", f'"{text}"'), "7 listen")
+    for text in ("", ZEROS[1:], ZEROS + "0", ZEROS[1:] + "g", ZEROS[2:] + "\\u0661"):
+        yield bad(f"a seed of {len(text)} characters", with_value("seed", f'"{text}"'), "8 seed")
+    yield bad("two out of range", with_value("journal", "0", with_value("tick_ms", "0")), "6 tick_ms")
+
+
+def members():
+    for text in ("1", '"x"', "{}", "[1]", '[{id = 2, at = "10.0.0.2:7000"}, 2]', "[[]]"):
+        yield bad(f"`member` is {text}", f"{ALONE}member = {text}\n", "5 member")
+    yield bad("`member` is a table", ALONE + '\n[member]\nid = 2\nat = "10.0.0.2:7000"\n', "5 member")
+    yield bad("no address", with_member("id = 2"), "4 member.at")
+    yield bad("no id", with_member('at = "10.0.0.2:7000"'), "4 member.id")
+    yield bad("nothing of a member", with_member(""), "4 member.id")
+    yield bad("an id of another kind", with_member('id = "2"\nat = "10.0.0.2:7000"'), "5 member.id")
+    yield bad("an address of another kind", with_member("id = 2\nat = 10"), "5 member.at")
+    yield bad("an id out of range", with_member('id = 0\nat = "10.0.0.2:7000"'), "6 member.id")
+    yield bad("a refused address", with_member('id = 2\nat = "10.0.0.2"'), "7 member.at")
+    yield bad("an unknown key of a member", with_member('id = 0\nat = "10.0.0.2:7000"\nport = 1'), "3")
+    first, second = 'id = 2\nat = "x"', 'id = 3\nat = "10.0.0.3:7000"\nport = 1'
+    yield bad("the first member's fault, and the second's key", with_member(first + "\n[[member]]\n" + second), "7 member.at")
+    yield bad("a member's key before another's fault", with_member(second + "\n[[member]]\n" + first), "3")
+    yield bad("a member, and the range of `last`", "last = -1\n" + with_member("id = 0"), "6 last")
+    yield bad("a member that is none, and a seed", with_value("seed", '""', ALONE) + "member = 1\n", "8 seed")
+
+
+def openings():
+    yield bad("too many relays", with_value("k", "9"), "9 1")
+    yield bad("no timeout", with_value("rtt", "0"), "9 2")
+    yield bad("a short period", with_value("period", "2"), "9 2")
+    yield bad("a long period", with_value("period", "65536"), "9 2")
+    yield bad("relays before times", with_value("k", "9", with_value("rtt", "0")), "9 1")
+    yield bad("129 members", ALONE + numbered_members(2, 129), "9 3")
+    yield bad("this member", with_member('id = 1\nat = "10.0.0.2:7000"'), "9 4")
+    yield bad("a member twice", ALONE + numbered_members(2, 3) + numbered_members(4, 1), "9 5")
+    yield bad("this member, and another twice", ALONE + numbered_members(1, 2) + numbered_members(2, 1), "9 4")
+    yield bad("the opening, and a member's fault", with_value("k", "9", with_member("id = 2")), "4 member.at")
+
+
+def worked_configs():
+    for part in (accepted, texts, keys, ranges, members, openings):
+        yield from part()
