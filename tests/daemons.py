@@ -5,8 +5,10 @@ import os
 import re
 import select
 import shutil
+import signal
 import socket
 import subprocess
+import sys
 import tempfile
 import time
 from typing import NamedTuple
@@ -54,6 +56,11 @@ class Closing(NamedTuple):
 class Row(NamedTuple):
     peer: str
     state: str
+
+
+def end_what_was_started():
+    """From now on a signal to end leaves this program as a fault does: the daemons and folders that it made go first."""
+    signal.signal(signal.SIGTERM, lambda *_: sys.exit(1))
 
 
 def must(holds, text):
