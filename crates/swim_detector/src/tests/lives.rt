@@ -47,6 +47,20 @@ fn who_failed_joins_again(rt: HostRuntime) -> Result<(), Fail> {
 }
 
 #[test]
+fn a_full_table_stays_full(rt: HostRuntime) -> Result<(), Fail> {
+    let mut others = arrayvec::ArrayVec::<u8, 128>::new();
+    for other in 2..130u8 {
+        others.try_push(other)?;
+    }
+    let mut second = later(rt, opening(0, others.as_slice(), 0)?, &[Call::Tick; 4])?;
+    let full = last_reply(&mut second, &[Call::Join(id(130)?, at(130))])?;
+    assert_eq!(rt; full, Reply::Refused(Refusal::Full));
+    let joined = last_reply(&mut second, &[Call::Join(id(2)?, at(9))])?;
+    assert_eq!(rt; joined, Reply::Joined { place: 127 });
+    Ok(())
+}
+
+#[test]
 fn an_aim_is_left_behind(rt: HostRuntime) -> Result<(), Fail> {
     let mut second = later(rt, opening(1, &[2], 0)?, &[Call::Tick])?;
     let start = last_reply(&mut second, &[Call::Tick])?;
