@@ -11,5 +11,6 @@ pub mod Listed
 pub mod UntilProbed
 pub mod Gap
 pub mod Drawn
+pub mod HeardReplies
 pub mod DrawnRuns
 pub mod After

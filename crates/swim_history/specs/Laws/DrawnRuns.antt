@@ -1,8 +1,7 @@
 -- Where a chooser always answers, each list of calls has a drawn run.
 use Rattle.std.proofs.Common.{◌≡◌, ◌≢◌, ◌⊎◌, ℕ, ◌+◌, ◌<◌, ◌≤◌, Bool, true, false, cond, List, [], ◌∷◌, ◌++◌, length}
 use Rattle.std.proofs.Common.{Option, Some, None, refl, sym, ap, subst, ◌∙◌, inl, inr, arith}
-use Rattle.std.proofs.lemmas.Option.{same_Some}
-use Rattle.std.proofs.lemmas.Bool.{false≢true, cases_eq, cases_lt, and_parts, or_left, or_right, or_parts, or_from}
+use Rattle.std.proofs.lemmas.Bool.{cases_eq, cases_lt, and_parts, or_left, or_right, or_parts, or_from}
 use Rattle.std.proofs.lemmas.Bool.{eq-eqb}
 use Rattle.std.proofs.lemmas.List.{length-map, length-take, take-append-drop}
 use Rattle.std.proofs.lemmas.List.Folds.{list_any-append}
@@ -12,21 +11,14 @@ use Rattle.std.specs.List.{AllByRecursion}
 use Rattle.swim_wire.specs.Address.{Address}
 use Rattle.swim_wire.specs.Ids.{has, has_twice, front}
 use Rattle.swim_wire.specs.IdLaws.{once-IsPermutation, has-IsPermutation, has_part, once_part}
-use Rattle.swim_wire.specs.Probe.{key_of, passed_on}
-use Rattle.swim_wire.specs.Requests.{peer_for}
 use Rattle.swim_wire.specs.Round.{Lists, all_of, leave_judged, MayDraw, redraw}
-use Rattle.swim_wire.specs.declared.messages.Kind.{Kind}
-use Rattle.swim_wire.specs.declared.messages.Kind.TheVariants.{Ping, PingReq, Ack}
-use Rattle.swim_wire.specs.declared.messages.Message.{Message}
 use Rattle.swim_history.specs.declared.calls.Call.{Call}
 use Rattle.swim_history.specs.declared.calls.Call.TheVariants.{Tick, Hear, Join, Remove}
 use Rattle.swim_history.specs.declared.replies.Reply.{Reply}
-use Rattle.swim_history.specs.declared.replies.Reply.TheVariants.{Quiet, Started, Asked, Heard, Send, Dropped, Joined}
+use Rattle.swim_history.specs.declared.replies.Reply.TheVariants.{Quiet, Started, Asked, Joined}
 use Rattle.swim_history.specs.declared.replies.Reply.TheVariants.{Removed, Refused}
 use Rattle.swim_history.specs.declared.replies.Probe.{Probe}
 use Rattle.swim_history.specs.declared.replies.Relay.{Relay}
-use Rattle.swim_history.specs.declared.replies.DropReason.TheVariants.{NotForMe, Borrowed, AboutMe, Unlisted, TableFull}
-use Rattle.swim_history.specs.declared.replies.DropReason.TheVariants.{Stray, NoRequest}
 use Rattle.swim_history.specs.declared.replies.Refusal.TheVariants.{Myself, Listed, Full, Unknown, Spent}
 use Rattle.swim_history.specs.declared.rows.Row.{Row}
 use Rattle.swim_history.specs.declared.entries.Choice.{Choice}
@@ -34,19 +26,18 @@ use Rattle.swim_history.specs.declared.entries.Choice.TheVariants.{Nothing, Roun
 use Rattle.swim_history.specs.declared.entries.Entry.{Entry}
 use Rattle.swim_history.specs.Setting.{Setting, IsSetting}
 use Rattle.swim_history.specs.Clock.{period_number, phase}
-use Rattle.swim_history.specs.Aim.{aim, unheard}
+use Rattle.swim_history.specs.Aim.{unheard}
 use Rattle.swim_history.specs.Events.{is_start}
 use Rattle.swim_history.specs.Rows.{up, row_of, is_listed}
 use Rattle.swim_history.specs.Changes.{known_count}
 use Rattle.swim_history.specs.Laws.Table.{table_bound, listed_row}
 use Rattle.swim_history.specs.Round.{drawn, lists, listed}
-use Rattle.swim_history.specs.Waiting.{waiting}
-use Rattle.swim_history.specs.Run.{greatest_number, IsProbe, candidates, IsRequest, is_waiting, Hears}
-use Rattle.swim_wire.specs.Requests.{most_waiting}
+use Rattle.swim_history.specs.Run.{greatest_number, IsProbe, candidates}
 use Rattle.swim_history.specs.Run.{Answers, calls_of, IsRun}
 use Rattle.swim_history.specs.Laws.Run.{begins, number_then}
 use Rattle.swim_history.specs.Laws.Listed.{no_longer, all-redraw, next_is_in, stays_from, once_judged, listed_is}
 use Rattle.swim_history.specs.Laws.Listed.{listed_once, listed_bound, room_to_join}
+use Rattle.swim_history.specs.Laws.HeardReplies.{hear_reply}
 use Rattle.swim_history.specs.Drawn.{DrawsEntry, IsDrawn}
 use Rattle.swim_history.specs.Laws.Drawn.{calls_in}
 
@@ -72,77 +63,6 @@ pub record HasDrawnRun {S : Type 0} (orders : S → List ℕ → List ℕ → S 
 abbrev pub DrawsAlways : {S : Type 0} → (S → List ℕ → List ℕ → S → Type 0) → (S → ℕ → ℕ → S → Type 0) → Setting → Type 0
 DrawsAlways {S} orders places o = (start : S) (calls : List (ℕ × Call)) → AllByRecursion (λ asked. asked.0 < 4) calls →
     HasDrawnRun orders places o start calls
-
--- ---- messages
-
--- an answer to a message
-abbrev HasReply : Setting → List Entry → Message → Address → Kind → Type 0
-HasReply o h m source kind = (reply : Reply) × Hears o h m source kind reply
-
-relay_reply : (o : Setting) (h : List Entry) (m : Message) (source : Address) → IsRequest o.me m → m.target ≢ o.me →
-    HasReply o h m source PingReq
-relay_reply o h m source request away = by (is_listed o h m.target) refl where
-  found : is_listed o h m.target ≡ true → (waits : Bool) → is_waiting o h m ≡ waits → HasReply o h m source PingReq
-  found is true waits =
-      let row = listed_row o h m.target is in
-      (Send row.0 (passed_on Ping o.me m), (request, away, row.1, λ none. absurd (false≢true (sym none ∙ waits)), refl))
-  found is false waits =
-      let row = listed_row o h m.target is in
-      elim (cases_lt (length (waiting o h)) most_waiting) [
-        | inl room ↦ (Send row.0 (passed_on Ping o.me m), (request, away, row.1, λ none. room, refl))
-        | inr full ↦ (Dropped TableFull, (request, away, is, waits, full))
-      ]
-
-  by : (b : Bool) → is_listed o h m.target ≡ b → HasReply o h m source PingReq
-  by false is = (Dropped Unlisted, (request, away, is))
-  by true is = found is (is_waiting o h m) refl
-
-ack_reply : (o : Setting) (h : List Entry) (m : Message) (source : Address) → m.initiator ≡ o.me →
-    HasReply o h m source Ack
-ack_reply o h m source mine = by (aim h) refl where
-  by : (aimed : Option ℕ) → aim h ≡ aimed → HasReply o h m source Ack
-  by None at = (Dropped Stray, (mine, λ is. absurd cc))
-  by (Some id) at =
-      elim (cases_eq id m.target) [
-        | inl same ↦
-            elim (cases_eq m.number (period_number o h)) [
-              | inl now ↦ (Heard, (mine, at ∙ ap Some same, now))
-              | inr other ↦ (Dropped Stray, (mine, λ is. other))
-            ]
-        | inr other ↦ (Dropped Stray, (mine, λ is. absurd (other (same_Some id m.target (sym at ∙ is)))))
-      ]
-
-forward_reply : (o : Setting) (h : List Entry) (m : Message) (source : Address) → m.initiator ≢ o.me →
-    HasReply o h m source Ack
-forward_reply o h m source other = by (peer_for (key_of m) (waiting o h)) refl where
-  by : (peer : Option Address) → peer_for (key_of m) (waiting o h) ≡ peer → HasReply o h m source Ack
-  by None is = (Dropped NoRequest, (other, is))
-  by (Some peer) is = (Send peer (passed_on Ack o.me m), (other, is, refl))
-
-hear_reply : (o : Setting) (h : List Entry) (m : Message) (source : Address) (kind : Kind) → HasReply o h m source kind
-hear_reply o h m source Ping =
-    elim (cases_eq m.target o.me) [
-      | inl mine ↦ (Send source (passed_on Ack o.me m), (mine, refl, refl))
-      | inr other ↦ (Dropped NotForMe, other)
-    ]
-hear_reply o h m source PingReq =
-    elim (cases_eq m.initiator m.sender) [
-      | inl begun ↦
-          elim (cases_eq m.initiator o.me) [
-            | inl mine ↦ (Dropped Borrowed, inr mine)
-            | inr other ↦
-                elim (cases_eq m.target o.me) [
-                  | inl about ↦ (Dropped AboutMe, ((begun, other), about))
-                  | inr away ↦ relay_reply o h m source (begun, other) away
-                ]
-          ]
-      | inr passed ↦ (Dropped Borrowed, inl passed)
-    ]
-hear_reply o h m source Ack =
-    elim (cases_eq m.initiator o.me) [
-      | inl mine ↦ ack_reply o h m source mine
-      | inr other ↦ forward_reply o h m source other
-    ]
 
 -- ---- the clock and the lists
 
