@@ -1,6 +1,6 @@
 //! Viewers: readers of a node's member table. They take no lock.
 
-ghost use Rattle.std.specs.Prelude.{◌≡◌, [], IfSome, IfNone};
+ghost use Rattle.std.specs.Prelude.{◌≡◌, ◌≤◌, [], length, IfSome, IfNone};
 ghost use mathlib.Core.List.{IsPrefix};
 ghost use Rattle.swim_history.specs.Changes.{table_after};
 ghost use Rattle.swim_node.specs.News.{IsLongerOf};
@@ -11,7 +11,8 @@ use crate::shown::ShownTable;
 use crossbeam_utils::rule::{Outcome, Protocol};
 use left_right::reader::Reader;
 use std::marker::{Model, PhantomData};
-use swim_history::{Table, copy_table};
+use swim_history::{Row, Table, copy_table};
+use swim_wire::KNOWN_MEMBERS;
 
 /// The rule of what readers are shown: it is the table of this node, after the changes that it tells.
 pub struct ShowsNode<N> {
@@ -76,10 +77,10 @@ impl<N: Naming> Viewer<N> {
         match self.reader.take()?.enter_as::<Looks<N>>() {
             Ok(reading) => {
                 let shown = reading.get();
-                let table = copy_table(shown.table.as_slice());
                 let news = News::new(shown.shown.again());
+                let table = self.see(shown.table.as_slice(), news);
                 self.reader = Some(reading.leave());
-                self.see(table, news)
+                table
             }
             Err(reader) => {
                 self.reader = Some(reader);
@@ -96,9 +97,10 @@ impl<N: Naming> Viewer<N> {
         self.seen = self.seen.longer(news);
     }
 
-    // Sees a table after the changes of some news, if it isn't older than what was seen.
-    fn see(&mut self, table: Table, news: News<N>) -> Option<Table>
-        requires { table.items ≡ table_after N.opening news }
+    // Sees the rows after the changes of some news, if they aren't older than what was seen.
+    fn see(&mut self, rows: &[Row], news: News<N>) -> Option<Table>
+        requires rows { rows.now ≡ table_after N.opening news }
+        requires bound { length rows.now ≤ KNOWN_MEMBERS }
         ensures later { IsPrefix self.old self.new }
         ensures table { IfSome result (λ table. table.items ≡ table_after N.opening self.new) }
         ensures none { IfNone result (self.new ≡ self.old) }
@@ -109,6 +111,6 @@ impl<N: Naming> Viewer<N> {
             return None;
         }
         self.seen = news;
-        Some(table)
+        Some(copy_table(rows))
     }
 }
