@@ -7,6 +7,7 @@ use crate::copies::copied;
 use crate::openings::MOST_RELAYS;
 use arrayvec::ArrayVec;
 use swim_wire::{Id, Message, Peer};
+use thiserror::Error;
 
 /// A ping that a new period begins with.
 #[derive(Clone, Copy, Debug, PartialEq, Eq)]
@@ -25,21 +26,28 @@ pub struct Relay {
 }
 
 /// Why a message was dropped.
-#[derive(Clone, Copy, Debug, PartialEq, Eq)]
+#[derive(Clone, Copy, Debug, PartialEq, Eq, Error)]
 pub enum DropReason {
     /// A ping for another member.
+    #[error("not for me")]
     NotForMe,
     /// A request that its sender didn't begin, or that this member is said to have begun.
+    #[error("borrowed")]
     Borrowed,
     /// A request to ping this member.
+    #[error("about me")]
     AboutMe,
     /// A request to ping a member that isn't listed.
+    #[error("unlisted")]
     Unlisted,
     /// A new request while 64 wait.
+    #[error("table full")]
     TableFull,
     /// An ack of this member's own probes that isn't one of the aim for this period.
+    #[error("stray")]
     Stray,
     /// An ack for another member that no request waits for.
+    #[error("no request")]
     NoRequest,
 }
 
@@ -61,17 +69,22 @@ impl DropReason {
 }
 
 /// Why a call was refused.
-#[derive(Clone, Copy, Debug, PartialEq, Eq)]
+#[derive(Clone, Copy, Debug, PartialEq, Eq, Error)]
 pub enum Refusal {
     /// The member named is this one.
+    #[error("myself")]
     Myself,
     /// The member is listed already.
+    #[error("listed")]
     Listed,
     /// As many members are known as may be, and this one isn't among them.
+    #[error("full")]
     Full,
     /// No such member is known.
+    #[error("unknown")]
     Unknown,
     /// The period numbers are used up.
+    #[error("the period numbers are used up")]
     Spent,
 }
 
