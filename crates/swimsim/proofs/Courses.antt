@@ -24,6 +24,7 @@ use Rattle.swimsim.specs.Commands.{line_read}
 use Rattle.swimsim.specs.Headers.{Told, nothing_told, is_event, stage_of, said, head_of, setting_in, chooser_in}
 use Rattle.swimsim.specs.Script.{Turn, lines_of, at_line, opening_at, fault_of_setting, fault_of_opening, fault_of_read, bytes_of, fault_at, fault_with, fault_of_header, fault_at_end, first_of, fault_from, fault_of, IsTold, lines_before, takes_memory, WantsMemory, WaitsFor, is_answered, IsAnswering, RunsTo}
 use Rattle.swimsim.specs.Holds.{Played, kept, IsSilent, line_of, IsWaiting, Plays, Holds, ending, ending_with, TurnDone, TurnFails, Course}
+use Rattle.swimsim.specs.Ends.{IsEndOf}
 use Rattle.swimsim.proofs.KeptRows.{fault_of_kept}
 
 -- ---- lines of a script
@@ -311,12 +312,27 @@ end_stands script turns run text more header None fault cut p found =
     let stands = header_stands header.opened (setting_in header) fault found in
     (told_earlier fault.line script turns run text more header (omega (arith, stands.0, p.within, length-map turns (λ (turn : Turn). turn.line))) cut p, stands.1)
 
--- a script that has come to its end and has no fault
+-- a script that has come to its end
+whole_lines : (script rest : List ℕ) (lines : List (List ℕ)) → pieces script ≡ reverse lines ++ pieces rest → rest ≡ [] → reverse (pieces script) ≡ lines
+whole_lines script rest lines cut over =
+    ap reverse (cut ∙ ap (λ (text : List ℕ). reverse lines ++ pieces text) over ∙ append-nil (reverse lines)) ∙ reverse-reverse lines
+
+-- it leaves the session where its lines lead
+pub ends_there : (script rest : List ℕ) (old mid new : Option (List ℕ)) (budget : ℕ) (s : Played) (c : Course script rest old mid budget s) → rest ≡ [] → Keeps mid new → IsEndOf script old new s
+ends_there script rest old mid new budget s c over kept = record {
+  turns = c.turns;
+  are = sym (whole_lines script rest (lines_of c.turns) c.cut over);
+  run = c.run;
+  text = c.text;
+  holds = c.holds;
+  written = appends_kept old mid new c.text c.written kept;
+}
+
+-- it has no fault
 pub ends_well : (script rest : List ℕ) (old mid new : Option (List ℕ)) (budget : ℕ) (s : Played) (c : Course script rest old mid budget s) → rest ≡ [] → Keeps mid new → ending s ≡ None →
     (fault_of script ≡ None) × (text : List ℕ) × IsTold (reverse (pieces script)) text × Appends old new text
 ends_well script rest old mid new budget s c over kept none =
-    let lines : reverse (pieces script) ≡ lines_of c.turns =
-    ap reverse (c.cut ∙ ap (λ (text : List ℕ). reverse (lines_of c.turns) ++ pieces text) over ∙ append-nil (reverse (lines_of c.turns))) ∙ reverse-reverse (lines_of c.turns) in
+    let lines = whole_lines script rest (lines_of c.turns) c.cut over in
     (fault_of_whole script rest old mid budget s c over ∙ none, c.text, subst (λ (l : List (List ℕ)). IsTold l c.text) (sym lines) (told_by c.turns c.run c.text s.header s.recorded c.holds.plays), appends_kept old mid new c.text c.written kept)
 
 -- one that has a fault at its end

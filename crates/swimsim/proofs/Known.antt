@@ -10,8 +10,9 @@ use Rattle.swimsim.specs.declared.faults.FaultKind.TheVariants as kinds
 use Rattle.swimsim.specs.declared.faults.ScriptFault.{ScriptFault}
 use Rattle.swimsim.specs.Headers.{nothing_told}
 use Rattle.swimsim.specs.Script.{Turn, at_line, RunsKnown}
+use Rattle.swimsim.specs.Ends.{LeavesKnown}
 use Rattle.swimsim.specs.Holds.{Played, Holds, Turned, ending, CourseKnown}
-use Rattle.swimsim.proofs.Courses.{at_start, next, ends_in_line, ends_long, ends_oversize, ends_unread, ends_unsent, ends_well, ends_badly}
+use Rattle.swimsim.proofs.Courses.{at_start, next, ends_in_line, ends_long, ends_oversize, ends_unread, ends_unsent, ends_well, ends_badly, ends_there}
 
 pub start_known : (left written : Option (List ℕ)) → CourseKnown left left written written 16777216 (record { lines = 0; header = nothing_told; recorded = None })
 start_known None written = tt
@@ -89,3 +90,17 @@ ending_known script rest left old mid new line budget after s (Err fault) c i ke
 pub passed_on : (script left old new : Option (List ℕ)) (fault : ScriptFault) (result : Result (Unit {0}) ScriptFault) → IsErrAnd result (λ e. e ≡ fault) → RunsKnown script left old new (Err fault) → RunsKnown script left old new result
 passed_on script left old new fault (Ok done) same told = absurd same
 passed_on script left old new fault (Err other) same told = subst (λ f. RunsKnown script left old new (Err f)) (sym same) told
+
+-- what is left at the end
+pub left_known : (script rest left old mid new : Option (List ℕ)) (line : List ℕ) (budget after : ℕ) (s : Played) (result : Result (Unit {0}) ScriptFault) →
+    CourseKnown script rest old mid budget s → TakesKnown rest left Over line 2048 budget after → Keeps mid new → LeavesKnown result script old new s
+left_known script rest left old mid new line budget after s (Err fault) c i kept = tt
+left_known None rest left old mid new line budget after s (Ok done) c i kept = tt
+left_known (Some script) None left old mid new line budget after s (Ok done) c i kept = absurd c
+left_known (Some script) (Some rest) None old mid new line budget after s (Ok done) c i kept = absurd i
+left_known (Some script) (Some rest) (Some left) old mid new line budget after s (Ok done) c i kept = ends_there script rest old mid new budget s c i.0 kept
+
+-- nothing is said of it at a fault
+pub left_at_fault : (script old new : Option (List ℕ)) (s : Played) (fault : ScriptFault) (result : Result (Unit {0}) ScriptFault) → IsErrAnd result (λ e. e ≡ fault) → LeavesKnown result script old new s
+left_at_fault script old new s fault (Ok done) same = absurd same
+left_at_fault script old new s fault (Err other) same = tt

@@ -8,3 +8,5 @@ pub mod Texts
 pub mod FaultTexts
 pub mod Options
 pub mod Meanings
+pub mod Ends
+pub mod Named

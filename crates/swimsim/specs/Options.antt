@@ -19,7 +19,8 @@ versioned s = record s { has_version = true }
 -- and the flags
 abbrev pub command_line : App
 command_line =
-    with_rule (with_rule (on_top versioned (new_app (codes "swimsim"))) script_rule) (flag_rule (codes "decode"))
+    with_rule (with_rule (with_rule (on_top versioned (new_app (codes "swimsim"))) script_rule)
+    (flag_rule (codes "decode"))) (flag_rule (codes "explain"))
 
 -- the path of the script that the words name, if any
 abbrev pub script_in : List Text → Option Text

@@ -87,7 +87,7 @@ pub fn take_number(words: &mut Words<'_>) -> Result<u32, LineFault>
     Ok(number as u32)
 }
 
-fn take_long_number(words: &mut Words<'_>) -> Result<u64, LineFault>
+pub fn take_long_number(words: &mut Words<'_>) -> Result<u64, LineFault>
     ensures { TakesFrom result words.new (take_number 18446744073709551615 words.old) }
 {
     let word = words.next().ok_or(LineFault::Number)?;

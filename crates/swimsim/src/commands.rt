@@ -144,7 +144,7 @@ fn read_words<'a>(stage: Stage, words: &mut Words<'a>) -> Result<Option<Command<
 }
 
 /// The first word of a line, if it is known.
-fn first_word(text: &[u8]) -> Option<Word>
+pub fn first_word(text: &[u8]) -> Option<Word>
     ensures { result ≡ word_of text.now }
 {
     if text == b"tick".as_slice() {

@@ -1,9 +1,13 @@
 //! What a script is read from, and what its answers are written to.
 
+ghost use Rattle.std.specs.Prelude.{◌≡◌, IfOk, length};
 ghost use Rattle.std.specs.Io.{ReadsAtMost};
 
 use crate::decoding::Decoded;
-use crate::hearing::Overheard;
+use crate::hearing::Messages;
+use crate::naming::Named;
+use crate::notes::NoteTaker;
+use crate::overhearing::Overheard;
 use std::fs::File;
 use std::io::{self, ErrorKind, Read, Stdin, Stdout, Write};
 use swim_wire::{Byte, ReadSource, Sink, Source, WriteSink};
@@ -24,11 +28,14 @@ impl Read for Script {
     }
 }
 
-/// A script, as it lies there, or byte by byte with a note of what is heard in it.
+/// The bytes of a script, with a note of what each line tells.
+type Noted<'a> = Overheard<ReadSource<Script>, NoteTaker<'a>>;
+
+/// A script, as it lies there, or byte by byte with notes of its lines and of what is heard in them.
 #[derive(Drop)]
 pub enum Input<'a> {
     Plain(Script),
-    Overheard(Overheard<'a, ReadSource<Script>>),
+    Overheard(Overheard<Noted<'a>, Messages<'a>>),
 }
 
 impl<'a> Read for Input<'a> {
@@ -41,7 +48,7 @@ impl<'a> Read for Input<'a> {
 }
 
 /// Reads one byte, so that what was answered is handed on before the next is heard.
-fn read_byte(script: &mut Overheard<'_, ReadSource<Script>>, buf: &mut [u8]) -> io::Result<usize>
+fn read_byte<R: Source>(script: &mut R, buf: &mut [u8]) -> io::Result<usize>
     ensures { ReadsAtMost result buf.new }
 {
     if buf.is_empty() {
@@ -57,37 +64,51 @@ fn read_byte(script: &mut Overheard<'_, ReadSource<Script>>, buf: &mut [u8]) -> 
     }
 }
 
-/// Standard output, for answers as they are, or with datagrams in words.
+/// Standard output, for answers as they are, or with datagrams in words, with names behind numbers, or with both.
 #[derive(Drop)]
 pub enum Output<'a> {
     Plain(Stdout),
     Decoded(Decoded<'a, WriteSink<Stdout>>),
+    Named(Named<'a, WriteSink<Stdout>>),
+    Both(Decoded<'a, Named<'a, WriteSink<Stdout>>>),
 }
 
 impl<'a> Write for Output<'a> {
     fn write(&mut self, buf: &[u8]) -> io::Result<usize> {
         match self {
             Output::Plain(output) => output.write(buf),
-            Output::Decoded(output) => {
-                if output.put(buf) {
-                    Ok(buf.len())
-                } else {
-                    Err(io::Error::from(ErrorKind::Other))
-                }
-            }
+            Output::Decoded(output) => put_all(output, buf),
+            Output::Named(output) => put_all(output, buf),
+            Output::Both(output) => put_all(output, buf),
         }
     }
 
     fn flush(&mut self) -> io::Result<()> {
         match self {
             Output::Plain(output) => output.flush(),
-            Output::Decoded(output) => {
-                if output.flush() {
-                    Ok(())
-                } else {
-                    Err(io::Error::from(ErrorKind::Other))
-                }
-            }
+            Output::Decoded(output) => hand_on(output),
+            Output::Named(output) => hand_on(output),
+            Output::Both(output) => hand_on(output),
         }
+    }
+}
+
+/// Puts all bytes into a sink.
+fn put_all<W: Sink>(output: &mut W, buf: &[u8]) -> io::Result<usize>
+    ensures { IfOk result (λ count. count ≡ length buf.now) }
+{
+    if output.put(buf) {
+        Ok(buf.len())
+    } else {
+        Err(io::Error::from(ErrorKind::Other))
+    }
+}
+
+/// Hands on what a sink holds back.
+fn hand_on<W: Sink>(output: &mut W) -> io::Result<()> {
+    if output.flush() {
+        Ok(())
+    } else {
+        Err(io::Error::from(ErrorKind::Other))
     }
 }

@@ -2,35 +2,59 @@
 #![tactic(auto)]
 
 ghost use Rattle.std.specs.Prelude.{◌≡◌, if◌then◌else◌};
+ghost use Rattle.swimsim.specs.Ends.{unplayed};
 
 mod answers;
 mod arguments;
+mod causes;
 mod choosers;
 mod commands;
 mod datagrams;
 mod decoding;
+mod draws;
+mod expectations;
+mod explanations;
 mod faults;
 mod files;
+mod grammar;
 mod headers;
 mod hearing;
+mod marks;
 mod meanings;
+mod naming;
+mod notes;
 mod options;
+mod overhearing;
 mod playing;
+mod reasons;
 mod session;
+mod showing;
 mod simulator;
+mod summaries;
+mod tallies;
 
 use anyhow::Result;
 use decoding::Decoded;
+use draws::warnings_of;
+use explanations::Explanation;
 use faults::{FaultKind, ScriptFault};
 use files::{Input, Output, Script};
-use hearing::Overheard;
+use hearing::Messages;
+use naming::Named;
+use notes::{NoteTaker, Notes, Told};
 use options::{Options, read_options, refuse_bytes};
-use std::cell::Cell;
+use overhearing::Overheard;
+use session::Session;
+use std::alloc::AllocError;
+use std::cell::{Cell, RefCell};
 use std::env;
 use std::fs::File;
 use std::io::{self, ErrorKind};
 use std::process::ExitCode;
-use swim_wire::{ReadSource, Sink, WriteSink};
+use summaries::Summary;
+use swim_history::Journal;
+use swim_wire::{Message, ReadSource, Sink, WriteSink};
+use tallies::Tally;
 
 fn main(rt: HostRuntime) -> ExitCode {
     match begin(&rt) {
@@ -91,29 +115,112 @@ fn open(rt: &HostRuntime, path: &str) -> io::Result<File> {
 
 /// Plays the script, and writes its answers on standard output.
 fn play(rt: &HostRuntime, script: Script, options: &Options<'_>) -> ExitCode {
-    let heard = Cell::new(None);
-    if options.decode {
-        let script = Overheard::new(ReadSource::new(script), &heard);
-        let answers = Decoded::new(rt.alloc(), WriteSink::new(rt.stdout()), &heard);
-        play_between(rt, Input::Overheard(script), Output::Decoded(answers))
-    } else {
-        play_between(rt, Input::Plain(script), Output::Plain(rt.stdout()))
+    if options.decode || options.explain {
+        return play_in_words(rt, script, options);
     }
+    let mut session = Session::new(rt.alloc());
+    let input = Input::Plain(script);
+    let output = Output::Plain(rt.stdout());
+    finish(rt, play_between(&mut session, input, output))
+}
+
+/// Plays it, and puts into words what the options ask for.
+fn play_in_words(rt: &HostRuntime, script: Script, options: &Options<'_>) -> ExitCode {
+    let mut session = Session::new(rt.alloc());
+    let heard = Cell::new(None);
+    let tally = Cell::new(Tally::default());
+    let notes = RefCell::new(Notes::new(rt.alloc()));
+    let input = overhear(script, &heard, &notes);
+    let output = word(rt, options, &heard, &tally);
+    let outcome = play_between(&mut session, input, output);
+    let code = finish(rt, outcome);
+    if options.explain {
+        explain(rt, outcome, session, &notes.into_inner());
+        let tally = tally.get();
+        let _ = eprint!(rt; "{tally}");
+    }
+    code
+}
+
+/// The bytes of a script, of which notes are taken.
+fn overhear<'a>(
+    script: Script,
+    heard: &'a Cell<Option<Message>>,
+    notes: &'a RefCell<Notes>,
+) -> Input<'a> {
+    let script = Overheard::new(ReadSource::new(script), NoteTaker::new(notes));
+    Input::Overheard(Overheard::new(script, Messages::new(heard)))
+}
+
+/// Standard output, with the words that the options ask for.
+fn word<'a>(
+    rt: &HostRuntime,
+    options: &Options<'_>,
+    heard: &'a Cell<Option<Message>>,
+    tally: &'a Cell<Tally>,
+) -> Output<'a> {
+    let alloc = rt.alloc();
+    let output = WriteSink::new(rt.stdout());
+    match (options.decode, options.explain) {
+        (false, true) => Output::Named(Named::new(alloc, output, tally)),
+        (true, true) => Output::Both(Decoded::new(alloc, Named::new(alloc, output, tally), heard)),
+        (_, false) => Output::Decoded(Decoded::new(alloc, output, heard)),
+    }
+}
+
+/// Tells the fault of a script, if it has one.
+fn finish(rt: &HostRuntime, outcome: Result<(), ScriptFault>) -> ExitCode {
+    match outcome {
+        Ok(()) => ExitCode::SUCCESS,
+        Err(fault) => {
+            let _ = rt.eprintln(fault);
+            ExitCode::FAILURE
+        }
+    }
+}
+
+/// Explains the fault, if there is one, and tells what the journal says of the run.
+fn explain(rt: &HostRuntime, outcome: Result<(), ScriptFault>, session: Session, notes: &Notes) {
+    if let Err(fault) = outcome {
+        let explanation = Explanation::of(&fault, notes);
+        let _ = eprint!(rt; "{explanation}");
+    }
+    let Some(recorder) = session.into_recorder() else {
+        let _ = eprint!(rt; "entries 0\nperiods 0\n");
+        return;
+    };
+    if sum_up(rt, &recorder.into_journal(), notes.told()).is_err() {
+        let _ = eprintln!(rt; "no memory to sum the run up");
+    }
+}
+
+/// Tells what a journal holds, and what is strange about the orders and places that were told.
+fn sum_up(rt: &HostRuntime, journal: &Journal, told: &Told) -> Result<(), AllocError> {
+    let summary = Summary::of(journal)?;
+    let warnings = warnings_of(rt.alloc(), journal, told)?;
+    let _ = eprint!(rt; "{summary}");
+    for warning in warnings.as_slice() {
+        let _ = rt.eprintln(*warning);
+    }
+    Ok(())
 }
 
 /// Plays a script between that input and that output.
 // Their types are the same with and without words: so there is one run in the program, whose functions the compiler
 // puts in place.
 #[inline(never)]
-fn play_between(rt: &HostRuntime, script: Input<'_>, answers: Output<'_>) -> ExitCode {
+fn play_between(
+    session: &mut Session,
+    script: Input<'_>,
+    answers: Output<'_>,
+) -> Result<(), ScriptFault>
+    requires { session.old ≡ unplayed }
+{
     let mut reader = ReadSource::new(script);
     let mut writer = WriteSink::new(answers);
-    match simulator::run(rt.alloc(), &mut reader, &mut writer) {
-        Ok(()) => ExitCode::SUCCESS,
-        Err(fault) => {
-            let _ = rt.eprintln(told(fault, writer.flush()));
-            ExitCode::FAILURE
-        }
+    match simulator::run(session, &mut reader, &mut writer) {
+        Ok(()) => Ok(()),
+        Err(fault) => Err(told(fault, writer.flush())),
     }
 }
 

@@ -16,6 +16,8 @@ pub struct Options<'a> {
     pub script: Option<&'a str>,
     /// Whether datagrams are put into words.
     pub decode: bool,
+    /// Whether faults, numbers and the whole run are explained.
+    pub explain: bool,
 }
 
 /// Reads the words of the command line, of which the first is the program's name. Where they ask for help or the
@@ -25,6 +27,8 @@ pub fn read_options<'a, S: AsStr>(alloc: Global, words: &'a [S]) -> Result<Optio
         ≡ script_in (map S.text words.entry.now)) }
     ensures decode { IfOk result (λ options. TellsFlag options.decode
         (flag_in (codes "decode") (map S.text words.entry.now))) }
+    ensures explain { IfOk result (λ options. TellsFlag options.explain
+        (flag_in (codes "explain") (map S.text words.entry.now))) }
     ensures refused { FailsBy (fault_of command_line (map S.text words.entry.now)) result }
 {
     let command = command_line(alloc)?;
@@ -32,6 +36,7 @@ pub fn read_options<'a, S: AsStr>(alloc: Global, words: &'a [S]) -> Result<Optio
     Ok(Options {
         script: matches.get_str("FILE"),
         decode: matches.get_flag("decode"),
+        explain: matches.get_flag("explain"),
     })
 }
 
@@ -52,9 +57,14 @@ fn command_line<'a>(alloc: Global) -> Result<Command<'a>, AllocError>
         .long("decode")
         .action(ArgAction::SetTrue)
         .help("Puts each datagram that is heard or sent into words");
+    let explain = Arg::new(alloc, "explain")
+        .long("explain")
+        .action(ArgAction::SetTrue)
+        .help("Explains faults and numbers, and sums the run up on standard error");
     Command::new(alloc, "swimsim")
         .version("1.0")
         .about("Replays a script of a SWIM failure detector")
         .arg(script)?
-        .arg(decode)
+        .arg(decode)?
+        .arg(explain)
 }

@@ -97,10 +97,15 @@ impl Session {
         if self.recorder.is_some() {
             return Ok(());
         }
-        match self.header.opening() {
-            Ok(_) => Ok(()),
-            Err(fault) => Err(fault),
-        }
+        let _opening = self.header.opening()?;
+        Ok(())
+    }
+
+    /// The recorder, once an event line was met.
+    pub fn into_recorder(self) -> Option<Recorder<Drawer>>
+        ensures { result ≡ self.recorded }
+    {
+        self.recorder
     }
 
     /// Does what a line says.

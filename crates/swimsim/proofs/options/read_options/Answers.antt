@@ -28,6 +28,15 @@ returns-clause-decode g c =
     ∙ ap (one_of (codes "decode")) (rows ∙ ap (λ (a : App). matches_of a words) c.in_ok-command.ensures) in
     (λ e. c.get_flag.ensures.none (written ∙ e), λ e. c.get_flag.ensures.value (written ∙ e), λ e. c.get_flag.ensures.other (written ∙ e))
 
+pub returns-clause-explain : goal.returns-clause-explain
+returns-clause-explain g c =
+    let words = map g.S.AsStr.text c.args.words.now in
+    let rows = (c.in_ok-matches.ensures.matches (ap is_simple c.in_ok-command.ensures ∙ is_simple_line)).0 in
+    let written : one_text (found_of c.in_ok-matches.matches) (codes "explain") ≡ one_of (codes "explain") (matches_of command_line words)
+    = one_text-rows (found_of c.in_ok-matches.matches) (codes "explain")
+    ∙ ap (one_of (codes "explain")) (rows ∙ ap (λ (a : App). matches_of a words) c.in_ok-command.ensures) in
+    (λ e. c.get_flag-2.ensures.none (written ∙ e), λ e. c.get_flag-2.ensures.value (written ∙ e), λ e. c.get_flag-2.ensures.other (written ∙ e))
+
 pub returns-clause-refused : goal.returns-clause-refused
 returns-clause-refused g c =
     let words = map g.S.AsStr.text c.args.words.now in

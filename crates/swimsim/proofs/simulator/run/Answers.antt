@@ -4,7 +4,7 @@ use Rattle.swim_wire.specs.declared.lines.Taken.TheVariants.{Line}
 use Rattle.swimsim.specs.declared.faults.ScriptFault.{ScriptFault}
 use Rattle.swimsim.specs.Script.{RunsKnown}
 use Rattle.swimsim.specs.Holds.{Played, CourseKnown}
-use Rattle.swimsim.proofs.Known.{start_known, next_known, stop_known, long_known, oversize_known, unread_known, unsent_known, ending_known, passed_on}
+use Rattle.swimsim.proofs.Known.{start_known, next_known, stop_known, long_known, oversize_known, unread_known, unsent_known, ending_known, passed_on, left_known, left_at_fault}
 use Rattle.swimsim.proofs.simulator.run.Goals as goal
 
 pub loop-session-init : goal.loop-session-init
@@ -12,10 +12,10 @@ loop-session-init g c =
     let L = g.R.Source.left c.args.reader.now in
     let W = g.W.Sink.written c.args.writer.now in
     record {
-      course = subst (CourseKnown L L W W 16777216) (sym c.new-session.ensures) (start_known L W);
+      course = subst (CourseKnown L L W W 16777216) (sym c.requires) (start_known L W);
       reads = refl;
       writes = refl;
-      lines = omega (arith, ap (λ (s : Played). s.lines) c.new-session.ensures);
+      lines = omega (arith, ap (λ (s : Played). s.lines) c.requires);
     }
 
 pub loop-session-preserved : goal.loop-session-preserved
@@ -69,3 +69,13 @@ returns-in-Unsent-clause-told g c =
     subst (λ (f : ScriptFault). RunsKnown (g.R.Source.left c.args.reader.now) (g.R.Source.left c.next_line.new.reader) (g.W.Sink.written c.args.writer.now) (g.W.Sink.written c.next_line.new.writer) (Err f)) (sym c.fault-in-Unsent.ensures)
     (unsent_known (g.R.Source.left c.args.reader.now) (g.R.Source.left c.loop-session.reader) (g.R.Source.left c.next_line.new.reader) (g.W.Sink.written c.args.writer.now) (g.W.Sink.written c.loop-session.writer) (g.W.Sink.written c.next_line.new.writer)
     c.next_line.new.line.items c.loop-session.budget c.next_line.new.budget c.loop-session.session c.loop-session.invariant.course c.in-Unsent.ensures.takes c.in-Unsent.ensures.kept)
+
+pub returns-in_err-turn-in-Line-clause-leaves : goal.returns-in_err-turn-in-Line-clause-leaves
+returns-in_err-turn-in-Line-clause-leaves g c =
+    left_at_fault (g.R.Source.left c.args.reader.now) (g.W.Sink.written c.args.writer.now) (g.W.Sink.written c.turn.new.writer) c.turn.new.self
+    c.in_err-turn-in-Line.field-0.0 c.from_residual.result c.from_residual.ensures.1
+
+pub returns-in-Over-clause-leaves : goal.returns-in-Over-clause-leaves
+returns-in-Over-clause-leaves g c =
+    left_known (g.R.Source.left c.args.reader.now) (g.R.Source.left c.loop-session.reader) (g.R.Source.left c.next_line.new.reader) (g.W.Sink.written c.args.writer.now) (g.W.Sink.written c.loop-session.writer) (g.W.Sink.written c.next_line.new.writer)
+    c.next_line.new.line.items c.loop-session.budget c.next_line.new.budget c.loop-session.session c.end.result c.loop-session.invariant.course c.in-Over.ensures.takes c.in-Over.ensures.kept

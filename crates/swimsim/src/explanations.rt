@@ -1,0 +1,269 @@
+//! A fault of a script, explained to a person.
+
+use crate::arguments::OpenArguments;
+use crate::causes::{Cause, cause_for, cause_in, count_parts};
+use crate::commands::{Command, LineFault, Word, first_word, read_command};
+use crate::expectations::Expected;
+use crate::faults::{FaultKind, ScriptFault};
+use crate::grammar::Argument;
+use crate::marks::{Mark, first_refused, part_at, word_at};
+use crate::notes::{Notes, Told};
+use crate::showing::Shown;
+use std::fmt;
+use swim_history::OpeningFault;
+use swim_wire::{Id, Words};
+
+/// The longest timeout of which three fit a period.
+const MOST_TIMEOUT: u32 = 21_845;
+
+/// A line with the word that is at fault.
+#[derive(Clone, Copy, Debug)]
+pub struct Marked<'a> {
+    line: &'a [u8],
+    mark: Mark<'a>,
+}
+
+/// What is told of a fault: the line with a mark under the word, what was expected there, and the commonest cause.
+#[derive(Debug, Drop)]
+pub struct Explanation<'a> {
+    marked: Option<Marked<'a>>,
+    expected: Expected,
+    cause: Option<Cause>,
+}
+
+impl<'a> Explanation<'a> {
+    /// The explanation of a fault, from what was noted of its script.
+    pub fn of(fault: &ScriptFault, notes: &'a Notes) -> Explanation<'a> {
+        if fault.line == 0 {
+            return bare(Expected::Opening, Some(Cause::NoLine));
+        }
+        if let FaultKind::Words(kind) = fault.kind {
+            return of_words(kind, notes.line(), notes.told());
+        }
+        if let FaultKind::Opening(kind) = fault.kind {
+            return of_opening(kind, notes.told());
+        }
+        match fault.kind {
+            FaultKind::Long => bare(Expected::ShortLine, Some(Cause::LongLine(notes.bytes()))),
+            FaultKind::Size => bare(Expected::ShortScript, None),
+            FaultKind::Memory => bare(Expected::Memory, None),
+            FaultKind::Read => bare(Expected::Input, None),
+            _ => bare(Expected::Output, None),
+        }
+    }
+}
+
+/// The lines of an explanation, each of which begins with two spaces.
+impl<'a> fmt::Display for Explanation<'a> {
+    fn fmt<W: fmt::Write>(&self, f: &mut fmt::Formatter<W>) -> fmt::Result {
+        if let Some(marked) = self.marked {
+            write!(f, "{marked}")?;
+        }
+        let expected = self.expected;
+        write!(f, "  expected: {expected}\n")?;
+        match self.cause {
+            Some(cause) => write!(f, "  cause: {cause}\n"),
+            None => Ok(()),
+        }
+    }
+}
+
+impl<'a> fmt::Display for Marked<'a> {
+    fn fmt<W: fmt::Write>(&self, f: &mut fmt::Formatter<W>) -> fmt::Result {
+        let line = Shown { bytes: self.line };
+        write!(f, "  {line}\n  ")?;
+        let before = Shown {
+            bytes: self.mark.before,
+        };
+        repeat(" ", before.width(), f)?;
+        let word = Shown {
+            bytes: self.mark.word,
+        };
+        repeat("^", word.width().max(1), f)?;
+        f.write_str("\n")
+    }
+}
+
+fn repeat<W: fmt::Write>(text: &str, count: usize, f: &mut fmt::Formatter<W>) -> fmt::Result {
+    for _ in 0..count {
+        f.write_str(text)?;
+    }
+    Ok(())
+}
+
+/// Without a line.
+fn bare<'a>(expected: Expected, cause: Option<Cause>) -> Explanation<'a> {
+    Explanation {
+        marked: None,
+        expected,
+        cause,
+    }
+}
+
+/// At a word of a line.
+fn at<'a>(
+    line: &'a [u8],
+    mark: Mark<'a>,
+    expected: Expected,
+    cause: Option<Cause>,
+) -> Explanation<'a> {
+    Explanation {
+        marked: Some(Marked { line, mark }),
+        expected,
+        cause: cause_in(line, &mark).or(cause),
+    }
+}
+
+fn of_words<'a>(kind: LineFault, line: &'a [u8], told: &Told) -> Explanation<'a> {
+    let mut words = Words::new(line);
+    let first = words.next().and_then(first_word);
+    let mark = word_at(line, 0);
+    match (kind, first) {
+        (LineFault::Seed, _) => at(line, mark, Expected::OneChooser, cause_of_chooser(told)),
+        (LineFault::Word, _) | (_, None) => {
+            let (expected, cause) = of_first_word(first, mark.word, told);
+            at(line, mark, expected, cause)
+        }
+        (_, Some(word)) => of_argument(word, line, &mut words),
+    }
+}
+
+/// A first word that is unknown, or can't stand there.
+fn of_first_word(first: Option<Word>, word: &[u8], told: &Told) -> (Expected, Option<Cause>) {
+    let capitals = if word.iter().any(|byte| byte.is_ascii_uppercase()) {
+        Some(Cause::Capitals)
+    } else {
+        None
+    };
+    if told.open.is_none() {
+        return (Expected::Opening, capitals);
+    }
+    match (first, told.event) {
+        (Some(Word::Open), Some(_)) => (Expected::Event, Some(Cause::SecondOpen)),
+        (Some(Word::Open), None) => (Expected::AnyLine, Some(Cause::SecondOpen)),
+        (Some(_), Some(line)) => (Expected::Event, Some(Cause::EventLine(line))),
+        (_, Some(_)) => (Expected::Event, capitals),
+        (_, None) => (Expected::AnyLine, capitals),
+    }
+}
+
+/// What tells already who chooses.
+fn cause_of_chooser(told: &Told) -> Option<Cause> {
+    if let Some(line) = told.seed {
+        return Some(Cause::SeedLine(line));
+    }
+    let order = told.orders.first().map(|(line, _)| *line);
+    let place = told.places.first().copied();
+    match (order, place) {
+        (Some(order), Some(place)) => Some(Cause::DrawnLine(order.min(place))),
+        (Some(line), None) | (None, Some(line)) => Some(Cause::DrawnLine(line)),
+        (None, None) => None,
+    }
+}
+
+/// A word behind a known first word.
+fn of_argument<'a>(word: Word, line: &'a [u8], words: &mut Words<'a>) -> Explanation<'a> {
+    let (index, refused) = first_refused(word, words);
+    let mark = word_at(line, index);
+    match refused {
+        None => at(line, mark, Expected::LineEnd, None),
+        Some(Argument::Ids) => of_ids(line, mark),
+        Some(argument) => at(
+            line,
+            mark,
+            Expected::Argument(argument),
+            cause_for(argument, mark.word),
+        ),
+    }
+}
+
+/// The ids of an order: the first that is none is marked, and else all of them, since they are too many.
+fn of_ids<'a>(line: &'a [u8], mark: Mark<'a>) -> Explanation<'a> {
+    let expected = Expected::Argument(Argument::Ids);
+    let mut parts = Words::split(mark.word, b',');
+    let mut index: usize = 0;
+    while let Some(part) = parts.next() {
+        if Id::read(part).is_none() {
+            let mark = part_at(line, b',', mark.before.len(), index);
+            return at(line, mark, expected, cause_for(Argument::Member, mark.word));
+        }
+        index = index.saturating_add(1);
+    }
+    at(line, mark, expected, Some(Cause::TooManyIds(index)))
+}
+
+/// An opening that is refused, at its `open` line.
+fn of_opening<'a>(kind: OpeningFault, told: &'a Told) -> Explanation<'a> {
+    let Some(open) = &told.open else {
+        return bare(Expected::Opening, None);
+    };
+    let line = open.as_slice();
+    let rows = told.rows.as_slice();
+    let opened = arguments_in(line);
+    let told_by_name = Some(Cause::Opening(kind));
+    let (index, expected, cause) = match kind {
+        OpeningFault::Relays => (2, Expected::Argument(Argument::Relays), told_by_name),
+        OpeningFault::Timing if has_bad_timeout(opened) => {
+            (3, Expected::Argument(Argument::Timeout), told_by_name)
+        }
+        OpeningFault::Timing => (4, Expected::Argument(Argument::Period), told_by_name),
+        OpeningFault::TooManyRows => (0, Expected::FewRows, last_row(rows)),
+        OpeningFault::Myself => (1, Expected::OtherRows, row_of_me(opened, rows)),
+        OpeningFault::Twice => (0, Expected::DifferentRows, rows_twice(rows)),
+    };
+    at(line, word_at(line, index), expected, cause)
+}
+
+/// What an `open` line tells.
+fn arguments_in(line: &[u8]) -> Option<OpenArguments> {
+    let mut words = Words::new(line);
+    let _open = words.next()?;
+    match read_command(Word::Open, &mut words) {
+        Ok(Some(Command::Open(arguments))) => Some(arguments),
+        _ => None,
+    }
+}
+
+fn has_bad_timeout(opened: Option<OpenArguments>) -> bool {
+    match opened {
+        Some(arguments) => arguments.rtt == 0 || arguments.rtt > MOST_TIMEOUT,
+        None => false,
+    }
+}
+
+/// The row with the id of the opening's own member.
+fn row_of_me(opened: Option<OpenArguments>, rows: &[(u32, Id)]) -> Option<Cause> {
+    let me = opened?.me;
+    Some(Cause::MyselfIn(line_of(rows, me)?))
+}
+
+/// The first row whose id an earlier one has, and that one.
+fn rows_twice(rows: &[(u32, Id)]) -> Option<Cause> {
+    for (second, member) in rows {
+        let first = line_of(rows, *member)?;
+        if first < *second {
+            return Some(Cause::Twice {
+                member: *member,
+                first,
+                second: *second,
+            });
+        }
+    }
+    None
+}
+
+/// The line of the first row with an id.
+fn line_of(rows: &[(u32, Id)], member: Id) -> Option<u32> {
+    for (line, id) in rows {
+        if *id == member {
+            return Some(*line);
+        }
+    }
+    None
+}
+
+/// The last row that is noted, which is one too many.
+fn last_row(rows: &[(u32, Id)]) -> Option<Cause> {
+    let (line, _) = rows.last()?;
+    Some(Cause::RowTooMany(*line))
+}

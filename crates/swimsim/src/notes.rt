@@ -1,0 +1,176 @@
+//! What is kept of a script's lines, so that a fault in them can be explained.
+
+use crate::commands::{Command, LINE_BYTES, first_word, read_command};
+use crate::overhearing::Listener;
+use arrayvec::ArrayVec;
+use std::alloc::Global;
+use std::cell::RefCell;
+use swim_targets::Order;
+use swim_wire::{Id, Words};
+
+/// More rows than an opening may have.
+const NOTED_ROWS: usize = 129;
+
+/// What the lines of a script told that were carried out. In want of memory orders and places are left out.
+#[derive(Drop)]
+pub struct Told {
+    /// The `open` line, without its line feed.
+    pub open: Option<ArrayVec<u8, LINE_BYTES>>,
+    /// The ids of the first rows, each with the number of its line.
+    pub rows: ArrayVec<(u32, Id), NOTED_ROWS>,
+    /// The orders, each with the number of its line.
+    pub orders: Vec<(u32, Order)>,
+    /// The lines of places.
+    pub places: Vec<u32>,
+    /// The line of the seed.
+    pub seed: Option<u32>,
+    /// The first event line.
+    pub event: Option<u32>,
+}
+
+impl Told {
+    fn new(alloc: Global) -> Told {
+        Told {
+            open: None,
+            rows: ArrayVec::new(),
+            orders: Vec::new(alloc),
+            places: Vec::new(alloc),
+            seed: None,
+            event: None,
+        }
+    }
+
+    /// Keeps what a line tells, given with its number and without its line feed.
+    fn keep(&mut self, number: u32, line: &[u8]) {
+        let mut words = Words::new(line);
+        let Some(word) = words.next().and_then(first_word) else {
+            return;
+        };
+        if let Ok(Some(command)) = read_command(word, &mut words) {
+            self.keep_command(number, line, &command);
+        }
+    }
+
+    fn keep_command(&mut self, number: u32, line: &[u8], command: &Command<'_>) {
+        match command {
+            Command::Open(_) => {
+                let mut open = ArrayVec::new();
+                let _fits = open.try_extend_from_slice(line);
+                self.open = Some(open);
+            }
+            Command::Row(id, _) => {
+                let _fits = self.rows.try_push((number, *id));
+            }
+            Command::Order(order) => {
+                let _kept = self.orders.push((number, order.read()));
+            }
+            Command::Place(_) => {
+                let _kept = self.places.push(number);
+            }
+            Command::Seed(_) => self.seed = Some(number),
+            _ => {
+                if self.event.is_none() {
+                    self.event = Some(number);
+                }
+            }
+        }
+    }
+}
+
+/// Listens to a script. It keeps the line that was read last, and what the lines before it told: where a script is
+/// played line by line, those that were carried out.
+#[derive(Drop)]
+pub struct Notes {
+    told: Told,
+    number: u32,
+    line: ArrayVec<u8, LINE_BYTES>,
+    bytes: u32,
+    is_ended: bool,
+}
+
+impl Notes {
+    /// No line was read.
+    pub fn new(alloc: Global) -> Notes {
+        Notes {
+            told: Told::new(alloc),
+            number: 1,
+            line: ArrayVec::new(),
+            bytes: 0,
+            is_ended: false,
+        }
+    }
+
+    /// What was told by the lines before.
+    pub fn told(&self) -> &Told {
+        &self.told
+    }
+
+    /// The first bytes of the line that was read last, without its line feed.
+    pub fn line(&self) -> &[u8] {
+        self.line.as_slice()
+    }
+
+    /// How many bytes that line has without its line feed. The count stops at 4294967295.
+    pub fn bytes(&self) -> u32 {
+        self.bytes
+    }
+
+    /// Keeps what the line tells, and begins the next.
+    fn file(&mut self) {
+        self.told.keep(self.number, self.line.as_slice());
+        self.line.clear();
+        self.number = self.number.saturating_add(1);
+        self.bytes = 0;
+        self.is_ended = false;
+    }
+
+    fn note(&mut self, byte: u8) {
+        if self.is_ended {
+            self.file();
+        }
+        if byte == b'\n' {
+            self.is_ended = true;
+            return;
+        }
+        self.bytes = self.bytes.saturating_add(1);
+        if !self.line.is_full() {
+            self.line.push(byte);
+        }
+    }
+
+    // A last line without a line feed is read by then, and carried out at the next look for more.
+    fn end(&mut self) {
+        if self.is_ended {
+            self.file();
+        } else if self.bytes > 0 {
+            self.is_ended = true;
+        }
+    }
+}
+
+/// Keeps notes in a cell, where they are found afterwards.
+#[derive(Drop)]
+pub struct NoteTaker<'a> {
+    notes: &'a RefCell<Notes>,
+}
+
+impl<'a> NoteTaker<'a> {
+    /// A listener that keeps these notes.
+    pub fn new(notes: &'a RefCell<Notes>) -> NoteTaker<'a> {
+        NoteTaker { notes }
+    }
+}
+
+impl<'a> Listener for NoteTaker<'a> {
+    fn note(&mut self, byte: u8) {
+        if let Ok(mut notes) = self.notes.try_borrow_mut() {
+            notes.note(byte);
+        }
+    }
+
+    fn end(&mut self) {
+        if let Ok(mut notes) = self.notes.try_borrow_mut() {
+            notes.end();
+        }
+    }
+}
