@@ -31,7 +31,7 @@ impl Chooser {
 }
 
 /// Orders and places that were written down. All orders stand in one list.
-#[derive(Default)]
+#[derive(Clone, Default)]
 pub struct Scripted {
     ids: Vec<u32>,
     /// Where each order ends.

@@ -82,10 +82,10 @@ impl Header {
         Ok(())
     }
 
-    pub fn chooser(&mut self) -> Chooser {
+    pub fn chooser(&self) -> Chooser {
         match &self.seed {
             Some(seed) => Chooser::Seeded(ChaCha::new(seed)),
-            None => Chooser::Scripted(std::mem::take(&mut self.script)),
+            None => Chooser::Scripted(self.script.clone()),
         }
     }
 }

@@ -6,6 +6,9 @@
 //! `--journal` it keeps one beside all that. It reads its script whole before it answers, and takes it that there is
 //! memory.
 //!
+//! With `--cut N` it goes on after N event lines as a detector that begins with what was left: a line `cut` stands before
+//! what that one answers.
+//!
 //! `reference run --config FILE` is an ordinary daemon over the same detector, with the threads, the journal, the control
 //! lines and the closing line of `swimd run`; `reference ask --control PATH` is the same of `swimd ask`.
 
@@ -35,28 +38,35 @@ mod wire;
 #[cfg(test)]
 mod tests;
 
+use script::Player;
 use std::process::ExitCode;
 
 fn main() -> ExitCode {
     let words: Vec<String> = std::env::args().skip(1).collect();
     let words: Vec<&str> = words.iter().map(String::as_str).collect();
     match words[..] {
-        [] => play(false),
-        ["--journal"] => play(true),
+        [] => play(Player::default()),
+        ["--journal"] => play(Player::with_journal()),
+        ["--cut", place] => match place.parse() {
+            Ok(place) => play(Player::cut_at(place)),
+            Err(_) => usage(),
+        },
         ["run", "--config", file] => daemon::run(file),
         ["ask", "--control", path] => daemon::ask(path),
-        _ => {
-            eprintln!("usage: reference [--journal | run --config FILE | ask --control PATH]");
-            ExitCode::from(2)
-        }
+        _ => usage(),
     }
 }
 
+fn usage() -> ExitCode {
+    eprintln!("usage: reference [--journal | --cut N | run --config FILE | ask --control PATH]");
+    ExitCode::from(2)
+}
+
 /// Plays the script on standard input.
-fn play(keeps_journal: bool) -> ExitCode {
+fn play(player: Player) -> ExitCode {
     let input = input::Input::read(std::io::stdin().lock());
     let mut output = output::Output::new(std::io::stdout().lock());
-    match script::run(&input, &mut output, keeps_journal) {
+    match player.run(&input, &mut output) {
         Ok(()) => ExitCode::SUCCESS,
         Err(fault) => {
             eprintln!("{fault}");

@@ -9,43 +9,74 @@ use crate::output::Output;
 use crate::session::Session;
 use std::io::Write;
 
-/// Plays a script. Its calls and replies are kept as a journal where `keeps_journal`.
-pub fn run<W: Write>(
-    input: &Input,
-    output: &mut Output<W>,
-    keeps_journal: bool,
-) -> Result<(), ScriptFault> {
-    let mut player = Player {
-        keeps_journal,
-        ..Player::default()
-    };
-    let played = player.play(input, output);
-    // What was answered before a fault stands; where it can't be handed on, that is told instead.
-    let written = output.flush().map_err(|_| Fault::Write.at(player.line));
-    written.and(played)
-}
-
 /// Where a script has come.
 #[derive(Default)]
-struct Player {
+pub struct Player {
     keeps_journal: bool,
+    /// After how many event lines a detector goes on from the one that played them.
+    cut: Option<u32>,
+    events: u32,
     line: u32,
     header: Option<Header>,
     session: Option<Session>,
 }
 
 impl Player {
+    /// It keeps calls and replies as a journal.
+    pub fn with_journal() -> Player {
+        Player {
+            keeps_journal: true,
+            ..Player::default()
+        }
+    }
+
+    pub fn cut_at(place: u32) -> Player {
+        Player {
+            cut: Some(place),
+            ..Player::default()
+        }
+    }
+
+    pub fn run<W: Write>(
+        mut self,
+        input: &Input,
+        output: &mut Output<W>,
+    ) -> Result<(), ScriptFault> {
+        let played = self.play(input, output);
+        // What was answered before a fault stands; where it can't be handed on, that is told instead.
+        let written = output.flush().map_err(|_| Fault::Write.at(self.line));
+        written.and(played)
+    }
+
     fn play<W: Write>(&mut self, input: &Input, output: &mut Output<W>) -> Result<(), ScriptFault> {
         for line in input.lines() {
             self.line += 1;
             match line.and_then(|line| self.read(line)) {
                 Err(fault) => return Err(fault.at(self.line)),
                 Ok(None) => {}
-                Ok(Some(event)) => self.session()?.play(event, output),
+                Ok(Some(event)) => {
+                    self.go_on(output)?;
+                    self.session()?.play(event, output);
+                    self.events += 1;
+                }
             }
             output.hand_on().map_err(|_| Fault::Write.at(self.line))?;
         }
+        self.go_on(output)?;
         self.session().map(|_| ())
+    }
+
+    /// At the cut, a detector goes on from the one that played so far. What is to be drawn is told anew.
+    fn go_on<W: Write>(&mut self, output: &mut Output<W>) -> Result<(), ScriptFault> {
+        if self.cut == Some(self.events) {
+            self.cut = None;
+            self.session()?;
+            if let (Some(header), Some(session)) = (&self.header, &mut self.session) {
+                session.go_on(header);
+                output.line("cut");
+            }
+        }
+        Ok(())
     }
 
     /// The event of a line. What a header line says is kept.
@@ -73,7 +104,7 @@ impl Player {
         match &mut self.session {
             Some(session) => Ok(session),
             none => {
-                let header = self.header.as_mut().ok_or(Fault::Word.at(0))?;
+                let header = self.header.as_ref().ok_or(Fault::Word.at(0))?;
                 Ok(none.insert(Session::open(header, self.keeps_journal)?))
             }
         }

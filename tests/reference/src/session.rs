@@ -17,7 +17,7 @@ pub struct Session {
 
 impl Session {
     /// Checks the opening, and opens the detector, with a journal or without one.
-    pub fn open(header: &mut Header, keeps_journal: bool) -> Result<Session, ScriptFault> {
+    pub fn open(header: &Header, keeps_journal: bool) -> Result<Session, ScriptFault> {
         match header.opening.fault() {
             Some(number) => Err(Fault::Opening(number).at(header.line)),
             None => {
@@ -31,6 +31,12 @@ impl Session {
                 })
             }
         }
+    }
+
+    /// Begins again with what the detector leaves.
+    pub fn go_on(&mut self, header: &Header) {
+        self.detector = self.detector.after(header.chooser());
+        self.entries = 0;
     }
 
     /// Plays an event, and writes its answer.
