@@ -6,9 +6,9 @@ use super::*;
 use crate::tests::replays::{Watched, assert_replays};
 use swim_targets::Seeded;
 
-const CALLS: u32 = 20_000;
+const CALLS: u32 = 100_000;
 
-const LOOKS: u32 = 50_000;
+const LOOKS: u32 = 250_000;
 
 // A reader keeps so many tables at most.
 const TABLES: usize = 1_000;
@@ -31,7 +31,7 @@ fn soaked<N: Naming + Send + Sync, R: Threads + Wait + Abort + Send + Sync + Cop
 ) -> Result<(), Fail>
     requires parts { parts ≡ record { limit = N.limit; ledgers = N.ledgers; log = N.log; cells = N.cells } }
     requires opening { start ≡ N.opening }
-    requires limit { N.limit ≡ 80000 }
+    requires limit { N.limit ≡ 400000 }
 {
     let opened = open::<N, Seeded, R>(rt, alloc, parts, start, Seeded::new([7; 32]), 4 * CALLS)?;
     let (node, callers, readers) = opened;
