@@ -6,7 +6,7 @@ import subprocess
 import threading
 import time
 
-from daemons import ACK, PING, REQUEST, datagram, fields, introduced, must, stop_all, until
+from daemons import ACK, PING, REQUEST, datagram, fields, introduced, memory_of, must, stop_all, until
 
 HERE = os.path.dirname(os.path.abspath(__file__))
 FLOOD_SECONDS = 10
@@ -181,11 +181,6 @@ def a_group_that_changes_lives(machine):
         judged = sum(life.judged for life in it.lives) + closing.judged
         must(closing.status == 0 and judged >= 1, f"member {it.id} ended {closing} after {it.lives}")
         must(all(life[1] == 80 and life[3:] == (0, 0, 0) for life in it.lives), f"the lives of member {it.id} are {it.lives}")
-
-
-def memory_of(daemon):
-    with open(f"/proc/{daemon.child.pid}/status") as file:
-        return next(int(line.split()[1]) * 1_024 for line in file if line.startswith("VmRSS"))
 
 
 def memory_of_lives(machine):

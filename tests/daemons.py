@@ -15,6 +15,8 @@ from typing import NamedTuple
 
 HOST = "127.0.0.1"
 SECONDS = 20
+# So often a daemon is told to stop.
+STOPS = 10
 PING, REQUEST, ACK = 1, 2, 3
 COUNTS = rb"entries (\d+) judged (\d+) unsent (\d+) wire (\d+) refused (\d+)\n"
 LIFE = re.compile(rb"life (\d+) " + COUNTS)
@@ -244,6 +246,17 @@ class Daemon:
         must(answer == b"stopping\n", f"member {self.id} answers `stop` with {answer!r}")
         return self.ended()
 
+    def stop_between_lives(self):
+        """The same of one whose lives are short. A `stop` that comes while a life ends doesn't reach the next, and is said again."""
+        for _ in range(STOPS):
+            self.ask(b"stop\n")
+            end = time.monotonic() + 1
+            while self.child.poll() is None and time.monotonic() < end:
+                time.sleep(0.01)
+            if self.child.poll() is not None:
+                return self.ended()
+        raise DaemonFault(f"member {self.id} goes on after {STOPS} stops")
+
     def ended(self, seconds=SECONDS):
         """Waits for its end, and says how it ended."""
         try:
@@ -273,6 +286,12 @@ class Daemon:
         if self.child and self.child.poll() is None:
             self.child.kill()
             self.child.communicate()
+
+
+def memory_of(daemon, what="VmRSS"):
+    """The bytes that it holds now, or with VmHWM the most that it ever held."""
+    with open(f"/proc/{daemon.child.pid}/status") as file:
+        return next(int(line.split()[1]) * 1_024 for line in file if line.startswith(f"{what}:"))
 
 
 def introduced(daemons):

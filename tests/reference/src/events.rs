@@ -15,6 +15,11 @@ pub enum Event {
 }
 
 impl Event {
+    /// Whether it makes an entry, where there is room for one.
+    pub fn is_call(&self) -> bool {
+        !matches!(self, Event::Table | Event::Gap(_) | Event::Hear(_, Err(_)))
+    }
+
     /// The event of a line with that first word; None where the word is none of an event.
     pub fn read(word: &[u8], words: &mut Words) -> Result<Option<Event>, Fault> {
         let event = match word {

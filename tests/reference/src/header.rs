@@ -82,9 +82,10 @@ impl Header {
         Ok(())
     }
 
-    pub fn chooser(&self) -> Chooser {
+    /// Who chooses in the life of that number, which counts from 0.
+    pub fn chooser(&self, life: u64) -> Chooser {
         match &self.seed {
-            Some(seed) => Chooser::Seeded(ChaCha::new(seed)),
+            Some(seed) => Chooser::Seeded(ChaCha::of_stream(seed, life)),
             None => Chooser::Scripted(self.script.clone()),
         }
     }

@@ -7,7 +7,8 @@
 //! memory.
 //!
 //! With `--cut N` it goes on after N event lines as a detector that begins with what was left: a line `cut` stands before
-//! what that one answers.
+//! what that one answers. With `--lives` it goes on so where a call meets the full journal, and draws from the stream of the next
+//! number, as a daemon does.
 //!
 //! `reference run --config FILE` is an ordinary daemon over the same detector, with the threads, the journal, the control
 //! lines and the closing line of `swimd run`; `reference ask --control PATH` is the same of `swimd ask`.
@@ -51,6 +52,7 @@ fn main() -> ExitCode {
             Ok(place) => play(Player::cut_at(place)),
             Err(_) => usage(),
         },
+        ["--lives"] => play(Player::with_lives()),
         ["run", "--config", file] => daemon::run(file),
         ["ask", "--control", path] => daemon::ask(path),
         _ => usage(),
@@ -58,7 +60,9 @@ fn main() -> ExitCode {
 }
 
 fn usage() -> ExitCode {
-    eprintln!("usage: reference [--journal | --cut N | run --config FILE | ask --control PATH]");
+    eprintln!(
+        "usage: reference [--journal | --cut N | --lives | run --config FILE | ask --control PATH]"
+    );
     ExitCode::from(2)
 }
 

@@ -16,6 +16,9 @@ pub struct Player {
     /// After how many event lines a detector goes on from the one that played them.
     cut: Option<u32>,
     events: u32,
+    /// Whether one goes on where a call meets the full journal, and how many did.
+    has_lives: bool,
+    life: u64,
     line: u32,
     header: Option<Header>,
     session: Option<Session>,
@@ -33,6 +36,13 @@ impl Player {
     pub fn cut_at(place: u32) -> Player {
         Player {
             cut: Some(place),
+            ..Player::default()
+        }
+    }
+
+    pub fn with_lives() -> Player {
+        Player {
+            has_lives: true,
             ..Player::default()
         }
     }
@@ -55,28 +65,38 @@ impl Player {
                 Err(fault) => return Err(fault.at(self.line)),
                 Ok(None) => {}
                 Ok(Some(event)) => {
-                    self.go_on(output)?;
-                    self.session()?.play(event, output);
+                    self.cut(output)?;
+                    let session = self.session()?;
+                    let is_full = session.is_full_for(&event);
+                    session.play(event, output);
                     self.events += 1;
+                    if is_full && self.has_lives {
+                        self.life += 1;
+                        self.go_on();
+                    }
                 }
             }
             output.hand_on().map_err(|_| Fault::Write.at(self.line))?;
         }
-        self.go_on(output)?;
+        self.cut(output)?;
         self.session().map(|_| ())
     }
 
-    /// At the cut, a detector goes on from the one that played so far. What is to be drawn is told anew.
-    fn go_on<W: Write>(&mut self, output: &mut Output<W>) -> Result<(), ScriptFault> {
+    /// Goes on, and says so, where the cut is.
+    fn cut<W: Write>(&mut self, output: &mut Output<W>) -> Result<(), ScriptFault> {
         if self.cut == Some(self.events) {
-            self.cut = None;
             self.session()?;
-            if let (Some(header), Some(session)) = (&self.header, &mut self.session) {
-                session.go_on(header);
-                output.line("cut");
-            }
+            self.go_on();
+            output.line("cut");
         }
         Ok(())
+    }
+
+    /// A detector goes on from the one that played so far. What is to be drawn is told anew.
+    fn go_on(&mut self) {
+        if let (Some(header), Some(session)) = (&self.header, &mut self.session) {
+            session.go_on(header.chooser(self.life));
+        }
     }
 
     /// The event of a line. What a header line says is kept.

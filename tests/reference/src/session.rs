@@ -1,5 +1,6 @@
 //! The detector of a script, and how many entries its journal would have.
 
+use crate::choosers::Chooser;
 use crate::detector::Detector;
 use crate::events::Event;
 use crate::faults::{Fault, ScriptFault};
@@ -21,7 +22,7 @@ impl Session {
         match header.opening.fault() {
             Some(number) => Err(Fault::Opening(number).at(header.line)),
             None => {
-                let chooser = header.chooser();
+                let chooser = header.chooser(0);
                 let detector = Detector::new(&header.opening, chooser);
                 Ok(Session {
                     detector,
@@ -34,19 +35,25 @@ impl Session {
     }
 
     /// Begins again with what the detector leaves.
-    pub fn go_on(&mut self, header: &Header) {
-        self.detector = self.detector.after(header.chooser());
+    pub fn go_on(&mut self, chooser: Chooser) {
+        self.detector = self.detector.after(chooser);
         self.entries = 0;
+    }
+
+    /// Whether the event is a call that finds the journal full.
+    pub fn is_full_for(&self, event: &Event) -> bool {
+        self.entries == self.limit && event.is_call()
     }
 
     /// Plays an event, and writes its answer.
     pub fn play<W: Write>(&mut self, event: Event, output: &mut Output<W>) {
+        let is_full = self.is_full_for(&event);
         let detector = &mut self.detector;
         let reply = match &event {
             Event::Table => return output.table(detector.members()),
             Event::Gap(id) => return output.gap(detector.gaps().widest(*id)),
             Event::Hear(_, Err(fault)) => return output.wire_fault(*fault),
-            _ if self.entries == self.limit => return output.journal_full(),
+            _ if is_full => return output.journal_full(),
             Event::Tick => detector.tick(),
             Event::Hear(source, Ok(message)) => detector.hear(*message, *source),
             Event::Join(id, peer) => detector.join(*id, *peer),
