@@ -3,6 +3,9 @@ use Rattle.std.specs.Prelude.{◌≡◌, ℕ, List, reverse, Option, Some, None,
 use Rattle.std.specs.Io.KnownBytes.{Appends}
 use Rattle.swim_wire.specs.Lines.{pieces}
 use Rattle.swim_history.specs.declared.entries.Entry.{Entry}
+use Rattle.swim_history.specs.Storing.Written.{Written}
+use Rattle.swim_detector.specs.Recording.{Recording}
+use Rattle.swimsim.specs.declared.choosers.Drawer.{Drawer}
 use Rattle.swimsim.specs.declared.faults.ScriptFault.{ScriptFault}
 use Rattle.swimsim.specs.Headers.{nothing_told}
 use Rattle.swimsim.specs.Script.{Turn, lines_of}
@@ -28,3 +31,10 @@ abbrev pub LeavesKnown : Result (Unit {0}) ScriptFault → Option (List ℕ) →
 LeavesKnown (Err fault) script old new s = Unit {0}
 LeavesKnown (Ok done) None old new s = Unit {0}
 LeavesKnown (Ok done) (Some script) old new s = IsEndOf script old new s
+
+-- the journal of a recorder, if there is one
+abbrev pub IsJournalOf : Option (Recording Drawer) → Option Written → Type 0
+IsJournalOf None None = Unit {0}
+IsJournalOf (Some recorded) (Some journal) =
+    (journal.opening ≡ recorded.opening) × (journal.past ≡ recorded.past)
+IsJournalOf recorded journal = ⊥

@@ -144,6 +144,8 @@ fn read_words<'a>(stage: Stage, words: &mut Words<'a>) -> Result<Option<Command<
 }
 
 /// The first word of a line, if it is known.
+// It is put in place for each line, also beside the lines that are only noted.
+#[inline(always)]
 pub fn first_word(text: &[u8]) -> Option<Word>
     ensures { result ≡ word_of text.now }
 {

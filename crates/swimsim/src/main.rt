@@ -185,11 +185,11 @@ fn explain(rt: &HostRuntime, outcome: Result<(), ScriptFault>, session: Session,
         let explanation = Explanation::of(&fault, notes);
         let _ = eprint!(rt; "{explanation}");
     }
-    let Some(recorder) = session.into_recorder() else {
+    let Some(journal) = session.into_journal() else {
         let _ = eprint!(rt; "entries 0\nperiods 0\n");
         return;
     };
-    if sum_up(rt, &recorder.into_journal(), notes.told()).is_err() {
+    if sum_up(rt, &journal, notes.told()).is_err() {
         let _ = eprintln!(rt; "no memory to sum the run up");
     }
 }

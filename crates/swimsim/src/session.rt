@@ -8,6 +8,7 @@ ghost use Rattle.swim_history.specs.declared.calls.Call.TheVariants as calls;
 ghost use Rattle.swim_history.specs.declared.entries.Entry.{Entry};
 ghost use Rattle.swimsim.specs.declared.commands.Command.TheVariants as commands;
 ghost use Rattle.swimsim.specs.Texts.{wire_text};
+ghost use Rattle.swimsim.specs.Ends.{IsJournalOf};
 ghost use Rattle.swimsim.specs.Headers.{nothing_told, told_then};
 ghost use Rattle.swimsim.specs.Script.{Turn, is_write, result_kind};
 ghost use Rattle.swimsim.specs.Holds.{Done, Holds, Turned, Started, Called, Showed, table_of, gap_of, PlaysLine};
@@ -24,7 +25,7 @@ use std::alloc::Global;
 use std::marker::Model;
 use std::mem;
 use swim_detector::Recorder;
-use swim_history::{Call, put_gap, put_table};
+use swim_history::{Call, Journal, put_gap, put_table};
 use swim_wire::{Id, Message, Peer, Sink, WireFault};
 
 /// Where a script has come: its header, and the recorder once an event line was met.
@@ -94,18 +95,17 @@ impl Session {
             (λ done. ending self.now ≡ None)
             (λ fault. ending self.now ≡ Some fault) }
     {
-        if self.recorder.is_some() {
-            return Ok(());
+        if self.recorder.is_none() {
+            let _opening = self.header.opening()?;
         }
-        let _opening = self.header.opening()?;
         Ok(())
     }
 
-    /// The recorder, once an event line was met.
-    pub fn into_recorder(self) -> Option<Recorder<Drawer>>
-        ensures { result ≡ self.recorded }
+    /// The journal, once an event line was met.
+    pub fn into_journal(self) -> Option<Journal>
+        ensures { IsJournalOf self.recorded result }
     {
-        self.recorder
+        Some(self.recorder?.into_journal())
     }
 
     /// Does what a line says.
