@@ -1,0 +1,153 @@
+//! The lanes of a picture: who they are of, and from when to when the member was listed or failed.
+
+use crate::lanes::Lanes;
+use crate::marks::{Mark, MarkKind};
+use crate::rows::place_of;
+use crate::scale::{LANE, LEFT, NAMES, Scale};
+use std::alloc::{AllocError, Global};
+use std::mem;
+use swim_history::{Row, RowState};
+use swim_wire::{Id, Peer};
+
+/// How a member stands in the member table, and since where in the picture.
+#[derive(Clone, Copy)]
+enum Standing {
+    Unknown,
+    Listed(u64),
+    Failed(u64),
+}
+
+/// The names of the lanes, with a ground below every second one.
+pub(crate) fn draw_lanes(
+    text: &mut String,
+    lanes: &Lanes,
+    scale: &Scale,
+) -> Result<(), AllocError> {
+    for (lane, (id, peer)) in lanes.iter().enumerate() {
+        draw_lane(text, lane, *id, peer, scale)?;
+    }
+    Ok(())
+}
+
+fn draw_lane(
+    text: &mut String,
+    lane: usize,
+    id: Id,
+    peer: &Peer,
+    scale: &Scale,
+) -> Result<(), AllocError> {
+    let line = scale.line(lane);
+    if lane % 2 == 0 {
+        let y = scale.edge(lane);
+        let width = scale.width();
+        write!(
+            text,
+            r##"<rect class="band" x="0" y="{y}" width="{width}" height="{LANE}"/>"##
+        )?;
+    }
+    let id = id.get();
+    let address = peer.write();
+    let address = address.as_str();
+    let below = line + 17;
+    write!(
+        text,
+        r##"<text class="id" x="{NAMES}" y="{line}" dy="4">{id}</text>"##
+    )?;
+    write!(
+        text,
+        r##"<text class="address" x="{NAMES}" y="{below}">{address}</text>"##
+    )?;
+    text.push_str("\n")
+}
+
+/// The line of each member, as long as it is known: whole while it is listed, broken while it is failed.
+pub(crate) fn draw_lines(
+    alloc: Global,
+    text: &mut String,
+    rows: &[Row],
+    marks: &[Mark],
+    members: &[Id],
+    scale: &Scale,
+) -> Result<(), AllocError> {
+    let mut standings = standings_at_start(alloc, rows, members)?;
+    draw_ended(text, &mut standings, marks, members, scale)?;
+    draw_lasting(text, standings.as_slice(), scale)
+}
+
+fn standings_at_start(
+    alloc: Global,
+    rows: &[Row],
+    members: &[Id],
+) -> Result<Vec<Standing>, AllocError> {
+    let mut standings = Vec::new(alloc);
+    for member in members {
+        standings.push(standing_at_start(rows, *member))?;
+    }
+    Ok(standings)
+}
+
+fn standing_at_start(rows: &[Row], member: Id) -> Standing {
+    match rows.iter().find(|row| row.id == member) {
+        None => Standing::Unknown,
+        Some(row) => match row.state {
+            RowState::Up => Standing::Listed(LEFT),
+            RowState::Failed(_) => Standing::Failed(LEFT),
+        },
+    }
+}
+
+/// The lines that a mark ends.
+fn draw_ended(
+    text: &mut String,
+    standings: &mut Vec<Standing>,
+    marks: &[Mark],
+    members: &[Id],
+    scale: &Scale,
+) -> Result<(), AllocError> {
+    for mark in marks {
+        if let Some((end, next)) = change_by(mark, scale)
+            && let Some(lane) = place_of(members, mark.member)
+            && let Some(standing) = standings.get_mut(lane)
+        {
+            let before = mem::replace(standing, next);
+            draw_line(text, before, end, scale.line(lane))?;
+        }
+    }
+    Ok(())
+}
+
+/// Where a mark changes how its member stands, and how it stands from then on.
+fn change_by(mark: &Mark, scale: &Scale) -> Option<(u64, Standing)> {
+    match mark.kind {
+        MarkKind::Judged(_) => {
+            let x = scale.at(mark.tick);
+            Some((x, Standing::Failed(x)))
+        }
+        MarkKind::Joined => {
+            let x = scale.joined_at(mark.tick);
+            Some((x, Standing::Listed(x)))
+        }
+        MarkKind::Removed => Some((scale.removed_at(mark.tick), Standing::Unknown)),
+        _ => None,
+    }
+}
+
+/// The lines that last to the end.
+fn draw_lasting(
+    text: &mut String,
+    standings: &[Standing],
+    scale: &Scale,
+) -> Result<(), AllocError> {
+    for (lane, standing) in standings.iter().enumerate() {
+        draw_line(text, *standing, scale.right(), scale.line(lane))?;
+    }
+    Ok(())
+}
+
+fn draw_line(text: &mut String, standing: Standing, end: u64, y: u64) -> Result<(), AllocError> {
+    match standing {
+        Standing::Unknown => Ok(()),
+        Standing::Listed(x) => { write!(text, "<path class=\"listed\" d=\"M{x} {y}H{end}\"/>\n") }
+        Standing::Failed(x) => { write!(text, "<path class=\"failed\" d=\"M{x} {y}H{end}\"/>\n") }
+    }
+}
