@@ -1,5 +1,8 @@
 //! What is to be measured.
 
+ghost use Rattle.std.specs.Prelude.{◌≡◌, IfSome};
+ghost use Rattle.node_bench.specs.Tasks.{limit_of, mode_of};
+
 use std::env::Args;
 
 /// What is done again and again.
@@ -31,29 +34,27 @@ pub(crate) struct Task {
 
 impl Task {
     /// The task of a program's arguments, of which the first is its name.
-    pub(crate) fn read(words: Args) -> Option<Task> {
+    pub(crate) fn read(words: Args) -> Option<Task>
+        ensures { IfSome result (λ task. task.limit ≡ limit_of task.mode task.calls) }
+    {
         let mut words = words;
         let _name = words.next()?;
         let mode = Mode::read(words.next()?.as_str())?;
         let calls = words.next()?.parse::<u32>().ok()?;
         let beside = words.next()?.parse::<u32>().ok()?;
-        // Beside a viewer that lists so often a seat makes fewer changes than this.
-        let limit = if mode == Mode::List {
-            calls.saturating_mul(8)
-        } else {
-            calls
-        };
         Some(Task {
             mode,
             calls,
             beside,
-            limit,
+            limit: mode.limit(calls),
         })
     }
 }
 
 impl Mode {
-    fn read(word: &str) -> Option<Mode> {
+    fn read(word: &str) -> Option<Mode>
+        ensures { result ≡ mode_of word.now }
+    {
         match word {
             "open" => Some(Mode::Open),
             "record" => Some(Mode::Record),
@@ -62,6 +63,17 @@ impl Mode {
             "change" => Some(Mode::Change),
             "list" => Some(Mode::List),
             _ => None,
+        }
+    }
+
+    /// How many entries the journal may have in which so many calls are made. Beside a viewer that lists so often a
+    /// seat makes fewer changes than eight times as many.
+    fn limit(self, calls: u32) -> u32
+        ensures { result ≡ limit_of self calls }
+    {
+        match self {
+            Mode::List => calls.saturating_mul(8),
+            _ => calls,
         }
     }
 }
