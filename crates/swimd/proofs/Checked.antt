@@ -1,5 +1,5 @@
 -- What checking does with the bytes that were read.
-use Rattle.std.proofs.Common.{◌≡◌, ℕ, ◌<◌, ◌≤◌, Bool, true, false, List, length, take, Option, Some, None, Result, Ok, Err}
+use Rattle.std.proofs.Common.{◌≡◌, ℕ, ◌<◌, ◌≤◌, true, List, length, take, Option, Some, None, Result, Ok, Err}
 use Rattle.std.proofs.Common.{refl, sym, ap, ◌∙◌, arith, ltb, inl, inr}
 use Rattle.std.proofs.lemmas.Bool.{cases_Bool, ltb-true, lt-ltb, ltb-false}
 use Rattle.std.proofs.lemmas.List.{take_all, length-take}
@@ -7,8 +7,9 @@ use Rattle.swimd.specs.declared.config.Config.{Config}
 use Rattle.swimd.specs.declared.config_fault.ConfigFault.{ConfigFault}
 use Rattle.swimd.specs.declared.config_fault.ConfigFault.TheVariants.{Size}
 use Rattle.swimd.specs.declared.outcomes.Outcome.{Outcome}
-use Rattle.swimd.specs.declared.outcomes.Outcome.TheVariants.{Checked, Usage, Unread, Refused, Unwritten}
-use Rattle.swimd.specs.Checking.{ChecksKnown, Shows, IsShown, IsRefused}
+use Rattle.swimd.specs.declared.outcomes.Outcome.TheVariants.{Checked, Stopped, Asked, Usage, Unread, Refused, Unwritten}
+use Rattle.swimd.specs.declared.outcomes.Outcome.TheVariants.{NoListen, NoControl, Socket, NoPlace, NoDaemon}
+use Rattle.swimd.specs.Checking.{ChecksKnown, Shows}
 use Rattle.swimd.specs.Configuration.{config_of}
 use Rattle.swimd.specs.Inputs.{IsRead}
 use Rattle.swimd.specs.Reading.{OrNoMemory}
@@ -44,6 +45,13 @@ shown None old new items config Unwritten read is shows = tt
 shown None old new items config Usage read is shows = absurd shows
 shown None old new items config Unread read is shows = absurd shows
 shown None old new items config (Refused fault) read is shows = absurd shows
+shown None old new items config Stopped read is shows = absurd shows
+shown None old new items config Asked read is shows = absurd shows
+shown None old new items config NoListen read is shows = absurd shows
+shown None old new items config NoControl read is shows = absurd shows
+shown None old new items config Socket read is shows = absurd shows
+shown None old new items config NoPlace read is shows = absurd shows
+shown None old new items config NoDaemon read is shows = absurd shows
 shown (Some text) old new items config Checked read is shows =
     record { config = config; is = known_shown text items config read is; shows = shows }
 shown (Some text) old new items config Unwritten read is shows =
@@ -51,6 +59,13 @@ shown (Some text) old new items config Unwritten read is shows =
 shown (Some text) old new items config Usage read is shows = absurd shows
 shown (Some text) old new items config Unread read is shows = absurd shows
 shown (Some text) old new items config (Refused fault) read is shows = absurd shows
+shown (Some text) old new items config Stopped read is shows = absurd shows
+shown (Some text) old new items config Asked read is shows = absurd shows
+shown (Some text) old new items config NoListen read is shows = absurd shows
+shown (Some text) old new items config NoControl read is shows = absurd shows
+shown (Some text) old new items config Socket read is shows = absurd shows
+shown (Some text) old new items config NoPlace read is shows = absurd shows
+shown (Some text) old new items config NoDaemon read is shows = absurd shows
 
 -- a fault was told
 abbrev pub refusal : ConfigFault → Result Config ConfigFault

@@ -1,12 +1,12 @@
 -- What checking a configuration does.
-use Rattle.std.specs.Prelude.{◌≡◌, ℕ, ◌<◌, Bool, true, false, List, length, Option, Some, None, Result, Ok, Err}
+use Rattle.std.specs.Prelude.{◌≡◌, ℕ, ◌<◌, Bool, true, false, List, length, Option, Some, None, Ok, Err}
 use Rattle.std.specs.Io.KnownBytes.{Appends}
 use Rattle.swim_wire.specs.Streams.{PutsFront}
 use Rattle.swimd.specs.declared.config.Config.{Config}
 use Rattle.swimd.specs.declared.config_fault.ConfigFault.{ConfigFault}
 use Rattle.swimd.specs.declared.config_fault.ConfigFault.TheVariants.{Size}
 use Rattle.swimd.specs.declared.outcomes.Outcome.{Outcome}
-use Rattle.swimd.specs.declared.outcomes.Outcome.TheVariants.{Checked, Usage, Unread, Refused, Unwritten}
+use Rattle.swimd.specs.declared.outcomes.Outcome.TheVariants.{Checked, Unread, Refused, Unwritten}
 use Rattle.swimd.specs.Configuration.{config_of}
 use Rattle.swimd.specs.Reading.{OrNoMemory}
 use Rattle.swimd.specs.Summary.{summary_text}
@@ -34,13 +34,20 @@ Checks text old new Checked = IsShown text old new Checked
 Checks text old new Unwritten = IsShown text old new Unwritten
 Checks text old new (Refused fault) = IsRefused text old new fault
 Checks text old new Unread = new ≡ old
-Checks text old new Usage = ⊥
+Checks text old new outcome = ⊥
+
+-- a check may end so
+abbrev pub IsEndOfCheck : Outcome → Type 0
+IsEndOfCheck Checked = Unit {0}
+IsEndOfCheck Unread = Unit {0}
+IsEndOfCheck (Refused fault) = Unit {0}
+IsEndOfCheck Unwritten = Unit {0}
+IsEndOfCheck outcome = ⊥
 
 -- the same of a reader whose bytes are known
 abbrev pub ChecksKnown : Option (List ℕ) → Option (List ℕ) → Option (List ℕ) → Outcome → Type 0
 ChecksKnown (Some text) old new outcome = Checks text old new outcome
-ChecksKnown None old new Usage = ⊥
-ChecksKnown None old new outcome = Unit {0}
+ChecksKnown None old new outcome = IsEndOfCheck outcome
 
 abbrev pub is_unread : Outcome → Bool
 is_unread Unread = true

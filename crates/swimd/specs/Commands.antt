@@ -5,6 +5,7 @@ use Rattle.swimd.specs.declared.config_fault.ConfigFault.TheVariants.{NoMemory}
 use Rattle.swimd.specs.declared.outcomes.Outcome.{Outcome}
 use Rattle.swimd.specs.declared.outcomes.Outcome.TheVariants.{Usage, Refused}
 use Rattle.swimd.specs.Checking.{ChecksKnown}
+use Rattle.swimd.specs.Daemon.{Runs, Asks}
 use Rattle.swimd.specs.Outcomes.{outcome_text, status_of}
 use Rattle.swimd.specs.Words.{Wanted, Check, Run, Ask}
 
@@ -14,23 +15,21 @@ pub record Told (outcome : Outcome) (old new : Option (List ℕ)) (status : ℕ)
   pub put : Puts old new (outcome_text outcome) done
   pub is : status ≡ status_of outcome
 
--- a configuration was checked
-pub record IsChecked (left old new faults_old faults_new : Option (List ℕ)) (status : ℕ) : Type 0 where
+-- what is done where the words ask this, to standard input and to standard output, and how it ends
+abbrev pub Does : Option Wanted → Option (List ℕ) → Option (List ℕ) → Option (List ℕ) → Option (List ℕ) →
+    Outcome → Type 0
+Does None left_old left_new old new outcome = (outcome ≡ Usage) × (new ≡ old)
+Does (Some Check) left_old left_new old new outcome = ChecksKnown left_old old new outcome
+Does (Some (Run file)) left_old left_new old new outcome = (left_new ≡ left_old) × Runs old new outcome
+Does (Some (Ask path)) left_old left_new old new outcome = Asks left_old left_new old new outcome
+
+-- memory may be refused before anything is done
+abbrev pub IsShort : Option (List ℕ) → Option (List ℕ) → Outcome → Type 0
+IsShort old new outcome = (outcome ≡ Refused NoMemory) × (new ≡ old)
+
+-- what the words ask was done, and how it ended was told
+pub record Commanded (asked : Option Wanted) (left_old left_new old new faults_old faults_new : Option (List ℕ))
+    (status : ℕ) : Type 0 where
   pub outcome : Outcome
-  pub checks : ChecksKnown left old new outcome
+  pub done : Does asked left_old left_new old new outcome ⊎ IsShort old new outcome
   pub told : Told outcome faults_old faults_new status
-
--- memory was refused before anything was done
-abbrev pub IsShort : Option (List ℕ) → Option (List ℕ) → Option (List ℕ) → Option (List ℕ) → ℕ → Type 0
-IsShort old new faults_old faults_new status = (new ≡ old) × Told (Refused NoMemory) faults_old faults_new status
-
--- what the words ask was done: usage is told where they ask nothing. What a daemon does, and one that is asked, is said
--- elsewhere
-abbrev pub Commanded : Option Wanted → Option (List ℕ) → Option (List ℕ) → Option (List ℕ) → Option (List ℕ) →
-    Option (List ℕ) → ℕ → Type 0
-Commanded None left old new faults_old faults_new status =
-    IsShort old new faults_old faults_new status ⊎ ((new ≡ old) × Told Usage faults_old faults_new status)
-Commanded (Some Check) left old new faults_old faults_new status =
-    IsShort old new faults_old faults_new status ⊎ IsChecked left old new faults_old faults_new status
-Commanded (Some (Run file)) left old new faults_old faults_new status = Unit {0}
-Commanded (Some (Ask path)) left old new faults_old faults_new status = Unit {0}

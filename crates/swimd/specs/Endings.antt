@@ -1,6 +1,9 @@
 -- The lines that tell how lives ended.
-use Rattle.std.specs.Prelude.{ℕ, List, ◌++◌, length, codes, decimal}
+use Rattle.std.specs.Prelude.{ℕ, Bool, List, ◌++◌, length, Option, codes, decimal}
+use Rattle.swim_wire.specs.Streams.{Puts}
 use Rattle.swim_history.specs.Judgement.{judgements}
+use Rattle.swimd.specs.declared.counts.Why.{Why}
+use Rattle.swimd.specs.declared.counts.Why.TheVariants.{JournalFull}
 use Rattle.swimd.specs.declared.lives.Past.{Past}
 use Rattle.swimd.specs.Ends.{why_text}
 
@@ -24,3 +27,16 @@ ended_text past = codes "ended " ++ (why_text past.why ++ past_text past)
 -- the line of a life whose journal was full
 abbrev pub life_text : ℕ → Past → List ℕ
 life_text number past = codes "life " ++ (decimal number ++ past_text past)
+
+-- the line of a life that ended so
+abbrev pub line_of : Why → ℕ → Past → List ℕ
+line_of JournalFull number past = life_text number past
+line_of why number past = ended_text past
+
+abbrev pub line_text : ℕ → Past → List ℕ
+line_text number past = line_of past.why number past
+
+-- it was written, as far as it was taken
+pub record TellsLife (number : ℕ) (past : Past) (old new : Option (List ℕ)) : Type 0 where
+  pub done : Bool
+  pub put : Puts old new (line_text number past) done

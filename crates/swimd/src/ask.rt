@@ -1,21 +1,23 @@
 //! Asking a daemon that runs.
 
+ghost use Rattle.swimd.specs.Daemon.{Asks};
+
+use crate::outcomes::Outcome;
 use std::net::{Net, Shutdown};
 use std::os::unix::net::UnixStream;
 use swim_wire::{Byte, ReadSource, Sink, Source, WriteSink};
 
-/// Sends the control lines of a reader to the daemon at a path, and writes its answers. The exit status.
-pub fn ask<R: Net, S: Source, W: Sink, F: Sink>(
+/// Sends the control lines of a reader to the daemon at a path, and writes its answers.
+pub fn ask<R: Net, S: Source, W: Sink>(
     rt: &R,
     path: &str,
     reader: &mut S,
     writer: &mut W,
-    faults: &mut F,
-) -> u8 {
+) -> Outcome
+    ensures { Asks (S.left reader.old) (S.left reader.new) (W.written writer.old) (W.written writer.new) result }
+{
     let Some((stream, from, to)) = connect(rt, path) else {
-        let _ = faults.put(b"connect control\n");
-        let _ = faults.flush();
-        return 5;
+        return Outcome::NoDaemon;
     };
     let mut from = from;
     let mut to = to;
@@ -25,7 +27,7 @@ pub fn ask<R: Net, S: Source, W: Sink, F: Sink>(
         pass_rest(&mut from, writer);
     }
     let _ = writer.flush();
-    0
+    Outcome::Asked
 }
 
 type Connection = (UnixStream, ReadSource<UnixStream>, WriteSink<UnixStream>);

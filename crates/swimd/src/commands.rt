@@ -1,7 +1,7 @@
 //! The commands of the program, with its standard streams handed in.
 
-ghost use Rattle.std.specs.Prelude.{◌≡◌, map};
-ghost use Rattle.swimd.specs.Commands.{Commanded, Told};
+ghost use Rattle.std.specs.Prelude.{◌⊎◌, map};
+ghost use Rattle.swimd.specs.Commands.{Commanded, Does, IsShort, Told};
 ghost use Rattle.swimd.specs.Words.{asked_of};
 
 use crate::ask::ask;
@@ -26,15 +26,31 @@ pub fn command<R: Files + Net + Clock + Threads + Wait + Sync, S: Source, W: Sin
     writer: &mut W,
     faults: &mut F,
 ) -> u8
-    ensures { Commanded (asked_of (map (λ word. word.now) words.now)) (S.left reader.old) (W.written writer.old)
-        (W.written writer.new) (F.written faults.old) (F.written faults.new) result }
+    ensures { Commanded (asked_of (map (λ word. word.now) words.now)) (S.left reader.old) (S.left reader.new)
+        (W.written writer.old) (W.written writer.new) (F.written faults.old) (F.written faults.new) result }
+{
+    let outcome = carry_out(rt, alloc, words, reader, writer);
+    tell(outcome, faults)
+}
+
+/// Does what the words ask, and answers how it ended.
+fn carry_out<R: Files + Net + Clock + Threads + Wait + Sync, S: Source, W: Sink>(
+    rt: &R,
+    alloc: Global,
+    words: &[&str],
+    reader: &mut S,
+    writer: &mut W,
+) -> Outcome
+    ensures { Does (asked_of (map (λ word. word.now) words.now)) (S.left reader.old) (S.left reader.new)
+        (W.written writer.old) (W.written writer.new) result
+        ⊎ IsShort (W.written writer.old) (W.written writer.new) result }
 {
     match read_words(alloc, words) {
-        Ok(Asked::Check) => tell(check(alloc, reader, writer), faults),
-        Ok(Asked::Run(file)) => daemon::run(rt, alloc, file, writer, faults),
-        Ok(Asked::Ask(path)) => ask(rt, path, reader, writer, faults),
-        Err(Unasked::Usage) => tell(Outcome::Usage, faults),
-        Err(Unasked::NoMemory) => tell(Outcome::Refused(ConfigFault::NoMemory), faults),
+        Ok(Asked::Check) => check(alloc, reader, writer),
+        Ok(Asked::Run(file)) => daemon::run(rt, alloc, file, writer),
+        Ok(Asked::Ask(path)) => ask(rt, path, reader, writer),
+        Err(Unasked::Usage) => Outcome::Usage,
+        Err(Unasked::NoMemory) => Outcome::Refused(ConfigFault::NoMemory),
     }
 }
 

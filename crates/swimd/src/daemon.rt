@@ -1,6 +1,8 @@
 //! A daemon: the lives of a configuration over real devices.
 
-use crate::commands::tell;
+ghost use Rattle.std.specs.Prelude.{◌≡◌, MatchResult};
+ghost use Rattle.swimd.specs.Daemon.{IsConfiguration, IsNoConfiguration, Runs, Starts, outcome_of};
+
 use crate::config::{Config, read_config};
 use crate::config_fault::ConfigFault;
 use crate::inputs::{INPUT_BYTES, read_input};
@@ -18,22 +20,25 @@ use std::sync::Wait;
 use std::thread::Threads;
 use swim_wire::{ReadSource, Sink};
 
-/// Runs the daemon of a configuration file, and writes how its lives ended. The exit status.
-pub fn run<R: Files + Net + Clock + Threads + Wait + Sync, W: Sink, F: Sink>(
+/// Runs the daemon of a configuration file, and writes how its lives ended.
+pub fn run<R: Files + Net + Clock + Threads + Wait + Sync, W: Sink>(
     rt: &R,
     alloc: Global,
     path: &str,
     writer: &mut W,
-    faults: &mut F,
-) -> u8 {
+) -> Outcome
+    ensures { Runs (W.written writer.old) (W.written writer.new) result }
+{
     match configuration(rt, alloc, path) {
-        Ok(config) => start(rt, alloc, config, writer, faults),
-        Err(outcome) => tell(outcome, faults),
+        Ok(config) => start(rt, alloc, config, writer),
+        Err(outcome) => outcome,
     }
 }
 
 /// The configuration in the file of that path.
-fn configuration<R: Files>(rt: &R, alloc: Global, path: &str) -> Result<Config, Outcome> {
+fn configuration<R: Files>(rt: &R, alloc: Global, path: &str) -> Result<Config, Outcome>
+    ensures { MatchResult result IsConfiguration IsNoConfiguration }
+{
     let Ok(file) = fs::open(rt, path) else {
         return Err(Outcome::Unread);
     };
@@ -47,26 +52,20 @@ fn configuration<R: Files>(rt: &R, alloc: Global, path: &str) -> Result<Config, 
     }
 }
 
-/// Tells why there is no daemon. The exit status.
-fn refuse<F: Sink>(faults: &mut F, text: &[u8], status: u8) -> u8 {
-    let _ = faults.put(text);
-    let _ = faults.flush();
-    status
-}
-
-/// Opens the gates, and then the node. The exit status.
-fn start<R: Files + Net + Clock + Threads + Wait + Sync, W: Sink, F: Sink>(
+/// Opens the gates of a configuration, and lives over them.
+fn start<R: Files + Net + Clock + Threads + Wait + Sync, W: Sink>(
     rt: &R,
     alloc: Global,
     config: Config,
     writer: &mut W,
-    faults: &mut F,
-) -> u8 {
+) -> Outcome
+    ensures { Starts config (W.written writer.old) (W.written writer.new) result }
+{
     let Ok(line) = UdpLine::bind(rt, config.listen) else {
-        return refuse(faults, b"bind listen\n", 5);
+        return Outcome::NoListen;
     };
     let Ok(mut door) = UnixDoor::bind(rt, config.control.as_str()) else {
-        return refuse(faults, b"bind control\n", 5);
+        return Outcome::NoControl;
     };
     let mut pace = SleepingPace::new(rt, config.tick_ms);
     let terms = Terms {
@@ -74,12 +73,20 @@ fn start<R: Files + Net + Clock + Threads + Wait + Sync, W: Sink, F: Sink>(
         limit: config.journal,
     };
     let opening = config.opening;
-    match run_lives(
+    let end = run_lives(
         rt, alloc, opening, terms, &line, &mut pace, &mut door, writer,
-    ) {
-        LivesEnd::Stopped => 0,
-        LivesEnd::Socket => 5,
-        LivesEnd::NoMemory => tell(Outcome::Refused(ConfigFault::NoMemory), faults),
-        LivesEnd::NoPlace => refuse(faults, b"no place\n", 4),
+    );
+    outcome_of(end)
+}
+
+/// How a daemon ends whose lives ended so.
+fn outcome_of(end: LivesEnd) -> Outcome
+    ensures { result ≡ outcome_of end }
+{
+    match end {
+        LivesEnd::Stopped => Outcome::Stopped,
+        LivesEnd::Socket => Outcome::Socket,
+        LivesEnd::NoMemory => Outcome::Refused(ConfigFault::NoMemory),
+        LivesEnd::NoPlace => Outcome::NoPlace,
     }
 }

@@ -1,10 +1,9 @@
 //! Lives: one node after another, each of which goes on from the journal of the one before.
 
-ghost use Rattle.std.specs.Prelude.{◌≡◌, ◌↔◌, List, None, IfOk};
-ghost use Rattle.swim_history.specs.Changes.{changes};
+ghost use Rattle.std.specs.Prelude.{◌≡◌, IfOk};
 ghost use Rattle.swim_targets.specs.Draws.{of_seed};
-ghost use Rattle.swim_node.specs.Seats.{Seated};
-ghost use Rattle.swim_node.specs.OneHistory.{IsOneHistory};
+ghost use Rattle.swimd.specs.Endings.{TellsLife};
+ghost use Rattle.swimd.specs.Lives.{AreLived, IsLife, end_after, end_without};
 
 use crate::counts::Why;
 use crate::endings::{put_ended, put_life};
@@ -65,15 +64,16 @@ pub fn run_lives<R: Threads + Wait + Sync, L: Line + Sync, P: Pace + Send, D: Do
     pace: &mut P,
     door: &mut D,
     writer: &mut W,
-) -> LivesEnd {
+) -> LivesEnd
+    ensures { AreLived opening (W.written writer.old) (W.written writer.new) result }
+{
     let mut opening = opening;
     let mut number: u64 = 0;
     for _life in rt.forever() {
         let chooser = chooser_of(terms, number);
         let past = match live(rt, alloc, opening, chooser, terms.limit, line, pace, door) {
             Ok(past) => past,
-            Err(OpenFault::NoMemory) => return LivesEnd::NoMemory,
-            Err(OpenFault::NoPlace) => return LivesEnd::NoPlace,
+            Err(fault) => return end_without(fault),
         };
         tell(writer, number, &past);
         if let Some(end) = end_of(past.why) {
@@ -93,23 +93,35 @@ fn chooser_of(terms: Terms, number: u64) -> Seeded
 }
 
 /// Writes how a life ended. That it can't be written changes nothing.
-fn tell<W: Sink>(writer: &mut W, number: u64, past: &Past) {
-    let _ = match past.why {
+fn tell<W: Sink>(writer: &mut W, number: u64, past: &Past)
+    ensures { TellsLife number past.now (W.written writer.old) (W.written writer.new) }
+{
+    let _is_put = match past.why {
         Why::JournalFull => put_life(writer, number, past),
         Why::NoMemory | Why::Socket | Why::Stopped => put_ended(writer, past),
     };
-    let _ = writer.flush();
+    let _is_sent = writer.flush();
 }
 
 /// Why no other life follows, where none does.
 fn end_of(why: Why) -> Option<LivesEnd>
-    ensures { (result ≡ None) ↔ (why ≡ Why.JournalFull) }
+    ensures { result ≡ end_after why }
 {
     match why {
         Why::JournalFull => None,
         Why::NoMemory => Some(LivesEnd::NoMemory),
         Why::Socket => Some(LivesEnd::Socket),
         Why::Stopped => Some(LivesEnd::Stopped),
+    }
+}
+
+/// Why a daemon ended whose next life got no node.
+fn end_without(fault: OpenFault) -> LivesEnd
+    ensures { result ≡ end_without fault }
+{
+    match fault {
+        OpenFault::NoMemory => LivesEnd::NoMemory,
+        OpenFault::NoPlace => LivesEnd::NoPlace,
     }
 }
 
@@ -124,9 +136,7 @@ pub fn live<R: Threads + Wait + Sync, L: Line + Sync, P: Pace + Send, D: Door>(
     pace: &mut P,
     door: &mut D,
 ) -> Result<Past, OpenFault>
-    ensures opening { IfOk result (λ past. past.journal.opening ≡ opening) }
-    ensures history { IfOk result (λ past. (seats : List Seated)
-        × IsOneHistory opening past.journal.past seats (changes opening past.journal.past)) }
+    ensures { IfOk result (IsLife opening) }
 {
     let Ok(parts) = Parts::make(alloc, limit) else {
         return Err(OpenFault::NoMemory);
@@ -155,9 +165,7 @@ fn live_so<
     requires parts { parts ≡ record { limit = N.limit; ledgers = N.ledgers; log = N.log; cells = N.cells } }
     requires opening { opening ≡ N.opening }
     requires limit { limit ≡ N.limit }
-    ensures opening { IfOk result (λ past. past.journal.opening ≡ opening) }
-    ensures history { IfOk result (λ past. (seats : List Seated)
-        × IsOneHistory opening past.journal.past seats (changes opening past.journal.past)) }
+    ensures { IfOk result (IsLife opening) }
 {
     match Node::<N, Seeded, &R>::open(alloc, rt, parts, opening, chooser, limit) {
         Ok(opened) => {

@@ -13,6 +13,10 @@ use swim_wire::Sink;
 pub enum Outcome {
     /// The configuration was checked, and its summary written.
     Checked,
+    /// The daemon ran until it was told to stop.
+    Stopped,
+    /// The lines were sent to a daemon, as far as it took them, and its answers passed on.
+    Asked,
     /// There is no such command.
     Usage,
     /// The configuration can't be read.
@@ -21,6 +25,16 @@ pub enum Outcome {
     Refused(ConfigFault),
     /// The summary can't be written.
     Unwritten,
+    /// The datagram socket can't be bound.
+    NoListen,
+    /// The control socket can't be bound.
+    NoControl,
+    /// A socket of the daemon failed too often in a row.
+    Socket,
+    /// No reader of the member table is to be had.
+    NoPlace,
+    /// No daemon listens at the control socket.
+    NoDaemon,
 }
 
 impl Outcome {
@@ -29,10 +43,11 @@ impl Outcome {
         ensures { result ≡ status_of self }
     {
         match self {
-            Outcome::Checked => 0,
+            Outcome::Checked | Outcome::Stopped | Outcome::Asked => 0,
             Outcome::Usage => 2,
-            Outcome::Refused(ConfigFault::NoMemory) => 4,
+            Outcome::Refused(ConfigFault::NoMemory) | Outcome::NoPlace => 4,
             Outcome::Refused(_) | Outcome::Unread | Outcome::Unwritten => 1,
+            Outcome::NoListen | Outcome::NoControl | Outcome::Socket | Outcome::NoDaemon => 5,
         }
     }
 }
@@ -43,9 +58,17 @@ pub fn put_outcome<W: Sink>(writer: &mut W, outcome: Outcome) -> bool
     ensures failures { W.failures writer.new ≡ failures_if (W.failures writer.old) result }
 {
     match outcome {
-        Outcome::Checked | Outcome::Unwritten => writer.put(b""),
+        Outcome::Refused(fault) => put_fault(writer, fault),
         Outcome::Usage => writer.put(b"usage\n"),
         Outcome::Unread => writer.put(b"configuration file\n"),
-        Outcome::Refused(fault) => put_fault(writer, fault),
+        Outcome::NoListen => writer.put(b"bind listen\n"),
+        Outcome::NoControl => writer.put(b"bind control\n"),
+        Outcome::NoPlace => writer.put(b"no place\n"),
+        Outcome::NoDaemon => writer.put(b"connect control\n"),
+        Outcome::Checked
+        | Outcome::Stopped
+        | Outcome::Asked
+        | Outcome::Unwritten
+        | Outcome::Socket => writer.put(b""),
     }
 }

@@ -1,0 +1,53 @@
+-- What a daemon does, and what asking one does.
+use Rattle.std.specs.Prelude.{◌≡◌, ◌⊎◌, ℕ, List, Option, Ok, Err}
+use Rattle.swimd.specs.declared.config.Config.{Config}
+use Rattle.swimd.specs.declared.config_fault.ConfigFault.TheVariants as faults
+use Rattle.swimd.specs.declared.lives.LivesEnd.{LivesEnd}
+use Rattle.swimd.specs.declared.lives.LivesEnd.TheVariants as ends
+use Rattle.swimd.specs.declared.outcomes.Outcome.{Outcome}
+use Rattle.swimd.specs.declared.outcomes.Outcome.TheVariants.{Unread, Refused, NoListen, NoControl, Stopped, Socket}
+use Rattle.swimd.specs.declared.outcomes.Outcome.TheVariants.{NoPlace, NoDaemon, Asked}
+use Rattle.swimd.specs.Configuration.{config_of}
+use Rattle.swimd.specs.Lives.{AreLived}
+use Rattle.swimd.specs.Reading.{OrNoMemory}
+
+-- a configuration that was read of some text
+abbrev pub IsConfiguration : Config → Type 0
+IsConfiguration config = (text : List ℕ) × (config_of text ≡ Ok config)
+
+-- why there is none: no text could be read, or it has this fault, or memory was refused
+abbrev pub IsNoConfiguration : Outcome → Type 0
+IsNoConfiguration Unread = Unit {0}
+IsNoConfiguration (Refused fault) = (text : List ℕ) × OrNoMemory {A = Config} (Err fault) (config_of text)
+IsNoConfiguration outcome = ⊥
+
+-- how a daemon ends whose lives ended so
+abbrev pub outcome_of : LivesEnd → Outcome
+outcome_of ends.Stopped = Stopped
+outcome_of ends.Socket = Socket
+outcome_of ends.NoMemory = Refused faults.NoMemory
+outcome_of ends.NoPlace = NoPlace
+
+-- lives were lived from the configuration's opening
+pub record IsLivedBy (config : Config) (old new : Option (List ℕ)) (outcome : Outcome) : Type 0 where
+  pub end : LivesEnd
+  pub lived : AreLived config.opening old new end
+  pub is : outcome ≡ outcome_of end
+
+-- what a daemon of this configuration does: without its sockets nothing is written
+abbrev pub Starts : Config → Option (List ℕ) → Option (List ℕ) → Outcome → Type 0
+Starts config old new NoListen = new ≡ old
+Starts config old new NoControl = new ≡ old
+Starts config old new outcome = IsLivedBy config old new outcome
+
+-- what a daemon of some configuration file does: without a configuration nothing is written
+abbrev pub Runs : Option (List ℕ) → Option (List ℕ) → Outcome → Type 0
+Runs old new outcome =
+    (IsNoConfiguration outcome × (new ≡ old))
+    ⊎ ((config : Config) × IsConfiguration config × Starts config old new outcome)
+
+-- what asking a daemon does: where there is none nothing is read and nothing is written
+abbrev pub Asks : Option (List ℕ) → Option (List ℕ) → Option (List ℕ) → Option (List ℕ) → Outcome → Type 0
+Asks left_old left_new old new NoDaemon = (left_new ≡ left_old) × (new ≡ old)
+Asks left_old left_new old new Asked = Unit {0}
+Asks left_old left_new old new outcome = ⊥
