@@ -1,5 +1,6 @@
 -- How a life ends, and what its workers counted.
-use Rattle.std.specs.Prelude.{◌≡◌, ℕ, ◌+◌, ◌-◌, ◌^◌, ◌≤◌, List, codes, min, Option, Some, None, Result, Ok, Err}
+use Rattle.std.specs.Prelude.{◌≡◌, ℕ, ◌+◌, ◌-◌, ◌^◌, ◌≤◌, Bool, nat_lt, if◌then◌else◌, List, codes, min}
+use Rattle.std.specs.Prelude.{Option, Some, None, Result, Ok, Err}
 use Rattle.swim_node.specs.declared.receipts.CallFault.{CallFault}
 use Rattle.swim_node.specs.declared.receipts.CallFault.TheVariants as faults
 use Rattle.swimd.specs.declared.counts.Counts.{Counts}
@@ -12,6 +13,14 @@ gravity JournalFull = 3
 gravity NoMemory = 2
 gravity Socket = 1
 gravity Stopped = 0
+
+abbrev pub graver : Why → Why → Why
+graver one other = if nat_lt (gravity one) (gravity other) then other else one
+
+-- why a life ended: its three workers' reasons, and want of memory where not all of them could be started
+abbrev pub why_of : Why → Why → Why → Bool → Why
+why_of first second third all_began =
+    graver (graver (graver first second) third) (if all_began then Stopped else NoMemory)
 
 -- a reason's words
 abbrev pub why_text : Why → List ℕ
@@ -31,10 +40,16 @@ together one other = record {
   refused = both one.refused other.refused;
 }
 
--- what a worker does about the answer to a call: it counts what got no reply, and ends where the journal is full, but
--- for nothing else
-abbrev pub IsFinished : {A : Type 0} → Result A CallFault → Counts → Option Why → Counts → Type 0
-IsFinished (Ok receipt) old end new = (end ≡ None) × (new ≡ record old { unsent = new.unsent })
-IsFinished (Err (faults.Wire fault)) old end new = (end ≡ None) × (new ≡ record old { wire = both old.wire 1 })
-IsFinished (Err faults.NoMemory) old end new = (end ≡ None) × (new ≡ record old { refused = both old.refused 1 })
-IsFinished (Err faults.JournalFull) old end new = (end ≡ Some JournalFull) × (new ≡ old)
+-- so many of these datagrams, and no more, couldn't be sent
+abbrev pub AreSent : ℕ → Counts → Counts → Type 0
+AreSent count old new =
+    (unsent : ℕ) × (unsent ≤ count) × (new ≡ record old { unsent = both old.unsent unsent })
+
+-- what a worker does about the answer to a call: it sends the datagrams of the reply, of which there are so many,
+-- counts what couldn't be sent and what got no reply, and ends where the journal is full, but for nothing else
+abbrev pub IsFinished : {A : Type 0} → Result A CallFault → (A → ℕ) → Counts → Option Why → Counts → Type 0
+IsFinished (Ok receipt) count old end new = (end ≡ None) × AreSent (count receipt) old new
+IsFinished (Err (faults.Wire fault)) count old end new = (end ≡ None) × (new ≡ record old { wire = both old.wire 1 })
+IsFinished (Err faults.NoMemory) count old end new =
+    (end ≡ None) × (new ≡ record old { refused = both old.refused 1 })
+IsFinished (Err faults.JournalFull) count old end new = (end ≡ Some JournalFull) × (new ≡ old)

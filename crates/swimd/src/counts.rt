@@ -1,7 +1,7 @@
 //! What a worker counts, and why it ends.
 
-ghost use Rattle.std.specs.Prelude.{◌≡◌, ◌↔◌, ◌+◌, ◌≤◌, ◌^◌, ◌-◌, ◌⊎◌, min, max, IsSome, IfSome};
-ghost use Rattle.swimd.specs.Ends.{gravity, why_text, together};
+ghost use Rattle.std.specs.Prelude.{◌≡◌, ◌↔◌, ◌+◌, ◌≤◌, ◌^◌, ◌-◌, min, IsSome, IfSome};
+ghost use Rattle.swimd.specs.Ends.{gravity, graver, why_text, together};
 
 /// How many faults in a row a worker takes of its line or its door before it gives up.
 pub(crate) const MOST_FAULTS: u32 = 16;
@@ -22,8 +22,7 @@ pub enum Why {
 impl Why {
     /// Of two reasons the graver.
     pub(crate) fn or(self, other: Why) -> Why
-        ensures one { (result ≡ self) ⊎ (result ≡ other) }
-        ensures graver { gravity result ≡ max (gravity self) (gravity other) }
+        ensures { result ≡ graver self other }
     {
         if self.gravity() < other.gravity() {
             other

@@ -4,6 +4,7 @@ ghost use Rattle.std.specs.Prelude.{◌≡◌};
 ghost use Rattle.swim_history.specs.Changes.{changes};
 ghost use Rattle.swim_node.specs.Seats.{AreTheSeats};
 ghost use Rattle.swim_node.specs.OneHistory.{IsOneHistory};
+ghost use Rattle.swimd.specs.Ends.{together, why_of};
 
 use crate::counts::Why;
 use crate::gates::{Door, Line, Pace};
@@ -150,6 +151,9 @@ fn closed<N: Naming, H: Wait + Drop, R: Wait>(
     ensures seats { AreTheSeats result.seats }
     ensures history { IsOneHistory N.opening result.journal.past result.seats
         (changes N.opening result.journal.past) }
+    ensures why { result.why ≡ why_of ended.first.why ended.second.why ended.third.why ended.all_began }
+    ensures counts { together (together ended.first.counts ended.second.counts) ended.third.counts
+        ≡ record { unsent = result.unsent; wire = result.wire; refused = result.refused } }
 {
     let Over {
         first,

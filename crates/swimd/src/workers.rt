@@ -1,6 +1,8 @@
 //! The three workers of a life. Each has a seat of the node for itself. It reads the shared flag once a turn, then asks
 //! its gate once, and sets the flag when it ends.
 
+ghost use Rattle.std.specs.Prelude.{◌≤◌, length};
+ghost use Rattle.swim_history.specs.Sends.{sends_of};
 ghost use Rattle.swimd.specs.Ends.{IsFinished};
 
 use crate::counts::{Counts, Faults, Why};
@@ -178,7 +180,7 @@ fn finish<N: Naming, R: Wait, L: Line>(
     answer: Result<Receipt<N>, CallFault>,
     counts: &mut Counts,
 ) -> Option<Why>
-    ensures { IsFinished answer counts.old result counts.new }
+    ensures { IsFinished answer (λ receipt. length (sends_of receipt.reply opening.now)) counts.old result counts.new }
 {
     match answer {
         Ok(receipt) => {
@@ -200,7 +202,9 @@ fn finish<N: Naming, R: Wait, L: Line>(
 }
 
 /// Sends datagrams. How many couldn't be sent.
-fn send_each<R: Wait, L: Line>(rt: &R, line: &L, messages: &[(Peer, Message)]) -> u64 {
+fn send_each<R: Wait, L: Line>(rt: &R, line: &L, messages: &[(Peer, Message)]) -> u64
+    ensures { result ≤ length messages.now }
+{
     let mut unsent = 0u64;
     for (peer, message) in messages {
         if !line.send(rt, &encode(message), *peer) {
