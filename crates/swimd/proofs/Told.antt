@@ -1,5 +1,5 @@
 -- To what operators ask of a node, the detector replies so that it can be told.
-use Rattle.std.proofs.Common.{◌≡◌, ℕ, List, ◌∷◌, subst, sym, inl}
+use Rattle.std.proofs.Common.{◌≡◌, ℕ, List, subst, sym, inl}
 use Rattle.swim_wire.specs.Address.{Address}
 use Rattle.swim_history.specs.declared.calls.Call.{Call}
 use Rattle.swim_history.specs.declared.calls.Call.TheVariants as calls
@@ -51,12 +51,14 @@ removal_is_told o old new id position number call reply news is =
     reply_to_removal o is.run.before id reply is.run.choice (subst (λ c. Answers o is.run.before c reply is.run.choice) is.asked is.run.run.0.answer)
 
 -- a call whose answer was told, and whose news was learnt
-pub is_called : (o : Setting) (old new : AtDesk) (seat : Seated) (asked : Call) (position number : ℕ) (call : Call) (reply : Reply) (news : List Change) (answer : Answer)
-    → IsAnswered o old.seat seat asked (kept position number call reply) news → new.seat ≡ seat → Tells reply answer → IsLongerOf old.seen news new.seen → Calls o old asked answer new
-is_called o old new seat asked position number call reply news answer is same told learnt = inl (record {
+pub is_called : (o : Setting) (limit : ℕ) (old new : AtDesk) (seat : Seated) (asked : Call) (position number : ℕ) (call : Call) (reply : Reply) (news : List Change) (answer : Answer)
+    → IsAnswered o old.seat seat asked (kept position number call reply) news → new.seat ≡ seat → new.refused ≡ old.refused → Tells reply answer → IsLongerOf old.seen news new.seen
+    → Calls o limit old asked answer new
+is_called o limit old new seat asked position number call reply news answer is same as_many told learnt = inl (record {
   kept = kept position number call reply;
   news = news;
   answered = subst (λ s. IsAnswered o old.seat s asked (kept position number call reply) news) (sym same) is;
   told = told;
   learnt = learnt;
+  refused = as_many;
 })

@@ -4,6 +4,7 @@ ghost use Rattle.std.specs.Prelude.{◌≡◌};
 ghost use Rattle.swim_history.specs.declared.calls.Call.TheVariants as calls;
 ghost use Rattle.swim_control.specs.declared.desks.Command.{Command as Asked};
 ghost use Rattle.swim_control.specs.Desks.{Shows, Measures, Answers};
+ghost use Rattle.swim_node.specs.Answered.{MayRefuse};
 ghost use Rattle.swim_node.specs.News.{IsLongerOf};
 ghost use Rattle.swimd.specs.Desk.{Asks, Calls, IsRefused, IsTold, Tells};
 
@@ -17,8 +18,9 @@ use swim_node::{CallFault, Naming, Node, Receipt, Viewer};
 use swim_targets::{Chooser, Seeded};
 use swim_wire::{Id, Peer};
 
-/// A caller of a node: its seat, with the number in its type, and its viewer, which learns of each of its calls. A
-/// contract sees the seat, and the changes that the viewer has seen.
+/// A caller of a node: its seat, with the number in its type, its viewer, which learns of each of its calls, and how
+/// many of them were refused for want of memory. A contract sees the seat, the changes that the viewer has seen, and
+/// the count.
 #[derive(Drop)]
 struct Caller<N: Naming, const SEAT: u8> {
     held: Held<N, SEAT>,
@@ -31,7 +33,7 @@ impl<N: Naming, const SEAT: u8> Model for Caller<N, SEAT> {
 
     ghost Value = { AtDesk };
 
-    ghost view = { λ d. record { seat = d.held.seat; seen = d.viewer } };
+    ghost view = { λ d. record { seat = d.held.seat; seen = d.viewer; refused = d.refused } };
 }
 
 impl<N: Naming, const SEAT: u8> Caller<N, SEAT> {
@@ -44,7 +46,7 @@ impl<N: Naming, const SEAT: u8> Caller<N, SEAT> {
         id: Id,
         peer: Peer,
     ) -> Answer
-        ensures { Calls N.opening self.old (calls.Join id peer) result self.new }
+        ensures { Calls N.opening N.limit self.old (calls.Join id peer) result self.new }
     {
         match node.join(rt, &mut self.held.seat, id, peer) {
             Ok(receipt) => self.done(&receipt),
@@ -60,7 +62,7 @@ impl<N: Naming, const SEAT: u8> Caller<N, SEAT> {
         node: &Node<N, C, H>,
         id: Id,
     ) -> Answer
-        ensures { Calls N.opening self.old (calls.Remove id) result self.new }
+        ensures { Calls N.opening N.limit self.old (calls.Remove id) result self.new }
     {
         match node.remove(rt, &mut self.held.seat, id) {
             Ok(receipt) => self.done(&receipt),
@@ -75,7 +77,7 @@ impl<N: Naming, const SEAT: u8> Caller<N, SEAT> {
         node: &Node<N, C, H>,
         id: Id,
     ) -> Option<Gap>
-        ensures { Asks N.opening self.old (Asked.Gap id) (Measures result) self.new }
+        ensures { Asks N.opening N.limit self.old (Asked.Gap id) (Measures result) self.new }
     {
         node.gap(rt, &mut self.held.seat, id)
     }
@@ -83,7 +85,7 @@ impl<N: Naming, const SEAT: u8> Caller<N, SEAT> {
     /// Learns of a call that was answered. What an operator is told of its reply.
     fn done(&mut self, receipt: &Receipt<N>) -> Answer
         requires { IsTold receipt.now.reply }
-        ensures seat { self.new.seat ≡ self.old.seat }
+        ensures same { self.new ≡ record self.old { seen = self.new.seen } }
         ensures told { Tells receipt.now.reply result }
         ensures learnt { IsLongerOf self.old.seen receipt.now.news self.new.seen }
     {
@@ -98,13 +100,17 @@ impl<N: Naming, const SEAT: u8> Caller<N, SEAT> {
 
     /// What an operator is told of a call that got no reply. Such a call is counted where memory was refused.
     fn refused(&mut self, fault: CallFault) -> Answer
-        ensures { IsRefused self.old result self.new }
+        requires { MayRefuse N.opening N.limit self.old.seat fault }
+        ensures { IsRefused N.opening N.limit self.old result self.new }
     {
-        if fault == CallFault::JournalFull {
-            return Answer::JournalFull;
+        match fault {
+            CallFault::JournalFull => Answer::JournalFull,
+            CallFault::NoMemory => {
+                self.refused = self.refused.saturating_add(1);
+                Answer::NoMemory
+            }
+            CallFault::Wire(_) => unreachable!(),
         }
-        self.refused = self.refused.saturating_add(1);
-        Answer::NoMemory
     }
 }
 
@@ -130,7 +136,7 @@ impl<'n, N: Naming, H: Wait + Drop, const SEAT: u8> NodeDesk<'n, N, H, SEAT> {
         held: Held<N, SEAT>,
         viewer: Viewer<N>,
     ) -> NodeDesk<'n, N, H, SEAT>
-        ensures { result ≡ record { seat = held.seat; seen = viewer } }
+        ensures { result ≡ record { seat = held.seat; seen = viewer; refused = 0 } }
     {
         let caller = Caller {
             held,
@@ -141,36 +147,39 @@ impl<'n, N: Naming, H: Wait + Drop, const SEAT: u8> NodeDesk<'n, N, H, SEAT> {
     }
 
     /// The seat, and how many calls were refused for want of memory.
-    pub(crate) fn leave(self) -> (Held<N, SEAT>, u64) {
+    pub(crate) fn leave(self) -> (Held<N, SEAT>, u64)
+        ensures seat { result.0.seat ≡ self.entry.seat }
+        ensures refused { result.1 ≡ self.entry.refused }
+    {
         (self.caller.held, self.caller.refused)
     }
 }
 
 impl<'n, N: Naming, H: Wait + Drop, const SEAT: u8> Desk for NodeDesk<'n, N, H, SEAT> {
-    ghost asks = { λ old command told new. Asks N.opening old command told new };
+    ghost asks = { λ old command told new. Asks N.opening N.limit old command told new };
 
     fn list<R: Wait>(&mut self, _rt: &R) -> Option<Table>
-        ensures { Asks N.opening self.old Asked.List (Shows result) self.new }
+        ensures { Asks N.opening N.limit self.old Asked.List (Shows result) self.new }
     {
         self.caller.viewer.list()
     }
 
     fn join<R: Wait>(&mut self, rt: &R, _alloc: Global, id: Id, peer: Peer) -> Answer
-        ensures { Asks N.opening self.old (Asked.Join id peer) (Answers result) self.new }
+        ensures { Asks N.opening N.limit self.old (Asked.Join id peer) (Answers result) self.new }
     {
         let node = self.node;
         self.caller.join(rt, node, id, peer)
     }
 
     fn remove<R: Wait>(&mut self, rt: &R, _alloc: Global, id: Id) -> Answer
-        ensures { Asks N.opening self.old (Asked.Remove id) (Answers result) self.new }
+        ensures { Asks N.opening N.limit self.old (Asked.Remove id) (Answers result) self.new }
     {
         let node = self.node;
         self.caller.remove(rt, node, id)
     }
 
     fn gap<R: Wait>(&mut self, rt: &R, id: Id) -> Option<Gap>
-        ensures { Asks N.opening self.old (Asked.Gap id) (Measures result) self.new }
+        ensures { Asks N.opening N.limit self.old (Asked.Gap id) (Measures result) self.new }
     {
         let node = self.node;
         self.caller.gap(rt, node, id)
