@@ -1,5 +1,5 @@
 -- What `clap` found, and the rows that stand for it.
-use Rattle.std.proofs.Common.{◌≡◌, ℕ, List, Option, Some, None, Box, Global, option_map, refl}
+use Rattle.std.proofs.Common.{◌≡◌, List, Option, Some, None, Box, Global, option_map, refl}
 use Rattle.std.specs.Box.{box_value}
 use Rattle.clap.specs.Matches.{first_value, found_of, subcommand_name_of}
 use Rattle.clap.specs.Simple.{subcommand_rows, subcommand_rows_of}

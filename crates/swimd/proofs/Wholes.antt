@@ -1,5 +1,5 @@
 -- How the parts of a configuration make the whole.
-use Rattle.std.proofs.Common.{◌≡◌, ◌⊎◌, List, Result, Ok, Err, Vec, Global, refl, sym, ◌∙◌, inl, inr}
+use Rattle.std.proofs.Common.{◌≡◌, List, Result, Ok, Err, Vec, Global, refl, sym, ◌∙◌, inl, inr}
 use Rattle.swim_wire.specs.Address.{Address}
 use Rattle.swim_wire.specs.Arguments.{◌>>=◌}
 use Rattle.std.proofs.Common.{ℕ}

@@ -1,5 +1,5 @@
 -- What was read of the bytes that a source has.
-use Rattle.std.specs.Prelude.{◌≡◌, ℕ, Bool, true, false, List, ◌++◌, length, take, Option, Some, None}
+use Rattle.std.specs.Prelude.{◌≡◌, ℕ, Bool, true, false, List, ◌++◌, take, Option, Some, None}
 
 -- where no read failed: all bytes, or the first 65,537 of them
 abbrev pub IsRead : Option (List ℕ) → List ℕ → Bool → Type 0

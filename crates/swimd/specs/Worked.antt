@@ -1,5 +1,5 @@
 -- Worked words: the definitions, evaluated on words that were written down by hand.
-use Rattle.std.specs.Prelude.{◌≡◌, ℕ, List, [], ◌∷◌, Some, None, codes, refl}
+use Rattle.std.specs.Prelude.{◌≡◌, [], ◌∷◌, Some, None, codes, refl}
 use Rattle.clap.proofs.OnLiterals.{clap_on_literals}
 use Rattle.swimd.specs.Words.{Check, Run, Ask, asked_of}
 

@@ -6,12 +6,16 @@ mod lives;
 mod two;
 
 use crate::counts::Why;
+use crate::gates::{Line, Pace};
 use crate::lives::{Past, live};
+use crate::tests::gates::NoDoor;
+use std::alloc::Global;
 use std::process::Abort;
 use std::rt::Clock;
+use std::sync::Wait;
 use std::test::*;
+use std::thread::Threads;
 use swim_history::{Journal, Opening, Probe, Reply};
-use swim_node::OpenFault;
 use swim_targets::Seeded;
 use swim_wire::{Id, Peer};
 
@@ -35,4 +39,17 @@ fn opening() -> Result<Opening, Fail> {
 
 fn chooser() -> Seeded {
     Seeded::new([0; 32])
+}
+
+// A life to whose door nobody comes.
+fn live_alone<R: Threads + Wait + Clock + Sync + Copy + Drop, L: Line + Sync, P: Pace + Send>(
+    rt: &R,
+    alloc: Global,
+    opening: Opening,
+    limit: u32,
+    line: &L,
+    pace: &mut P,
+) -> Option<Past> {
+    let mut door = NoDoor { clock: *rt };
+    live(rt, alloc, opening, chooser(), limit, line, pace, &mut door).ok()
 }

@@ -45,7 +45,8 @@ fn workers_at_once(rt: HostRuntime) -> Result<(), Fail> {
         &line,
         &mut pace,
         &mut door,
-    );
+    )
+    .ok();
     assert_ended(&rt, past, Why::Stopped, 1, 0);
     assert!(rt; is_set(&signals.is_listed));
     assert!(rt; is_set(&signals.is_acked));
@@ -60,17 +61,7 @@ fn fifteen_faults(rt: HostRuntime) -> Result<(), Fail> {
     let signals = Signals::new(true);
     let line = line(rt, &signals, 15);
     let mut pace = pace(rt, &signals.is_acked, 0);
-    let mut door = NoDoor { clock: rt };
-    let past = live(
-        &rt,
-        rt.alloc(),
-        opening,
-        chooser(),
-        1000,
-        &line,
-        &mut pace,
-        &mut door,
-    );
+    let past = live_alone(&rt, rt.alloc(), opening, 1000, &line, &mut pace);
     assert_ended(&rt, past, Why::Stopped, 1, 0);
     assert!(rt; is_set(&signals.is_acked));
     Ok(())
@@ -84,17 +75,7 @@ fn a_failed_send(rt: HostRuntime) -> Result<(), Fail> {
     let mut line = line(rt, &signals, 15);
     line.is_sending = false;
     let mut pace = pace(rt, &signals.is_acked, 0);
-    let mut door = NoDoor { clock: rt };
-    let past = live(
-        &rt,
-        rt.alloc(),
-        opening,
-        chooser(),
-        1000,
-        &line,
-        &mut pace,
-        &mut door,
-    );
+    let past = live_alone(&rt, rt.alloc(), opening, 1000, &line, &mut pace);
     assert_ended(&rt, past, Why::Stopped, 1, 1);
     Ok(())
 }
@@ -106,17 +87,7 @@ fn sixteen_faults(rt: HostRuntime) -> Result<(), Fail> {
     let signals = Signals::new(true);
     let line = line(rt, &signals, 16);
     let mut pace = pace(rt, &signals.is_acked, 0);
-    let mut door = NoDoor { clock: rt };
-    let past = live(
-        &rt,
-        rt.alloc(),
-        opening,
-        chooser(),
-        1000,
-        &line,
-        &mut pace,
-        &mut door,
-    );
+    let past = live_alone(&rt, rt.alloc(), opening, 1000, &line, &mut pace);
     assert_ended(&rt, past, Why::Socket, 0, 0);
     assert_eq!(rt; signals.receives.load(Ordering::SeqCst), 16);
     Ok(())
@@ -129,17 +100,7 @@ fn a_full_journal(rt: HostRuntime) -> Result<(), Fail> {
     let signals = Signals::new(false);
     let line = line(rt, &signals, 0);
     let mut pace = pace(rt, &signals.is_stopping, 5);
-    let mut door = NoDoor { clock: rt };
-    let past = live(
-        &rt,
-        rt.alloc(),
-        opening,
-        chooser(),
-        2,
-        &line,
-        &mut pace,
-        &mut door,
-    );
+    let past = live_alone(&rt, rt.alloc(), opening, 2, &line, &mut pace);
     assert_ended(&rt, past, Why::JournalFull, 2, 0);
     Ok(())
 }
@@ -181,19 +142,13 @@ const FIRST_LIFE: &[u8] = b"life 0 entries 2 judged 0 unsent 0 wire 0 refused 0\
 
 const LAST_LIFE: &[u8] = b"ended stopped entries 2 judged 0 unsent 0 wire 0 refused 0\n";
 
-fn assert_ended<R: Abort>(
-    rt: &R,
-    past: Result<Past, OpenFault>,
-    why: Why,
-    entries: u32,
-    unsent: u64,
-) {
+fn assert_ended<R: Abort>(rt: &R, past: Option<Past>, why: Why, entries: u32, unsent: u64) {
     match past {
-        Ok(past) => {
+        Some(past) => {
             assert_eq!(rt; past.why, why);
             assert_eq!(rt; past.journal.len(), entries);
             assert_eq!(rt; past.unsent, unsent);
         }
-        Err(_) => panic!(rt; "a node"),
+        None => panic!(rt; "a node"),
     }
 }

@@ -1,14 +1,12 @@
 ghost use Rattle.swimd.specs.Gates.{FitsInto};
 
-use super::gates::{NoDoor, StopPace, TURNS, is_set, pause, set};
+use super::gates::{StopPace, TURNS, is_set, pause, set};
 use super::*;
-use crate::gates::{Beat, Got, Line, Pace};
+use crate::gates::{Beat, Got};
 use crate::udp_line::{UdpLine, to_peer};
-use std::alloc::Global;
 use std::net::{Net, UdpSocket};
-use std::sync::Wait;
 use std::sync::atomic::AtomicBool;
-use std::thread::{Threads, join};
+use std::thread::join;
 
 // A socket of this machine that tells when the receiver asked again after a datagram.
 #[derive(Drop)]
@@ -137,18 +135,7 @@ fn ticking<R: Threads + Wait + Clock + Send + Sync + Copy + Drop>(
         ticks: 0,
         turns: 0,
     };
-    let mut door = NoDoor { clock: *rt };
-    live(
-        rt,
-        alloc,
-        opening,
-        chooser(),
-        1000,
-        line,
-        &mut pace,
-        &mut door,
-    )
-    .ok()
+    live_alone(rt, alloc, opening, 1000, line, &mut pace)
 }
 
 // The life of the second, which ends after the first's.
@@ -165,16 +152,5 @@ fn answering<R: Threads + Wait + Clock + Send + Sync + Copy + Drop>(
         ticks: 0,
         turns: 0,
     };
-    let mut door = NoDoor { clock: *rt };
-    live(
-        rt,
-        alloc,
-        opening,
-        chooser(),
-        1000,
-        line,
-        &mut pace,
-        &mut door,
-    )
-    .ok()
+    live_alone(rt, alloc, opening, 1000, line, &mut pace)
 }

@@ -1,11 +1,8 @@
-use Rattle.std.proofs.Common.{◌≡◌, ◌⊎◌, ℕ, Bool, true, false, List, Option, Some, None, Result, Ok, Err, refl, sym, ◌∙◌, inl, inr}
-use Rattle.std.specs.Option.{ok_or}
+use Rattle.std.proofs.Common.{◌≡◌, ℕ, List, None, refl, sym, ◌∙◌, inl, inr}
 use Rattle.std.specs.Str.{IsUtf8, is_utf8}
 use Rattle.std.proofs.lemmas.Bool.{cases_Bool, false≢true}
 use Rattle.std.proofs.lemmas.Str.{is_utf8-from_IsUtf8, IsUtf8-from_is_utf8}
 use Rattle.toml.specs.Parse.{parse_document}
-use Rattle.swimd.specs.declared.config_fault.ConfigFault.{ConfigFault}
-use Rattle.swimd.specs.declared.config_fault.ConfigFault.TheVariants.{Document}
 use Rattle.swimd.specs.Configuration.{document_of}
 use Rattle.swimd.proofs.config.read_document.Goals as goal
 use Rattle.swimd.proofs.config.read_document.Goals.{then-is_memory, else-is_memory}

@@ -1,8 +1,6 @@
-use Rattle.std.proofs.Common.{◌≡◌, Result, Ok, Err, sym, ◌∙◌, inr, rules}
+use Rattle.std.proofs.Common.{◌≡◌, Ok, Err, sym, ◌∙◌, inr, rules}
 use Rattle.toml.specs.View.{table_view}
-use Rattle.swimd.specs.declared.config.Config.{Config}
-use Rattle.swimd.specs.declared.config_fault.ConfigFault.{ConfigFault}
-use Rattle.swimd.specs.Configuration.{config_with, members_at, only_keys, settings_in, top_keys}
+use Rattle.swimd.specs.Configuration.{members_at, only_keys, settings_in, top_keys}
 use Rattle.swimd.proofs.Wholes.{fault_of_keys, fault_of_settings, by_members, fault_of_members, whole_of_members}
 use Rattle.swimd.proofs.config.read_table.Goals as goal
 

@@ -1,4 +1,4 @@
-use Rattle.std.proofs.Common.{◌≡◌, ◌++◌, refl, sym, ap, ◌∙◌}
+use Rattle.std.proofs.Common.{◌≡◌, ◌++◌, refl, ap, ◌∙◌}
 use Rattle.swim_history.specs.Changes.{ascending}
 use Rattle.swim_wire.specs.TwoPuts.{first_failed, both_put}
 use Rattle.swimd.specs.Summary.{head_text, members_text, summary_text}

@@ -1,7 +1,7 @@
-use Rattle.std.proofs.Common.{◌≡◌, List, ap, ap₂, ◌∙◌, codes, rules}
+use Rattle.std.proofs.Common.{◌≡◌, ap, ap₂, ◌∙◌, codes, rules}
 use Rattle.std.proofs.lemmas.Result.{IfOk-weaker}
-use Rattle.clap.specs.Simple.{App, Shape, app_of, new_shape, shape_of, with_subcommand}
-use Rattle.swimd.specs.Words.{program, program_alone, path_app}
+use Rattle.clap.specs.Simple.{App, app_of, new_shape, shape_of, with_subcommand}
+use Rattle.swimd.specs.Words.{program_alone, path_app}
 use Rattle.swimd.proofs.words.program.Goals as goal
 
 abbrev with_check : App
