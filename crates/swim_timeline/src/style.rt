@@ -7,7 +7,7 @@ svg{font:12px system-ui,-apple-system,"Segoe UI",Helvetica,Arial,sans-serif}
 text{fill:#1f2328}
 .heading{font-size:17px;font-weight:600}
 .id,.number{font-weight:600}
-.address,.tick,.bound{fill:#59636e;font-size:10.5px}
+.address,.again,.tick,.bound{fill:#59636e;font-size:10.5px}
 .remark{fill:#9a3412;font-weight:600}
 .paper,.ask,.relay,.removal{fill:#fff}
 .band{fill:#f6f8fa}
@@ -26,7 +26,7 @@ text{fill:#1f2328}
 .cut{fill:none;stroke:#9a3412;stroke-width:1.5;stroke-dasharray:6 4}
 @media (prefers-color-scheme:dark){
 text{fill:#e6edf3}
-.address,.tick,.bound{fill:#9198a1}
+.address,.again,.tick,.bound{fill:#9198a1}
 .remark{fill:#ffa657}
 .paper,.ask,.relay,.removal{fill:#0d1117}
 .band{fill:#151b23}

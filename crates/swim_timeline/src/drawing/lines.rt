@@ -9,6 +9,11 @@ use std::mem;
 use swim_history::{Row, RowState};
 use swim_wire::{Id, Peer};
 
+/// After how many periods the names of the lanes stand again, and how far below the upper edges of their lanes.
+const PERIODS_A_NAME: u32 = 20;
+
+const NAME_FALL: u64 = 11;
+
 /// How a member stands in the member table, and since where in the picture.
 #[derive(Clone, Copy)]
 enum Standing {
@@ -25,6 +30,22 @@ pub(crate) fn draw_lanes(
 ) -> Result<(), AllocError> {
     for (lane, (id, peer)) in lanes.iter().enumerate() {
         draw_lane(text, lane, *id, peer, scale)?;
+        repeat_name(text, lane, *id, scale)?;
+    }
+    Ok(())
+}
+
+/// The name of a lane again and again, for those who look at a later part of a wide picture.
+fn repeat_name(text: &mut String, lane: usize, id: Id, scale: &Scale) -> Result<(), AllocError> {
+    let id = id.get();
+    let y = scale.edge(lane) + NAME_FALL;
+    for part in 1..scale.periods().div_ceil(PERIODS_A_NAME) {
+        let tick = scale.starting_tick(part.saturating_mul(PERIODS_A_NAME));
+        let x = scale.at(tick.saturating_sub(1));
+        write!(
+            text,
+            "<text class=\"again\" x=\"{x}\" y=\"{y}\">{id}</text>\n"
+        )?;
     }
     Ok(())
 }

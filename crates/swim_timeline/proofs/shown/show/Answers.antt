@@ -1,7 +1,6 @@
-use Rattle.std.proofs.Common.{◌≡◌, ◌+◌, ◌<◌, ◌≤◌, ◌∷◌, length, arith}
-use Rattle.swim_timeline.specs.Shown.{Shows}
+use Rattle.std.proofs.Common.{◌≡◌, ◌+◌, ◌≤◌, ◌∷◌, length, arith}
 use Rattle.swim_timeline.proofs.Oldest.{oldest, oldest_more, none_left}
-use Rattle.swim_timeline.proofs.Within.{Fits, shown_fits}
+use Rattle.swim_timeline.proofs.Within.{shown_fits}
 use Rattle.swim_timeline.proofs.shown.show.Goals as goal
 use Rattle.swim_timeline.proofs.shown.show.Goals.{in-Some+in_ok-note, in_default}
 
