@@ -68,15 +68,22 @@ fn start<R: Files + Net + Clock + Threads + Wait + Sync, W: Sink>(
         return Outcome::NoControl;
     };
     let mut pace = SleepingPace::new(rt, config.tick_ms);
-    let terms = Terms {
-        seed: config.seed,
-        limit: config.journal,
-    };
+    let terms = terms_of(&config);
     let opening = config.opening;
     let end = run_lives(
         rt, alloc, opening, terms, &line, &mut pace, &mut door, writer,
     );
     outcome_of(end)
+}
+
+/// What stays the same from life to life under a configuration.
+fn terms_of(config: &Config) -> Terms
+    ensures { result ≡ record { seed = config.now.seed; limit = config.now.journal } }
+{
+    Terms {
+        seed: config.seed,
+        limit: config.journal,
+    }
 }
 
 /// How a daemon ends whose lives ended so.
