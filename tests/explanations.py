@@ -139,3 +139,7 @@ RUNS = [
      "entries 5\nperiods 2\njudged 2 in period 1\n"
      "line 4: this order is none of the members that were to be put in order\n"),
 ]
+
+# OPENED of tests/cases.py has six lines: its answer is handed on before the seventh is waited for
+READ_FAILED = told("line 1: read", [], "input that can be read")
+WRITE_FAILED = told("line 7: write", [], "output that can be written", end=ONE)

@@ -173,7 +173,6 @@ def long_script():
 
 def made_scripts():
     yield "a long run", ("\n".join(long_script()) + "\n").encode()
-    yield "nothing but a header", b"open 1 0 1 3 0 100\n"
     yield "the last numbers", b"open 1 8 3 10 18446744073709551600 100\nrow 4294967295 255.255.255.255:65535\n" + b"tick\n" * 400
     yield "no member", b"open 1 0 1 65535 7 100\n" + b"tick\n" * 50
     yield from ((f"gap script {seed}", gap_script(seed)[1]) for seed in range(40))

@@ -9,7 +9,7 @@ import tempfile
 from typing import NamedTuple
 
 from cases import OPENED, SECONDS, STARTED, Case, content, difference, kept_scripts, short_scripts
-from explanations import CAUSES, FAULTS, OPENINGS, RUNS
+from explanations import CAUSES, FAULTS, OPENINGS, READ_FAILED, RUNS, WRITE_FAILED
 from made_scripts import known_members, waiting_requests
 
 
@@ -128,12 +128,44 @@ def with_explain(program):
     return said
 
 
+def with_failures(program):
+    """A failed read and a failed write are explained: input that is a directory, output that is full."""
+    said = []
+    with open("/dev/full", "wb") as full:
+        runs = [("the read", {"stdin": os.open("/", os.O_RDONLY), "stdout": subprocess.DEVNULL}, READ_FAILED),
+                ("the write", {"input": OPENED, "stdout": full}, WRITE_FAILED)]
+        for what, how, wanted in runs:
+            ran = subprocess.run([program, "--explain"], stderr=subprocess.PIPE, timeout=SECONDS, **how)
+            said += [f"{what}: {it}" for it in difference("standard error", wanted.encode(), ran.stderr)]
+        os.close(runs[0][1]["stdin"])
+    return said
+
+
 def with_both(program):
     """With both words each does what it does alone: a name stands behind a number, and a message above its answer."""
     heard = b"hear 10.0.0.2:7000 535701030000000200000001000000020000000000000009\n"
     wanted = decoded(OPENED + heard, STARTED + b"dropped 6 stray\n")
     end = rb"entries 2\nperiods 1\ndropped 6 stray: 1\n"
     return called(program, [Called(["--explain", "--decode"], 0, re.escape(wanted), end, OPENED + heard)])
+
+
+def with_a_picture(program):
+    """The run is drawn into the file, and all else is as without the word. A file that can't be written is named, and so is one
+    for which there is nothing to draw."""
+    script, wanted = "examples/first.swim", re.escape(content("examples/first.stdout"))
+    with tempfile.TemporaryDirectory() as folder:
+        path, nowhere = f"{folder}/run.svg", f"{folder}/none/run.svg"
+        named = lambda it, why: b"swimsim: " + re.escape(it.encode()) + b": " + why + b"\n"
+        nothing = named(path, rb"there is no event to be drawn")
+        said = called(program, [
+            Called(["--timeline", path], 1, b"", nothing, OPENED[: OPENED.index(b"tick")]),
+            Called(["--timeline", nowhere, script], 1, wanted, named(nowhere, rb"[^\n]+")),
+            Called(["--timeline", "/dev/full", script], 1, wanted, named("/dev/full", rb"the picture can't be written")),
+            Called(["--timeline", path, script], 0, wanted, b""),
+            Called([f"--timeline={path}", "--explain", script], 0, wanted, rb"(?s)entries .*"),
+        ])
+        with open(path, "rb") as file:
+            return said + ([] if file.read().endswith(b"</svg>\n") else ["the picture has no end"])
 
 
 def with_help(program):
@@ -150,7 +182,8 @@ def with_help(program):
 def with_other_words(program):
     """Any other word is refused, and no script is played."""
     words = [["--frob"], ["-x"], ["--help=yes"], ["examples/first.swim", "examples/gap.swim"], [b"\xff"]]
-    return called(program, [Called(it, 2, b"", USAGE, OPENED) for it in words])
+    nowhere = Called(["--timeline"], 2, b"", rb"(?s)error: a value is required for '--timeline <FILE>' .*", OPENED)
+    return called(program, [*(Called(it, 2, b"", USAGE, OPENED) for it in words), nowhere])
 
 
 def with_a_file_that_cannot_be_read(program):
@@ -172,5 +205,5 @@ def with_a_file_that_cannot_be_read(program):
         return said
 
 
-ATTEMPTS = [with_a_file, with_decode, with_names, with_explain, with_both, with_help, with_other_words]
-ATTEMPTS.append(with_a_file_that_cannot_be_read)
+ATTEMPTS = [with_a_file, with_decode, with_names, with_explain, with_failures, with_both, with_a_picture, with_help]
+ATTEMPTS += [with_other_words, with_a_file_that_cannot_be_read]

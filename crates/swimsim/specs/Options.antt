@@ -15,16 +15,24 @@ flag_rule name = record (new_rule name) { long = Some name; action = Some SetTru
 abbrev pub versioned : Shape → Shape
 versioned s = record s { has_version = true }
 
+-- an option that takes one value, which help calls by a name
+abbrev pub value_rule : Text → Rule
+value_rule name = record (new_rule name) { long = Some name; value_names = 1 }
+
 -- beside what clap gives each program that has a version, `--help` and `--version`: at most one word that is no option,
--- and the flags
+-- the flags, and the option of a value
 abbrev pub command_line : App
 command_line =
-    with_rule (with_rule (with_rule (on_top versioned (new_app (codes "swimsim"))) script_rule)
-    (flag_rule (codes "decode"))) (flag_rule (codes "explain"))
+    with_rule (with_rule (with_rule (with_rule (on_top versioned (new_app (codes "swimsim"))) script_rule)
+    (flag_rule (codes "decode"))) (flag_rule (codes "explain"))) (value_rule (codes "timeline"))
 
 -- the path of the script that the words name, if any
 abbrev pub script_in : List Text → Option Text
 script_in words = first_of (codes "FILE") (matches_of command_line words)
+
+-- the value of an option, if the words give it one
+abbrev pub value_in : Text → List Text → Option Text
+value_in name words = first_of name (matches_of command_line words)
 
 -- what the words say of a flag, as clap writes it
 abbrev pub flag_in : Text → List Text → Option Text

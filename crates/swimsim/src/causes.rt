@@ -1,7 +1,5 @@
 //! The commonest causes of a fault.
 
-ghost use Rattle.std.specs.Prelude.{◌≡◌, ◌+◌, ◌≤◌, length};
-
 use crate::grammar::Argument;
 use crate::marks::Mark;
 use std::fmt;
@@ -148,15 +146,4 @@ fn cause_in_number(word: &[u8]) -> Option<Cause> {
         [b'+' | b'-', ..] | [b'0', _, ..] => Some(Cause::LeadingZero),
         _ => None,
     }
-}
-
-/// How many parts a text has between commas.
-pub fn count_parts(text: &[u8]) -> usize {
-    let mut commas: usize = 0;
-    for byte in text {
-        if *byte == b',' {
-            commas = commas.saturating_add(1);
-        }
-    }
-    commas.saturating_add(1)
 }

@@ -1,7 +1,5 @@
 //! What became of the orders and places that a script tells.
 
-ghost use Rattle.std.specs.Prelude.{◌≡◌, ◌+◌, ◌≤◌, length};
-
 use crate::notes::Told;
 use std::alloc::{AllocError, Global};
 use std::fmt;

@@ -1,7 +1,7 @@
 //! A fault of a script, explained to a person.
 
 use crate::arguments::OpenArguments;
-use crate::causes::{Cause, cause_for, cause_in, count_parts};
+use crate::causes::{Cause, cause_for, cause_in};
 use crate::commands::{Command, LineFault, Word, first_word, read_command};
 use crate::expectations::Expected;
 use crate::faults::{FaultKind, ScriptFault};

@@ -11,6 +11,7 @@ mod choosers;
 mod commands;
 mod datagrams;
 mod decoding;
+mod drawing;
 mod draws;
 mod expectations;
 mod explanations;
@@ -35,6 +36,7 @@ mod tallies;
 
 use anyhow::Result;
 use decoding::Decoded;
+use drawing::draw_at;
 use draws::warnings_of;
 use explanations::Explanation;
 use faults::{FaultKind, ScriptFault};
@@ -121,7 +123,8 @@ fn play(rt: &HostRuntime, script: Script, options: &Options<'_>) -> ExitCode {
     let mut session = Session::new(rt.alloc());
     let input = Input::Plain(script);
     let output = Output::Plain(rt.stdout());
-    finish(rt, play_between(&mut session, input, output))
+    let code = finish(rt, play_between(&mut session, input, output));
+    draw_at(rt, options.timeline, session.into_journal().as_ref(), code)
 }
 
 /// Plays it, and puts into words what the options ask for.
@@ -134,12 +137,13 @@ fn play_in_words(rt: &HostRuntime, script: Script, options: &Options<'_>) -> Exi
     let output = word(rt, options, &heard, &tally);
     let outcome = play_between(&mut session, input, output);
     let code = finish(rt, outcome);
+    let journal = session.into_journal();
     if options.explain {
-        explain(rt, outcome, session, &notes.into_inner());
+        explain(rt, outcome, journal.as_ref(), &notes.into_inner());
         let tally = tally.get();
         let _ = eprint!(rt; "{tally}");
     }
-    code
+    draw_at(rt, options.timeline, journal.as_ref(), code)
 }
 
 /// The bytes of a script, of which notes are taken.
@@ -180,16 +184,21 @@ fn finish(rt: &HostRuntime, outcome: Result<(), ScriptFault>) -> ExitCode {
 }
 
 /// Explains the fault, if there is one, and tells what the journal says of the run.
-fn explain(rt: &HostRuntime, outcome: Result<(), ScriptFault>, session: Session, notes: &Notes) {
+fn explain(
+    rt: &HostRuntime,
+    outcome: Result<(), ScriptFault>,
+    journal: Option<&Journal>,
+    notes: &Notes,
+) {
     if let Err(fault) = outcome {
         let explanation = Explanation::of(&fault, notes);
         let _ = eprint!(rt; "{explanation}");
     }
-    let Some(journal) = session.into_journal() else {
+    let Some(journal) = journal else {
         let _ = eprint!(rt; "entries 0\nperiods 0\n");
         return;
     };
-    if sum_up(rt, &journal, notes.told()).is_err() {
+    if sum_up(rt, journal, notes.told()).is_err() {
         let _ = eprintln!(rt; "no memory to sum the run up");
     }
 }

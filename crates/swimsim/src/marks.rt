@@ -1,7 +1,5 @@
 //! Where in a line a word stands.
 
-ghost use Rattle.std.specs.Prelude.{◌≡◌, ◌+◌, ◌≤◌, length};
-
 use crate::commands::Word;
 use crate::grammar::{Argument, arguments_of, take_argument};
 use swim_wire::Words;

@@ -1,8 +1,9 @@
 //! The words of the command line.
 
-ghost use Rattle.std.specs.Prelude.{◌≡◌, IfOk, codes, map, option_map};
-ghost use Rattle.clap.specs.Words.{FailsBy, app_of, fault_of, kind_of};
-ghost use Rattle.swimsim.specs.Options.{TellsFlag, command_line, flag_in, script_in};
+ghost use Rattle.std.specs.Prelude.{◌≡◌, IfOk, codes, false, map, option_map};
+ghost use Rattle.clap.specs.Words.{FailsBy, app_of, fault_of, kind_of, rule_of};
+ghost use Rattle.swimsim.specs.Options.{TellsFlag, command_line, flag_in, flag_rule, script_in, script_rule, value_in};
+ghost use Rattle.swimsim.specs.Options.{value_rule};
 
 use clap::error::ErrorKind;
 use clap::{Arg, ArgAction, Command, Error};
@@ -18,6 +19,8 @@ pub struct Options<'a> {
     pub decode: bool,
     /// Whether faults, numbers and the whole run are explained.
     pub explain: bool,
+    /// The path of a picture of the run; `None` where none is wanted.
+    pub timeline: Option<&'a str>,
 }
 
 /// Reads the words of the command line, of which the first is the program's name. Where they ask for help or the
@@ -29,6 +32,8 @@ pub fn read_options<'a, S: AsStr>(alloc: Global, words: &'a [S]) -> Result<Optio
         (flag_in (codes "decode") (map S.text words.entry.now))) }
     ensures explain { IfOk result (λ options. TellsFlag options.explain
         (flag_in (codes "explain") (map S.text words.entry.now))) }
+    ensures timeline { IfOk result (λ options. option_map (λ path. path.now) options.timeline
+        ≡ value_in (codes "timeline") (map S.text words.entry.now)) }
     ensures refused { FailsBy (fault_of command_line (map S.text words.entry.now)) result }
 {
     let command = command_line(alloc)?;
@@ -37,6 +42,7 @@ pub fn read_options<'a, S: AsStr>(alloc: Global, words: &'a [S]) -> Result<Optio
         script: matches.get_str("FILE"),
         decode: matches.get_flag("decode"),
         explain: matches.get_flag("explain"),
+        timeline: matches.get_str("timeline"),
     })
 }
 
@@ -52,19 +58,51 @@ pub fn refuse_bytes(alloc: Global) -> Result<Error, AllocError>
 fn command_line<'a>(alloc: Global) -> Result<Command<'a>, AllocError>
     ensures { IfOk result (λ command. app_of command ≡ command_line) }
 {
-    let script = Arg::new(alloc, "FILE").help("The script [default: standard input]");
-    let decode = Arg::new(alloc, "decode")
-        .long("decode")
-        .action(ArgAction::SetTrue)
-        .help("Puts each datagram that is heard or sent into words");
-    let explain = Arg::new(alloc, "explain")
-        .long("explain")
-        .action(ArgAction::SetTrue)
-        .help("Explains faults and numbers, and sums the run up on standard error");
+    let decode = flag(
+        alloc,
+        "decode",
+        "Puts each datagram that is heard or sent into words",
+    );
+    let explain = flag(
+        alloc,
+        "explain",
+        "Explains faults and numbers, and sums the run up on standard error",
+    );
     Command::new(alloc, "swimsim")
         .version("1.0")
         .about("Replays a script of a SWIM failure detector")
-        .arg(script)?
+        .arg(script(alloc))?
         .arg(decode)?
-        .arg(explain)
+        .arg(explain)?
+        .arg(timeline(alloc))
+}
+
+/// The one word that is no option.
+fn script<'a>(alloc: Global) -> Arg<'a>
+    ensures rule { rule_of result ≡ script_rule }
+    ensures local { result.global ≡ false }
+{
+    Arg::new(alloc, "FILE").help("The script [default: standard input]")
+}
+
+/// An option that takes no value.
+fn flag<'a>(alloc: Global, name: &'a str, help: &'a str) -> Arg<'a>
+    ensures rule { rule_of result ≡ flag_rule name.entry.now }
+    ensures local { result.global ≡ false }
+{
+    Arg::new(alloc, name)
+        .long(name)
+        .action(ArgAction::SetTrue)
+        .help(help)
+}
+
+/// Where the picture goes.
+fn timeline<'a>(alloc: Global) -> Arg<'a>
+    ensures rule { rule_of result ≡ value_rule (codes "timeline") }
+    ensures local { result.global ≡ false }
+{
+    Arg::new(alloc, "timeline")
+        .long("timeline")
+        .value_name("FILE")
+        .help("Draws the run into FILE, as SVG")
 }

@@ -1,7 +1,5 @@
 //! Bytes of a line as a person can see them.
 
-ghost use Rattle.std.specs.Prelude.{◌≡◌, ◌+◌, ◌≤◌, length};
-
 use std::fmt;
 
 /// Bytes as they are shown: those that can be printed stand for themselves, a carriage return is `\r`, a tab `\t`, and

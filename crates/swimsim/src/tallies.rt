@@ -1,7 +1,5 @@
 //! Counts of answers.
 
-ghost use Rattle.std.specs.Prelude.{◌≡◌, ◌+◌, ◌<◌};
-
 use crate::reasons::Reason;
 
 /// More than the greatest number of a reason.

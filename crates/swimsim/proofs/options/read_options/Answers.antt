@@ -37,6 +37,13 @@ returns-clause-explain g c =
     ∙ ap (one_of (codes "explain")) (rows ∙ ap (λ (a : App). matches_of a words) c.in_ok-command.ensures) in
     (λ e. c.get_flag-2.ensures.none (written ∙ e), λ e. c.get_flag-2.ensures.value (written ∙ e), λ e. c.get_flag-2.ensures.other (written ∙ e))
 
+pub returns-clause-timeline : goal.returns-clause-timeline
+returns-clause-timeline g c =
+    let words = map g.S.AsStr.text c.args.words.now in
+    let rows = (c.in_ok-matches.ensures.matches (ap is_simple c.in_ok-command.ensures ∙ is_simple_line)).0 in
+    c.get_str-2.ensures ∙ (first_value-rows (found_of c.in_ok-matches.matches) (codes "timeline")
+    ∙ ap (first_of (codes "timeline")) (rows ∙ ap (λ (a : App). matches_of a words) c.in_ok-command.ensures))
+
 pub returns-clause-refused : goal.returns-clause-refused
 returns-clause-refused g c =
     let words = map g.S.AsStr.text c.args.words.now in
