@@ -1,6 +1,6 @@
 //! Answers that tell a reason by its number.
 
-ghost use Rattle.std.specs.Prelude.{◌≡◌, ◌++◌, IfSome, decimal};
+ghost use Rattle.std.specs.Prelude.{◌≡◌, ◌++◌, IfSome, Some, decimal};
 ghost use Rattle.swim_wire.specs.Layout.{fault_number};
 ghost use Rattle.swim_history.specs.Reasons.{drop_number, refusal_number};
 ghost use Rattle.swimsim.specs.Named.{reason_text};
@@ -60,7 +60,8 @@ fn number_after(line: &[u8], word: &[u8]) -> Option<u64>
 
 /// The reason to drop a message that has a number.
 pub fn dropped(number: u64) -> Option<DropReason>
-    ensures { IfSome result (λ why. drop_number why ≡ number) }
+    ensures number { IfSome result (λ why. drop_number why ≡ number) }
+    ensures every { (why : DropReason) → drop_number why ≡ number → result ≡ Some why }
 {
     match number {
         1 => Some(DropReason::NotForMe),
@@ -76,7 +77,8 @@ pub fn dropped(number: u64) -> Option<DropReason>
 
 /// The reason to refuse a call that has a number.
 pub fn refused(number: u64) -> Option<Refusal>
-    ensures { IfSome result (λ why. refusal_number why ≡ number) }
+    ensures number { IfSome result (λ why. refusal_number why ≡ number) }
+    ensures every { (why : Refusal) → refusal_number why ≡ number → result ≡ Some why }
 {
     match number {
         1 => Some(Refusal::Myself),
@@ -90,7 +92,8 @@ pub fn refused(number: u64) -> Option<Refusal>
 
 /// The fault of bytes that has a number.
 pub fn wire(number: u64) -> Option<WireFault>
-    ensures { IfSome result (λ fault. fault_number fault ≡ number) }
+    ensures number { IfSome result (λ fault. fault_number fault ≡ number) }
+    ensures every { (fault : WireFault) → fault_number fault ≡ number → result ≡ Some fault }
 {
     match number {
         1 => Some(WireFault::Length),
