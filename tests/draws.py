@@ -3,7 +3,7 @@ words of ChaCha20 with the seed as key, the stream's number as nonce, which is 0
 counter from 0 (RFC 8439's cipher with a counter and a nonce of 64 bits).
 
 It was written after those descriptions and not after this repository's code. Of a seed of zeros it gives the words that
-RFC 8439 lists for a key of zeros, and the orders and places that crates/swim_targets/src/tests/choices.rt expects.
+RFC 8439 lists for a key of zeros, and the orders and places that crates/swim_targets_tests/src/tests/choices.rt expects.
 """
 
 WORD = 2**32

@@ -10,6 +10,3 @@ mod turns;
 
 pub use desks::{Answer, Command, Desk};
 pub use serving::{Served, serve};
-
-#[cfg(test)]
-mod tests;

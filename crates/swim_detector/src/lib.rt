@@ -7,6 +7,3 @@ mod recorder;
 mod states;
 
 pub use recorder::{ApplyFault, Recorder};
-
-#[cfg(test)]
-mod tests;

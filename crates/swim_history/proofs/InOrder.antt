@@ -1,7 +1,7 @@
--- A walk through the entries in order: each entry follows those before it.
-use Rattle.std.proofs.Common.{◌≡◌, ℕ, ◌+◌, ◌^◌, ◌<◌, true, false, List, [], ◌∷◌, ◌++◌, length, get_or, take, drop, reverse, Some, None, refl, sym, ap, subst, ◌∙◌, arith}
+-- Entries at their places, oldest first, and what each begins.
+use Rattle.std.proofs.Common.{◌≡◌, ℕ, ◌+◌, ◌^◌, ◌<◌, true, false, List, length, get_or, Some, None, refl, sym, ap, arith}
 use Rattle.std.proofs.lemmas.Option.{same_Some}
-use Rattle.std.proofs.lemmas.List.{get_or_default, take_more, reverse-append, take-append-drop}
+use Rattle.std.proofs.lemmas.List.{get_or_default}
 use Rattle.swim_history.specs.declared.calls.Call.TheVariants.{Tick}
 use Rattle.swim_history.specs.declared.replies.Reply.{Reply}
 use Rattle.swim_history.specs.declared.replies.Reply.TheVariants.{Quiet, Started}
@@ -12,8 +12,8 @@ use Rattle.swim_history.specs.Setting.{Setting}
 use Rattle.swim_history.specs.Events.{is_start, is_starting, judged_in, probe_in}
 use Rattle.swim_history.specs.Storing.StoredReplies.{start_in}
 use Rattle.swim_history.specs.Clock.{period_number}
-use Rattle.swim_history.specs.Run.{Continues, IsRun}
-use Rattle.swim_history.specs.Laws.Run.{IsRun-older, begins}
+use Rattle.swim_history.specs.Run.{Continues}
+use Rattle.swim_history.specs.Laws.Run.{begins}
 
 -- the entry at a place, and another where there is none
 abbrev pub no_entry : Entry
@@ -24,26 +24,6 @@ entry_at entries i = get_or entries i no_entry
 
 pub entry_there : (entries : List Entry) (i : ℕ) → i < length entries → entry_at entries i ≡ get_or entries i (entry_at entries i)
 entry_there entries i lt = get_or_default entries i _ _ lt
-
--- one more entry of a list that is seen newest first
-pub past_more : {X : Type 0} (xs : List X) (i : ℕ) (d : X) → i < length xs → reverse (take (i + 1) xs) ≡ get_or xs i d ∷ reverse (take i xs)
-past_more xs i d lt = ap reverse (take_more xs i d lt) ∙ reverse-append (take i xs) (get_or xs i d ∷ [])
-
--- the first entries of a run are a run
-pub run_so_far : (o : Setting) (entries : List Entry) (i : ℕ) → IsRun o (reverse entries) → IsRun o (reverse (take i entries))
-run_so_far o entries i run =
-    let whole : reverse entries ≡ reverse (drop i entries) ++ reverse (take i entries) =
-    ap reverse (sym (take-append-drop i entries)) ∙ reverse-append (take i entries) (drop i entries) in
-    IsRun-older o (reverse (drop i entries)) (reverse (take i entries)) (subst (λ (h : List Entry). IsRun o h) whole run)
-
--- the entries of a run up to the next are a run
-pub next_run : (o : Setting) (entries : List Entry) (i : ℕ) (e : Entry) → i < length entries → e ≡ get_or entries i e → IsRun o (reverse entries) → IsRun o (e ∷ reverse (take i entries))
-next_run o entries i e lt is run =
-    subst (λ (h : List Entry). IsRun o h) (past_more entries i e lt ∙ ap (λ (x : Entry). x ∷ reverse (take i entries)) (sym is)) (run_so_far o entries (i + 1) run)
-
--- each entry of a run follows those before it
-pub next_continues : (o : Setting) (entries : List Entry) (i : ℕ) (e : Entry) → i < length entries → e ≡ get_or entries i e → IsRun o (reverse entries) → Continues o (reverse (take i entries)) e
-next_continues o entries i e lt is run = (next_run o entries i e lt is run).0
 
 -- a period begins only while numbers are left
 pub unspent_at : (o : Setting) (h : List Entry) (e : Entry) → Continues o h e → is_start e ≡ true → period_number o h + 1 < 2 ^ 64

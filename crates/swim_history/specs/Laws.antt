@@ -4,6 +4,7 @@ pub mod Unchanged
 pub mod Check
 pub mod Clock
 pub mod Run
+pub mod InOrder
 pub mod Judgement
 pub mod Probes
 pub mod Waiting

@@ -23,4 +23,3 @@ pub mod After
 pub mod Texts
 pub mod Laws
 pub mod Storing
-pub mod Worked

@@ -29,6 +29,3 @@ pub fn calls_determine_a_drawn_run<C: Drawing>()
 pub fn calls_have_a_drawn_run<C: Drawing>()
     ensures { IsTotal C.orders C.places → (o : Setting) → IsSetting o → DrawsAlways C.orders C.places o }
 {}
-
-#[cfg(test)]
-mod tests;

@@ -36,6 +36,3 @@ pub use sending::sends;
 pub use swim_wire::{KNOWN_MEMBERS, Order};
 pub use tables::table_of;
 pub use texts::{put_gap, put_table};
-
-#[cfg(test)]
-mod tests;

@@ -25,6 +25,3 @@ pub use parts::Parts;
 pub use receipts::{CallFault, OpenFault, Receipt};
 pub use seats::Seat;
 pub use viewers::Viewer;
-
-#[cfg(test)]
-mod tests;

@@ -7,6 +7,3 @@ mod waiting;
 pub use requests::{Relays, TableFull};
 pub use swim_wire::Key;
 pub use waiting::MOST_WAITING;
-
-#[cfg(test)]
-mod tests;

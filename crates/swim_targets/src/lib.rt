@@ -12,6 +12,3 @@ pub use draws::Seeded;
 pub use rounds::{JoinFault, Next, Targets};
 pub use scripts::Scripted;
 pub use swim_wire::Order;
-
-#[cfg(test)]
-mod tests;

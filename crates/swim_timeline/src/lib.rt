@@ -15,6 +15,3 @@ pub use lanes::Lanes;
 pub use marks::{Mark, MarkKind};
 pub use shown::{Shown, show};
 pub use timeline::{MOST_PERIODS, put_timeline};
-
-#[cfg(test)]
-mod tests;

@@ -33,6 +33,3 @@ pub use std_streams::{ReadSource, WriteSink};
 pub use streams::{Byte, Sink, Source};
 pub use texts::{put_address, put_number, put_numbered};
 pub use words::Words;
-
-#[cfg(test)]
-mod tests;

@@ -2,7 +2,8 @@ use Rattle.std.proofs.Common.{◌≡◌, ◌<◌, ◌^◌, ◌∷◌, ◌+◌, l
 use Rattle.swim_history.specs.Judgement.{judgements}
 use Rattle.swim_history.specs.Laws.Run.{number_then}
 use Rattle.swim_history.specs.Laws.Judgement.{judges_by_rule}
-use Rattle.swim_history.proofs.InOrder.{no_entry, entry_at, entry_there, past_more, next_continues, unspent_at, begins_it, begins_nothing}
+use Rattle.swim_history.specs.Laws.InOrder.{past_more, next_continues}
+use Rattle.swim_history.proofs.InOrder.{no_entry, entry_at, entry_there, unspent_at, begins_it, begins_nothing}
 use Rattle.swim_history.proofs.journals.collect_judged.Goals as goal
 use Rattle.swim_history.proofs.journals.collect_judged.Goals.{in-Some+in_ok-note_judged, in_default}
 

@@ -3,7 +3,8 @@ use Rattle.std.proofs.lemmas.List.{map-append}
 use Rattle.std.specs.Option.{option_to_list}
 use Rattle.swim_history.specs.Events.{probe_in}
 use Rattle.swim_history.specs.Probes.{probes, probed_by}
-use Rattle.swim_history.proofs.InOrder.{no_entry, entry_at, entry_there, past_more, begins_it, begins_nothing}
+use Rattle.swim_history.specs.Laws.InOrder.{past_more}
+use Rattle.swim_history.proofs.InOrder.{no_entry, entry_at, entry_there, begins_it, begins_nothing}
 use Rattle.swim_history.proofs.probing.collect_probed.Goals as goal
 use Rattle.swim_history.proofs.probing.collect_probed.Goals.{in-Some+in_ok-note_probed, in_default}
 

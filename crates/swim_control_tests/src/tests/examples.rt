@@ -1,0 +1,188 @@
+//! Lines and their answers, as they are written down in docs/FORMATS.md.
+
+use super::groups::{Group, serve_at_once, serve_bytes, serve_lines};
+use swim_control::Served;
+use swim_wire::Page;
+
+#[test]
+fn answers_a_dialogue(rt: HostRuntime) {
+    let text = b"list\njoin 0 1.2.3.4:5\nlis".as_slice();
+    let answers = b"2 10.0.0.2:7000 up\n3 10.0.0.3:7000 up\n.\nfault 3\nfault 6\n".as_slice();
+    let mut page = Page::new(rt.alloc());
+    let end = serve_lines(&rt, rt.alloc(), text, &mut page, &mut Group::of_two());
+    assert_eq!(rt; end, Served::Unended);
+    assert_eq!(rt; page.text(), answers);
+}
+
+#[test]
+fn answers_however_the_bytes_come(rt: HostRuntime) {
+    let text = b"list\njoin 0 1.2.3.4:5\nlis".as_slice();
+    let answers = b"2 10.0.0.2:7000 up\n3 10.0.0.3:7000 up\n.\nfault 3\nfault 6\n".as_slice();
+    let mut page = Page::new(rt.alloc());
+    let end = serve_bytes(&rt, rt.alloc(), text, &mut page, &mut Group::of_two());
+    assert_eq!(rt; end, Served::Unended);
+    assert_eq!(rt; page.text(), answers);
+    let mut page = Page::new(rt.alloc());
+    let end = serve_at_once(&rt, rt.alloc(), text, &mut page, &mut Group::of_two());
+    assert_eq!(rt; end, Served::Unended);
+    assert_eq!(rt; page.text(), answers);
+}
+
+#[test]
+fn answers_one_after_another(rt: HostRuntime) {
+    let table = [
+        (b"gap 2\n".as_slice(), b"gap none\n".as_slice()),
+        (b"join 5 10.0.0.5:7000\n", b"joined 2\n"),
+        (b"join 5 10.0.0.5:7000\n", b"refused 2\n"),
+        (b"join 6\n", b"fault 4\n"),
+        (b"join 6 10.0.0.6:7000 x\n", b"fault 5\n"),
+        (b"remove 9\n", b"refused 4\n"),
+        (b"remove 5\n", b"removed\n"),
+        (b"List\n", b"fault 2\n"),
+        (b"list \n", b"fault 5\n"),
+        (b"gap 3\n", b"gap 2 4 3\n"),
+    ];
+    let mut group = Group::of_two();
+    for (text, answer) in table {
+        let mut page = Page::new(rt.alloc());
+        let end = serve_lines(&rt, rt.alloc(), text, &mut page, &mut group);
+        assert_eq!(rt; end, Served::Ended);
+        assert_eq!(rt; page.text(), answer);
+    }
+}
+
+#[test]
+fn stops_where_it_is_asked_to(rt: HostRuntime) {
+    let mut page = Page::new(rt.alloc());
+    let end = serve_lines(
+        &rt,
+        rt.alloc(),
+        b"gap 2\nstop\ngap 2\n",
+        &mut page,
+        &mut Group::of_two(),
+    );
+    assert_eq!(rt; end, Served::Stopped);
+    assert_eq!(rt; page.text(), b"gap none\nstopping\n".as_slice());
+}
+
+#[test]
+fn shows_what_joined(rt: HostRuntime) {
+    let text = b"join 5 10.0.0.5:7000\nlist\n";
+    let answers =
+        b"joined 2\n2 10.0.0.2:7000 up\n3 10.0.0.3:7000 up\n5 10.0.0.5:7000 up\n.\n".as_slice();
+    let mut page = Page::new(rt.alloc());
+    let end = serve_lines(&rt, rt.alloc(), text, &mut page, &mut Group::of_two());
+    assert_eq!(rt; end, Served::Ended);
+    assert_eq!(rt; page.text(), answers);
+}
+
+#[test]
+fn shows_nobody_who_was_removed(rt: HostRuntime) {
+    let text = b"remove 2\nlist\n";
+    let answers = b"removed\n3 10.0.0.3:7000 up\n.\n".as_slice();
+    let mut page = Page::new(rt.alloc());
+    let end = serve_lines(&rt, rt.alloc(), text, &mut page, &mut Group::of_two());
+    assert_eq!(rt; end, Served::Ended);
+    assert_eq!(rt; page.text(), answers);
+}
+
+#[test]
+fn tells_faults(rt: HostRuntime) {
+    let table = [
+        (b"\n".as_slice(), b"fault 2\n".as_slice()),
+        (b" list\n", b"fault 2\n"),
+        (b"list\r\n", b"fault 2\n"),
+        (b"list \r\n", b"fault 5\n"),
+        (b"stop now\n", b"fault 5\n"),
+        (b"lis\0\n", b"fault 2\n"),
+        (b"\xfflist\n", b"fault 2\n"),
+        (b"gap\n", b"fault 3\n"),
+        (b"gap \n", b"fault 3\n"),
+        (b"gap 05\n", b"fault 3\n"),
+        (b"gap +5\n", b"fault 3\n"),
+        (b"gap 4294967296\n", b"fault 3\n"),
+        (b"gap \xff\n", b"fault 3\n"),
+        (b"gap 2 \n", b"fault 5\n"),
+        (b"remove 0\n", b"fault 3\n"),
+        (b"remove 2 \xff\n", b"fault 5\n"),
+        (b"join 0 1.2.3.4\n", b"fault 3\n"),
+        (b"join 5 \n", b"fault 4\n"),
+        (b"join 5 1.2.3.4:0 x\n", b"fault 4\n"),
+        (b"join 5 1.2.3.\xff:5\n", b"fault 4\n"),
+        (b"join 5  1.2.3.4:5\n", b"fault 4\n"),
+    ];
+    for (text, answer) in table {
+        let mut page = Page::new(rt.alloc());
+        let end = serve_lines(&rt, rt.alloc(), text, &mut page, &mut Group::of_two());
+        assert_eq!(rt; end, Served::Ended);
+        assert_eq!(rt; page.text(), answer);
+    }
+}
+
+#[test]
+fn ends_in_every_place_of_a_line(rt: HostRuntime) {
+    let line = b"join 5 10.0.0.5:7000\n";
+    for count in 1..line.len() {
+        let mut page = Page::new(rt.alloc());
+        let end = serve_lines(
+            &rt,
+            rt.alloc(),
+            &line[..count],
+            &mut page,
+            &mut Group::of_two(),
+        );
+        assert_eq!(rt; end, Served::Unended);
+        assert_eq!(rt; page.text(), b"fault 6\n".as_slice());
+    }
+    let mut page = Page::new(rt.alloc());
+    let end = serve_lines(&rt, rt.alloc(), line, &mut page, &mut Group::of_two());
+    assert_eq!(rt; end, Served::Ended);
+    assert_eq!(rt; page.text(), b"joined 2\n".as_slice());
+}
+
+#[test]
+fn ends_an_empty_text(rt: HostRuntime) {
+    let mut page = Page::new(rt.alloc());
+    let end = serve_lines(&rt, rt.alloc(), b"", &mut page, &mut Group::of_two());
+    assert_eq!(rt; end, Served::Ended);
+    assert!(rt; page.text().is_empty());
+}
+
+#[test]
+fn ends_at_a_full_journal(rt: HostRuntime) {
+    let text = b"remove 3\nremove 9\nlist\nremove 2\nlist\n";
+    let answers = b"removed\nrefused 4\n2 10.0.0.2:7000 up\n.\njournal full\n".as_slice();
+    let mut page = Page::new(rt.alloc());
+    let end = serve_lines(&rt, rt.alloc(), text, &mut page, &mut Group::with_room(2));
+    assert_eq!(rt; end, Served::JournalFull);
+    assert_eq!(rt; page.text(), answers);
+}
+
+#[test]
+fn goes_on_without_memory(rt: HostRuntime) {
+    let text = b"join 5 10.0.0.5:7000\njoin 5 10.0.0.5:7000\nremove 1\n".as_slice();
+    let mut page = Page::new(rt.alloc());
+    let end = serve_lines(
+        &rt,
+        rt.alloc(),
+        text,
+        &mut page,
+        &mut Group::with_memory_for(0),
+    );
+    assert_eq!(rt; end, Served::Ended);
+    assert_eq!(rt; page.text(), b"no memory\njoined 2\nrefused 1\n".as_slice());
+}
+
+#[test]
+fn tells_that_there_is_no_table(rt: HostRuntime) {
+    let mut page = Page::new(rt.alloc());
+    let end = serve_lines(
+        &rt,
+        rt.alloc(),
+        b"list\ngap 2\n",
+        &mut page,
+        &mut Group::closed(),
+    );
+    assert_eq!(rt; end, Served::Ended);
+    assert_eq!(rt; page.text(), b"closed\ngap none\n".as_slice());
+}

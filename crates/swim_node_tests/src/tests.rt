@@ -1,0 +1,126 @@
+ghost use Rattle.std.specs.Prelude.{◌≡◌, IfOk};
+
+mod gaps;
+mod limits;
+mod refusals;
+mod replays;
+mod soak;
+mod threads;
+mod views;
+
+use std::alloc::Global;
+use std::marker::Brand;
+use std::process::Abort;
+use std::sync::Wait;
+use std::test::*;
+use std::thread::{Threads, join};
+use swim_history::{Call, Journal, Kept, Opening, Probe, Reply, Row, RowState, Table};
+use swim_node::*;
+use swim_targets::{Chooser, Order, Scripted};
+use swim_wire::{Id, Kind, Message, Peer, PeriodNumber, encode};
+
+fn id(number: u32) -> Id {
+    Id::new(number).unwrap_or_default()
+}
+
+// Members stand at 10.0.0.1:7000, 10.0.0.2:7000, ..
+fn at(last: u8) -> Peer {
+    Peer {
+        ip: [10, 0, 0, last],
+        port: 7000,
+    }
+}
+
+// Member 1, which knows members 2 and 3, asks so many relays, and has a timeout of one tick and a period of three.
+fn opening(k: u32) -> Result<Opening, Fail> {
+    let rows = [(id(2), at(2)), (id(3), at(3))];
+    Ok(Opening::check(id(1), k, 1, 3, &rows, 0).map_err(|_| "an opening")?)
+}
+
+// It leaves each order as it is, and takes each last place.
+fn no_script(alloc: Global) -> Scripted {
+    Scripted::new(Vec::new(alloc), Vec::new(alloc))
+}
+
+fn order_of(numbers: &[u32]) -> Result<Order, Fail> {
+    let mut order = Order::new();
+    for number in numbers {
+        order.try_push(id(*number))?;
+    }
+    Ok(order)
+}
+
+fn up(member: u8) -> Row {
+    Row {
+        id: id(u32::from(member)),
+        peer: at(member),
+        state: RowState::Up,
+    }
+}
+
+// Four values, two by two.
+type Four<T> = ((T, T), (T, T));
+
+fn four<T>(first: T, second: T, third: T, fourth: T) -> Four<T>
+    ensures { result ≡ ((first, second), (third, fourth)) }
+{
+    ((first, second), (third, fourth))
+}
+
+fn four_of<T>(all: [T; 4]) -> Four<T> {
+    let [first, second, third, fourth] = all;
+    four(first, second, third, fourth)
+}
+
+// A node that was just opened, with its seats and its viewers.
+fn open<N: Naming, C: Chooser, R: Wait + Copy + Drop>(
+    rt: R,
+    alloc: Global,
+    parts: Parts,
+    opening: Opening,
+    chooser: C,
+    limit: u32,
+) -> Result<(Node<N, C, R>, Four<Seat<N>>, Four<Viewer<N>>), Fail>
+    requires parts { parts ≡ record { limit = N.limit; ledgers = N.ledgers; log = N.log; cells = N.cells } }
+    requires opening { opening ≡ N.opening }
+    requires limit { limit ≡ N.limit }
+    ensures { IfOk result (λ o. (o.1.0.0.number ≡ 0) × (o.1.0.1.number ≡ 1)
+        × (o.1.1.0.number ≡ 2) × (o.1.1.1.number ≡ 3)) }
+{
+    match Node::<N, C, R>::open(alloc, rt, parts, opening, chooser, limit) {
+        Ok(opened) => {
+            let (node, seats, viewers) = opened;
+            let [first, second, third, fourth] = seats;
+            let [viewer, other_viewer, third_viewer, fourth_viewer] = viewers;
+            let callers = four(first, second, third, fourth);
+            let readers = four(viewer, other_viewer, third_viewer, fourth_viewer);
+            Ok((node, callers, readers))
+        }
+        Err(_) => Err(Fail::new("a node")),
+    }
+}
+
+// The journal of a node at its end, and its seats.
+fn close<N: Naming, R: Wait + Copy + Drop>(
+    rt: &R,
+    node: Node<N, Scripted, R>,
+    callers: Four<Seat<N>>,
+) -> (Journal, Four<Seat<N>>)
+    requires listening { (callers.0.0.number ≡ 0) × (callers.0.1.number ≡ 1) }
+    requires changing { (callers.1.0.number ≡ 2) × (callers.1.1.number ≡ 3) }
+{
+    let ((first, second), (third, fourth)) = callers;
+    let (journal, seats, _news) = node.close(rt, [first, second, third, fourth]);
+    (journal, four_of(seats))
+}
+
+// A message of a member, about its own probe.
+fn message(kind: Kind, initiator: u32, target: u32, number: u64) -> Message {
+    Message {
+        kind,
+        sender: id(if kind == Kind::Ack { target } else { initiator }),
+        initiator: id(initiator),
+        target: id(target),
+        number: PeriodNumber::new(number).unwrap_or_default(),
+    }
+}

@@ -1,0 +1,93 @@
+use std::test::*;
+use swim_relays::{Key, Relays, TableFull};
+use swim_wire::{Id, Peer, PeriodNumber};
+
+// The probe that member 2 began of member 3 in its period of that number.
+fn key_of(number: u64) -> Result<Key, Fail> {
+    Ok(Key {
+        initiator: Id::new(2).ok_or("an id is not 0")?,
+        target: Id::new(3).ok_or("an id is not 0")?,
+        number: PeriodNumber::new(number).ok_or("a number is not 0")?,
+    })
+}
+
+fn peer_of(text: &str) -> Result<Peer, Fail> {
+    Ok(Peer::read(text.as_bytes()).ok_or("the text is an address")?)
+}
+
+#[test]
+fn a_request_waits_for_a_period(rt: HostRuntime) -> Result<(), Fail> {
+    let mut relays = Relays::new(3);
+    let key = key_of(1)?;
+    assert_eq!(rt; relays.ask(key, peer_of("10.0.0.2:7000")?), Ok(()));
+    for waits in [true, true, false] {
+        relays.tick();
+        assert_eq!(rt; relays.waits(&key), waits);
+    }
+    assert!(rt; relays.is_empty());
+    assert_eq!(rt; relays.answer(&key), None);
+    Ok(())
+}
+
+#[test]
+fn a_request_is_asked_again(rt: HostRuntime) -> Result<(), Fail> {
+    let mut relays = Relays::new(3);
+    let key = key_of(1)?;
+    assert_eq!(rt; relays.ask(key, peer_of("10.0.0.2:7000")?), Ok(()));
+    relays.tick();
+    relays.tick();
+    assert_eq!(rt; relays.ask(key, peer_of("10.0.0.2:7001")?), Ok(()));
+    assert_eq!(rt; relays.len(), 1);
+    relays.tick();
+    relays.tick();
+    assert_eq!(rt; relays.answer(&key), Some(peer_of("10.0.0.2:7001")?));
+    assert_eq!(rt; relays.answer(&key), None);
+    Ok(())
+}
+
+#[test]
+fn at_most_64_wait(rt: HostRuntime) -> Result<(), Fail> {
+    let mut relays = Relays::new(65535);
+    let peer = peer_of("10.0.0.2:7000")?;
+    for number in 1..65 {
+        assert_eq!(rt; relays.ask(key_of(number)?, peer), Ok(()));
+    }
+    assert_eq!(rt; relays.ask(key_of(65)?, peer), Err(TableFull));
+    assert_eq!(rt; relays.len(), 64);
+    assert_eq!(rt; relays.ask(key_of(7)?, peer), Ok(()));
+    assert_eq!(rt; relays.len(), 64);
+    assert_eq!(rt; relays.answer(&key_of(1)?), Some(peer));
+    assert_eq!(rt; relays.ask(key_of(65)?, peer), Ok(()));
+    Ok(())
+}
+
+#[test]
+fn ticks_are_counted_past_the_greatest_count(rt: HostRuntime) -> Result<(), Fail> {
+    let mut relays = Relays::starting(3, 4294967294);
+    let key = key_of(1)?;
+    assert_eq!(rt; relays.due(), None);
+    assert_eq!(rt; relays.ask(key, peer_of("10.0.0.2:7000")?), Ok(()));
+    assert_eq!(rt; relays.due(), Some(1));
+    relays.tick();
+    relays.tick();
+    assert_eq!(rt; relays.due(), Some(1));
+    assert_eq!(rt; relays.len(), 1);
+    relays.tick();
+    assert_eq!(rt; relays.len(), 0);
+    assert_eq!(rt; relays.due(), None);
+    Ok(())
+}
+
+#[test]
+fn a_request_that_is_asked_again_is_due_later(rt: HostRuntime) -> Result<(), Fail> {
+    let mut relays = Relays::starting(3, 1);
+    let key = key_of(1)?;
+    assert_eq!(rt; relays.ask(key, peer_of("10.0.0.2:7000")?), Ok(()));
+    relays.tick();
+    assert_eq!(rt; relays.ask(key, peer_of("10.0.0.2:7001")?), Ok(()));
+    assert_eq!(rt; relays.due(), Some(5));
+    relays.tick();
+    relays.tick();
+    assert_eq!(rt; relays.answer(&key), Some(peer_of("10.0.0.2:7001")?));
+    Ok(())
+}

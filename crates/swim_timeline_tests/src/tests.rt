@@ -1,0 +1,128 @@
+use std::test::*;
+use swim_detector::Recorder;
+use swim_history::{Call, Journal, Opening};
+use swim_targets::Scripted;
+use swim_timeline::{Mark, MarkKind, put_timeline, show};
+use swim_wire::{Id, Kind, Message, Page, Peer, PeriodNumber};
+
+fn id(value: u32) -> Result<Id, Fail> {
+    Ok(Id::new(value).ok_or("an id is not 0")?)
+}
+
+fn address(last: u8) -> Peer {
+    Peer {
+        ip: [10, 0, 0, last],
+        port: 7000,
+    }
+}
+
+// Of member 1, which asks one relay, with a timeout of one tick and a period of three, after period 7. Members 2, 3 and
+// 4 are up.
+fn opening() -> Result<Opening, Fail> {
+    let rows = [
+        (id(2)?, address(2)),
+        (id(3)?, address(3)),
+        (id(4)?, address(4)),
+    ];
+    Ok(Opening::check(id(1)?, 1, 1, 3, &rows, 7).map_err(|_| "an opening")?)
+}
+
+// The ack of member 2 for period 8, as member 3 forwards it.
+fn forwarded_ack() -> Result<Call, Fail> {
+    let message = Message {
+        kind: Kind::Ack,
+        sender: id(3)?,
+        initiator: id(1)?,
+        target: id(2)?,
+        number: PeriodNumber::new(8).ok_or("a number is not 0")?,
+    };
+    Ok(Call::Hear(message, address(3)))
+}
+
+// Member 2 acks by a relay, 5 joins and leaves, and 3 is judged.
+fn calls() -> Result<[Call; 10], Fail> {
+    let tick = Call::Tick;
+    let join = Call::Join(id(5)?, address(5));
+    let leave = Call::Remove(id(5)?);
+    let ack = forwarded_ack()?;
+    Ok([tick, tick, ack, tick, join, leave, tick, tick, tick, tick])
+}
+
+// The journal of these calls. Orders are left as they are.
+fn journal(rt: HostRuntime) -> Result<Journal, Fail> {
+    let chooser = Scripted::new(Vec::new(rt.alloc()), Vec::new(rt.alloc()));
+    let mut recorder = Recorder::open(rt.alloc(), opening()?, chooser, 1000);
+    for call in calls()? {
+        assert!(rt; recorder.apply(0, call).is_ok());
+    }
+    Ok(recorder.into_journal())
+}
+
+fn places(rt: HostRuntime, marks: &[Mark]) -> Result<Vec<(u32, u32)>, Fail> {
+    let mut places = Vec::new(rt.alloc());
+    for mark in marks {
+        places.push((mark.tick, mark.member.get()))?;
+    }
+    Ok(places)
+}
+
+#[test]
+fn each_kind_has_its_mark(rt: HostRuntime) -> Result<(), Fail> {
+    let shown = show(rt.alloc(), &journal(rt)?, 10)?;
+    assert_eq!(rt; (shown.ticks, shown.entries), (7, 10));
+    assert_eq!(rt; shown.lanes.len(), 4);
+    let wanted = [
+        (1, 2),
+        (2, 2),
+        (2, 2),
+        (3, 5),
+        (3, 5),
+        (4, 3),
+        (5, 3),
+        (7, 3),
+        (7, 4),
+    ];
+    let marks = shown.marks.as_slice();
+    assert_eq!(rt; places(rt, marks)?.as_slice(), wanted.as_slice());
+    assert_eq!(rt; marks.len(), 9);
+    assert_eq!(rt; marks[0].kind, MarkKind::Probed(8));
+    assert!(rt; matches!(&marks[1].kind, MarkKind::Asked(8, relays) if relays.len() == 1));
+    assert_eq!(rt; marks[2].kind, MarkKind::Heard(8));
+    assert_eq!(rt; marks[3].kind, MarkKind::Joined);
+    assert_eq!(rt; marks[4].kind, MarkKind::Removed);
+    assert_eq!(rt; marks[5].kind, MarkKind::Probed(9));
+    assert!(rt; matches!(&marks[6].kind, MarkKind::Asked(9, relays) if relays.len() == 1));
+    assert_eq!(rt; marks[7].kind, MarkKind::Judged(9));
+    assert_eq!(rt; marks[8].kind, MarkKind::Probed(10));
+    Ok(())
+}
+
+#[test]
+fn a_long_run_is_cut_behind_a_tick(rt: HostRuntime) -> Result<(), Fail> {
+    let shown = show(rt.alloc(), &journal(rt)?, 4)?;
+    assert_eq!(rt; (shown.ticks, shown.entries), (7, 7));
+    assert_eq!(rt; shown.marks.len(), 6);
+    Ok(())
+}
+
+#[test]
+fn an_empty_run_has_its_lanes(rt: HostRuntime) -> Result<(), Fail> {
+    let journal = Journal::new(rt.alloc(), opening()?);
+    let shown = show(rt.alloc(), &journal, 10)?;
+    assert_eq!(rt; (shown.ticks, shown.entries), (0, 0));
+    assert!(rt; shown.marks.is_empty());
+    assert_eq!(rt; shown.lanes.len(), 3);
+    let mut page = Page::new(rt.alloc());
+    assert!(rt; put_timeline(rt.alloc(), &journal, &mut page)?);
+    assert!(rt; page.text().starts_with(b"<svg xmlns="));
+    assert!(rt; page.text().ends_with(b"</svg>\n"));
+    Ok(())
+}
+
+#[test]
+fn tells_what_was_not_written(rt: HostRuntime) -> Result<(), Fail> {
+    let journal = Journal::new(rt.alloc(), opening()?);
+    let mut page = Page::failing_after(rt.alloc(), Some(0), None);
+    assert!(rt; !put_timeline(rt.alloc(), &journal, &mut page)?);
+    Ok(())
+}

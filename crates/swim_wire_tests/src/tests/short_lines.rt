@@ -1,0 +1,63 @@
+//! Lines that are read up to a limit of bytes and of reads.
+
+use arrayvec::ArrayVec;
+use swim_wire::{Byte, LineEnd, Page, Source, Text, next_short_line};
+
+/// What the first line of a text ends with, where a line has at most 4 bytes, its bytes, and the reads that are left.
+fn first(text: &[u8], page: &mut Page, mut reads: u32) -> (LineEnd, ArrayVec<u8, 4>, u32) {
+    let mut source = Text::new(text);
+    let mut line = ArrayVec::new();
+    let end = next_short_line(&mut source, page, &mut line, &mut reads);
+    (end, line, reads)
+}
+
+#[test]
+fn takes_short_lines(rt: HostRuntime) {
+    let mut page = Page::new(rt.alloc());
+    let table = [
+        (b"".as_slice(), 9, LineEnd::Over, b"".as_slice(), 8),
+        (b"", 0, LineEnd::Spent, b"", 0),
+        (b"\n", 1, LineEnd::Feed, b"", 0),
+        (b"ab\ncd", 9, LineEnd::Feed, b"ab", 6),
+        (b"abcd\n", 5, LineEnd::Feed, b"abcd", 0),
+        (b"abcd", 5, LineEnd::Unended, b"abcd", 0),
+        (b"abcd", 4, LineEnd::Spent, b"abcd", 0),
+        (b"abcd\n", 3, LineEnd::Spent, b"abc", 0),
+    ];
+    for (text, reads, end, bytes, left) in table {
+        let (got, line, after) = first(text, &mut page, reads);
+        assert_eq!(rt; got, end);
+        assert_eq!(rt; line.as_slice(), bytes);
+        assert_eq!(rt; after, left);
+    }
+}
+
+#[test]
+fn ends_at_the_byte_too_many(rt: HostRuntime) {
+    let mut source = Text::new(b"abcdefg\n");
+    let mut page = Page::new(rt.alloc());
+    let mut line = ArrayVec::<u8, 4>::new();
+    let mut reads = 9;
+    let end = next_short_line(&mut source, &mut page, &mut line, &mut reads);
+    assert_eq!(rt; end, LineEnd::Long);
+    assert_eq!(rt; reads, 4);
+    assert_eq!(rt; source.byte(), Byte::One(b'f'));
+}
+
+#[test]
+fn tells_failures_of_short_lines(rt: HostRuntime) {
+    let mut source = Text::failing_after(b"ab\ncd", 4);
+    let mut page = Page::failing_after(rt.alloc(), None, Some(5));
+    let mut line = ArrayVec::<u8, 4>::new();
+    let mut reads = 99;
+    for end in [
+        LineEnd::Feed,
+        LineEnd::Failed,
+        LineEnd::Unsent,
+        LineEnd::Unended,
+        LineEnd::Over,
+    ] {
+        let got = next_short_line(&mut source, &mut page, &mut line, &mut reads);
+        assert_eq!(rt; got, end);
+    }
+}
