@@ -1,5 +1,5 @@
 -- How an answered call stands in a run of the sequential detector. Histories stand newest first.
-use Rattle.std.specs.Prelude.{◌≡◌, ◌↔◌, ℕ, List, [], ◌∷◌, ◌++◌, length, Option, Some, None, IfSome}
+use Rattle.std.specs.Prelude.{◌≡◌, ◌↔◌, ℕ, ◌<◌, List, [], ◌∷◌, ◌++◌, length, Option, Some, None, IfSome}
 use Rattle.swim_wire.specs.Layout.{first_fault}
 use Rattle.swim_history.specs.declared.calls.Call.{Call}
 use Rattle.swim_history.specs.declared.replies.Reply.{Reply}
@@ -47,12 +47,12 @@ pub record IsMoment (o : Setting) (seat : Seated) (past : List Entry) : Type 0 w
   pub run : IsRun o past
   pub calls : calls_of seat.number past ≡ length seat.calls
 
--- why a call may be refused under the lock: at such a moment the journal had as many entries as it may have, or
--- memory was refused
+-- why a call may be refused under the lock: at such a moment the journal had as many entries as it may have; or it had
+-- fewer, and memory was refused
 abbrev pub MayRefuse : Setting → ℕ → Seated → CallFault → Type 0
 MayRefuse o limit seat (Wire fault) = ⊥
 MayRefuse o limit seat JournalFull = (past : List Entry) × IsMoment o seat past × (length past ≡ limit)
-MayRefuse o limit seat NoMemory = Unit {0}
+MayRefuse o limit seat NoMemory = (past : List Entry) × IsMoment o seat past × (length past < limit)
 
 -- why bytes that came may be: also where they are no datagram, for their first fault
 abbrev pub MayRefuseBytes : List ℕ → Setting → ℕ → Seated → CallFault → Type 0
