@@ -12,6 +12,9 @@ from refusing import REFUSED, Ran
 
 AS_EVER, NO_MEMORY, NOT_KEPT, NOT_BEGUN = "as ever", "a call without memory", "a line that isn't kept", "nothing was done"
 MEMORY = re.compile(rb"line (\d+): memory\n")
+EXPLAINED = rb"line (\d+): memory\n  expected: memory to keep what the line tells\n(no memory to sum the run up\n|entries .*)"
+EXPLAINED_MEMORY = re.compile(EXPLAINED, re.S)
+NAME = re.compile(rb"^((?:dropped|refused|wire) [0-9]+) [a-z].*$", re.M)
 NO_PROGRAM = re.compile(rb"(swimsim|error): out of memory\n")
 
 
@@ -44,6 +47,29 @@ def of_a_script(refuser, program, script, played):
             yield NOT_KEPT, []
         else:
             is_good = ran.status == 1 and not ran.stdout and NO_PROGRAM.fullmatch(ran.stderr)
+            yield NOT_BEGUN, [] if is_good else [f"request {number}: {str(ran)[-1_000:]}"]
+
+
+def of_an_explained_script(refuser, program, script, played):
+    """With the word `--explain` the answers are those without it, as above, but for names, which may be left out; and a line that
+    can't be kept has its explanation. In the end it is summed up, or said that there was no memory for that."""
+    lines = script.lines()
+    head, text = len(lines) - len(script.events), joined(lines)
+    wanted, words = played(text).stdout, [program, "--explain"]
+    whole = refuser.run(words, text)
+    yield AS_EVER, [] if NAME.sub(rb"\1", whole.stdout) == wanted else ["without a refusal it answers something else"]
+    for number, ran in refuser.refusals(words, text):
+        answered, line = NAME.sub(rb"\1", ran.stdout), EXPLAINED_MEMORY.fullmatch(ran.stderr)
+        is_summed = ran.stderr in (whole.stderr, b"no memory to sum the run up\n")
+        if ran.status == 0 and answered == wanted and is_summed:
+            yield AS_EVER, []
+        elif ran.status == 0 and b"no memory\n" in answered and b"\nno memory: 1\n" in ran.stderr:
+            said = loses_one_call(script.events, lines[:head], answered, played)
+            yield NO_MEMORY, [f"request {number}: {it}" for it in said]
+        elif ran.status == 1 and not answered and line and lines[int(line[1]) - 1].startswith(("order ", "place ")):
+            yield NOT_KEPT, []
+        else:
+            is_good = ran.status == 1 and not answered and NO_PROGRAM.fullmatch(ran.stderr)
             yield NOT_BEGUN, [] if is_good else [f"request {number}: {str(ran)[-1_000:]}"]
 
 

@@ -47,12 +47,13 @@ struct Walk {
 }
 
 /// The warnings of a run, from its journal and what its script told: unfit orders, and then what was left over. `Err`
-/// only where memory was refused.
+/// only where memory was refused, also for an order or a place that was told.
 pub fn warnings_of(
     alloc: Global,
     journal: &Journal,
     told: &Told,
 ) -> Result<Vec<Warning>, AllocError> {
+    told.kept?;
     let mut walk = Walk {
         listed: listed_in(alloc, journal.opening().rows())?,
         orders: 0,

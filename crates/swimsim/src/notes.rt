@@ -3,7 +3,7 @@
 use crate::commands::{Command, LINE_BYTES, first_word, read_command};
 use crate::overhearing::Listener;
 use arrayvec::ArrayVec;
-use std::alloc::Global;
+use std::alloc::{AllocError, Global};
 use std::cell::RefCell;
 use swim_targets::Order;
 use swim_wire::{Id, Words};
@@ -11,7 +11,7 @@ use swim_wire::{Id, Words};
 /// More rows than an opening may have.
 const NOTED_ROWS: usize = 129;
 
-/// What the lines of a script told that were carried out. In want of memory orders and places are left out.
+/// What the lines of a script told that were carried out. In want of memory orders and places are left out, which is told.
 #[derive(Drop)]
 pub struct Told {
     /// The `open` line, without its line feed.
@@ -26,6 +26,8 @@ pub struct Told {
     pub seed: Option<u32>,
     /// The first event line.
     pub event: Option<u32>,
+    /// Whether each order and each place was kept.
+    pub kept: Result<(), AllocError>,
 }
 
 impl Told {
@@ -37,6 +39,7 @@ impl Told {
             places: Vec::new(alloc),
             seed: None,
             event: None,
+            kept: Ok(()),
         }
     }
 
@@ -47,11 +50,18 @@ impl Told {
             return;
         };
         if let Ok(Some(command)) = read_command(word, &mut words) {
-            self.keep_command(number, line, &command);
+            if let Err(refused) = self.keep_command(number, line, &command) {
+                self.kept = Err(refused);
+            }
         }
     }
 
-    fn keep_command(&mut self, number: u32, line: &[u8], command: &Command<'_>) {
+    fn keep_command(
+        &mut self,
+        number: u32,
+        line: &[u8],
+        command: &Command<'_>,
+    ) -> Result<(), AllocError> {
         match command {
             Command::Open(_) => {
                 let mut open = ArrayVec::new();
@@ -61,12 +71,8 @@ impl Told {
             Command::Row(id, _) => {
                 let _fits = self.rows.try_push((number, *id));
             }
-            Command::Order(order) => {
-                let _kept = self.orders.push((number, order.read()));
-            }
-            Command::Place(_) => {
-                let _kept = self.places.push(number);
-            }
+            Command::Order(order) => self.orders.push((number, order.read()))?,
+            Command::Place(_) => self.places.push(number)?,
             Command::Seed(_) => self.seed = Some(number),
             _ => {
                 if self.event.is_none() {
@@ -74,6 +80,7 @@ impl Told {
                 }
             }
         }
+        Ok(())
     }
 }
 
