@@ -14,6 +14,7 @@ AS_EVER, NO_MEMORY, NOT_KEPT, NOT_BEGUN = "as ever", "a call without memory", "a
 MEMORY = re.compile(rb"line (\d+): memory\n")
 EXPLAINED = rb"line (\d+): memory\n  expected: memory to keep what the line tells\n(no memory to sum the run up\n|entries .*)"
 EXPLAINED_MEMORY = re.compile(EXPLAINED, re.S)
+WORDS = re.compile(rb"^  .*\n", re.M)
 NAME = re.compile(rb"^((?:dropped|refused|wire) [0-9]+) [a-z].*$", re.M)
 NO_PROGRAM = re.compile(rb"(swimsim|error): out of memory\n")
 
@@ -29,14 +30,21 @@ def without(lines, place):
     return [*lines[:place], *lines[place + 1 :]]
 
 
-def of_a_script(refuser, program, script, played):
+def without_words(ran):
+    return ran._replace(stdout=WORDS.sub(b"", ran.stdout))
+
+
+def of_a_script(refuser, program, script, played, *options):
     """Either the run is as ever; or one call is answered `no memory`, and all else as in a run of a script without its line; or an
-    `order` or a `place` can't be kept; or the script isn't begun. `played` says what is written where no request is refused."""
+    `order` or a `place` can't be kept; or the script isn't begun. `played` says what is written where no request is refused. The
+    words of `--decode` may be left out."""
     lines = script.lines()
     head, text = len(lines) - len(script.events), joined(lines)
-    whole = played(text)
-    yield AS_EVER, [] if refuser.run([program], text) == whole else ["without a refusal it writes something else"]
-    for number, ran in refuser.refusals([program], text):
+    whole, command = played(text), [program, *options]
+    first = without_words(refuser.run(command, text))
+    yield AS_EVER, [] if first == whole else ["without a refusal it writes something else"]
+    for number, ran in refuser.refusals(command, text):
+        ran = without_words(ran)
         line = MEMORY.fullmatch(ran.stderr)
         if ran == whole:
             yield AS_EVER, []
