@@ -1,7 +1,7 @@
 //! The three workers of a life. Each has a seat of the node for itself. It reads the shared flag once a turn, then asks
 //! its gate once, and sets the flag when it ends.
 
-ghost use Rattle.std.specs.Prelude.{◌≤◌, length};
+ghost use Rattle.std.specs.Prelude.{◌≡◌, ◌≤◌, length};
 ghost use Rattle.swim_history.specs.Sends.{sends_of};
 ghost use Rattle.swimd.specs.Ends.{IsFinished};
 
@@ -138,6 +138,14 @@ pub(crate) fn control<N: Naming, H: Wait + Drop, R: Wait, D: Door>(
         }
     }
     over.store(true, Ordering::SeqCst);
+    left(desk, why)
+}
+
+/// What the controller hands back: what its desk refused for want of memory is all that it counts.
+fn left<N: Naming, H: Wait + Drop>(desk: NodeDesk<N, H, 2>, why: Why) -> Ended<N, 2>
+    ensures why { result.why ≡ why }
+    ensures counts { result.counts ≡ record { unsent = 0; wire = 0; refused = desk.entry.refused } }
+{
     let (held, refused) = desk.leave();
     let mut counts = Counts::none();
     counts.refused = refused;
