@@ -1,7 +1,10 @@
 //! What is to be measured.
 
-ghost use Rattle.std.specs.Prelude.{◌≡◌, IfSome};
-ghost use Rattle.node_bench.specs.Tasks.{limit_of, mode_of};
+ghost use Rattle.std.specs.Prelude.{◌≡◌, Some, IfSome, map};
+ghost use Rattle.std.specs.String.{string_bytes};
+ghost use Rattle.std.specs.Vec.Iter.{into_iter_items};
+ghost use Rattle.node_bench.specs.declared.tasks.Task.{Task};
+ghost use Rattle.node_bench.specs.Tasks.{Tells, limit_of, mode_of};
 
 use std::env::Args;
 
@@ -35,7 +38,8 @@ pub(crate) struct Task {
 impl Task {
     /// The task of a program's arguments, of which the first is its name.
     pub(crate) fn read(words: Args) -> Option<Task>
-        ensures { IfSome result (λ task. task.limit ≡ limit_of task.mode task.calls) }
+        ensures told { IfSome result (Tells (map string_bytes (into_iter_items words))) }
+        ensures every { (task : Task) → Tells (map string_bytes (into_iter_items words)) task → result ≡ Some task }
     {
         let mut words = words;
         let _name = words.next()?;
