@@ -5,6 +5,7 @@ pub mod KeptRows
 pub mod Known
 pub mod LineTurns
 pub mod OrderParts
+pub mod ToldReasons
 pub mod SentLines
 pub mod StandingLines
 pub mod Turns

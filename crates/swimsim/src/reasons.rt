@@ -1,9 +1,10 @@
 //! Answers that tell a reason by its number.
 
-ghost use Rattle.std.specs.Prelude.{◌≡◌, ◌++◌, IfSome, Some, decimal};
+ghost use Rattle.std.specs.Prelude.{◌≡◌, ◌++◌, ℕ, ◌≤◌, IfSome, Some, decimal};
 ghost use Rattle.swim_wire.specs.Layout.{fault_number};
 ghost use Rattle.swim_history.specs.Reasons.{drop_number, refusal_number};
 ghost use Rattle.swimsim.specs.Named.{reason_text};
+ghost use Rattle.swimsim.specs.declared.reasons.Reason.{Reason};
 
 use std::fmt;
 use swim_history::{DropReason, Refusal};
@@ -32,7 +33,8 @@ impl fmt::Display for Reason {
 
 /// The reason that an answer tells, given without its line feed.
 pub fn reason_in(line: &[u8]) -> Option<Reason>
-    ensures { IfSome result (λ reason. reason_text reason ≡ line.now) }
+    ensures told { IfSome result (λ reason. reason_text reason ≡ line.now) }
+    ensures every { (reason : Reason) → reason_text reason ≡ line.now → result ≡ Some reason }
 {
     if let Some(number) = number_after(line, b"dropped ") {
         return Some(Reason::Dropped(dropped(number)?));
@@ -46,7 +48,8 @@ pub fn reason_in(line: &[u8]) -> Option<Reason>
 
 /// The number of a reason behind a word.
 fn number_after(line: &[u8], word: &[u8]) -> Option<u64>
-    ensures { IfSome result (λ number. word.now ++ decimal number ≡ line.now) }
+    ensures number { IfSome result (λ number. word.now ++ decimal number ≡ line.now) }
+    ensures every { (number : ℕ) → number ≤ 7 → word.now ++ decimal number ≡ line.now → result ≡ Some number }
 {
     if line.len() < word.len() {
         return None;
