@@ -11,7 +11,8 @@ use swim_wire::{Id, Words};
 /// More rows than an opening may have.
 const NOTED_ROWS: usize = 129;
 
-/// What the lines of a script told that were carried out. In want of memory orders and places are left out, which is told.
+/// What the lines of a script told that were carried out. In want of memory orders and places are left out, and `kept`
+/// says so.
 #[derive(Drop)]
 pub struct Told {
     /// The `open` line, without its line feed.

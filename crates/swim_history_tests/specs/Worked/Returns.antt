@@ -10,7 +10,8 @@ use Rattle.swim_history.specs.declared.entries.Entry.{Entry}
 use Rattle.swim_history.specs.Run.{IsRun}
 use Rattle.swim_history.specs.Gap.{unlists, IsGap}
 use Rattle.swim_history_tests.specs.Worked.Histories.{at, entry, round, starting, asking, first_start}
-use Rattle.swim_history_tests.specs.Worked.Gaps.{quiet, acked, acked_is_run, no_relays, four_periods, four_periods_are_run}
+use Rattle.swim_history_tests.specs.Worked.Gaps.{quiet, acked, acked_is_run, no_relays}
+use Rattle.swim_history_tests.specs.Worked.Gaps.{four_periods, four_periods_are_run}
 
 -- ---- removed
 

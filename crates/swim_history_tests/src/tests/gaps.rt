@@ -1,9 +1,11 @@
 ghost use Rattle.std.specs.Prelude.{◌≡◌, ◌<◌, ◌^◌, [], ◌∷◌, Some, length, reverse, IfSome};
 ghost use Rattle.swim_history.specs.Run.{IsRun};
 ghost use Rattle.swim_history_tests.specs.Worked.Histories.{round, asking, starting};
-ghost use Rattle.swim_history_tests.specs.Worked.Gaps.{quiet, heard, no_relays, four_periods, joiner, next_round, joined};
+ghost use Rattle.swim_history_tests.specs.Worked.Gaps.{quiet, heard, no_relays, four_periods};
+ghost use Rattle.swim_history_tests.specs.Worked.Gaps.{joiner, next_round, joined};
 ghost use Rattle.swim_history_tests.specs.Worked.Gaps.{removal, rejoiner, rejoined};
-ghost use Rattle.swim_history_tests.specs.Worked.Returns.{leaving, returning, returned, judged_returning, judged_and_back};
+ghost use Rattle.swim_history_tests.specs.Worked.Returns.{leaving, returning, returned};
+ghost use Rattle.swim_history_tests.specs.Worked.Returns.{judged_returning, judged_and_back};
 
 use super::journals::{append, entry, first_start, played, start};
 use super::{address, id};

@@ -4,7 +4,8 @@ ghost use Rattle.swim_history.specs.declared.entries.Choice.TheVariants.{Nothing
 ghost use Rattle.swim_history.specs.declared.replies.Refusal.TheVariants.{Spent};
 ghost use Rattle.swim_history.specs.declared.replies.Reply.TheVariants.{Quiet, Joined, Removed, Refused};
 ghost use Rattle.swim_history.specs.Run.{Continues};
-ghost use Rattle.swim_history_tests.specs.Worked.Histories.{at, entry, round, starting, asking, two_members, first_start};
+ghost use Rattle.swim_history_tests.specs.Worked.Histories.{at, entry, round, starting, asking};
+ghost use Rattle.swim_history_tests.specs.Worked.Histories.{two_members, first_start};
 
 use super::{address, id, opening};
 use arrayvec::ArrayVec;
