@@ -1,5 +1,5 @@
 -- Lives that went on one from the other, step by step.
-use Rattle.std.proofs.Common.{◌≡◌, ℕ, ◌+◌, ◌-◌, ◌^◌, min, List, [], ◌∷◌, length, Option, Some, None}
+use Rattle.std.proofs.Common.{◌≡◌, ℕ, ◌+◌, ◌-◌, ◌^◌, min, List, [], ◌∷◌, length, Some, None}
 use Rattle.std.proofs.Common.{refl, subst, inl, inr, arith}
 use Rattle.swim_history.specs.After.{setting_after}
 use Rattle.swim_history.specs.Setting.{Setting}
@@ -8,11 +8,11 @@ use Rattle.swimd.specs.declared.counts.Why.{Why}
 use Rattle.swimd.specs.declared.counts.Why.TheVariants.{JournalFull, NoMemory, Socket, Stopped}
 use Rattle.swimd.specs.declared.lives.LivesEnd.{LivesEnd}
 use Rattle.swimd.specs.declared.lives.Past.{Past}
-use Rattle.swimd.specs.Endings.{TellsLife}
+use Rattle.swimd.specs.Endings.{TellsLife, Written}
 use Rattle.swimd.specs.Lives.{AreLived, AreLives, AreFull, AreTold, IsLife, end_after, end_without, number_after, opening_after}
 
 -- all lives so far were ended by a full journal; the next one begins so, and has this number
-pub record HaveLived (first next : Setting) (number : ℕ) (old new : Option (List ℕ)) : Type 0 where
+pub record HaveLived (first next : Setting) (number : ℕ) (old new : Written) : Type 0 where
   pub lives : List Past
   pub lived : AreLives first lives
   pub full : AreFull lives
@@ -20,15 +20,15 @@ pub record HaveLived (first next : Setting) (number : ℕ) (old new : Option (Li
   pub number_is : number ≡ number_after lives
   pub told : AreTold old new lives
 
-pub none_lived : (first : Setting) (old : Option (List ℕ)) → HaveLived first first 0 old old
+pub none_lived : (first : Setting) (old : Written) → HaveLived first first 0 old old
 none_lived first old = record { lives = []; lived = tt; full = tt; next_is = refl; number_is = refl; told = refl }
 
 -- a life more
-lives_with : (first next : Setting) (number : ℕ) (old mid : Option (List ℕ)) (past : Past)
+lives_with : (first next : Setting) (number : ℕ) (old mid : Written) (past : Past)
     (so : HaveLived first next number old mid) → IsLife next past → AreLives first (past ∷ so.lives)
 lives_with first next number old mid past so is = (subst (λ o. IsLife o past) so.next_is is, so.lived)
 
-told_with : (first next : Setting) (number : ℕ) (old mid new : Option (List ℕ)) (past : Past)
+told_with : (first next : Setting) (number : ℕ) (old mid new : Written) (past : Past)
     (so : HaveLived first next number old mid) → TellsLife number past mid new → AreTold old new (past ∷ so.lives)
 told_with first next number old mid new past so line =
     (mid, so.told, subst (λ n. TellsLife n past mid new) so.number_is line)
@@ -40,7 +40,7 @@ full_where_none NoMemory is = absurd cc
 full_where_none Socket is = absurd cc
 full_where_none Stopped is = absurd cc
 
-pub one_more_lived : (first next after : Setting) (number count : ℕ) (old mid new : Option (List ℕ)) (past : Past) →
+pub one_more_lived : (first next after : Setting) (number count : ℕ) (old mid new : Written) (past : Past) →
     HaveLived first next number old mid → IsLife next past → end_after past.why ≡ None → TellsLife number past mid new →
     after ≡ setting_after past.journal.opening past.journal.past → count ≡ min (number + 1) (2 ^ 64 - 1) →
     HaveLived first after count old new
@@ -54,7 +54,7 @@ one_more_lived first next after number count old mid new past so is goes_on line
 }
 
 -- the last one
-pub last_lived : (first next : Setting) (number : ℕ) (old mid new : Option (List ℕ)) (past : Past) (end : LivesEnd) →
+pub last_lived : (first next : Setting) (number : ℕ) (old mid new : Written) (past : Past) (end : LivesEnd) →
     HaveLived first next number old mid → IsLife next past → end_after past.why ≡ Some end →
     TellsLife number past mid new → AreLived first old new end
 last_lived first next number old mid new past end so is ends line = record {
@@ -65,7 +65,7 @@ last_lived first next number old mid new past end so is ends line = record {
 }
 
 -- and none more, as it got no node
-pub last_opened : (first next : Setting) (number : ℕ) (old new : Option (List ℕ)) (fault : OpenFault) (end : LivesEnd) →
+pub last_opened : (first next : Setting) (number : ℕ) (old new : Written) (fault : OpenFault) (end : LivesEnd) →
     HaveLived first next number old new → end ≡ end_without fault → AreLived first old new end
 last_opened first next number old new fault end so is = record {
   lives = so.lives;

@@ -1,6 +1,6 @@
 -- What a command of the program does.
 use Rattle.std.specs.Prelude.{◌≡◌, ◌⊎◌, ℕ, Bool, List, Option, Some, None}
-use Rattle.swim_wire.specs.Streams.{Puts}
+use Rattle.swim_wire.specs.Streams.{Puts, failures_if}
 use Rattle.swimd.specs.declared.config_fault.ConfigFault.TheVariants.{NoMemory}
 use Rattle.swimd.specs.declared.outcomes.Outcome.{Outcome}
 use Rattle.swimd.specs.declared.outcomes.Outcome.TheVariants.{Usage, Refused}
@@ -9,10 +9,13 @@ use Rattle.swimd.specs.Daemon.{Runs, Asks}
 use Rattle.swimd.specs.Outcomes.{outcome_text, status_of}
 use Rattle.swimd.specs.Words.{Wanted, Check, Run, Ask}
 
--- an outcome was told on standard error, as far as it took the text, and by the status
-pub record Told (outcome : Outcome) (old new : Option (List ℕ)) (status : ℕ) : Type 0 where
+-- an outcome was told on standard error, as far as it took the text, and by the status; a failed write and a failed
+-- flush were counted
+pub record Told (outcome : Outcome) (old new : Option (List ℕ)) (failed_old failed_new : ℕ) (status : ℕ) : Type 0 where
   pub done : Bool
   pub put : Puts old new (outcome_text outcome) done
+  pub sent : Bool
+  pub failed : failed_new ≡ failures_if (failures_if failed_old done) sent
   pub is : status ≡ status_of outcome
 
 -- what is done where the words ask this, to standard input and to standard output, and how it ends
@@ -29,7 +32,7 @@ IsShort old new outcome = (outcome ≡ Refused NoMemory) × (new ≡ old)
 
 -- what the words ask was done, and how it ended was told
 pub record Commanded (asked : Option Wanted) (left_old left_new old new faults_old faults_new : Option (List ℕ))
-    (status : ℕ) : Type 0 where
+    (failed_old failed_new : ℕ) (status : ℕ) : Type 0 where
   pub outcome : Outcome
   pub done : Does asked left_old left_new old new outcome ⊎ IsShort old new outcome
-  pub told : Told outcome faults_old faults_new status
+  pub told : Told outcome faults_old faults_new failed_old failed_new status

@@ -31,7 +31,9 @@ outcome_of ends.NoPlace = NoPlace
 -- lives were lived from the configuration's opening
 pub record IsLivedBy (config : Config) (old new : Option (List ℕ)) (outcome : Outcome) : Type 0 where
   pub end : LivesEnd
-  pub lived : AreLived config.opening old new end
+  pub failed_old : ℕ
+  pub failed_new : ℕ
+  pub lived : AreLived config.opening (old, failed_old) (new, failed_new) end
   pub is : outcome ≡ outcome_of end
 
 -- what a daemon of this configuration does: without its sockets nothing is written

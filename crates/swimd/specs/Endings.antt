@@ -1,6 +1,6 @@
 -- The lines that tell how lives ended.
-use Rattle.std.specs.Prelude.{ℕ, Bool, List, ◌++◌, length, Option, codes, decimal}
-use Rattle.swim_wire.specs.Streams.{Puts}
+use Rattle.std.specs.Prelude.{◌≡◌, ℕ, Bool, List, ◌++◌, length, Option, codes, decimal}
+use Rattle.swim_wire.specs.Streams.{Puts, failures_if}
 use Rattle.swim_history.specs.Judgement.{judgements}
 use Rattle.swimd.specs.declared.counts.Why.{Why}
 use Rattle.swimd.specs.declared.counts.Why.TheVariants.{JournalFull}
@@ -36,7 +36,13 @@ line_of why number past = ended_text past
 abbrev pub line_text : ℕ → Past → List ℕ
 line_text number past = line_of past.why number past
 
--- it was written, as far as it was taken
-pub record TellsLife (number : ℕ) (past : Past) (old new : Option (List ℕ)) : Type 0 where
+-- what was written to a sink, where that is known, and how many of its writes and flushes failed
+abbrev pub Written : Type 0
+Written = Option (List ℕ) × ℕ
+
+-- it was written, as far as it was taken; a failed write and a failed flush were counted
+pub record TellsLife (number : ℕ) (past : Past) (old new : Written) : Type 0 where
   pub done : Bool
-  pub put : Puts old new (line_text number past) done
+  pub put : Puts old.0 new.0 (line_text number past) done
+  pub sent : Bool
+  pub failed : new.1 ≡ failures_if (failures_if old.1 done) sent

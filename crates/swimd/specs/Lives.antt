@@ -13,7 +13,7 @@ use Rattle.swimd.specs.declared.counts.Why.TheVariants as whys
 use Rattle.swimd.specs.declared.lives.LivesEnd.{LivesEnd}
 use Rattle.swimd.specs.declared.lives.LivesEnd.TheVariants.{Stopped, Socket, NoMemory, NoPlace}
 use Rattle.swimd.specs.declared.lives.Past.{Past}
-use Rattle.swimd.specs.Endings.{TellsLife}
+use Rattle.swimd.specs.Endings.{TellsLife, Written}
 
 -- a life from this opening: its journal is one history, with the calls of some four seats
 pub record IsLife (first : Setting) (past : Past) : Type 0 where
@@ -40,10 +40,10 @@ abbrev pub number_after : List Past → ℕ
 number_after lives = min (length lives) (2 ^ 64 - 1)
 
 -- each life was told by its line, as far as that was taken, and nothing else was written
-abbrev pub AreTold : Option (List ℕ) → Option (List ℕ) → List Past → Type 0
+abbrev pub AreTold : Written → Written → List Past → Type 0
 AreTold old new [] = new ≡ old
 AreTold old new (past ∷ before) =
-    (between : Option (List ℕ)) × AreTold old between before × TellsLife (number_after before) past between new
+    (between : Written) × AreTold old between before × TellsLife (number_after before) past between new
 
 -- why a daemon ended whose last life ended so; a full journal alone is followed by a life
 abbrev pub end_after : Why → Option LivesEnd
@@ -63,7 +63,7 @@ end_without faults.NoMemory = NoMemory
 end_without faults.NoPlace = NoPlace
 
 -- lives were lived from this opening, and told; and they ended so
-pub record AreLived (opening : Setting) (old new : Option (List ℕ)) (end : LivesEnd) : Type 0 where
+pub record AreLived (opening : Setting) (old new : Written) (end : LivesEnd) : Type 0 where
   pub lives : List Past
   pub lived : AreLives opening lives
   pub told : AreTold old new lives

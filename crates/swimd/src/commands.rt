@@ -27,7 +27,8 @@ pub fn command<R: Files + Net + Clock + Threads + Wait + Sync, S: Source, W: Sin
     faults: &mut F,
 ) -> u8
     ensures { Commanded (asked_of (map (λ word. word.now) words.now)) (S.left reader.old) (S.left reader.new)
-        (W.written writer.old) (W.written writer.new) (F.written faults.old) (F.written faults.new) result }
+        (W.written writer.old) (W.written writer.new) (F.written faults.old) (F.written faults.new)
+        (F.failures faults.old) (F.failures faults.new) result }
 {
     let outcome = carry_out(rt, alloc, words, reader, writer);
     tell(outcome, faults)
@@ -56,7 +57,8 @@ fn carry_out<R: Files + Net + Clock + Threads + Wait + Sync, S: Source, W: Sink>
 
 /// Tells an outcome, and answers its status.
 pub fn tell<F: Sink>(outcome: Outcome, faults: &mut F) -> u8
-    ensures { Told outcome (F.written faults.old) (F.written faults.new) result }
+    ensures { Told outcome (F.written faults.old) (F.written faults.new) (F.failures faults.old)
+        (F.failures faults.new) result }
 {
     let _is_put = put_outcome(faults, outcome);
     let _is_sent = faults.flush();

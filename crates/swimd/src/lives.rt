@@ -65,7 +65,8 @@ pub fn run_lives<R: Threads + Wait + Sync, L: Line + Sync, P: Pace + Send, D: Do
     door: &mut D,
     writer: &mut W,
 ) -> LivesEnd
-    ensures { AreLived opening (W.written writer.old) (W.written writer.new) result }
+    ensures { AreLived opening (W.written writer.old, W.failures writer.old)
+        (W.written writer.new, W.failures writer.new) result }
 {
     let mut opening = opening;
     let mut number: u64 = 0;
@@ -94,7 +95,8 @@ fn chooser_of(terms: Terms, number: u64) -> Seeded
 
 /// Writes how a life ended. That it can't be written changes nothing.
 fn tell<W: Sink>(writer: &mut W, number: u64, past: &Past)
-    ensures { TellsLife number past.now (W.written writer.old) (W.written writer.new) }
+    ensures { TellsLife number past.now (W.written writer.old, W.failures writer.old)
+        (W.written writer.new, W.failures writer.new) }
 {
     let _is_put = match past.why {
         Why::JournalFull => put_life(writer, number, past),
