@@ -14,7 +14,8 @@ use Rattle.swim_control.specs.Desks.{Told}
 use Rattle.swim_control.specs.Texts.{fault_text}
 use Rattle.swim_control.specs.Serving.{IsServedKnown, AreSpent, ReadsFail, end_at}
 use Rattle.swim_control.specs.Turns.{closed, Turned, IsLast}
-use Rattle.swim_control.proofs.Courses.{Course, at_start, next, ends_over, ends_unread, ends_turn, ends_long, ends_unended, spends_all, end_of_line}
+use Rattle.swim_control.proofs.Courses.{Course, at_start, next}
+use Rattle.swim_control.proofs.CourseEnds.{ends_over, ends_unread, ends_turn, ends_long, ends_unended, spends_all, end_of_line}
 
 -- the course of a text that is known
 abbrev pub CourseKnown : {S : Type 0} → (S → Command → Told → S → Type 0) → Option (List ℕ) → Option (List ℕ) → S → S → Option (List ℕ) → Option (List ℕ) → ℕ → Type 0

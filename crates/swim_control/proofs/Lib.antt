@@ -1,3 +1,4 @@
 pub mod Courses
+pub mod CourseEnds
 pub mod Known
 pub mod LineTurns
