@@ -30,8 +30,9 @@ def without(lines, place):
     return [*lines[:place], *lines[place + 1 :]]
 
 
-def without_words(ran):
-    return ran._replace(stdout=WORDS.sub(b"", ran.stdout))
+def without_words(ran, options):
+    """What was written but for the words of `--decode`. Without that option nothing is left out of what is compared."""
+    return ran._replace(stdout=WORDS.sub(b"", ran.stdout)) if "--decode" in options else ran
 
 
 def of_a_script(refuser, program, script, played, *options):
@@ -41,10 +42,10 @@ def of_a_script(refuser, program, script, played, *options):
     lines = script.lines()
     head, text = len(lines) - len(script.events), joined(lines)
     whole, command = played(text), [program, *options]
-    first = without_words(refuser.run(command, text))
+    first = without_words(refuser.run(command, text), options)
     yield AS_EVER, [] if first == whole else ["without a refusal it writes something else"]
     for number, ran in refuser.refusals(command, text):
-        ran = without_words(ran)
+        ran = without_words(ran, options)
         line = MEMORY.fullmatch(ran.stderr)
         if ran == whole:
             yield AS_EVER, []
