@@ -58,3 +58,30 @@ fn entries_come_back_whole(rt: HostRuntime) -> Result<(), Fail> {
     assert!(rt; journal.entry(6).is_none());
     Ok(())
 }
+
+#[test]
+fn each_round_keeps_its_order(rt: HostRuntime) -> Result<(), Fail> {
+    let mut orders = Vec::new(rt.alloc());
+    orders.push(order_of(&[3, 2])?)?;
+    orders.push(order_of(&[2, 3])?)?;
+    let chooser = Scripted::new(orders, Vec::new(rt.alloc()));
+    let mut recorder = Recorder::open(rt.alloc(), opening(0, &[2, 3], 0)?, chooser, 1000);
+    // Each aim acks, so that both stay listed, and the third period begins a round.
+    for (aim, number) in [(3, 1), (2, 2)] {
+        let ack = Call::Hear(message(Kind::Ack, aim, 1, aim, number)?, at(aim as u8));
+        last_reply(&mut recorder, &[Call::Tick, ack, Call::Tick, Call::Tick])?;
+    }
+    last_reply(&mut recorder, &[Call::Tick])?;
+    let journal = recorder.into_journal();
+    let mut found = Vec::new(rt.alloc());
+    for place in [0, 4, 8] {
+        found.push(journal.entry(place).ok_or("an entry")?.choice)?;
+    }
+    let wanted = [
+        Choice::Round(order_of(&[3, 2])?),
+        Choice::Nothing,
+        Choice::Round(order_of(&[2, 3])?),
+    ];
+    assert_eq!(rt; found.as_slice(), wanted.as_slice());
+    Ok(())
+}
