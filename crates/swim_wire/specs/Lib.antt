@@ -11,6 +11,7 @@ pub mod Lines
 pub mod Memory
 pub mod Numbers
 pub mod Parts
+pub mod Pieces
 pub mod Probe
 pub mod Requests
 pub mod RequestLaws

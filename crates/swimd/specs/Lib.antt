@@ -11,7 +11,6 @@ pub mod Inputs
 pub mod Lives
 pub mod Outcomes
 pub mod Pacing
-pub mod Parts
 pub mod Reading
 pub mod Summary
 pub mod Words

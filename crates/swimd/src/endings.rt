@@ -5,9 +5,8 @@ ghost use Rattle.swim_wire.specs.Streams.{Puts, failures_if};
 ghost use Rattle.swimd.specs.Endings.{past_text, ended_text, life_text};
 
 use crate::lives::Past;
-use crate::parts::{Part, put_parts};
 use itoa::Buffer;
-use swim_wire::Sink;
+use swim_wire::{Piece, Sink, put_pieces};
 
 /// The line of the last life: why it ended, and its counts. Answers whether the sink took it.
 pub fn put_ended<W: Sink>(writer: &mut W, past: &Past) -> bool
@@ -32,20 +31,20 @@ fn put_line<'a, W: Sink>(writer: &mut W, word: &'a [u8], name: &'a [u8], past: &
         (word.now ++ (name.now ++ past_text past.now)) result }
     ensures failures { W.failures writer.new ≡ failures_if (W.failures writer.old) result }
 {
-    let parts = [
-        Part::Text(word),
-        Part::Text(name),
-        Part::Text(b" entries "),
-        Part::Number(u64::from(past.journal.len())),
-        Part::Text(b" judged "),
-        Part::Number(u64::from(past.journal.judged_count())),
-        Part::Text(b" unsent "),
-        Part::Number(past.unsent),
-        Part::Text(b" wire "),
-        Part::Number(past.wire),
-        Part::Text(b" refused "),
-        Part::Number(past.refused),
-        Part::Text(b"\n"),
+    let pieces = [
+        Piece::Text(word),
+        Piece::Text(name),
+        Piece::Text(b" entries "),
+        Piece::Number(u64::from(past.journal.len())),
+        Piece::Text(b" judged "),
+        Piece::Number(u64::from(past.journal.judged_count())),
+        Piece::Text(b" unsent "),
+        Piece::Number(past.unsent),
+        Piece::Text(b" wire "),
+        Piece::Number(past.wire),
+        Piece::Text(b" refused "),
+        Piece::Number(past.refused),
+        Piece::Text(b"\n"),
     ];
-    put_parts(writer, &parts)
+    put_pieces(writer, &pieces)
 }

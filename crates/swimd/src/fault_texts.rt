@@ -6,9 +6,8 @@ ghost use Rattle.swim_history.specs.Texts.{feed};
 ghost use Rattle.swimd.specs.FaultTexts.{key_text, fault_text};
 
 use crate::config_fault::{ConfigFault, Key};
-use crate::parts::{Part, put_parts};
 use swim_history::OpeningFault;
-use swim_wire::Sink;
+use swim_wire::{Piece, Sink, put_pieces};
 
 /// Writes the line of a fault, and answers whether the sink took it.
 pub fn put_fault<W: Sink>(writer: &mut W, fault: ConfigFault) -> bool
@@ -34,12 +33,12 @@ fn put_key_fault<W: Sink>(writer: &mut W, words: &[u8], key: Key) -> bool
     ensures bytes { Puts (W.written writer.old) (W.written writer.new) (words.now ++ (key_text key ++ feed)) result }
     ensures failures { W.failures writer.new ≡ failures_if (W.failures writer.old) result }
 {
-    let parts = [
-        Part::Text(words),
-        Part::Text(key.text().as_bytes()),
-        Part::Text(b"\n"),
+    let pieces = [
+        Piece::Text(words),
+        Piece::Text(key.text().as_bytes()),
+        Piece::Text(b"\n"),
     ];
-    put_parts(writer, &parts)
+    put_pieces(writer, &pieces)
 }
 
 /// The line of an opening that is refused.
@@ -48,10 +47,10 @@ fn put_opening_fault<W: Sink>(writer: &mut W, fault: OpeningFault) -> bool
     ensures failures { W.failures writer.new ≡ failures_if (W.failures writer.old) result }
 {
     let number = u64::from(fault.number());
-    let parts = [
-        Part::Text(b"configuration 9 "),
-        Part::Number(number),
-        Part::Text(b"\n"),
+    let pieces = [
+        Piece::Text(b"configuration 9 "),
+        Piece::Number(number),
+        Piece::Text(b"\n"),
     ];
-    put_parts(writer, &parts)
+    put_pieces(writer, &pieces)
 }

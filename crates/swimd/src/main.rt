@@ -18,7 +18,6 @@ mod lives;
 mod members;
 mod node_desk;
 mod outcomes;
-mod parts;
 mod settings;
 mod sleeping_pace;
 mod socket_path;

@@ -5,9 +5,8 @@ ghost use Rattle.swim_wire.specs.Streams.{Puts, failures_if};
 ghost use Rattle.swimd.specs.Summary.{head_text, member_text, members_text, summary_text};
 
 use crate::config::Config;
-use crate::parts::{Part, put_parts};
 use swim_history::{Row, table_of};
-use swim_wire::Sink;
+use swim_wire::{Piece, Sink, put_pieces};
 
 /// Writes what a configuration says, its members ascending by id, and answers whether the sink took it.
 pub fn summary<W: Sink>(config: &Config, writer: &mut W) -> bool
@@ -27,30 +26,30 @@ fn put_head<W: Sink>(writer: &mut W, config: &Config) -> bool
     ensures failures { W.failures writer.new ≡ failures_if (W.failures writer.old) result }
 {
     let opening = &config.opening;
-    let parts = [
-        Part::Text(b"id "),
-        Part::Number(u64::from(opening.me().get())),
-        Part::Text(b"\nlisten "),
-        Part::Address(config.listen),
-        Part::Text(b"\ncontrol "),
-        Part::Text(config.control.as_str().as_bytes()),
-        Part::Text(b"\nk "),
-        Part::Number(u64::from(opening.k())),
-        Part::Text(b" rtt "),
-        Part::Number(u64::from(opening.rtt())),
-        Part::Text(b" period "),
-        Part::Number(u64::from(opening.period())),
-        Part::Text(b" tick_ms "),
-        Part::Number(u64::from(config.tick_ms)),
-        Part::Text(b" last "),
-        Part::Number(opening.last()),
-        Part::Text(b" journal "),
-        Part::Number(u64::from(config.journal)),
-        Part::Text(b"\nmembers "),
-        Part::Number(opening.rows().len() as u64),
-        Part::Text(b"\n"),
+    let pieces = [
+        Piece::Text(b"id "),
+        Piece::Number(u64::from(opening.me().get())),
+        Piece::Text(b"\nlisten "),
+        Piece::Address(config.listen),
+        Piece::Text(b"\ncontrol "),
+        Piece::Text(config.control.as_str().as_bytes()),
+        Piece::Text(b"\nk "),
+        Piece::Number(u64::from(opening.k())),
+        Piece::Text(b" rtt "),
+        Piece::Number(u64::from(opening.rtt())),
+        Piece::Text(b" period "),
+        Piece::Number(u64::from(opening.period())),
+        Piece::Text(b" tick_ms "),
+        Piece::Number(u64::from(config.tick_ms)),
+        Piece::Text(b" last "),
+        Piece::Number(opening.last()),
+        Piece::Text(b" journal "),
+        Piece::Number(u64::from(config.journal)),
+        Piece::Text(b"\nmembers "),
+        Piece::Number(opening.rows().len() as u64),
+        Piece::Text(b"\n"),
     ];
-    put_parts(writer, &parts)
+    put_pieces(writer, &pieces)
 }
 
 /// A line for each member.
@@ -72,11 +71,11 @@ fn put_member<W: Sink>(writer: &mut W, member: &Row) -> bool
     ensures bytes { Puts (W.written writer.old) (W.written writer.new) (member_text member.now) result }
     ensures failures { W.failures writer.new ≡ failures_if (W.failures writer.old) result }
 {
-    let parts = [
-        Part::Number(u64::from(member.id.get())),
-        Part::Text(b" "),
-        Part::Address(member.peer),
-        Part::Text(b"\n"),
+    let pieces = [
+        Piece::Number(u64::from(member.id.get())),
+        Piece::Text(b" "),
+        Piece::Address(member.peer),
+        Piece::Text(b"\n"),
     ];
-    put_parts(writer, &parts)
+    put_pieces(writer, &pieces)
 }
