@@ -175,6 +175,7 @@ impl<C: Chooser> Recorder<C> {
     pub fn into_journal(self) -> Journal
         ensures opening { result.opening ≡ self.opening }
         ensures past { result.past ≡ self.past }
+        ensures within { length result.past ≤ self.limit }
     {
         self.journal
     }

@@ -1,6 +1,6 @@
 //! What lies under a node's lock.
 
-ghost use Rattle.std.specs.Prelude.{◌≡◌, ◌+◌, length, IfOk, IfErr, OnErr};
+ghost use Rattle.std.specs.Prelude.{◌≡◌, ◌≤◌, ◌+◌, length, IfOk, IfErr, OnErr};
 ghost use Rattle.swim_history.specs.Seats.{kept_of};
 ghost use Rattle.swim_node.specs.News.{SawNothing, EndsWithChange};
 ghost use Rattle.swim_node.specs.Seats.{Seated, AreNew, AreTheSeats};
@@ -196,6 +196,7 @@ impl<N: Naming, C: Chooser, H: Wait + Drop> Locked<N, C, H> {
     ) -> (Journal, [Seat<N>; 4], News<N>)
         requires { AreTheSeats seats }
         ensures opening { result.0.opening ≡ N.opening }
+        ensures within { length result.0.past ≤ N.limit }
         ensures seats { result.1 ≡ seats }
         ensures history { IsOneHistory N.opening result.0.past seats result.2 }
     {

@@ -1,6 +1,6 @@
 //! The node: one detector for four callers.
 
-ghost use Rattle.std.specs.Prelude.{◌≡◌, Err, Some, IfOk, IfErr, OnErr};
+ghost use Rattle.std.specs.Prelude.{◌≡◌, ◌≤◌, Err, Some, IfOk, IfErr, OnErr, length};
 ghost use Rattle.swim_wire.specs.declared.codec.WireFault.{WireFault};
 ghost use Rattle.swim_wire.specs.declared.messages.Message.{Message};
 ghost use Rattle.swim_wire.specs.Layout.{IsTextOf, first_fault};
@@ -157,6 +157,7 @@ impl<N: Naming, C: Chooser, H: Wait + Drop> Node<N, C, H> {
     pub fn close<R: Wait>(self, rt: &R, seats: [Seat<N>; 4]) -> (Journal, [Seat<N>; 4], News<N>)
         requires { AreTheSeats seats }
         ensures opening { result.0.opening ≡ N.opening }
+        ensures within { length result.0.past ≤ N.limit }
         ensures seats { result.1 ≡ seats }
         ensures history { IsOneHistory N.opening result.0.past seats result.2 }
     {
@@ -206,6 +207,7 @@ impl<N: Naming, C: Chooser, H: Wait + Drop> Node<N, C, H> {
         seat.calls.push_reserved(kept);
         Ok(receipt)
     }
+
     // Why a call is refused to which the seat has no room: where the journal is full, that is told.
     fn refusal<R: Wait>(&self, rt: &R, seat: &mut Seat<N>) -> CallFault
         ensures seat { seat.new ≡ seat.old }
