@@ -3,16 +3,16 @@ use Rattle.std.proofs.Common.{◌≡◌, ℕ, ◌<◌, ◌≤◌, true, List, le
 use Rattle.std.proofs.Common.{refl, sym, ap, ◌∙◌, arith, ltb, inl, inr}
 use Rattle.std.proofs.lemmas.Bool.{cases_Bool, ltb-true, lt-ltb, ltb-false}
 use Rattle.std.proofs.lemmas.List.{take_all, length-take}
-use Rattle.swimd.specs.declared.config.Config.{Config}
-use Rattle.swimd.specs.declared.config_fault.ConfigFault.{ConfigFault}
-use Rattle.swimd.specs.declared.config_fault.ConfigFault.TheVariants.{Size}
+use Rattle.swim_config.specs.declared.config.Config.{Config}
+use Rattle.swim_config.specs.declared.config_fault.ConfigFault.{ConfigFault}
+use Rattle.swim_config.specs.declared.config_fault.ConfigFault.TheVariants.{Size}
 use Rattle.swimd.specs.declared.outcomes.Outcome.{Outcome}
 use Rattle.swimd.specs.declared.outcomes.Outcome.TheVariants.{Checked, Stopped, Asked, Usage, Unread, Refused, Unwritten}
 use Rattle.swimd.specs.declared.outcomes.Outcome.TheVariants.{NoListen, NoControl, Socket, NoPlace, NoDaemon}
 use Rattle.swimd.specs.Checking.{ChecksKnown, Shows}
-use Rattle.swimd.specs.Configuration.{config_of}
-use Rattle.swimd.specs.Inputs.{IsRead}
-use Rattle.swimd.specs.Reading.{OrNoMemory}
+use Rattle.swim_config.specs.Configuration.{config_of}
+use Rattle.swim_config.specs.Inputs.{IsRead}
+use Rattle.swim_config.specs.Reading.{OrNoMemory}
 
 -- of a text that is too large, the first bytes tell as much
 pub config_of_first : (text : List ℕ) → config_of (take 65537 text) ≡ config_of text

@@ -2,14 +2,14 @@
 use Rattle.std.specs.Prelude.{◌≡◌, ℕ, ◌<◌, Bool, true, false, List, length, Option, Some, None, Ok, Err}
 use Rattle.std.specs.Io.KnownBytes.{Appends}
 use Rattle.swim_wire.specs.Streams.{PutsFront}
-use Rattle.swimd.specs.declared.config.Config.{Config}
-use Rattle.swimd.specs.declared.config_fault.ConfigFault.{ConfigFault}
-use Rattle.swimd.specs.declared.config_fault.ConfigFault.TheVariants.{Size}
+use Rattle.swim_config.specs.declared.config.Config.{Config}
+use Rattle.swim_config.specs.declared.config_fault.ConfigFault.{ConfigFault}
+use Rattle.swim_config.specs.declared.config_fault.ConfigFault.TheVariants.{Size}
 use Rattle.swimd.specs.declared.outcomes.Outcome.{Outcome}
 use Rattle.swimd.specs.declared.outcomes.Outcome.TheVariants.{Checked, Unread, Refused, Unwritten}
-use Rattle.swimd.specs.Configuration.{config_of}
-use Rattle.swimd.specs.Reading.{OrNoMemory}
-use Rattle.swimd.specs.Summary.{summary_text}
+use Rattle.swim_config.specs.Configuration.{config_of}
+use Rattle.swim_config.specs.Reading.{OrNoMemory}
+use Rattle.swim_config.specs.Summary.{summary_text}
 
 -- the summary was written, or a front of it, and nothing else
 abbrev pub Shows : Config → Option (List ℕ) → Option (List ℕ) → Outcome → Type 0

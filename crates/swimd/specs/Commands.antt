@@ -1,7 +1,7 @@
 -- What a command of the program does.
 use Rattle.std.specs.Prelude.{◌≡◌, ◌⊎◌, ℕ, Bool, List, Option, Some, None}
 use Rattle.swim_wire.specs.Streams.{Puts, failures_if}
-use Rattle.swimd.specs.declared.config_fault.ConfigFault.TheVariants.{NoMemory}
+use Rattle.swim_config.specs.declared.config_fault.ConfigFault.TheVariants.{NoMemory}
 use Rattle.swimd.specs.declared.outcomes.Outcome.{Outcome}
 use Rattle.swimd.specs.declared.outcomes.Outcome.TheVariants.{Usage, Refused}
 use Rattle.swimd.specs.Checking.{ChecksKnown}

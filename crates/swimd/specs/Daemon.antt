@@ -1,15 +1,15 @@
 -- What a daemon does, and what asking one does.
 use Rattle.std.specs.Prelude.{◌≡◌, ◌⊎◌, ℕ, List, Option, Ok, Err}
-use Rattle.swimd.specs.declared.config.Config.{Config}
-use Rattle.swimd.specs.declared.config_fault.ConfigFault.TheVariants as faults
-use Rattle.swimd.specs.declared.lives.LivesEnd.{LivesEnd}
-use Rattle.swimd.specs.declared.lives.LivesEnd.TheVariants as ends
+use Rattle.swim_config.specs.declared.config.Config.{Config}
+use Rattle.swim_config.specs.declared.config_fault.ConfigFault.TheVariants as faults
+use Rattle.swim_life.specs.declared.lives.LivesEnd.{LivesEnd}
+use Rattle.swim_life.specs.declared.lives.LivesEnd.TheVariants as ends
 use Rattle.swimd.specs.declared.outcomes.Outcome.{Outcome}
 use Rattle.swimd.specs.declared.outcomes.Outcome.TheVariants.{Unread, Refused, NoListen, NoControl, Stopped, Socket}
 use Rattle.swimd.specs.declared.outcomes.Outcome.TheVariants.{NoPlace, NoDaemon, Asked}
-use Rattle.swimd.specs.Configuration.{config_of}
-use Rattle.swimd.specs.Lives.{AreLived}
-use Rattle.swimd.specs.Reading.{OrNoMemory}
+use Rattle.swim_config.specs.Configuration.{config_of}
+use Rattle.swim_life.specs.Lives.{AreLived}
+use Rattle.swim_config.specs.Reading.{OrNoMemory}
 
 -- a configuration that was read of some text
 abbrev pub IsConfiguration : Config → Type 0

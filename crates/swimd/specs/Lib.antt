@@ -1,17 +1,6 @@
 pub mod Checking
 pub mod Commands
-pub mod Configuration
 pub mod Daemon
-pub mod Desk
-pub mod Endings
-pub mod Ends
-pub mod FaultTexts
-pub mod Gates
-pub mod Inputs
-pub mod Lives
 pub mod Outcomes
-pub mod Pacing
-pub mod Reading
-pub mod Summary
 pub mod Words
 pub mod Worked

@@ -1,10 +1,10 @@
 -- How a command of the program ends: its status, and what is told on standard error.
 use Rattle.std.specs.Prelude.{ℕ, List, [], codes}
-use Rattle.swimd.specs.declared.config_fault.ConfigFault.TheVariants.{NoMemory}
+use Rattle.swim_config.specs.declared.config_fault.ConfigFault.TheVariants.{NoMemory}
 use Rattle.swimd.specs.declared.outcomes.Outcome.{Outcome}
 use Rattle.swimd.specs.declared.outcomes.Outcome.TheVariants.{Checked, Stopped, Asked, Usage, Unread, Refused}
 use Rattle.swimd.specs.declared.outcomes.Outcome.TheVariants.{Unwritten, NoListen, NoControl, Socket, NoPlace, NoDaemon}
-use Rattle.swimd.specs.FaultTexts.{fault_text}
+use Rattle.swim_config.specs.FaultTexts.{fault_text}
 
 abbrev pub status_of : Outcome → ℕ
 status_of Checked = 0

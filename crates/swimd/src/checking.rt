@@ -4,12 +4,10 @@ ghost use Rattle.std.specs.Prelude.{◌≡◌, not};
 ghost use Rattle.swim_wire.specs.Streams.{failures_if};
 ghost use Rattle.swimd.specs.Checking.{ChecksKnown, Shows, is_unread, is_unwritten};
 
-use crate::config::{Config, read_config};
-use crate::inputs::{INPUT_BYTES, read_input};
 use crate::outcomes::Outcome;
-use crate::summaries::summary;
 use arrayvec::ArrayVec;
 use std::alloc::Global;
+use swim_config::{Config, INPUT_BYTES, read_config, read_input, summary};
 use swim_wire::{Sink, Source};
 
 /// Reads a configuration, and writes its summary.

@@ -6,7 +6,6 @@ ghost use Rattle.swimd.specs.Words.{asked_of};
 
 use crate::ask::ask;
 use crate::checking::check;
-use crate::config_fault::ConfigFault;
 use crate::daemon;
 use crate::outcomes::{Outcome, put_outcome};
 use crate::words::{Asked, Unasked, read_words};
@@ -15,6 +14,7 @@ use std::net::Net;
 use std::rt::{Clock, Files};
 use std::sync::Wait;
 use std::thread::Threads;
+use swim_config::ConfigFault;
 use swim_wire::{Sink, Source};
 
 /// Does what the words after the program's name ask, and answers the status with which the program ends.

@@ -3,14 +3,7 @@
 ghost use Rattle.std.specs.Prelude.{◌≡◌, MatchResult};
 ghost use Rattle.swimd.specs.Daemon.{IsConfiguration, IsNoConfiguration, Runs, Starts, outcome_of};
 
-use crate::config::{Config, read_config};
-use crate::config_fault::ConfigFault;
-use crate::inputs::{INPUT_BYTES, read_input};
-use crate::lives::{LivesEnd, Terms, run_lives};
 use crate::outcomes::Outcome;
-use crate::sleeping_pace::SleepingPace;
-use crate::udp_line::UdpLine;
-use crate::unix_door::UnixDoor;
 use arrayvec::ArrayVec;
 use std::alloc::Global;
 use std::fs;
@@ -18,6 +11,8 @@ use std::net::Net;
 use std::rt::{Clock, Files};
 use std::sync::Wait;
 use std::thread::Threads;
+use swim_config::{Config, ConfigFault, INPUT_BYTES, read_config, read_input};
+use swim_life::{LivesEnd, SleepingPace, Terms, UdpLine, UnixDoor, run_lives};
 use swim_wire::{ReadSource, Sink};
 
 /// Runs the daemon of a configuration file, and writes how its lives ended.

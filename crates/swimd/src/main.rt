@@ -4,37 +4,16 @@
 mod ask;
 mod checking;
 mod commands;
-mod config;
-mod config_fault;
-mod counts;
 mod daemon;
-mod endings;
-mod fault_texts;
-mod gates;
-mod holding;
-mod inputs;
-mod life;
-mod lives;
-mod members;
-mod node_desk;
 mod outcomes;
-mod settings;
-mod sleeping_pace;
-mod socket_path;
-mod summaries;
-mod threads;
-mod udp_line;
-mod unix_door;
-mod values;
 mod words;
-mod workers;
 
-use config_fault::ConfigFault;
 use outcomes::Outcome;
 use std::alloc::{AllocError, Global};
 use std::env;
 use std::io::ErrorKind;
 use std::process::ExitCode;
+use swim_config::ConfigFault;
 use swim_wire::{ReadSource, WriteSink};
 
 fn main(rt: HostRuntime) -> ExitCode {
@@ -77,6 +56,3 @@ fn words_in(alloc: Global, texts: &[String]) -> Result<Vec<&str>, AllocError> {
     }
     Ok(words)
 }
-
-#[cfg(test)]
-mod tests;

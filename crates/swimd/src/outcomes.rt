@@ -4,8 +4,7 @@ ghost use Rattle.std.specs.Prelude.{◌≡◌};
 ghost use Rattle.swim_wire.specs.Streams.{Puts, failures_if};
 ghost use Rattle.swimd.specs.Outcomes.{status_of, outcome_text};
 
-use crate::config_fault::ConfigFault;
-use crate::fault_texts::put_fault;
+use swim_config::{ConfigFault, put_fault};
 use swim_wire::Sink;
 
 /// How a command ended.

@@ -1,7 +1,7 @@
 use Rattle.std.proofs.Common.{ℕ, List, [], Option, sym, append-nil}
 use Rattle.std.specs.Io.KnownBytes.{Keeps, Appends}
 use Rattle.swim_wire.specs.Streams.{PutsFront, appends_kept}
-use Rattle.swimd.specs.Summary.{summary_text}
+use Rattle.swim_config.specs.Summary.{summary_text}
 use Rattle.swimd.proofs.checking.show.Goals as goal
 
 -- a text that was put, and could not be handed on

@@ -1,0 +1,239 @@
+-- What a configuration says: the values of its document's keys, or its first fault.
+use Rattle.std.specs.Prelude.{ℕ, ℤ, pos, negsuc, Bool, true, ◌&&◌, nat_lt, nat_le, List, [], ◌∷◌, length}
+use Rattle.std.specs.Prelude.{Option, Some, None, is_some, Result, Ok, Err, if◌then◌else◌, codes}
+use Rattle.std.specs.List.{list_all, list_any}
+use Rattle.std.specs.Option.{ok_or}
+use Rattle.std.specs.Result.{result_ok}
+use Rattle.std.specs.Str.{bytes_eq, is_utf8}
+use Rattle.hex.specs.Hex.{decode_sized}
+use Rattle.toml.specs.Data.{Data, Items, no_items, item, Members, no_members, member, get_member}
+use Rattle.toml.specs.Data.{as_str, as_integer, as_array, as_table}
+use Rattle.toml.specs.Parse.{parse_document}
+use Rattle.swim_wire.specs.Address.{Address, address_of}
+use Rattle.swim_wire.specs.Arguments.{◌>>=◌}
+use Rattle.swim_history.specs.Check.{first_fault, setting_of}
+use Rattle.swim_history.specs.Setting.{Setting}
+use Rattle.swim_history.specs.declared.openings.OpeningFault.{OpeningFault}
+use Rattle.swim_config.specs.declared.config.Config.{Config}
+use Rattle.swim_config.specs.declared.config_fault.ConfigFault.{ConfigFault}
+use Rattle.swim_config.specs.declared.config_fault.ConfigFault.TheVariants as faults
+use Rattle.swim_config.specs.declared.config_fault.Key.{Key}
+use Rattle.swim_config.specs.declared.config_fault.Key.TheVariants as keys
+use Rattle.swim_config.specs.declared.settings.Place.{Place}
+use Rattle.swim_config.specs.declared.settings.Times.{Times}
+use Rattle.swim_config.specs.declared.settings.Kept.{Kept}
+use Rattle.swim_config.specs.declared.settings.Settings.{Settings}
+
+-- ---- keys
+
+-- the name of a key in its table
+abbrev pub name_of : Key → List ℕ
+name_of keys.Id = codes "id"
+name_of keys.Listen = codes "listen"
+name_of keys.Control = codes "control"
+name_of keys.K = codes "k"
+name_of keys.Rtt = codes "rtt"
+name_of keys.Period = codes "period"
+name_of keys.TickMs = codes "tick_ms"
+name_of keys.Seed = codes "seed"
+name_of keys.Journal = codes "journal"
+name_of keys.Last = codes "last"
+name_of keys.Member = codes "member"
+name_of keys.MemberId = codes "id"
+name_of keys.MemberAt = codes "at"
+
+-- the keys of a configuration, and those of a member
+abbrev pub top_keys : List Key
+top_keys =
+    keys.Id ∷ keys.Listen ∷ keys.Control ∷ keys.K ∷ keys.Rtt ∷ keys.Period ∷ keys.TickMs ∷ keys.Seed ∷ keys.Journal ∷
+    keys.Last ∷ keys.Member ∷ []
+
+abbrev pub member_keys : List Key
+member_keys = keys.MemberId ∷ keys.MemberAt ∷ []
+
+-- it is the name of one of the keys
+abbrev pub is_name : List Key → List ℕ → Bool
+is_name known name = list_any (λ key. bytes_eq (name_of key) name) known
+
+-- each key of the table is one of these
+abbrev pub has_only : List Key → Members → Bool
+has_only known no_members = true
+has_only known (member name value others) = is_name known name && has_only known others
+
+abbrev pub only_keys : List Key → Members → Result (Unit {0}) ConfigFault
+only_keys known table = if has_only known table then Ok tt else Err faults.UnknownKey
+
+-- ---- values
+
+-- the value of a key that has to stand in the table
+abbrev pub value_at : Key → Members → Result Data ConfigFault
+value_at key table = ok_or (get_member (name_of key) table) (faults.Missing key)
+
+-- the number that an integer is, within these limits
+abbrev pub within : ℕ → ℕ → ℤ → Option ℕ
+within least most (pos n) = if nat_le least n && nat_le n most then Some n else None
+within least most (negsuc n) = None
+
+-- a value as a number within these limits
+abbrev pub number_in : Key → ℕ → ℕ → Data → Result ℕ ConfigFault
+number_in key least most value = do
+  integer ← ok_or (as_integer value) (faults.Kind key)
+  ok_or (within least most integer) (faults.Range key)
+
+abbrev pub number_at : Key → ℕ → ℕ → Members → Result ℕ ConfigFault
+number_at key least most table = do
+  value ← value_at key table
+  number_in key least most value
+
+-- the value of a key as a text, and what the text says
+abbrev pub text_at : Key → Members → Result (List ℕ) ConfigFault
+text_at key table = do
+  value ← value_at key table
+  ok_or (as_str value) (faults.Kind key)
+
+abbrev pub peer_at : Key → Members → Result Address ConfigFault
+peer_at key table = do
+  text ← text_at key table
+  ok_or (address_of text) (faults.Peer key)
+
+-- a character of ASCII that prints, or a space
+abbrev pub is_printing : ℕ → Bool
+is_printing byte = nat_le 32 byte && nat_le byte 126
+
+-- the path of a control socket: 1 to 100 such bytes
+abbrev pub is_path : List ℕ → Bool
+is_path text = nat_lt 0 (length text) && nat_le (length text) 100 && list_all is_printing text
+
+abbrev pub path_of : List ℕ → Option (List ℕ)
+path_of text = if is_path text then Some text else None
+
+abbrev pub path_at : Members → Result (List ℕ) ConfigFault
+path_at table = do
+  text ← text_at keys.Control table
+  ok_or (path_of text) (faults.Range keys.Control)
+
+-- the 32 bytes that 64 hexadecimal digits spell
+abbrev pub seed_at : Members → Result (List ℕ) ConfigFault
+seed_at table = do
+  text ← text_at keys.Seed table
+  ok_or (result_ok (decode_sized text 32)) faults.Seed
+
+-- the last period number, 0 where none is given
+abbrev pub last_in : Option Data → Result ℕ ConfigFault
+last_in None = Ok 0
+last_in (Some value) = number_in keys.Last 0 9223372036854775807 value
+
+abbrev pub last_at : Members → Result ℕ ConfigFault
+last_at table = last_in (get_member (name_of keys.Last) table)
+
+-- ---- members
+
+-- a member: its id and its address, and no more
+unfoldable pub member_of : Data → Result (ℕ × Address) ConfigFault
+member_of value = do
+  table ← ok_or (as_table value) (faults.Kind keys.Member)
+  only ← only_keys member_keys table
+  id ← number_at keys.MemberId 1 4294967295 table
+  at ← peer_at keys.MemberAt table
+  Ok (id, at)
+
+-- all members, in order
+abbrev pub members_of : Items → Result (List (ℕ × Address)) ConfigFault
+members_of no_items = Ok []
+members_of (item value others) = do
+  first ← member_of value
+  rest ← members_of others
+  Ok (first ∷ rest)
+
+-- each of them is a table
+abbrev pub are_tables : Items → Bool
+are_tables no_items = true
+are_tables (item value others) = is_some (as_table value) && are_tables others
+
+abbrev pub array_of : Data → Result Items ConfigFault
+array_of value = do
+  items ← ok_or (as_array value) (faults.Kind keys.Member)
+  if are_tables items then Ok items else Err (faults.Kind keys.Member)
+
+-- the members that are given, none where the key is missing
+abbrev pub members_in : Option Data → Result (List (ℕ × Address)) ConfigFault
+members_in None = Ok []
+members_in (Some value) = do
+  items ← array_of value
+  members_of items
+
+abbrev pub members_at : Members → Result (List (ℕ × Address)) ConfigFault
+members_at table = members_in (get_member (name_of keys.Member) table)
+
+-- ---- the whole
+
+-- where it listens
+unfoldable pub place_in : Members → Result Place ConfigFault
+place_in table = do
+  id ← number_at keys.Id 1 4294967295 table
+  listen ← peer_at keys.Listen table
+  control ← path_at table
+  Ok (record { id = id; listen = listen; control = control })
+
+-- how many relays are asked, and how long things last
+unfoldable pub times_in : Members → Result Times ConfigFault
+times_in table = do
+  k ← number_at keys.K 0 4294967295 table
+  rtt ← number_at keys.Rtt 0 4294967295 table
+  period ← number_at keys.Period 0 4294967295 table
+  tick_ms ← number_at keys.TickMs 1 60000 table
+  Ok (record { k = k; rtt = rtt; period = period; tick_ms = tick_ms })
+
+-- what it draws from and writes down
+unfoldable pub kept_in : Members → Result Kept ConfigFault
+kept_in table = do
+  seed ← seed_at table
+  journal ← number_at keys.Journal 1 1000000 table
+  last ← last_at table
+  Ok (record { seed = seed; journal = journal; last = last })
+
+-- all of it, but for the members
+unfoldable pub settings_in : Members → Result Settings ConfigFault
+settings_in table = do
+  place ← place_in table
+  times ← times_in table
+  kept ← kept_in table
+  Ok (record { place = place; times = times; kept = kept })
+
+-- what the detector starts from
+abbrev pub setting_with : Settings → List (ℕ × Address) → Setting
+setting_with s members = setting_of s.place.id s.times.k s.times.rtt s.times.period members s.kept.last
+
+-- the configuration of these settings and this opening, if the opening has no fault
+abbrev pub config_unless : Option OpeningFault → Settings → Setting → Result Config ConfigFault
+config_unless (Some fault) s opening = Err (faults.Opening fault)
+config_unless None s opening =
+    Ok (record {
+      listen = s.place.listen;
+      control = s.place.control;
+      tick_ms = s.times.tick_ms;
+      seed = s.kept.seed;
+      journal = s.kept.journal;
+      opening = opening;
+    })
+
+abbrev pub config_with : Settings → List (ℕ × Address) → Result Config ConfigFault
+config_with s members = let opening = setting_with s members in config_unless (first_fault opening) s opening
+
+-- the values of the keys of a table, defaults included
+unfoldable pub config_in : Members → Result Config ConfigFault
+config_in table = do
+  only ← only_keys top_keys table
+  settings ← settings_in table
+  members ← members_at table
+  config_with settings members
+
+-- the table that the bytes are as a TOML document
+abbrev pub document_of : List ℕ → Option Members
+document_of bytes = if is_utf8 bytes then parse_document bytes else None
+
+-- the configuration that the bytes are
+abbrev pub config_of : List ℕ → Result Config ConfigFault
+config_of bytes = if nat_lt 65536 (length bytes) then Err faults.Size else do
+  table ← ok_or (document_of bytes) faults.Document
+  config_in table

@@ -1,0 +1,5 @@
+pub mod Configuration
+pub mod FaultTexts
+pub mod Inputs
+pub mod Reading
+pub mod Summary

@@ -1,0 +1,26 @@
+-- What is read where memory may be refused.
+use Rattle.std.specs.Prelude.{◌≡◌, ◌⊎◌, List, Result, Ok, Err, String, Vec}
+use Rattle.std.specs.BTreeMap.{BTreeMap}
+use Rattle.std.specs.declared.alloc.Global.{Global}
+use Rattle.toml.specs.Data.{Members}
+use Rattle.toml.specs.View.{table_view}
+use Rattle.toml.specs.declared.value.Value.{Value}
+use Rattle.swim_config.specs.declared.config_fault.ConfigFault.{ConfigFault}
+use Rattle.swim_config.specs.declared.config_fault.ConfigFault.TheVariants.{NoMemory}
+
+-- it is what the format says, or memory was refused
+abbrev pub OrNoMemory : {A : Type 0} → Result A ConfigFault → Result A ConfigFault → Type 0
+OrNoMemory result said = (result ≡ Err NoMemory) ⊎ (result ≡ said)
+
+-- the same of a list
+abbrev pub items_read : {A : Type 0} → Result (Vec A Global) ConfigFault → Result (List A) ConfigFault
+items_read (Ok v) = Ok v.items
+items_read (Err fault) = Err fault
+
+abbrev pub Reads : {A : Type 0} → Result (Vec A Global) ConfigFault → Result (List A) ConfigFault → Type 0
+Reads result said = OrNoMemory (items_read result) said
+
+-- a table that was read
+abbrev pub table_read : Result (BTreeMap (String Global) Value) ConfigFault → Result Members ConfigFault
+table_read (Ok table) = Ok (table_view table)
+table_read (Err fault) = Err fault

@@ -1,0 +1,139 @@
+//! The values of keys.
+
+ghost use Rattle.std.specs.Prelude.{◌≡◌, ◌≤◌, Some, IfOk, IfSome, option_map, string_bytes};
+ghost use Rattle.std.specs.BTreeMap.{keys};
+ghost use Rattle.std.specs.List.{list_all};
+ghost use Rattle.std.specs.Result.{result_map_both};
+ghost use Rattle.toml.specs.Data.{get_member};
+ghost use Rattle.toml.specs.View.{view, table_view};
+ghost use Rattle.swim_config.specs.Configuration.{name_of, is_name, only_keys, value_at, within, number_in, number_at};
+ghost use Rattle.swim_config.specs.Configuration.{text_at, peer_at, path_at, seed_at, last_at};
+
+use crate::config_fault::{ConfigFault, Key};
+use crate::socket_path::SocketPath;
+use hex::FromHex;
+use swim_wire::{Id, Peer};
+use toml::{Table, Value};
+
+/// Tells a key of a table that is none of these.
+#[tactic(auto, using(crate::proofs::Views::has_only_view))]
+pub fn only_keys(table: &Table, known: &[Key]) -> Result<(), ConfigFault>
+    ensures { result ≡ only_keys known.now (table_view table.now) }
+{
+    if has_only(table, known) {
+        Ok(())
+    } else {
+        Err(ConfigFault::UnknownKey)
+    }
+}
+
+/// Whether each key of a table is one of these.
+fn has_only(table: &Table, known: &[Key]) -> bool
+    ensures { result ≡ list_all (λ name. is_name known.now (string_bytes name)) (keys table.now) }
+{
+    table.keys().all(|name| is_name(known, name.as_str()))
+}
+
+/// Whether it is the name of one of these keys.
+fn is_name(known: &[Key], name: &str) -> bool
+    ensures { result ≡ is_name known.now name.now }
+{
+    known.iter().any(|key| key.name() == name)
+}
+
+/// The value of a key, if it stands in the table.
+pub fn find(table: &Table, key: Key) -> Option<&Value>
+    ensures { option_map (λ value. view value.now) result ≡ get_member (name_of key) (table_view table.now) }
+{
+    table.get(key.name())
+}
+
+/// The value of a key that has to stand in the table.
+fn take(table: &Table, key: Key) -> Result<&Value, ConfigFault>
+    ensures { result_map_both (λ value. view value.now) (λ fault. fault) result ≡ value_at key (table_view table.now) }
+{
+    find(table, key).ok_or(ConfigFault::Missing(key))
+}
+
+/// A value as a number from `least` to `most`.
+fn number_in(value: &Value, key: Key, least: u64, most: u64) -> Result<u64, ConfigFault>
+    ensures value { result ≡ number_in key least most (view value.now) }
+    ensures within { IfOk result (λ number. (least ≤ number) × (number ≤ most)) }
+{
+    let integer = value.as_integer().ok_or(ConfigFault::Kind(key))?;
+    within(integer, least, most).ok_or(ConfigFault::Range(key))
+}
+
+/// The number that an integer is, if it is one from `least` to `most`.
+fn within(integer: i64, least: u64, most: u64) -> Option<u64>
+    ensures value { result ≡ within least most integer }
+    ensures within { IfSome result (λ number. (least ≤ number) × (number ≤ most)) }
+{
+    let number = u64::try_from(integer).ok()?;
+    if least <= number && number <= most {
+        Some(number)
+    } else {
+        None
+    }
+}
+
+/// The value of a key as a number from `least` to `most`.
+pub fn take_number(table: &Table, key: Key, least: u32, most: u32) -> Result<u32, ConfigFault>
+    ensures value { result ≡ number_at key least most (table_view table.now) }
+    ensures within { IfOk result (λ number. (least ≤ number) × (number ≤ most)) }
+{
+    let value = take(table, key)?;
+    let number = number_in(value, key, u64::from(least), u64::from(most))?;
+    Ok(number as u32)
+}
+
+/// The value of a key as an id.
+pub fn take_id(table: &Table, key: Key) -> Result<Id, ConfigFault>
+    ensures { result ≡ number_at key 1 4294967295 (table_view table.now) }
+{
+    let number = take_number(table, key, 1, u32::MAX)?;
+    Id::new(number).ok_or(ConfigFault::Range(key))
+}
+
+/// The value of a key as a text.
+fn take_text(table: &Table, key: Key) -> Result<&str, ConfigFault>
+    ensures { result_map_both (λ text. text.now) (λ fault. fault) result ≡ text_at key (table_view table.now) }
+{
+    let value = take(table, key)?;
+    value.as_str().ok_or(ConfigFault::Kind(key))
+}
+
+/// The value of a key as an address.
+pub fn take_peer(table: &Table, key: Key) -> Result<Peer, ConfigFault>
+    ensures { result ≡ peer_at key (table_view table.now) }
+{
+    let text = take_text(table, key)?;
+    Peer::read(text.as_bytes()).ok_or(ConfigFault::Peer(key))
+}
+
+/// The path of the control socket.
+pub fn take_path(table: &Table) -> Result<SocketPath, ConfigFault>
+    ensures { result ≡ path_at (table_view table.now) }
+{
+    let text = take_text(table, Key::Control)?;
+    SocketPath::read(text).ok_or(ConfigFault::Range(Key::Control))
+}
+
+/// The seed.
+pub fn take_seed(table: &Table) -> Result<[u8; 32], ConfigFault>
+    ensures { result ≡ seed_at (table_view table.now) }
+{
+    let text = take_text(table, Key::Seed)?;
+    let seed = <[u8; 32]>::from_hex(text.as_bytes()).ok();
+    seed.ok_or(ConfigFault::Seed)
+}
+
+/// The last period number that was used before, 0 where none is given.
+pub fn take_last(table: &Table) -> Result<u64, ConfigFault>
+    ensures { result ≡ last_at (table_view table.now) }
+{
+    match find(table, Key::Last) {
+        None => Ok(0),
+        Some(value) => number_in(value, Key::Last, 0, i64::MAX as u64),
+    }
+}

@@ -1,0 +1,55 @@
+-- How a life ends, and what its workers counted.
+use Rattle.std.specs.Prelude.{◌≡◌, ℕ, ◌+◌, ◌-◌, ◌^◌, ◌≤◌, Bool, nat_lt, if◌then◌else◌, List, codes, min}
+use Rattle.std.specs.Prelude.{Option, Some, None, Result, Ok, Err}
+use Rattle.swim_node.specs.declared.receipts.CallFault.{CallFault}
+use Rattle.swim_node.specs.declared.receipts.CallFault.TheVariants as faults
+use Rattle.swim_life.specs.declared.counts.Counts.{Counts}
+use Rattle.swim_life.specs.declared.counts.Why.{Why}
+use Rattle.swim_life.specs.declared.counts.Why.TheVariants.{JournalFull, NoMemory, Socket, Stopped}
+
+-- of several reasons the gravest is told
+abbrev pub gravity : Why → ℕ
+gravity JournalFull = 3
+gravity NoMemory = 2
+gravity Socket = 1
+gravity Stopped = 0
+
+abbrev pub graver : Why → Why → Why
+graver one other = if nat_lt (gravity one) (gravity other) then other else one
+
+-- why a life ended: its three workers' reasons, and want of memory where not all of them could be started
+abbrev pub why_of : Why → Why → Why → Bool → Why
+why_of first second third all_began =
+    graver (graver (graver first second) third) (if all_began then Stopped else NoMemory)
+
+-- a reason's words
+abbrev pub why_text : Why → List ℕ
+why_text JournalFull = codes "journal full"
+why_text NoMemory = codes "no memory"
+why_text Socket = codes "socket"
+why_text Stopped = codes "stopped"
+
+-- two counts together; a count stops at 2^64-1
+abbrev pub both : ℕ → ℕ → ℕ
+both one other = min (one + other) (2 ^ 64 - 1)
+
+abbrev pub together : Counts → Counts → Counts
+together one other = record {
+  unsent = both one.unsent other.unsent;
+  wire = both one.wire other.wire;
+  refused = both one.refused other.refused;
+}
+
+-- so many of these datagrams, and no more, couldn't be sent
+abbrev pub AreSent : ℕ → Counts → Counts → Type 0
+AreSent count old new =
+    (unsent : ℕ) × (unsent ≤ count) × (new ≡ record old { unsent = both old.unsent unsent })
+
+-- what a worker does about the answer to a call: it sends the datagrams of the reply, of which there are so many,
+-- counts what couldn't be sent and what got no reply, and ends where the journal is full, but for nothing else
+abbrev pub IsFinished : {A : Type 0} → Result A CallFault → (A → ℕ) → Counts → Option Why → Counts → Type 0
+IsFinished (Ok receipt) count old end new = (end ≡ None) × AreSent (count receipt) old new
+IsFinished (Err (faults.Wire fault)) count old end new = (end ≡ None) × (new ≡ record old { wire = both old.wire 1 })
+IsFinished (Err faults.NoMemory) count old end new =
+    (end ≡ None) × (new ≡ record old { refused = both old.refused 1 })
+IsFinished (Err faults.JournalFull) count old end new = (end ≡ Some JournalFull) × (new ≡ old)

@@ -1,0 +1,70 @@
+-- Lives of a daemon, newest first, each of which goes on from the journal of the one before.
+use Rattle.std.specs.Prelude.{◌≡◌, ◌⊎◌, ℕ, ◌-◌, ◌^◌, min, List, [], ◌∷◌, length, Option, Some, None}
+use Rattle.std.specs.List.{AllByRecursion}
+use Rattle.swim_history.specs.After.{setting_after}
+use Rattle.swim_history.specs.Changes.{changes}
+use Rattle.swim_history.specs.Setting.{Setting}
+use Rattle.swim_node.specs.declared.receipts.OpenFault.{OpenFault}
+use Rattle.swim_node.specs.declared.receipts.OpenFault.TheVariants as faults
+use Rattle.swim_node.specs.OneHistory.{IsOneHistory}
+use Rattle.swim_node.specs.Seats.{Seated}
+use Rattle.swim_life.specs.declared.counts.Why.{Why}
+use Rattle.swim_life.specs.declared.counts.Why.TheVariants as whys
+use Rattle.swim_life.specs.declared.lives.LivesEnd.{LivesEnd}
+use Rattle.swim_life.specs.declared.lives.LivesEnd.TheVariants.{Stopped, Socket, NoMemory, NoPlace}
+use Rattle.swim_life.specs.declared.lives.Past.{Past}
+use Rattle.swim_life.specs.Endings.{TellsLife, Written}
+
+-- a life from this opening: its journal is one history, with the calls of some four seats
+pub record IsLife (first : Setting) (past : Past) : Type 0 where
+  pub opening : past.journal.opening ≡ first
+  pub seats : List Seated
+  pub history : IsOneHistory first past.journal.past seats (changes first past.journal.past)
+
+-- what the life after these begins with
+abbrev pub opening_after : Setting → List Past → Setting
+opening_after first [] = first
+opening_after first (past ∷ before) = setting_after past.journal.opening past.journal.past
+
+-- the first of these lives began with this opening, and each other one went on from the one before
+abbrev pub AreLives : Setting → List Past → Type 0
+AreLives first [] = Unit {0}
+AreLives first (past ∷ before) = IsLife (opening_after first before) past × AreLives first before
+
+-- all of them were ended by a full journal
+abbrev pub AreFull : List Past → Type 0
+AreFull lives = AllByRecursion (λ past. past.why ≡ whys.JournalFull) lives
+
+-- the number of the life after these; it stops at 2^64-1
+abbrev pub number_after : List Past → ℕ
+number_after lives = min (length lives) (2 ^ 64 - 1)
+
+-- each life was told by its line, as far as that was taken, and nothing else was written
+abbrev pub AreTold : Written → Written → List Past → Type 0
+AreTold old new [] = new ≡ old
+AreTold old new (past ∷ before) =
+    (between : Written) × AreTold old between before × TellsLife (number_after before) past between new
+
+-- why a daemon ended whose last life ended so; a full journal alone is followed by a life
+abbrev pub end_after : Why → Option LivesEnd
+end_after whys.JournalFull = None
+end_after whys.NoMemory = Some NoMemory
+end_after whys.Socket = Some Socket
+end_after whys.Stopped = Some Stopped
+
+-- the last life ended the daemon so
+abbrev pub IsEndedByLife : List Past → LivesEnd → Type 0
+IsEndedByLife [] end = ⊥
+IsEndedByLife (past ∷ before) end = AreFull before × (end_after past.why ≡ Some end)
+
+-- and whose next life got no node
+abbrev pub end_without : OpenFault → LivesEnd
+end_without faults.NoMemory = NoMemory
+end_without faults.NoPlace = NoPlace
+
+-- lives were lived from this opening, and told; and they ended so
+pub record AreLived (opening : Setting) (old new : Written) (end : LivesEnd) : Type 0 where
+  pub lives : List Past
+  pub lived : AreLives opening lives
+  pub told : AreTold old new lives
+  pub ended : IsEndedByLife lives end ⊎ (AreFull lives × ((fault : OpenFault) × (end ≡ end_without fault)))

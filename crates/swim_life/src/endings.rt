@@ -1,0 +1,50 @@
+//! The lines that tell how lives ended.
+
+ghost use Rattle.std.specs.Prelude.{◌≡◌, ◌++◌};
+ghost use Rattle.swim_wire.specs.Streams.{Puts, failures_if};
+ghost use Rattle.swim_life.specs.Endings.{past_text, ended_text, life_text};
+
+use crate::lives::Past;
+use itoa::Buffer;
+use swim_wire::{Piece, Sink, put_pieces};
+
+/// The line of the last life: why it ended, and its counts. Answers whether the sink took it.
+pub fn put_ended<W: Sink>(writer: &mut W, past: &Past) -> bool
+    ensures bytes { Puts (W.written writer.old) (W.written writer.new) (ended_text past.now) result }
+    ensures failures { W.failures writer.new ≡ failures_if (W.failures writer.old) result }
+{
+    put_line(writer, b"ended ", past.why.text(), past)
+}
+
+/// The line of a life whose journal was full: its number, and its counts. Answers whether the sink took it.
+pub fn put_life<W: Sink>(writer: &mut W, number: u64, past: &Past) -> bool
+    ensures bytes { Puts (W.written writer.old) (W.written writer.new) (life_text number past.now) result }
+    ensures failures { W.failures writer.new ≡ failures_if (W.failures writer.old) result }
+{
+    let mut digits = Buffer::new();
+    put_line(writer, b"life ", digits.format(number).as_bytes(), past)
+}
+
+/// A line of a life: its first word, what follows it, and its counts.
+fn put_line<'a, W: Sink>(writer: &mut W, word: &'a [u8], name: &'a [u8], past: &Past) -> bool
+    ensures bytes { Puts (W.written writer.old) (W.written writer.new)
+        (word.now ++ (name.now ++ past_text past.now)) result }
+    ensures failures { W.failures writer.new ≡ failures_if (W.failures writer.old) result }
+{
+    let pieces = [
+        Piece::Text(word),
+        Piece::Text(name),
+        Piece::Text(b" entries "),
+        Piece::Number(u64::from(past.journal.len())),
+        Piece::Text(b" judged "),
+        Piece::Number(u64::from(past.journal.judged_count())),
+        Piece::Text(b" unsent "),
+        Piece::Number(past.unsent),
+        Piece::Text(b" wire "),
+        Piece::Number(past.wire),
+        Piece::Text(b" refused "),
+        Piece::Number(past.refused),
+        Piece::Text(b"\n"),
+    ];
+    put_pieces(writer, &pieces)
+}

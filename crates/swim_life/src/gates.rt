@@ -1,0 +1,66 @@
+//! The gates of a life: where its datagrams, its ticks and its operators' connections come from. A worker asks its gate
+//! once a turn, so a gate that has nothing waits a moment, but not long, before it answers that it is idle.
+
+ghost use Rattle.swim_life.specs.Gates.{FitsInto};
+
+use std::sync::Wait;
+use swim_wire::{Peer, Sink, Source};
+
+/// What a line got.
+#[derive(Clone, Copy, Debug, PartialEq, Eq)]
+pub enum Got {
+    /// A datagram of so many bytes, from this address. Of one that is longer than the buffer, as many as fit.
+    Datagram(usize, Peer),
+    /// Nothing came for a moment.
+    Idle,
+    /// The line is out of order, for now or for good.
+    Fault,
+}
+
+/// Where datagrams come in and go out. Workers share it.
+pub trait Line {
+    /// The next datagram, which is put at the front of the buffer.
+    fn receive<R: Wait>(&self, rt: &R, bytes: &mut [u8]) -> Got
+        ensures { FitsInto result bytes.new };
+
+    /// Sends a datagram. `false` where that failed.
+    fn send<R: Wait>(&self, rt: &R, bytes: &[u8], to: Peer) -> bool;
+}
+
+/// What a pace gave.
+#[derive(Clone, Copy, Debug, PartialEq, Eq)]
+pub enum Beat {
+    /// One tick of time passed.
+    Tick,
+    /// None did yet.
+    Idle,
+    /// The life is to end.
+    Stop,
+}
+
+/// Where the ticks come from.
+pub trait Pace {
+    /// Waits for the next beat.
+    fn next<R: Wait>(&mut self, rt: &R) -> Beat;
+}
+
+/// What came to a door.
+#[derive(Drop)]
+pub enum Knock<A: Drop, B: Drop> {
+    /// A connection: its control lines, and where the answers go.
+    Conn(A, B),
+    /// Nobody came for a moment.
+    Idle,
+    /// The door is out of order, for now or for good.
+    Fault,
+}
+
+/// Where operators come in. One connection is served at a time.
+pub trait Door {
+    type Reader: Source + Drop;
+
+    type Writer: Sink + Drop;
+
+    /// Waits for the next connection.
+    fn next<R: Wait>(&mut self, rt: &R) -> Knock<Self::Reader, Self::Writer>;
+}

@@ -1,0 +1,23 @@
+//! Lives of a daemon: a node with its three workers over a line of datagrams, a pace of ticks and a door for operators.
+#![tactic(auto)]
+
+mod counts;
+mod endings;
+mod gates;
+mod holding;
+mod life;
+mod lives;
+mod node_desk;
+mod sleeping_pace;
+mod threads;
+mod udp_line;
+mod unix_door;
+mod workers;
+
+pub use counts::Why;
+pub use gates::{Beat, Door, Got, Knock, Line, Pace};
+pub use life::{Life, run_life};
+pub use lives::{LivesEnd, Past, Terms, live, run_lives};
+pub use sleeping_pace::SleepingPace;
+pub use udp_line::UdpLine;
+pub use unix_door::UnixDoor;

@@ -1,0 +1,186 @@
+//! A life: a node with its three workers, from its opening to its close.
+
+ghost use Rattle.std.specs.Prelude.{◌≡◌};
+ghost use Rattle.swim_history.specs.Changes.{changes};
+ghost use Rattle.swim_node.specs.Seats.{AreTheSeats};
+ghost use Rattle.swim_node.specs.OneHistory.{IsOneHistory};
+ghost use Rattle.swim_life.specs.Ends.{together, why_of};
+
+use crate::counts::Why;
+use crate::gates::{Door, Line, Pace};
+use crate::holding::Held;
+use crate::threads::{Controlling, Hearing, Over, Ticking, work_at_once};
+use std::alloc::Global;
+use std::sync::Wait;
+use std::sync::atomic::AtomicBool;
+use std::thread::Threads;
+use swim_history::Journal;
+use swim_node::{Naming, Node, Seat, Viewer};
+use swim_targets::Seeded;
+
+/// What a life leaves behind.
+#[derive(Drop)]
+pub struct Life<N: Naming> {
+    /// Why it ended: the gravest reason of its workers.
+    pub why: Why,
+    /// Everything that happened, in one order.
+    pub journal: Journal,
+    /// The node's four seats, in order.
+    pub seats: [Seat<N>; 4],
+    /// Datagrams that couldn't be sent. The counts stop at 2^64-1.
+    pub unsent: u64,
+    /// Datagrams that came and were none of this protocol.
+    pub wire: u64,
+    /// Calls that were refused for want of memory.
+    pub refused: u64,
+}
+
+/// Runs a node over its gates until a worker ends: the receiver with the first seat, the ticker with the second, and
+/// the controller with the third and the first viewer, all at the same time. A worker ends, and the others with it,
+/// where it is told to, where the journal is full, and after 16 faults in a row of its line or door. Each sends the
+/// datagrams of its own replies after the node's lock was given back.
+///
+/// Whatever came, and in whatever order, the journal is one run of the detector that holds the calls of the four seats.
+pub fn run_life<
+    N: Naming + Send + Sync,
+    H: Wait + Drop + Send,
+    R: Threads + Wait + Sync,
+    L: Line + Sync,
+    P: Pace + Send,
+    D: Door,
+>(
+    rt: &R,
+    alloc: Global,
+    node: Node<N, Seeded, H>,
+    seats: [Seat<N>; 4],
+    viewers: [Viewer<N>; 4],
+    line: &L,
+    pace: &mut P,
+    door: &mut D,
+) -> Life<N>
+    requires { AreTheSeats seats }
+    ensures opening { result.journal.opening ≡ N.opening }
+    ensures seats { AreTheSeats result.seats }
+    ensures history { IsOneHistory N.opening result.journal.past result.seats
+        (changes N.opening result.journal.past) }
+{
+    let (viewer, _others) = apart(viewers);
+    let (workers, fourth) = held(seats);
+    let ended = work(rt, alloc, &node, line, pace, door, workers, viewer);
+    closed(rt, node, ended, fourth)
+}
+
+/// The seats of the three workers.
+#[derive(Drop)]
+struct Workers<N: Naming> {
+    first: Held<N, 0>,
+    second: Held<N, 1>,
+    third: Held<N, 2>,
+}
+
+/// The workers' seats, and the fourth.
+fn held<N: Naming>(seats: [Seat<N>; 4]) -> (Workers<N>, Held<N, 3>)
+    requires { AreTheSeats seats }
+{
+    let [first, second, third, fourth] = seats;
+    let workers = Workers {
+        first: Held { seat: first },
+        second: Held { seat: second },
+        third: Held { seat: third },
+    };
+    (workers, Held { seat: fourth })
+}
+
+/// The controller's viewer, and the others.
+fn apart<N: Naming>(viewers: [Viewer<N>; 4]) -> (Viewer<N>, [Viewer<N>; 3]) {
+    let [first, second, third, fourth] = viewers;
+    (first, [second, third, fourth])
+}
+
+/// Runs the three workers of a node.
+fn work<
+    N: Naming + Send + Sync,
+    H: Wait + Drop + Send,
+    R: Threads + Wait + Sync,
+    L: Line + Sync,
+    P: Pace + Send,
+    D: Door,
+>(
+    rt: &R,
+    alloc: Global,
+    node: &Node<N, Seeded, H>,
+    line: &L,
+    pace: &mut P,
+    door: &mut D,
+    workers: Workers<N>,
+    viewer: Viewer<N>,
+) -> Over<N> {
+    let over = AtomicBool::new(false);
+    let hearing = Hearing {
+        node,
+        over: &over,
+        line,
+        held: workers.first,
+    };
+    let ticking = Ticking {
+        node,
+        over: &over,
+        line,
+        held: workers.second,
+        pace,
+    };
+    let controlling = Controlling {
+        alloc,
+        node,
+        over: &over,
+        held: workers.third,
+        viewer,
+        door,
+    };
+    work_at_once(rt, &over, hearing, ticking, controlling)
+}
+
+/// Closes the node after its workers have ended.
+fn closed<N: Naming, H: Wait + Drop, R: Wait>(
+    rt: &R,
+    node: Node<N, Seeded, H>,
+    ended: Over<N>,
+    fourth: Held<N, 3>,
+) -> Life<N>
+    ensures opening { result.journal.opening ≡ N.opening }
+    ensures seats { AreTheSeats result.seats }
+    ensures history { IsOneHistory N.opening result.journal.past result.seats
+        (changes N.opening result.journal.past) }
+    ensures why { result.why ≡ why_of ended.first.why ended.second.why ended.third.why ended.all_began }
+    ensures counts { together (together ended.first.counts ended.second.counts) ended.third.counts
+        ≡ record { unsent = result.unsent; wire = result.wire; refused = result.refused } }
+{
+    let Over {
+        first,
+        second,
+        third,
+        all_began,
+    } = ended;
+    let began = if all_began {
+        Why::Stopped
+    } else {
+        Why::NoMemory
+    };
+    let why = first.why.or(second.why).or(third.why).or(began);
+    let counts = first.counts.and(second.counts).and(third.counts);
+    let seats = [
+        first.held.seat,
+        second.held.seat,
+        third.held.seat,
+        fourth.seat,
+    ];
+    let (journal, seats, _news) = node.close(rt, seats);
+    Life {
+        why,
+        journal,
+        seats,
+        unsent: counts.unsent,
+        wire: counts.wire,
+        refused: counts.refused,
+    }
+}

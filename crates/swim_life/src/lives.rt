@@ -1,0 +1,186 @@
+//! Lives: one node after another, each of which goes on from the journal of the one before.
+
+ghost use Rattle.std.specs.Prelude.{◌≡◌, IfOk};
+ghost use Rattle.swim_targets.specs.Draws.{of_seed};
+ghost use Rattle.swim_life.specs.Endings.{TellsLife};
+ghost use Rattle.swim_life.specs.Lives.{AreLived, IsLife, end_after, end_without};
+
+use crate::counts::Why;
+use crate::endings::{put_ended, put_life};
+use crate::gates::{Door, Line, Pace};
+use crate::life::run_life;
+use std::alloc::Global;
+use std::marker::Brand;
+use std::sync::Wait;
+use std::thread::Threads;
+use swim_history::{Journal, Opening};
+use swim_node::{Naming, Node, OpenFault, Parts};
+use swim_targets::Seeded;
+use swim_wire::Sink;
+
+/// What stays of a life: why it ended, its journal, and its counts.
+#[derive(Drop)]
+pub struct Past {
+    pub why: Why,
+    pub journal: Journal,
+    /// Datagrams that couldn't be sent. The counts stop at 2^64-1.
+    pub unsent: u64,
+    /// Datagrams that came and were none of this protocol.
+    pub wire: u64,
+    /// Calls that were refused for want of memory.
+    pub refused: u64,
+}
+
+/// What stays the same from life to life: the seed of the draws, and how many entries a journal may have.
+#[derive(Clone, Copy, Debug)]
+pub struct Terms {
+    pub seed: [u8; 32],
+    pub limit: u32,
+}
+
+/// Why a daemon ended.
+#[derive(Clone, Copy, Debug, PartialEq, Eq)]
+pub enum LivesEnd {
+    /// It was told to.
+    Stopped,
+    /// A worker gave up on its line or its door.
+    Socket,
+    /// Memory was refused to a node or to a worker that was to start.
+    NoMemory,
+    /// No reader of the member table was to be had.
+    NoPlace,
+}
+
+/// Runs lives over these gates until one ends otherwise than by a full journal. A full journal ends its life, and the
+/// next one goes on from it: with the members that are known, up or failed, and with period numbers above all that
+/// were used, but without an aim and without waiting requests. Life `i`, counted from 0, draws from stream `i` of the
+/// seed. How each life ended is written in a line; that a line can't be written changes nothing.
+pub fn run_lives<R: Threads + Wait + Sync, L: Line + Sync, P: Pace + Send, D: Door, W: Sink>(
+    rt: &R,
+    alloc: Global,
+    opening: Opening,
+    terms: Terms,
+    line: &L,
+    pace: &mut P,
+    door: &mut D,
+    writer: &mut W,
+) -> LivesEnd
+    ensures { AreLived opening (W.written writer.old, W.failures writer.old)
+        (W.written writer.new, W.failures writer.new) result }
+{
+    let mut opening = opening;
+    let mut number: u64 = 0;
+    for _life in rt.forever() {
+        let chooser = chooser_of(terms, number);
+        let past = match live(rt, alloc, opening, chooser, terms.limit, line, pace, door) {
+            Ok(past) => past,
+            Err(fault) => return end_without(fault),
+        };
+        tell(writer, number, &past);
+        if let Some(end) = end_of(past.why) {
+            return end;
+        }
+        opening = Opening::after(&past.journal);
+        number = number.saturating_add(1);
+    }
+    unreachable!()
+}
+
+/// The chooser of the life of that number: each draws from a stream of its own.
+fn chooser_of(terms: Terms, number: u64) -> Seeded
+    ensures { result ≡ record (of_seed terms.seed) { stream = number } }
+{
+    Seeded::life(terms.seed, number)
+}
+
+/// Writes how a life ended. That it can't be written changes nothing.
+fn tell<W: Sink>(writer: &mut W, number: u64, past: &Past)
+    ensures { TellsLife number past.now (W.written writer.old, W.failures writer.old)
+        (W.written writer.new, W.failures writer.new) }
+{
+    let _is_put = match past.why {
+        Why::JournalFull => put_life(writer, number, past),
+        Why::NoMemory | Why::Socket | Why::Stopped => put_ended(writer, past),
+    };
+    let _is_sent = writer.flush();
+}
+
+/// Why no other life follows, where none does.
+fn end_of(why: Why) -> Option<LivesEnd>
+    ensures { result ≡ end_after why }
+{
+    match why {
+        Why::JournalFull => None,
+        Why::NoMemory => Some(LivesEnd::NoMemory),
+        Why::Socket => Some(LivesEnd::Socket),
+        Why::Stopped => Some(LivesEnd::Stopped),
+    }
+}
+
+/// Why a daemon ended whose next life got no node.
+fn end_without(fault: OpenFault) -> LivesEnd
+    ensures { result ≡ end_without fault }
+{
+    match fault {
+        OpenFault::NoMemory => LivesEnd::NoMemory,
+        OpenFault::NoPlace => LivesEnd::NoPlace,
+    }
+}
+
+/// Opens a node and runs its life over these gates.
+pub fn live<R: Threads + Wait + Sync, L: Line + Sync, P: Pace + Send, D: Door>(
+    rt: &R,
+    alloc: Global,
+    opening: Opening,
+    chooser: Seeded,
+    limit: u32,
+    line: &L,
+    pace: &mut P,
+    door: &mut D,
+) -> Result<Past, OpenFault>
+    ensures { IfOk result (IsLife opening) }
+{
+    let Ok(parts) = Parts::make(alloc, limit) else {
+        return Err(OpenFault::NoMemory);
+    };
+    live_so::<Brand, R, L, P, D>(rt, alloc, parts, opening, chooser, limit, line, pace, door)
+}
+
+/// The same, of a node that its types know by a name.
+fn live_so<
+    N: Naming + Send + Sync,
+    R: Threads + Wait + Sync,
+    L: Line + Sync,
+    P: Pace + Send,
+    D: Door,
+>(
+    rt: &R,
+    alloc: Global,
+    parts: Parts,
+    opening: Opening,
+    chooser: Seeded,
+    limit: u32,
+    line: &L,
+    pace: &mut P,
+    door: &mut D,
+) -> Result<Past, OpenFault>
+    requires parts { parts ≡ record { limit = N.limit; ledgers = N.ledgers; log = N.log; cells = N.cells } }
+    requires opening { opening ≡ N.opening }
+    requires limit { limit ≡ N.limit }
+    ensures { IfOk result (IsLife opening) }
+{
+    match Node::<N, Seeded, &R>::open(alloc, rt, parts, opening, chooser, limit) {
+        Ok(opened) => {
+            let (node, seats, viewers) = opened;
+            let life = run_life(rt, alloc, node, seats, viewers, line, pace, door);
+            Ok(Past {
+                why: life.why,
+                journal: life.journal,
+                unsent: life.unsent,
+                wire: life.wire,
+                refused: life.refused,
+            })
+        }
+        Err(fault) => Err(fault),
+    }
+}

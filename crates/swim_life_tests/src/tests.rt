@@ -1,0 +1,52 @@
+ghost use Rattle.std.specs.Prelude.{◌≡◌};
+
+mod gates;
+mod lives;
+mod two;
+
+use crate::tests::gates::NoDoor;
+use std::alloc::Global;
+use std::process::Abort;
+use std::rt::Clock;
+use std::sync::Wait;
+use std::test::*;
+use std::thread::Threads;
+use swim_history::{Journal, Opening, Probe, Reply};
+use swim_life::{Line, Pace, Past, Why, live};
+use swim_targets::Seeded;
+use swim_wire::{Id, Peer};
+
+fn id(number: u32) -> Id {
+    Id::new(number).unwrap_or_default()
+}
+
+// Members stand at 10.0.0.2:7000, 10.0.0.3:7000, ..
+fn at(last: u8) -> Peer {
+    Peer {
+        ip: [10, 0, 0, last],
+        port: 7000,
+    }
+}
+
+// Member 1, which knows members 2 and 3, asks one relay, and has a timeout of one tick and a period of three.
+fn opening() -> Result<Opening, Fail> {
+    let rows = [(id(2), at(2)), (id(3), at(3))];
+    Ok(Opening::check(id(1), 1, 1, 3, &rows, 0).map_err(|_| "an opening")?)
+}
+
+fn chooser() -> Seeded {
+    Seeded::new([0; 32])
+}
+
+// A life to whose door nobody comes.
+fn live_alone<R: Threads + Wait + Clock + Sync + Copy + Drop, L: Line + Sync, P: Pace + Send>(
+    rt: &R,
+    alloc: Global,
+    opening: Opening,
+    limit: u32,
+    line: &L,
+    pace: &mut P,
+) -> Option<Past> {
+    let mut door = NoDoor { clock: *rt };
+    live(rt, alloc, opening, chooser(), limit, line, pace, &mut door).ok()
+}

@@ -1,0 +1,252 @@
+//! Gates that wait for each other.
+
+ghost use Rattle.std.specs.Prelude.{[], None};
+ghost use Rattle.swim_life.specs.Gates.{FitsInto};
+
+use crate::tests::at;
+use arrayvec::ArrayVec;
+use std::rt::Clock;
+use std::sync::Wait;
+use std::sync::atomic::{AtomicBool, AtomicU32, Ordering};
+use std::thread;
+use std::time::Duration;
+use swim_life::{Beat, Door, Got, Knock, Line, Pace};
+use swim_wire::{Byte, Page, Peer, Sink, Source, Text};
+
+/// How many turns a gate waits for another. After that it gives up, and the test's signals stay unset.
+pub const TURNS: u32 = 100_000;
+
+/// A ping of member 2 for member 1, number 5.
+const PING: [u8; 24] = [
+    0x53, 0x57, 1, 1, 0, 0, 0, 2, 0, 0, 0, 2, 0, 0, 0, 1, 0, 0, 0, 0, 0, 0, 0, 5,
+];
+
+/// Its ack.
+const ACK: [u8; 24] = [
+    0x53, 0x57, 1, 3, 0, 0, 0, 1, 0, 0, 0, 2, 0, 0, 0, 1, 0, 0, 0, 0, 0, 0, 0, 5,
+];
+
+/// The table of members 2 and 3, as `list` answers.
+const LIST: &[u8] = b"2 10.0.0.2:7000 up\n3 10.0.0.3:7000 up\n.\n";
+
+/// What the gates of a life tell each other.
+#[derive(Drop)]
+pub struct Signals {
+    pub is_listed: AtomicBool,
+    pub is_acked: AtomicBool,
+    pub is_stopping: AtomicBool,
+    pub receives: AtomicU32,
+}
+
+impl Signals {
+    pub fn new(is_listed: bool) -> Signals {
+        Signals {
+            is_listed: AtomicBool::new(is_listed),
+            is_acked: AtomicBool::new(false),
+            is_stopping: AtomicBool::new(false),
+            receives: AtomicU32::new(0),
+        }
+    }
+}
+
+pub fn is_set(signal: &AtomicBool) -> bool {
+    signal.load(Ordering::SeqCst)
+}
+
+pub fn set(signal: &AtomicBool) {
+    signal.store(true, Ordering::SeqCst);
+}
+
+pub fn pause<K: Clock>(clock: &K) {
+    thread::sleep(clock, Duration::from_micros(50));
+}
+
+/// A line with one datagram, the ping, after so many faults. It holds it back until the list was answered, and is idle
+/// before and after it. Sends of it succeed or fail.
+#[derive(Drop)]
+pub struct PingLine<'s, K: Clock + Drop> {
+    pub clock: K,
+    pub signals: &'s Signals,
+    pub faults: u32,
+    pub is_sending: bool,
+    pub was_given: AtomicBool,
+}
+
+impl<'s, K: Clock + Drop> Line for PingLine<'s, K> {
+    fn receive<R: Wait>(&self, _rt: &R, bytes: &mut [u8]) -> Got
+        ensures { FitsInto result bytes.new }
+    {
+        let turn = self.signals.receives.fetch_add(1, Ordering::SeqCst);
+        if turn < self.faults {
+            return Got::Fault;
+        }
+        pause(&self.clock);
+        if !is_set(&self.signals.is_listed) || is_set(&self.was_given) {
+            return if turn < TURNS { Got::Idle } else { Got::Fault };
+        }
+        set(&self.was_given);
+        match bytes.get_mut(..24) {
+            Some(front) => {
+                front.copy_from_slice(&PING);
+                Got::Datagram(24, at(2))
+            }
+            None => Got::Fault,
+        }
+    }
+
+    fn send<R: Wait>(&self, _rt: &R, bytes: &[u8], to: Peer) -> bool {
+        if bytes == &ACK[..] && to == at(2) {
+            set(&self.signals.is_acked);
+        }
+        self.is_sending
+    }
+}
+
+/// A pace of so many ticks. After them it holds its stop back until the signal is set.
+#[derive(Drop)]
+pub struct StopPace<'s, K: Clock + Drop> {
+    pub clock: K,
+    pub signal: &'s AtomicBool,
+    pub ticks: u32,
+    pub turns: u32,
+}
+
+impl<'s, K: Clock + Drop> Pace for StopPace<'s, K> {
+    fn next<R: Wait>(&mut self, _rt: &R) -> Beat {
+        if self.ticks > 0 {
+            self.ticks -= 1;
+            return Beat::Tick;
+        }
+        pause(&self.clock);
+        self.turns = self.turns.saturating_add(1);
+        if self.turns < TURNS && !is_set(self.signal) {
+            return Beat::Idle;
+        }
+        Beat::Stop
+    }
+}
+
+/// A door to which nobody comes.
+#[derive(Drop)]
+pub struct NoDoor<K: Clock + Drop> {
+    pub clock: K,
+}
+
+impl<K: Clock + Drop> Door for NoDoor<K> {
+    type Reader = Text<'static>;
+
+    type Writer = Page;
+
+    fn next<R: Wait>(&mut self, _rt: &R) -> Knock<Text<'static>, Page> {
+        pause(&self.clock);
+        Knock::Idle
+    }
+}
+
+/// A door to which one operator comes.
+#[derive(Drop)]
+pub struct OneDoor<'s, K: Clock + Copy + Drop> {
+    pub clock: K,
+    pub signals: &'s Signals,
+    pub was_open: bool,
+}
+
+impl<'s, K: Clock + Copy + Drop> Door for OneDoor<'s, K> {
+    type Reader = TwoLines<'s, K>;
+
+    type Writer = Answers<'s>;
+
+    fn next<R: Wait>(&mut self, _rt: &R) -> Knock<TwoLines<'s, K>, Answers<'s>> {
+        if self.was_open {
+            pause(&self.clock);
+            return Knock::Idle;
+        }
+        self.was_open = true;
+        let lines = TwoLines {
+            clock: self.clock,
+            signals: self.signals,
+            taken: 0,
+        };
+        let answers = Answers {
+            signals: self.signals,
+            text: ArrayVec::new(),
+        };
+        Knock::Conn(lines, answers)
+    }
+}
+
+/// The lines `list` and `stop`, the second of which is held back until the ack was sent.
+#[derive(Drop)]
+pub struct TwoLines<'s, K: Clock + Drop> {
+    clock: K,
+    signals: &'s Signals,
+    taken: usize,
+}
+
+impl<'s, K: Clock + Drop> Source for TwoLines<'s, K> {
+    ghost left = { λ lines. None };
+
+    ghost ready = { λ lines. [] };
+
+    ghost failures = { λ lines. 0 };
+
+    fn byte(&mut self) -> Byte {
+        if self.taken == 5 && !is_set_in_time(&self.clock, &self.signals.is_acked) {
+            return Byte::End;
+        }
+        match b"list\nstop\n".get(self.taken) {
+            Some(byte) => {
+                self.taken += 1;
+                Byte::One(*byte)
+            }
+            None => Byte::End,
+        }
+    }
+
+    fn ready(&self) -> &[u8] {
+        &[]
+    }
+
+    fn skip(&mut self, _count: usize) {}
+}
+
+fn is_set_in_time<K: Clock>(clock: &K, signal: &AtomicBool) -> bool {
+    for _turn in 0..TURNS {
+        if is_set(signal) {
+            return true;
+        }
+        pause(clock);
+    }
+    false
+}
+
+/// Where the operator's answers go. It tells that the list was answered, and that the life is stopping.
+#[derive(Drop)]
+pub struct Answers<'s> {
+    signals: &'s Signals,
+    text: ArrayVec<u8, 128>,
+}
+
+impl<'s> Sink for Answers<'s> {
+    ghost written = { λ answers. None };
+
+    ghost failures = { λ answers. 0 };
+
+    fn put(&mut self, text: &[u8]) -> bool {
+        for byte in text {
+            let _ = self.text.try_push(*byte);
+        }
+        true
+    }
+
+    fn flush(&mut self) -> bool {
+        let text = self.text.as_slice();
+        if *text == *LIST {
+            set(&self.signals.is_listed);
+        }
+        if text.ends_with(b"\n.\nstopping\n") {
+            set(&self.signals.is_stopping);
+        }
+        true
+    }
+}

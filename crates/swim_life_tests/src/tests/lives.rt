@@ -1,0 +1,154 @@
+use super::gates::{NoDoor, OneDoor, PingLine, Signals, StopPace, is_set};
+use super::*;
+use std::sync::atomic::{AtomicBool, Ordering};
+use swim_life::{LivesEnd, Terms, run_lives};
+use swim_wire::Page;
+
+fn line<'s, K: Clock + Drop>(clock: K, signals: &'s Signals, faults: u32) -> PingLine<'s, K> {
+    PingLine {
+        clock,
+        signals,
+        faults,
+        is_sending: true,
+        was_given: AtomicBool::new(false),
+    }
+}
+
+fn pace<'s, K: Clock + Drop>(clock: K, signal: &'s AtomicBool, ticks: u32) -> StopPace<'s, K> {
+    StopPace {
+        clock,
+        signal,
+        ticks,
+        turns: 0,
+    }
+}
+
+// An operator lists the members while the line is idle; then a ping comes, and is acked; then the operator stops the
+// life. None of the three could go on without the other two, so the workers are at work at the same time.
+#[test]
+fn workers_at_once(rt: HostRuntime) -> Result<(), Fail> {
+    let opening = opening()?;
+    let signals = Signals::new(false);
+    let line = line(rt, &signals, 0);
+    let mut pace = pace(rt, &signals.is_stopping, 0);
+    let mut door = OneDoor {
+        clock: rt,
+        signals: &signals,
+        was_open: false,
+    };
+    let past = live(
+        &rt,
+        rt.alloc(),
+        opening,
+        chooser(),
+        1000,
+        &line,
+        &mut pace,
+        &mut door,
+    )
+    .ok();
+    assert_ended(&rt, past, Why::Stopped, 1, 0);
+    assert!(rt; is_set(&signals.is_listed));
+    assert!(rt; is_set(&signals.is_acked));
+    assert!(rt; is_set(&signals.is_stopping));
+    Ok(())
+}
+
+// Fifteen faults in a row, a ping, and a stop after its ack was sent.
+#[test]
+fn fifteen_faults(rt: HostRuntime) -> Result<(), Fail> {
+    let opening = opening()?;
+    let signals = Signals::new(true);
+    let line = line(rt, &signals, 15);
+    let mut pace = pace(rt, &signals.is_acked, 0);
+    let past = live_alone(&rt, rt.alloc(), opening, 1000, &line, &mut pace);
+    assert_ended(&rt, past, Why::Stopped, 1, 0);
+    assert!(rt; is_set(&signals.is_acked));
+    Ok(())
+}
+
+// The same where the ack can't be sent.
+#[test]
+fn a_failed_send(rt: HostRuntime) -> Result<(), Fail> {
+    let opening = opening()?;
+    let signals = Signals::new(true);
+    let mut line = line(rt, &signals, 15);
+    line.is_sending = false;
+    let mut pace = pace(rt, &signals.is_acked, 0);
+    let past = live_alone(&rt, rt.alloc(), opening, 1000, &line, &mut pace);
+    assert_ended(&rt, past, Why::Stopped, 1, 1);
+    Ok(())
+}
+
+// Sixteen faults in a row: the receiver gives up, and nothing is heard.
+#[test]
+fn sixteen_faults(rt: HostRuntime) -> Result<(), Fail> {
+    let opening = opening()?;
+    let signals = Signals::new(true);
+    let line = line(rt, &signals, 16);
+    let mut pace = pace(rt, &signals.is_acked, 0);
+    let past = live_alone(&rt, rt.alloc(), opening, 1000, &line, &mut pace);
+    assert_ended(&rt, past, Why::Socket, 0, 0);
+    assert_eq!(rt; signals.receives.load(Ordering::SeqCst), 16);
+    Ok(())
+}
+
+// A journal of two entries: the third tick ends the life, and is not in it.
+#[test]
+fn a_full_journal(rt: HostRuntime) -> Result<(), Fail> {
+    let opening = opening()?;
+    let signals = Signals::new(false);
+    let line = line(rt, &signals, 0);
+    let mut pace = pace(rt, &signals.is_stopping, 5);
+    let past = live_alone(&rt, rt.alloc(), opening, 2, &line, &mut pace);
+    assert_ended(&rt, past, Why::JournalFull, 2, 0);
+    Ok(())
+}
+
+// A journal of two entries, and five ticks: the third meets the full journal of the first life, and is in no life. The
+// second life goes on from it, and is stopped.
+#[test]
+fn two_lives(rt: HostRuntime) -> Result<(), Fail> {
+    let rows = [(id(2), at(2))];
+    let opening = Opening::check(id(1), 0, 1, 3, &rows, 0).map_err(|_| "an opening")?;
+    let signals = Signals::new(false);
+    let is_told = AtomicBool::new(true);
+    let line = line(rt, &signals, 0);
+    let mut pace = pace(rt, &is_told, 5);
+    let mut door = NoDoor { clock: rt };
+    let mut page = Page::new(rt.alloc());
+    let terms = Terms {
+        seed: [0; 32],
+        limit: 2,
+    };
+    let end = run_lives(
+        &rt,
+        rt.alloc(),
+        opening,
+        terms,
+        &line,
+        &mut pace,
+        &mut door,
+        &mut page,
+    );
+    assert_eq!(rt; end, LivesEnd::Stopped);
+    assert!(rt; page.text().starts_with(FIRST_LIFE));
+    assert!(rt; page.text().ends_with(LAST_LIFE));
+    assert_eq!(rt; page.text().len(), FIRST_LIFE.len() + LAST_LIFE.len());
+    Ok(())
+}
+
+const FIRST_LIFE: &[u8] = b"life 0 entries 2 judged 0 unsent 0 wire 0 refused 0\n";
+
+const LAST_LIFE: &[u8] = b"ended stopped entries 2 judged 0 unsent 0 wire 0 refused 0\n";
+
+fn assert_ended<R: Abort>(rt: &R, past: Option<Past>, why: Why, entries: u32, unsent: u64) {
+    match past {
+        Some(past) => {
+            assert_eq!(rt; past.why, why);
+            assert_eq!(rt; past.journal.len(), entries);
+            assert_eq!(rt; past.unsent, unsent);
+        }
+        None => panic!(rt; "a node"),
+    }
+}

@@ -1,5 +1,0 @@
-use Rattle.std.proofs.Common.{length}
-use Rattle.swimd.proofs.summaries.+put_members.Given as goal
-
-abbrev pub decreases-put_members : goal.decreases-put_members
-decreases-put_members g l = length l.members.now
