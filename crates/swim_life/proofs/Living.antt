@@ -12,25 +12,25 @@ use Rattle.swim_life.specs.Endings.{TellsLife, Written}
 use Rattle.swim_life.specs.Lives.{AreLived, AreLives, AreFull, AreTold, IsLife, end_after, end_without, number_after, opening_after}
 
 -- all lives so far were ended by a full journal; the next one begins so, and has this number
-pub record HaveLived (first next : Setting) (number : ℕ) (old new : Written) : Type 0 where
+pub record HaveLived (first : Setting) (limit : ℕ) (next : Setting) (number : ℕ) (old new : Written) : Type 0 where
   pub lives : List Past
-  pub lived : AreLives first lives
+  pub lived : AreLives first limit lives
   pub full : AreFull lives
   pub next_is : next ≡ opening_after first lives
   pub number_is : number ≡ number_after lives
   pub told : AreTold old new lives
 
-pub none_lived : (first : Setting) (old : Written) → HaveLived first first 0 old old
-none_lived first old = record { lives = []; lived = tt; full = tt; next_is = refl; number_is = refl; told = refl }
+pub none_lived : (first : Setting) (limit : ℕ) (old : Written) → HaveLived first limit first 0 old old
+none_lived first limit old = record { lives = []; lived = tt; full = tt; next_is = refl; number_is = refl; told = refl }
 
 -- a life more
-lives_with : (first next : Setting) (number : ℕ) (old mid : Written) (past : Past)
-    (so : HaveLived first next number old mid) → IsLife next past → AreLives first (past ∷ so.lives)
-lives_with first next number old mid past so is = (subst (λ o. IsLife o past) so.next_is is, so.lived)
+lives_with : (first : Setting) (limit : ℕ) (next : Setting) (number : ℕ) (old mid : Written) (past : Past)
+    (so : HaveLived first limit next number old mid) → IsLife next limit past → AreLives first limit (past ∷ so.lives)
+lives_with first limit next number old mid past so is = (subst (λ o. IsLife o limit past) so.next_is is, so.lived)
 
-told_with : (first next : Setting) (number : ℕ) (old mid new : Written) (past : Past)
-    (so : HaveLived first next number old mid) → TellsLife number past mid new → AreTold old new (past ∷ so.lives)
-told_with first next number old mid new past so line =
+told_with : (first : Setting) (limit : ℕ) (next : Setting) (number : ℕ) (old mid new : Written) (past : Past)
+    (so : HaveLived first limit next number old mid) → TellsLife number past mid new → AreTold old new (past ∷ so.lives)
+told_with first limit next number old mid new past so line =
     (mid, so.told, subst (λ n. TellsLife n past mid new) so.number_is line)
 
 -- a full journal alone ends no daemon
@@ -40,34 +40,36 @@ full_where_none NoMemory is = absurd cc
 full_where_none Socket is = absurd cc
 full_where_none Stopped is = absurd cc
 
-pub one_more_lived : (first next after : Setting) (number count : ℕ) (old mid new : Written) (past : Past) →
-    HaveLived first next number old mid → IsLife next past → end_after past.why ≡ None → TellsLife number past mid new →
+pub one_more_lived : (first : Setting) (limit : ℕ) (next after : Setting) (number count : ℕ) (old mid new : Written)
+    (past : Past) → HaveLived first limit next number old mid → IsLife next limit past → end_after past.why ≡ None →
+    TellsLife number past mid new →
     after ≡ setting_after past.journal.opening past.journal.past → count ≡ min (number + 1) (2 ^ 64 - 1) →
-    HaveLived first after count old new
-one_more_lived first next after number count old mid new past so is goes_on line after_is count_is = record {
+    HaveLived first limit after count old new
+one_more_lived first limit next after number count old mid new past so is goes_on line after_is count_is = record {
   lives = past ∷ so.lives;
-  lived = lives_with first next number old mid past so is;
+  lived = lives_with first limit next number old mid past so is;
   full = (full_where_none past.why goes_on, so.full);
   next_is = after_is;
   number_is = let was : number ≡ min (length so.lives) (2 ^ 64 - 1) = so.number_is in omega arith;
-  told = told_with first next number old mid new past so line;
+  told = told_with first limit next number old mid new past so line;
 }
 
 -- the last one
-pub last_lived : (first next : Setting) (number : ℕ) (old mid new : Written) (past : Past) (end : LivesEnd) →
-    HaveLived first next number old mid → IsLife next past → end_after past.why ≡ Some end →
-    TellsLife number past mid new → AreLived first old new end
-last_lived first next number old mid new past end so is ends line = record {
+pub last_lived : (first : Setting) (limit : ℕ) (next : Setting) (number : ℕ) (old mid new : Written) (past : Past)
+    (end : LivesEnd) → HaveLived first limit next number old mid → IsLife next limit past → end_after past.why ≡ Some end →
+    TellsLife number past mid new → AreLived first limit old new end
+last_lived first limit next number old mid new past end so is ends line = record {
   lives = past ∷ so.lives;
-  lived = lives_with first next number old mid past so is;
-  told = told_with first next number old mid new past so line;
+  lived = lives_with first limit next number old mid past so is;
+  told = told_with first limit next number old mid new past so line;
   ended = inl (so.full, ends);
 }
 
 -- and none more, as it got no node
-pub last_opened : (first next : Setting) (number : ℕ) (old new : Written) (fault : OpenFault) (end : LivesEnd) →
-    HaveLived first next number old new → end ≡ end_without fault → AreLived first old new end
-last_opened first next number old new fault end so is = record {
+pub last_opened : (first : Setting) (limit : ℕ) (next : Setting) (number : ℕ) (old new : Written) (fault : OpenFault)
+    (end : LivesEnd) → HaveLived first limit next number old new → end ≡ end_without fault →
+    AreLived first limit old new end
+last_opened first limit next number old new fault end so is = record {
   lives = so.lives;
   lived = so.lived;
   told = so.told;

@@ -1,5 +1,5 @@
 -- Lives of a daemon, newest first, each of which goes on from the journal of the one before.
-use Rattle.std.specs.Prelude.{◌≡◌, ◌⊎◌, ℕ, ◌-◌, ◌^◌, min, List, [], ◌∷◌, length, Option, Some, None}
+use Rattle.std.specs.Prelude.{◌≡◌, ◌⊎◌, ℕ, ◌≤◌, ◌-◌, ◌^◌, min, List, [], ◌∷◌, length, Option, Some, None}
 use Rattle.std.specs.List.{AllByRecursion}
 use Rattle.swim_history.specs.After.{setting_after}
 use Rattle.swim_history.specs.Changes.{changes}
@@ -15,9 +15,11 @@ use Rattle.swim_life.specs.declared.lives.LivesEnd.TheVariants.{Stopped, Socket,
 use Rattle.swim_life.specs.declared.lives.Past.{Past}
 use Rattle.swim_life.specs.Endings.{TellsLife, Written}
 
--- a life from this opening: its journal is one history, with the calls of some four seats
-pub record IsLife (first : Setting) (past : Past) : Type 0 where
+-- a life from this opening: its journal is one history, with the calls of some four seats, and has at most so many
+-- entries
+pub record IsLife (first : Setting) (limit : ℕ) (past : Past) : Type 0 where
   pub opening : past.journal.opening ≡ first
+  pub within : length past.journal.past ≤ limit
   pub seats : List Seated
   pub history : IsOneHistory first past.journal.past seats (changes first past.journal.past)
 
@@ -26,10 +28,12 @@ abbrev pub opening_after : Setting → List Past → Setting
 opening_after first [] = first
 opening_after first (past ∷ before) = setting_after past.journal.opening past.journal.past
 
--- the first of these lives began with this opening, and each other one went on from the one before
-abbrev pub AreLives : Setting → List Past → Type 0
-AreLives first [] = Unit {0}
-AreLives first (past ∷ before) = IsLife (opening_after first before) past × AreLives first before
+-- the first of these lives began with this opening, and each other one went on from the one before; no journal has more
+-- entries than this limit
+abbrev pub AreLives : Setting → ℕ → List Past → Type 0
+AreLives first limit [] = Unit {0}
+AreLives first limit (past ∷ before) =
+    IsLife (opening_after first before) limit past × AreLives first limit before
 
 -- all of them were ended by a full journal
 abbrev pub AreFull : List Past → Type 0
@@ -62,9 +66,9 @@ abbrev pub end_without : OpenFault → LivesEnd
 end_without faults.NoMemory = NoMemory
 end_without faults.NoPlace = NoPlace
 
--- lives were lived from this opening, and told; and they ended so
-pub record AreLived (opening : Setting) (old new : Written) (end : LivesEnd) : Type 0 where
+-- lives were lived from this opening, with journals of at most so many entries, and told; and they ended so
+pub record AreLived (opening : Setting) (limit : ℕ) (old new : Written) (end : LivesEnd) : Type 0 where
   pub lives : List Past
-  pub lived : AreLives opening lives
+  pub lived : AreLives opening limit lives
   pub told : AreTold old new lives
   pub ended : IsEndedByLife lives end ⊎ (AreFull lives × ((fault : OpenFault) × (end ≡ end_without fault)))

@@ -1,6 +1,6 @@
 //! A life: a node with its three workers, from its opening to its close.
 
-ghost use Rattle.std.specs.Prelude.{◌≡◌};
+ghost use Rattle.std.specs.Prelude.{◌≡◌, ◌≤◌, length};
 ghost use Rattle.swim_history.specs.Changes.{changes};
 ghost use Rattle.swim_node.specs.Seats.{AreTheSeats};
 ghost use Rattle.swim_node.specs.OneHistory.{IsOneHistory};
@@ -60,6 +60,7 @@ pub fn run_life<
 ) -> Life<N>
     requires { AreTheSeats seats }
     ensures opening { result.journal.opening ≡ N.opening }
+    ensures within { length result.journal.past ≤ N.limit }
     ensures seats { AreTheSeats result.seats }
     ensures history { IsOneHistory N.opening result.journal.past result.seats
         (changes N.opening result.journal.past) }
@@ -148,6 +149,7 @@ fn closed<N: Naming, H: Wait + Drop, R: Wait>(
     fourth: Held<N, 3>,
 ) -> Life<N>
     ensures opening { result.journal.opening ≡ N.opening }
+    ensures within { length result.journal.past ≤ N.limit }
     ensures seats { AreTheSeats result.seats }
     ensures history { IsOneHistory N.opening result.journal.past result.seats
         (changes N.opening result.journal.past) }

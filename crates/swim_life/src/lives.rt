@@ -65,7 +65,7 @@ pub fn run_lives<R: Threads + Wait + Sync, L: Line + Sync, P: Pace + Send, D: Do
     door: &mut D,
     writer: &mut W,
 ) -> LivesEnd
-    ensures { AreLived opening (W.written writer.old, W.failures writer.old)
+    ensures { AreLived opening terms.limit (W.written writer.old, W.failures writer.old)
         (W.written writer.new, W.failures writer.new) result }
 {
     let mut opening = opening;
@@ -138,7 +138,7 @@ pub fn live<R: Threads + Wait + Sync, L: Line + Sync, P: Pace + Send, D: Door>(
     pace: &mut P,
     door: &mut D,
 ) -> Result<Past, OpenFault>
-    ensures { IfOk result (IsLife opening) }
+    ensures { IfOk result (IsLife opening limit) }
 {
     let Ok(parts) = Parts::make(alloc, limit) else {
         return Err(OpenFault::NoMemory);
@@ -167,7 +167,7 @@ fn live_so<
     requires parts { parts ≡ record { limit = N.limit; ledgers = N.ledgers; log = N.log; cells = N.cells } }
     requires opening { opening ≡ N.opening }
     requires limit { limit ≡ N.limit }
-    ensures { IfOk result (IsLife opening) }
+    ensures { IfOk result (IsLife opening limit) }
 {
     match Node::<N, Seeded, &R>::open(alloc, rt, parts, opening, chooser, limit) {
         Ok(opened) => {

@@ -28,12 +28,12 @@ outcome_of ends.Socket = Socket
 outcome_of ends.NoMemory = Refused faults.NoMemory
 outcome_of ends.NoPlace = NoPlace
 
--- lives were lived from the configuration's opening
+-- lives were lived from the configuration's opening, with journals of at most as many entries as it says
 pub record IsLivedBy (config : Config) (old new : Option (List ℕ)) (outcome : Outcome) : Type 0 where
   pub end : LivesEnd
   pub failed_old : ℕ
   pub failed_new : ℕ
-  pub lived : AreLived config.opening (old, failed_old) (new, failed_new) end
+  pub lived : AreLived config.opening config.journal (old, failed_old) (new, failed_new) end
   pub is : outcome ≡ outcome_of end
 
 -- what a daemon of this configuration does: without its sockets nothing is written
