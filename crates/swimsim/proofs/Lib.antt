@@ -1,12 +1,2 @@
-pub mod Answered
-pub mod Courses
-pub mod Digits
-pub mod KeptRows
-pub mod Known
-pub mod LineTurns
-pub mod OrderParts
 pub mod ToldReasons
-pub mod SentLines
-pub mod StandingLines
-pub mod Turns
 pub mod CommandLine

@@ -1,12 +1,3 @@
-pub mod Arguments
-pub mod Choosers
-pub mod Commands
-pub mod Headers
-pub mod Holds
-pub mod Script
-pub mod Texts
-pub mod FaultTexts
 pub mod Options
 pub mod Meanings
-pub mod Ends
 pub mod Named

@@ -7,11 +7,11 @@ use Rattle.swim_wire.specs.declared.messages.Kind.TheVariants.{Ping, PingReq, Ac
 use Rattle.swim_wire.specs.declared.messages.Message.{Message}
 use Rattle.swim_wire.specs.Words.{words_of}
 use Rattle.swim_history.specs.Texts.{feed}
-use Rattle.swimsim.specs.declared.commands.Command.{Command}
-use Rattle.swimsim.specs.declared.commands.Command.TheVariants.{Hear as Heard}
-use Rattle.swimsim.specs.declared.commands.LineFault.{LineFault}
-use Rattle.swimsim.specs.declared.commands.Word.TheVariants.{Hear}
-use Rattle.swimsim.specs.Commands.{command_after, said_by}
+use Rattle.swim_script.specs.declared.commands.Command.{Command}
+use Rattle.swim_script.specs.declared.commands.Command.TheVariants.{Hear as Heard}
+use Rattle.swim_script.specs.declared.commands.LineFault.{LineFault}
+use Rattle.swim_script.specs.declared.commands.Word.TheVariants.{Hear}
+use Rattle.swim_script.specs.Commands.{command_after, said_by}
 
 abbrev pub kind_name : Kind → List ℕ
 kind_name Ping = codes "ping"

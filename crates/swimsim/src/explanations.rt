@@ -1,16 +1,16 @@
 //! A fault of a script, explained to a person.
 
-use crate::arguments::OpenArguments;
 use crate::causes::{Cause, cause_for, cause_in};
-use crate::commands::{Command, LineFault, Word, first_word, read_command};
 use crate::expectations::Expected;
-use crate::faults::{FaultKind, ScriptFault};
 use crate::grammar::Argument;
 use crate::marks::{Mark, first_refused, part_at, word_at};
 use crate::notes::{Notes, Told};
 use crate::showing::Shown;
 use std::fmt;
 use swim_history::OpeningFault;
+use swim_script::{
+    Command, FaultKind, LineFault, OpenArguments, ScriptFault, Word, first_word, read_command,
+};
 use swim_wire::{Id, Words};
 
 /// The longest timeout of which three fit a period.
@@ -116,7 +116,7 @@ fn at<'a>(
 
 fn of_words<'a>(kind: LineFault, line: &'a [u8], told: &Told) -> Explanation<'a> {
     let mut words = Words::new(line);
-    let first = words.next().and_then(first_word);
+    let first = words.next().and_then(|text| first_word(text));
     let mark = word_at(line, 0);
     match (kind, first) {
         (LineFault::Seed, _) => at(line, mark, Expected::OneChooser, cause_of_chooser(told)),

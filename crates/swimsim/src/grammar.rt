@@ -1,8 +1,9 @@
 //! What the words of a line have to be, for a person.
 
-use crate::arguments::{take_datagram, take_long_number, take_number, take_order, take_seed};
-use crate::commands::{LineFault, Word};
 use std::fmt;
+use swim_script::{
+    LineFault, Word, take_datagram, take_long_number, take_number, take_order, take_seed,
+};
 use swim_wire::{Words, take_id, take_peer};
 
 /// An argument of a line.

@@ -1,10 +1,10 @@
 //! The messages that are heard in the lines of a script.
 
-use crate::commands::LINE_BYTES;
 use crate::meanings::message_after;
 use crate::overhearing::Listener;
 use arrayvec::ArrayVec;
 use std::cell::Cell;
+use swim_script::LINE_BYTES;
 use swim_wire::Message;
 
 /// The line that is being read, and the place where its message is put once it was read.

@@ -2,23 +2,16 @@
 #![tactic(auto)]
 
 ghost use Rattle.std.specs.Prelude.{◌≡◌, if◌then◌else◌};
-ghost use Rattle.swimsim.specs.Ends.{unplayed};
+ghost use Rattle.swim_script.specs.Ends.{unplayed};
 
-mod answers;
-mod arguments;
 mod causes;
-mod choosers;
-mod commands;
-mod datagrams;
 mod decoding;
 mod drawing;
 mod draws;
 mod expectations;
 mod explanations;
-mod faults;
 mod files;
 mod grammar;
-mod headers;
 mod hearing;
 mod marks;
 mod meanings;
@@ -26,11 +19,8 @@ mod naming;
 mod notes;
 mod options;
 mod overhearing;
-mod playing;
 mod reasons;
-mod session;
 mod showing;
-mod simulator;
 mod summaries;
 mod tallies;
 
@@ -39,14 +29,12 @@ use decoding::Decoded;
 use drawing::draw_at;
 use draws::warnings_of;
 use explanations::Explanation;
-use faults::{FaultKind, ScriptFault};
 use files::{Input, Output, Script};
 use hearing::Messages;
 use naming::Named;
 use notes::{NoteTaker, Notes, Told};
 use options::{Options, read_options, refuse_bytes};
 use overhearing::Overheard;
-use session::Session;
 use std::alloc::AllocError;
 use std::cell::{Cell, RefCell};
 use std::env;
@@ -55,6 +43,7 @@ use std::io::{self, ErrorKind};
 use std::process::ExitCode;
 use summaries::Summary;
 use swim_history::Journal;
+use swim_script::{FaultKind, ScriptFault, Session};
 use swim_wire::{Message, ReadSource, Sink, WriteSink};
 use tallies::Tally;
 
@@ -227,7 +216,7 @@ fn play_between(
 {
     let mut reader = ReadSource::new(script);
     let mut writer = WriteSink::new(answers);
-    match simulator::run(session, &mut reader, &mut writer) {
+    match swim_script::run(session, &mut reader, &mut writer) {
         Ok(()) => Ok(()),
         Err(fault) => Err(told(fault, writer.flush())),
     }

@@ -1,7 +1,7 @@
 //! Where in a line a word stands.
 
-use crate::commands::Word;
 use crate::grammar::{Argument, arguments_of, take_argument};
+use swim_script::Word;
 use swim_wire::Words;
 
 /// A part of a line: the bytes before it, and its own. A word that is missing has none, behind the line's end.

@@ -3,8 +3,8 @@
 ghost use Rattle.std.specs.Prelude.{◌≡◌, IfOk, string_bytes};
 ghost use Rattle.swimsim.specs.Meanings.{kind_name, message_after, message_words};
 
-use crate::commands::{Command, Word, read_command};
 use std::alloc::{AllocError, Global};
+use swim_script::{Command, Word, read_command};
 use swim_wire::{Kind, Message, Words};
 
 /// The line that says in words what a message is.

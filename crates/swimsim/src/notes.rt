@@ -1,10 +1,10 @@
 //! What is kept of a script's lines, so that a fault in them can be explained.
 
-use crate::commands::{Command, LINE_BYTES, first_word, read_command};
 use crate::overhearing::Listener;
 use arrayvec::ArrayVec;
 use std::alloc::{AllocError, Global};
 use std::cell::RefCell;
+use swim_script::{Command, LINE_BYTES, first_word, read_command};
 use swim_targets::Order;
 use swim_wire::{Id, Words};
 
@@ -47,7 +47,7 @@ impl Told {
     /// Keeps what a line tells, given with its number and without its line feed.
     fn keep(&mut self, number: u32, line: &[u8]) {
         let mut words = Words::new(line);
-        let Some(word) = words.next().and_then(first_word) else {
+        let Some(word) = words.next().and_then(|text| first_word(text)) else {
             return;
         };
         if let Ok(Some(command)) = read_command(word, &mut words) {

@@ -1,0 +1,361 @@
+-- Where the lines lead that were read of a script: at the start, after one more line, and at its end.
+use Rattle.std.proofs.Common.{◌≡◌, ◌≢◌, ℕ, zero, suc, ◌+◌, ◌-◌, ◌<◌, ◌≤◌, Bool, true, false, cond, List, [], ◌∷◌, ◌++◌, length, take, drop, reverse, Option, Some, None, Result, Ok, Err, refl, sym, ap, subst, ◌∙◌, inl, inr, arith, append-nil}
+use Rattle.std.specs.Io.KnownBytes.{Keeps, Appends}
+use Rattle.std.proofs.lemmas.Bool.{lt-ltb, le-ltb}
+use Rattle.std.proofs.lemmas.Grind.{reverse_onto}
+use Rattle.std.proofs.lemmas.List.{append_assoc, take_at, take-append-drop, map-append, length-map, length-drop, length-reverse, reverse-append, reverse-reverse}
+use Rattle.swim_wire.specs.Lines.{pieces, bare, IsLine, IsLong, IsOversize, IsCutShort}
+use Rattle.swim_wire.specs.Streams.{appends_none, appends_both, kept_appends, appends_kept, keeps_self}
+use Rattle.swim_history.specs.declared.entries.Entry.{Entry}
+use Rattle.std.proofs.lemmas.Option.{same_Some}
+use Rattle.swim_history.specs.declared.openings.OpeningFault.{OpeningFault}
+use Rattle.swim_history.specs.Check.{first_fault}
+use Rattle.swim_history.specs.Setting.{Setting}
+use Rattle.swim_detector.specs.Recording.{Recording}
+use Rattle.swim_script.specs.declared.arguments.Opened.{Opened}
+use Rattle.swim_script.specs.declared.choosers.Drawer.{Drawer}
+use Rattle.swim_script.specs.declared.commands.Command.{Command}
+use Rattle.swim_script.specs.declared.commands.LineFault.{LineFault}
+use Rattle.swim_script.specs.declared.commands.LineFault.TheVariants.{Word}
+use Rattle.swim_script.specs.declared.faults.FaultKind.{FaultKind}
+use Rattle.swim_script.specs.declared.faults.FaultKind.TheVariants.{Size, Long, Words, Opening, Memory, Read, Write}
+use Rattle.swim_script.specs.declared.faults.ScriptFault.{ScriptFault}
+use Rattle.swim_script.specs.Commands.{line_read}
+use Rattle.swim_script.specs.Headers.{Told, nothing_told, is_event, stage_of, said, head_of, setting_in, chooser_in}
+use Rattle.swim_script.specs.Script.{Turn, lines_of, at_line, opening_at, fault_of_setting, fault_of_opening, fault_of_read, bytes_of, fault_at, fault_with, fault_of_header, fault_at_end, first_of, fault_from, fault_of, IsTold, lines_before, takes_memory, WantsMemory, WaitsFor, is_answered, IsAnswering, RunsTo}
+use Rattle.swim_script.specs.Holds.{Played, kept, IsSilent, line_of, IsWaiting, Plays, Holds, ending, ending_with, TurnDone, TurnFails, Course}
+use Rattle.swim_script.specs.Ends.{IsEndOf}
+use Rattle.swim_script.proofs.KeptRows.{fault_of_kept}
+
+-- ---- lines of a script
+
+-- the lines before the line that comes next
+pub before_next : (n : ℕ) (script : List ℕ) (before more : List (List ℕ)) → n - 1 ≡ length before → pieces script ≡ reverse before ++ more → lines_before n script ≡ before
+before_next n script before more count cut =
+    ap (λ (lines : List (List ℕ)). reverse (take (n - 1) lines)) cut ∙ (ap reverse (take_at (reverse before) more (n - 1) (length-reverse before ∙ sym count)) ∙ reverse-reverse before)
+
+-- one line more was read
+cut_more : (before : List (List ℕ)) (piece : List ℕ) (more : List (List ℕ)) → reverse before ++ (piece ∷ more) ≡ reverse (piece ∷ before) ++ more
+cut_more before piece more = sym (append_assoc (reverse before) (piece ∷ []) more) ∙ ap (λ (lines : List (List ℕ)). lines ++ more) (sym (reverse_onto before piece []))
+
+-- the lines before any line of those that were read
+before_earlier : (n : ℕ) (script : List ℕ) (turns : List Turn) (more : List (List ℕ)) → n - 1 ≤ length turns → pieces script ≡ reverse (lines_of turns) ++ more →
+    lines_before n script ≡ lines_of (drop (length turns - (n - 1)) turns)
+before_earlier n script turns more earlier cut =
+    let j = length turns - (n - 1) in
+    let newer = lines_of (take j turns) in
+    let older = lines_of (drop j turns) in
+    let parts : lines_of turns ≡ newer ++ older = ap lines_of (sym (take-append-drop j turns)) ∙ map-append (λ (turn : Turn). turn.line) (take j turns) (drop j turns) in
+    let count : length older ≡ length turns - j = length-map (drop j turns) (λ (turn : Turn). turn.line) ∙ length-drop j turns in
+    before_next n script older (reverse newer ++ more) (omega (arith, count, earlier))
+    (cut ∙ (ap (λ (lines : List (List ℕ)). reverse lines ++ more) parts ∙ (ap (λ (lines : List (List ℕ)). lines ++ more) (reverse-append newer older) ∙ append_assoc (reverse older) (reverse newer) more)))
+
+-- ---- what was told
+
+-- before the first event line nothing was
+silent_told : (turns : List Turn) → IsSilent turns → (k : ℕ) → IsTold (lines_of (drop k turns)) []
+silent_told turns silent k = record {
+  turns = drop k turns;
+  are = refl;
+  run = [];
+  after = chooser_in (head_of (lines_of (drop k turns))).told;
+  made = record { legal = tt; drawn = refl; calls = sym (silent k).0; one_seat = refl };
+  text_is = sym ((silent k).1 (setting_in (head_of (lines_of (drop k turns))).told));
+}
+
+told_by : (turns : List Turn) (run : List Entry) (text : List ℕ) (header : Told) (recorded : Option (Recording Drawer)) → Plays turns run text header recorded → IsTold (lines_of turns) text
+told_by turns run text header None p = subst (IsTold (lines_of turns)) (sym p.nothing) (silent_told turns p.silent 0)
+told_by turns run text header (Some a) p = record {
+  turns = turns;
+  are = refl;
+  run = run;
+  after = a.chooser;
+  made = p.1.made;
+  text_is = p.1.text_is;
+}
+
+-- the lines that were read were answered
+pub told_so_far : (n : ℕ) (script : List ℕ) (turns : List Turn) (run : List Entry) (text : List ℕ) (more : List (List ℕ)) (s : Played) → n ≡ length (lines_of turns) + 1 →
+    pieces script ≡ reverse (lines_of turns) ++ more → Holds turns run text s → IsTold (lines_before n script) text
+told_so_far n script turns run text more s count cut h =
+    subst (λ (lines : List (List ℕ)). IsTold lines text) (sym (before_next n script (lines_of turns) more (omega (arith, count)) cut)) (told_by turns run text s.header s.recorded h.plays)
+
+-- those before a line that was read were, where no event line was met
+told_earlier : (n : ℕ) (script : List ℕ) (turns : List Turn) (run : List Entry) (text : List ℕ) (more : List (List ℕ)) (header : Told) → n - 1 ≤ length turns →
+    pieces script ≡ reverse (lines_of turns) ++ more → IsWaiting turns run text header → IsTold (lines_before n script) text
+told_earlier n script turns run text more header earlier cut p =
+    subst (λ (lines : List (List ℕ)). IsTold lines text) (sym (before_earlier n script turns more earlier cut))
+    (subst (IsTold (lines_of (drop (length turns - (n - 1)) turns))) (sym p.nothing) (silent_told turns p.silent (length turns - (n - 1))))
+
+-- ---- faults
+
+-- a line within the limits has the fault of what it says
+fault_within : (before : List (List ℕ)) (piece : List ℕ) → length piece + bytes_of before ≤ 16777216 → length (bare piece) ≤ 2048 →
+    fault_at before piece ≡ fault_of_read (length before + 1) (head_of before) (line_read (stage_of (head_of before)) (bare piece))
+fault_within before piece size fits = rw (le-ltb 16777216 (length piece + bytes_of before) size, le-ltb 2048 (length (bare piece)) fits) refl
+
+fault_long : (before : List (List ℕ)) (piece : List ℕ) → length piece + bytes_of before ≤ 16777216 → 2048 < length (bare piece) → fault_at before piece ≡ Some (at_line (length before + 1) Long)
+fault_long before piece size long = rw (le-ltb 16777216 (length piece + bytes_of before) size, lt-ltb 2048 (length (bare piece)) long) refl
+
+fault_size : (before : List (List ℕ)) (piece : List ℕ) → 16777216 < length piece + bytes_of before → fault_at before piece ≡ Some (at_line (length before + 1) Size)
+fault_size before piece over = rw (lt-ltb 16777216 (length piece + bytes_of before) over) refl
+
+-- the first fault is that of the next line
+first_fault_is : (script rest piece : List ℕ) (more : List (List ℕ)) (before : List (List ℕ)) (fault : ScriptFault) → fault_of script ≡ fault_from before (pieces rest) → pieces rest ≡ piece ∷ more →
+    fault_at before piece ≡ Some fault → fault_of script ≡ Some fault
+first_fault_is script rest piece more before fault from first is =
+    from ∙ (ap (fault_from before) first ∙ ap (λ f. first_of f (fault_from (piece ∷ before) more)) is)
+
+-- ---- one more line
+
+pub next : (script rest left line : List ℕ) (old mid mid' new : Option (List ℕ)) (budget after : ℕ) (s s' : Played) (c : Course script rest old mid budget s) (i : IsLine rest left line 2048 budget after) →
+    Keeps mid mid' → TurnDone c.turns c.text i.piece s' mid' new → Course script left old new after s'
+next script rest left line old mid mid' new budget after s s' c i kept d =
+    let before = lines_of c.turns in
+    let within = fault_within before i.piece (omega (arith, c.spent, i.spent)) (rw (i.bytes) i.fits) in
+    record {
+      turns = record { line = i.piece; refused = d.refused } ∷ c.turns;
+      run = d.run;
+      text = c.text ++ d.more;
+      holds = d.holds;
+      cut = c.cut ∙ (ap (λ (lines : List (List ℕ)). reverse before ++ lines) i.first ∙ cut_more before i.piece (pieces left));
+      fault = c.fault ∙ (ap (fault_from before) i.first ∙ ap (λ f. first_of f (fault_from (i.piece ∷ before) (pieces left))) (within ∙ d.none));
+      spent = omega (arith, c.spent, i.spent);
+      written = appends_both old mid new c.text d.more c.written (kept_appends mid mid' new d.more kept d.written);
+    }
+
+-- ---- how a run ends
+
+-- a fault that the format names by the script alone
+abbrev pub IsNamed : FaultKind → Type 0
+IsNamed kind = (kind ≢ Read) × (kind ≢ Write) × (kind ≢ Memory)
+
+-- any fault but the reader's, the writer's and the want of memory
+ends_with : (script left : List ℕ) (old new : Option (List ℕ)) (fault : ScriptFault) (kind : FaultKind) → IsNamed kind →
+    (fault_of script ≡ Some fault) × (text : List ℕ) × IsTold (lines_before fault.line script) text × Appends old new text → RunsTo script left old new fault kind
+ends_with script left old new fault Size named p = p
+ends_with script left old new fault Long named p = p
+ends_with script left old new fault (Words wrong) named p = p
+ends_with script left old new fault (Opening opening) named p = p
+ends_with script left old new fault Read named p = absurd (named.0 refl)
+ends_with script left old new fault Write named p = absurd (named.1 refl)
+ends_with script left old new fault Memory named p = absurd (named.2 refl)
+
+-- the lines before such a fault's line were answered
+abbrev pub Stands : List ℕ → List ℕ → ScriptFault → Type 0
+Stands script text fault = IsTold (lines_before fault.line script) text × IsNamed fault.kind
+
+named_words : (wrong : LineFault) → IsNamed (Words wrong)
+named_words wrong = ((λ e. absurd (cc e)), (λ e. absurd (cc e)), (λ e. absurd (cc e)))
+
+named_opening : (refused : OpeningFault) → IsNamed (Opening refused)
+named_opening refused = ((λ e. absurd (cc e)), (λ e. absurd (cc e)), (λ e. absurd (cc e)))
+
+-- the fault of an opening stands in its `open` line
+refused_at : (n : ℕ) (refused : Option OpeningFault) (fault : ScriptFault) → opening_at n refused ≡ Some fault → (fault.line ≡ n) × IsNamed fault.kind
+refused_at n None fault found = absurd (cc found)
+refused_at n (Some refused) fault found = subst (λ (f : ScriptFault). (f.line ≡ n) × IsNamed f.kind) (same_Some (at_line n (Opening refused)) fault found) (refl, named_opening refused)
+
+opening_stands : (opened : Option Opened) (o : Setting) (fault : ScriptFault) → fault_of_setting opened o ≡ Some fault → (fault.line ≡ line_of opened) × IsNamed fault.kind
+opening_stands None o fault found = absurd (cc found)
+opening_stands (Some opened) o fault found = refused_at opened.line (first_fault o) fault found
+
+-- a fault of a command is one of the opening, at the first event line
+opening_found : (begun event : Bool) (refused : Option ScriptFault) (fault : ScriptFault) → cond begun None (cond event refused None) ≡ Some fault → (begun ≡ false) × (refused ≡ Some fault)
+opening_found true event refused fault found = absurd (cc found)
+opening_found false true refused fault found = (refl, found)
+opening_found false false refused fault found = absurd (cc found)
+
+event_stands : (script : List ℕ) (turns : List Turn) (run : List Entry) (text : List ℕ) (more : List (List ℕ)) (header : Told) (recorded : Option (Recording Drawer)) (fault : ScriptFault) →
+    pieces script ≡ reverse (lines_of turns) ++ more → Plays turns run text header recorded → (head_of (lines_of turns)).begun ≡ false →
+    fault_of_opening (head_of (lines_of turns)).told ≡ Some fault → Stands script text fault
+event_stands script turns run text more header (Some a) fault cut p begun found = absurd (cc (p.0, begun))
+event_stands script turns run text more header None fault cut p begun found =
+    let told = (head_of (lines_of turns)).told in
+    let stands = opening_stands told.opened (setting_in told) fault found in
+    let line : fault.line ≡ line_of header.opened = stands.0 ∙ ap (λ (t : Told). line_of t.opened) (sym p.told) in
+    (told_earlier fault.line script turns run text more header (omega (arith, line, p.within, length-map turns (λ (turn : Turn). turn.line))) cut p, stands.1)
+
+-- the fault of a line's words
+read_stands : (script : List ℕ) (turns : List Turn) (run : List Entry) (text : List ℕ) (more : List (List ℕ)) (s : Played) (read : Result (Option Command) LineFault) (fault : ScriptFault) →
+    pieces script ≡ reverse (lines_of turns) ++ more → Holds turns run text s → fault_of_read (length (lines_of turns) + 1) (head_of (lines_of turns)) read ≡ Some fault → Stands script text fault
+read_stands script turns run text more s (Err wrong) fault cut h found =
+    subst (Stands script text) (same_Some (at_line (length (lines_of turns) + 1) (Words wrong)) fault found) (told_so_far (length (lines_of turns) + 1) script turns run text more s refl cut h, named_words wrong)
+read_stands script turns run text more s (Ok None) fault cut h found = absurd (cc found)
+read_stands script turns run text more s (Ok (Some command)) fault cut h found =
+    let head = head_of (lines_of turns) in
+    let refused = opening_found head.begun (is_event command) (fault_of_opening head.told) fault found in
+    event_stands script turns run text more s.header s.recorded fault cut h.plays refused.0 refused.1
+
+-- a line for which there was no memory
+wants_memory : (script : List ℕ) (before : List (List ℕ)) (piece : List ℕ) (more : List (List ℕ)) → pieces script ≡ reverse before ++ piece ∷ more → takes_memory (said (head_of before) piece) ≡ true →
+    WantsMemory script (length before + 1)
+wants_memory script before piece more cut takes =
+    let same : lines_before (length before + 1) script ≡ before = before_next (length before + 1) script before (piece ∷ more) (omega arith) cut in
+    record {
+      piece = piece;
+      more = more;
+      cut = cut ∙ ap (λ (lines : List (List ℕ)). reverse lines ++ piece ∷ more) (sym same);
+      takes = ap (λ (lines : List (List ℕ)). takes_memory (said (head_of lines) piece)) same ∙ takes;
+    }
+
+-- a line whose answer was not written
+answering : (script left : List ℕ) (before : List (List ℕ)) (piece : List ℕ) → pieces script ≡ reverse before ++ piece ∷ pieces left → is_answered (said (head_of before) piece) ≡ true →
+    IsAnswering script left (length before + 1)
+answering script left before piece cut event =
+    let same : lines_before (length before + 1) script ≡ before = before_next (length before + 1) script before (piece ∷ pieces left) (omega arith) cut in
+    record {
+      number = ap (λ (lines : List (List ℕ)). length lines + 1) (sym same);
+      piece = piece;
+      cut = cut ∙ ap (λ (lines : List (List ℕ)). reverse lines ++ piece ∷ pieces left) (sym same);
+      event = ap (λ (lines : List (List ℕ)). is_answered (said (head_of lines) piece)) same ∙ event;
+    }
+
+-- a line that was not taken to its end
+waits_for : (n : ℕ) (script rest left : List ℕ) (before : List (List ℕ)) (budget after : ℕ) → n ≡ length before + 1 → pieces script ≡ reverse before ++ pieces rest → IsCutShort rest left budget after →
+    WaitsFor script left n
+waits_for n script rest left before budget after count cut i =
+    let same : lines_before n script ≡ before = before_next n script before (pieces rest) (omega (arith, count)) cut in
+    record {
+      number = count ∙ ap (λ (lines : List (List ℕ)). length lines + 1) (sym same);
+      taken = i.taken;
+      cut = cut ∙ (ap (λ (text : List ℕ). reverse before ++ pieces text) i.whole ∙ ap (λ (lines : List (List ℕ)). reverse lines ++ pieces (i.taken ++ left)) (sym same));
+      unended = i.within;
+    }
+
+-- a run that ends at a line's words, for want of memory, or where the writer fails
+pub ends_in_line : (script rest left line : List ℕ) (old mid mid' new : Option (List ℕ)) (budget after : ℕ) (s : Played) (fault : ScriptFault) (c : Course script rest old mid budget s) (i : IsLine rest left line 2048 budget after) →
+    Keeps mid mid' → TurnFails c.turns i.piece fault mid' new → RunsTo script left old new fault fault.kind
+ends_in_line script rest left line old mid mid' new budget after s fault c i kept fails =
+    let before = lines_of c.turns in
+    elim fails [
+      | inl found ↦
+          let within = fault_within before i.piece (omega (arith, c.spent, i.spent)) (rw (i.bytes) i.fits) in
+          let stands = read_stands script c.turns c.run c.text (pieces rest) s (line_read (stage_of (head_of before)) (bare i.piece)) fault c.cut c.holds found.0 in
+          ends_with script left old new fault fault.kind stands.1
+          (first_fault_is script rest i.piece (pieces left) before fault c.fault i.first (within ∙ found.0), c.text, stands.0, appends_kept old mid' new c.text (appends_kept old mid mid' c.text c.written kept) found.1)
+      | inr (inl short) ↦
+          subst (λ (f : ScriptFault). RunsTo script left old new f f.kind) (sym short.0) (
+            wants_memory script before i.piece (pieces left) (c.cut ∙ ap (λ (lines : List (List ℕ)). reverse before ++ lines) i.first) short.1,
+            c.text,
+            told_so_far (length before + 1) script c.turns c.run c.text (pieces rest) s refl c.cut c.holds,
+            appends_kept old mid' new c.text (appends_kept old mid mid' c.text c.written kept) short.2,
+          )
+      | inr (inr failed) ↦
+          subst (λ (f : ScriptFault). RunsTo script left old new f f.kind) (sym failed.0) (
+            inr (answering script left before i.piece (c.cut ∙ ap (λ (lines : List (List ℕ)). reverse before ++ lines) i.first) failed.1),
+            c.text,
+            failed.2,
+            told_so_far (length before + 1) script c.turns c.run c.text (pieces rest) s refl c.cut c.holds,
+            appends_both old mid new c.text failed.2 c.written (kept_appends mid mid' new failed.2 kept failed.3),
+          )
+    ]
+
+-- a run that ends at a line that is too long
+pub ends_long : (script rest left : List ℕ) (old mid new : Option (List ℕ)) (budget after : ℕ) (s : Played) (c : Course script rest old mid budget s) → IsLong rest left 2048 budget after → Keeps mid new →
+    RunsTo script left old new (at_line (s.lines + 1) Long) Long
+ends_long script rest left old mid new budget after s c i kept =
+    let before = lines_of c.turns in
+    subst (λ n. RunsTo script left old new (at_line (n + 1) Long) Long) (sym c.holds.count) (
+      first_fault_is script rest i.piece (pieces left) before (at_line (length before + 1) Long) c.fault i.first (fault_long before i.piece (omega (arith, c.spent, i.spent)) i.long),
+      c.text,
+      told_so_far (length before + 1) script c.turns c.run c.text (pieces rest) s refl c.cut c.holds,
+      appends_kept old mid new c.text c.written kept,
+    )
+
+-- at one that goes past the size of a script
+pub ends_oversize : (script rest left : List ℕ) (old mid new : Option (List ℕ)) (budget : ℕ) (s : Played) (c : Course script rest old mid budget s) → IsOversize rest budget → Keeps mid new →
+    RunsTo script left old new (at_line (s.lines + 1) Size) Size
+ends_oversize script rest left old mid new budget s c i kept =
+    let before = lines_of c.turns in
+    subst (λ n. RunsTo script left old new (at_line (n + 1) Size) Size) (sym c.holds.count) (
+      first_fault_is script rest i.piece i.more before (at_line (length before + 1) Size) c.fault i.first (fault_size before i.piece (omega (arith, c.spent, i.over))),
+      c.text,
+      told_so_far (length before + 1) script c.turns c.run c.text (pieces rest) s refl c.cut c.holds,
+      appends_kept old mid new c.text c.written kept,
+    )
+
+-- where the reader fails
+pub ends_unread : (script rest left : List ℕ) (old mid new : Option (List ℕ)) (budget after : ℕ) (s : Played) (c : Course script rest old mid budget s) → IsCutShort rest left budget after → Keeps mid new → RunsTo script left old new (at_line (s.lines + 1) Read) Read
+ends_unread script rest left old mid new budget after s c i kept =
+    let count : s.lines + 1 ≡ length (lines_of c.turns) + 1 = ap (λ n. n + 1) c.holds.count in
+    (waits_for (s.lines + 1) script rest left (lines_of c.turns) budget after count c.cut i, c.text, told_so_far (s.lines + 1) script c.turns c.run c.text (pieces rest) s count c.cut c.holds, appends_kept old mid new c.text c.written kept)
+
+-- where the writer fails between answers
+pub ends_unsent : (script rest left : List ℕ) (old mid new : Option (List ℕ)) (budget after : ℕ) (s : Played) (c : Course script rest old mid budget s) → IsCutShort rest left budget after → Keeps mid new → RunsTo script left old new (at_line (s.lines + 1) Write) Write
+ends_unsent script rest left old mid new budget after s c i kept =
+    let count : s.lines + 1 ≡ length (lines_of c.turns) + 1 = ap (λ n. n + 1) c.holds.count in
+    (inl (waits_for (s.lines + 1) script rest left (lines_of c.turns) budget after count c.cut i), c.text, [], told_so_far (s.lines + 1) script c.turns c.run c.text (pieces rest) s count c.cut c.holds, rw append-nil (appends_kept old mid new c.text c.written kept))
+
+-- ---- the end of a script
+
+end_is : (turns : List Turn) (run : List Entry) (text : List ℕ) (header : Told) (recorded : Option (Recording Drawer)) → Plays turns run text header recorded →
+    fault_at_end (head_of (lines_of turns)) ≡ ending_with header recorded
+end_is turns run text header (Some a) p = rw p.0 refl
+end_is turns run text header None p =
+    let before : fault_at_end (head_of (lines_of turns)) ≡ fault_of_header (head_of (lines_of turns)).told = rw p.begun refl in
+    before ∙ (sym (fault_of_kept (head_of (lines_of turns)).told) ∙ ap fault_of_header (sym p.told))
+
+fault_of_whole : (script rest : List ℕ) (old mid : Option (List ℕ)) (budget : ℕ) (s : Played) (c : Course script rest old mid budget s) → rest ≡ [] → fault_of script ≡ ending s
+fault_of_whole script rest old mid budget s c over =
+    c.fault ∙ (ap (λ (text : List ℕ). fault_from (lines_of c.turns) (pieces text)) over ∙ end_is c.turns c.run c.text s.header s.recorded c.holds.plays)
+
+-- such a fault is the opening's, or that there is none
+header_stands : (opened : Option Opened) (o : Setting) (fault : ScriptFault) → fault_with opened (fault_of_setting opened o) ≡ Some fault → (fault.line ≡ line_of opened) × IsNamed fault.kind
+header_stands None o fault found = subst (λ (f : ScriptFault). (f.line ≡ 0) × IsNamed f.kind) (same_Some (at_line 0 (Words Word)) fault found) (refl, named_words Word)
+header_stands (Some opened) o fault found = opening_stands (Some opened) o fault found
+
+end_stands : (script : List ℕ) (turns : List Turn) (run : List Entry) (text : List ℕ) (more : List (List ℕ)) (header : Told) (recorded : Option (Recording Drawer)) (fault : ScriptFault) →
+    pieces script ≡ reverse (lines_of turns) ++ more → Plays turns run text header recorded → ending_with header recorded ≡ Some fault → Stands script text fault
+end_stands script turns run text more header (Some a) fault cut p found = absurd (cc found)
+end_stands script turns run text more header None fault cut p found =
+    let stands = header_stands header.opened (setting_in header) fault found in
+    (told_earlier fault.line script turns run text more header (omega (arith, stands.0, p.within, length-map turns (λ (turn : Turn). turn.line))) cut p, stands.1)
+
+-- a script that has come to its end
+whole_lines : (script rest : List ℕ) (lines : List (List ℕ)) → pieces script ≡ reverse lines ++ pieces rest → rest ≡ [] → reverse (pieces script) ≡ lines
+whole_lines script rest lines cut over =
+    ap reverse (cut ∙ ap (λ (text : List ℕ). reverse lines ++ pieces text) over ∙ append-nil (reverse lines)) ∙ reverse-reverse lines
+
+-- it leaves the session where its lines lead
+pub ends_there : (script rest : List ℕ) (old mid new : Option (List ℕ)) (budget : ℕ) (s : Played) (c : Course script rest old mid budget s) → rest ≡ [] → Keeps mid new → IsEndOf script old new s
+ends_there script rest old mid new budget s c over kept = record {
+  turns = c.turns;
+  are = sym (whole_lines script rest (lines_of c.turns) c.cut over);
+  run = c.run;
+  text = c.text;
+  holds = c.holds;
+  written = appends_kept old mid new c.text c.written kept;
+}
+
+-- it has no fault
+pub ends_well : (script rest : List ℕ) (old mid new : Option (List ℕ)) (budget : ℕ) (s : Played) (c : Course script rest old mid budget s) → rest ≡ [] → Keeps mid new → ending s ≡ None →
+    (fault_of script ≡ None) × (text : List ℕ) × IsTold (reverse (pieces script)) text × Appends old new text
+ends_well script rest old mid new budget s c over kept none =
+    let lines = whole_lines script rest (lines_of c.turns) c.cut over in
+    (fault_of_whole script rest old mid budget s c over ∙ none, c.text, subst (λ (l : List (List ℕ)). IsTold l c.text) (sym lines) (told_by c.turns c.run c.text s.header s.recorded c.holds.plays), appends_kept old mid new c.text c.written kept)
+
+-- one that has a fault at its end
+pub ends_badly : (script rest left : List ℕ) (old mid new : Option (List ℕ)) (budget : ℕ) (s : Played) (fault : ScriptFault) (c : Course script rest old mid budget s) → rest ≡ [] → Keeps mid new → ending s ≡ Some fault →
+    RunsTo script left old new fault fault.kind
+ends_badly script rest left old mid new budget s fault c over kept found =
+    let stands = end_stands script c.turns c.run c.text (pieces rest) s.header s.recorded fault c.cut c.holds.plays found in
+    ends_with script left old new fault fault.kind stands.1 (fault_of_whole script rest old mid budget s c over ∙ found, c.text, stands.0, appends_kept old mid new c.text c.written kept)
+
+-- ---- the start
+
+nothing_silent : IsSilent []
+nothing_silent zero = (refl, λ o. refl)
+nothing_silent (suc k) = (refl, λ o. refl)
+
+pub at_start : (script : List ℕ) (written : Option (List ℕ)) → Course script script written written 16777216 (record { lines = 0; header = nothing_told; recorded = None })
+at_start script written = record {
+  turns = [];
+  run = [];
+  text = [];
+  holds = record { count = refl; plays = record { begun = refl; told = refl; none = refl; nothing = refl; silent = nothing_silent; within = omega arith } };
+  cut = refl;
+  fault = refl;
+  spent = refl;
+  written = appends_none written written (keeps_self written);
+}

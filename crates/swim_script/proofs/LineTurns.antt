@@ -1,0 +1,174 @@
+-- What a line does to a session, whatever it says.
+use Rattle.std.proofs.Common.{◌≡◌, ℕ, ◌+◌, ◌≤◌, cond, Bool, true, false, List, [], ◌∷◌, length, Option, Some, None, Result, Ok, Err, refl, sym, ap, subst, ◌∙◌, inl, inr, arith, append-nil}
+use Rattle.std.specs.Io.KnownBytes.{Keeps}
+use Rattle.swim_wire.specs.Lines.{bare}
+use Rattle.swim_wire.specs.Streams.{appends_none}
+use Rattle.swim_wire.specs.Address.{Address}
+use Rattle.swim_wire.specs.declared.codec.WireFault.{WireFault}
+use Rattle.swim_history.specs.declared.calls.Call.{Call}
+use Rattle.swim_history.specs.declared.calls.Call.TheVariants as calls
+use Rattle.swim_history.specs.declared.entries.Entry.{Entry}
+use Rattle.swim_detector.specs.Recording.{Recording}
+use Rattle.swim_script.specs.declared.arguments.Opened.{Opened}
+use Rattle.swim_script.specs.declared.choosers.Drawer.{Drawer}
+use Rattle.swim_script.specs.declared.commands.Command.{Command}
+use Rattle.swim_script.specs.declared.commands.Command.TheVariants.{Open, Row, Order, Place, Seed, Tick, Hear, Join, Remove, Table, Gap}
+use Rattle.swim_script.specs.declared.commands.Draws.{Draws}
+use Rattle.swim_script.specs.declared.commands.LineFault.TheVariants as faults
+use Rattle.swim_script.specs.declared.commands.Stage.TheVariants.{Blank, Events}
+use Rattle.swim_script.specs.declared.commands.Word.{Word}
+use Rattle.swim_script.specs.declared.commands.Word.TheVariants as words
+use Rattle.swim_script.specs.declared.faults.FaultKind.TheVariants.{Memory, Write}
+use Rattle.swim_script.specs.declared.faults.ScriptFault.{ScriptFault}
+use Rattle.swim_script.specs.Commands.{fault_of_word, line_read, word_for}
+use Rattle.swim_script.specs.Headers.{Told, told_then, is_event, draws_with, stage_with, stage_told, Head, stage_of, head_then, head_of}
+use Rattle.swim_script.specs.Texts.{wire_text}
+use Rattle.swim_script.specs.Script.{Turn, lines_of, asked_by, takes_memory, at_line, fault_of_opening, fault_of_command, fault_with, fault_of_header, fault_of_read}
+use Rattle.swim_script.specs.Script.Asked.{Nothing, Calls}
+use Rattle.swim_script.specs.Holds.{Played, stage_in, kept, line_of, Plays, Holds, IsStopped, IsNoted, PlaysLine, ShowsLine, table_of, gap_of, Done, TurnDone, TurnFails, Turned}
+use Rattle.swim_script.proofs.KeptRows.{fault_of_kept, kept_more}
+use Rattle.swim_script.proofs.Turns.{taken, stage_is, noted}
+use Rattle.swim_script.proofs.Answered.{after_event, played, shown}
+
+-- before the first event line no recorder is open
+no_event_yet : (header : Told) (recorded : Option (Recording Drawer)) (word : Word) → fault_of_word Events word ≡ Some faults.Word → fault_of_word (stage_in header recorded) word ≡ None → recorded ≡ None
+no_event_yet header None word late stands = refl
+no_event_yet header (Some a) word late stands = absurd (cc (late, stands))
+
+-- an opening stands before an event line, so its fault is its own
+opened_at_event : (opened : Option Opened) (draws : Draws) (word : Word) (fault : Option ScriptFault) → fault_of_word Blank word ≡ Some faults.Word → fault_of_word (stage_with opened draws) word ≡ None → fault ≡ fault_with opened fault
+opened_at_event None draws word fault early stands = absurd (cc (early, stands))
+opened_at_event (Some opened) draws word fault early stands = refl
+
+-- the opening is refused at the first event line
+refused_at_event : (turns : List Turn) (run : List Entry) (text : List ℕ) (header : Told) (recorded : Option (Recording Drawer)) (command : Command) (fault : ScriptFault) →
+    is_event command ≡ true → fault_of_word Blank (word_for command) ≡ Some faults.Word → fault_of_word (stage_of (head_of (lines_of turns))) (word_for command) ≡ None →
+    Plays turns run text header recorded → recorded ≡ None → fault_of_header header ≡ Some fault → fault_of_command (head_of (lines_of turns)) command ≡ Some fault
+refused_at_event turns run text header (Some a) command fault event early stands p none found = absurd cc
+refused_at_event turns run text header None command fault event early stands p none found =
+    let told = (head_of (lines_of turns)).told in
+    let before : stage_of (head_of (lines_of turns)) ≡ stage_told told = rw p.begun refl in
+    let opening : fault_of_command (head_of (lines_of turns)) command ≡ fault_of_opening told = rw (p.begun, event) refl in
+    opening ∙ opened_at_event told.opened (draws_with told.orders told.places told.seed) (word_for command) (fault_of_opening told) early (rw (← before) stands)
+    ∙ sym (fault_of_kept told) ∙ ap fault_of_header (sym p.told) ∙ found
+
+-- the session stopped at an event line
+stopped : (turns : List Turn) (run : List Entry) (text piece : List ℕ) (s : Played) (command : Command) (fault : ScriptFault) (before after : Option (List ℕ)) →
+    line_read (stage_of (head_of (lines_of turns))) (bare piece) ≡ Ok (Some command) → is_event command ≡ true → fault_of_word Blank (word_for command) ≡ Some faults.Word →
+    fault_of_word (stage_in s.header s.recorded) (word_for command) ≡ None → Holds turns run text s → IsStopped s fault before after → TurnFails turns piece fault before after
+stopped turns run text piece s command fault before after read event early stands h done =
+    elim done [
+      | inl refused ↦
+          let stage = stage_is turns run text s h in
+          inl (rw read (refused_at_event turns run text s.header s.recorded command fault event early (rw stage stands) h.plays refused.0 refused.1), refused.2)
+      | inr failed ↦ inr (inr (failed.0 ∙ ap (λ n. record { line = n + 1; kind = Write }) h.count, rw read event, failed.1, failed.2))
+    ]
+
+-- a line with no answer
+pub silent_turn : (turns : List Turn) (run : List Entry) (text piece : List ℕ) (new : Played) (before after : Option (List ℕ)) →
+    fault_of_read (length (lines_of turns) + 1) (head_of (lines_of turns)) (line_read (stage_of (head_of (lines_of turns))) (bare piece)) ≡ None →
+    Keeps before after → Holds (taken piece ∷ turns) run text new → TurnDone turns text piece new before after
+silent_turn turns run text piece new before after none keeps holds = record {
+  none = none;
+  refused = false;
+  run = run;
+  more = [];
+  holds = rw append-nil holds;
+  written = appends_none before after keeps;
+}
+
+-- ---- header lines
+
+no_fault_in_header : (head : Head) (command : Command) → is_event command ≡ false → fault_of_command head command ≡ None
+no_fault_in_header head command event = rw event (by head.begun)
+  where
+    by : (begun : Bool) → cond {A = Option ScriptFault} begun None None ≡ None
+    by true = refl
+    by false = refl
+
+-- a header line that was kept
+noted_turn : (turns : List Turn) (run : List Entry) (text piece : List ℕ) (s new : Played) (header : Told) (command : Command) (before after : Option (List ℕ)) →
+    line_read (stage_of (head_of (lines_of turns))) (bare piece) ≡ Ok (Some command) → is_event command ≡ false → asked_by (Some command) ≡ Nothing →
+    fault_of_word Events (word_for command) ≡ Some faults.Word → fault_of_word (stage_in s.header s.recorded) (word_for command) ≡ None →
+    ((t : Told) → s.header ≡ kept t → header ≡ kept (told_then (length (lines_of turns) + 1) command t)) →
+    (line_of s.header.opened ≤ length (lines_of turns) → line_of header.opened ≤ length (lines_of turns) + 1) → Holds turns run text s → IsNoted s new header before after → TurnDone turns text piece new before after
+noted_turn turns run text piece s new header command before after read event asks late stands keeps within h d =
+    silent_turn turns run text piece new before after (rw read (no_fault_in_header (head_of (lines_of turns)) command event)) d.1
+    (subst (Holds (taken piece ∷ turns) run text) (sym d.0) (noted turns run text piece s header command read event asks (no_event_yet s.header s.recorded (word_for command) late stands) keeps within h))
+
+-- one for which there was no memory
+memory_turn : (turns : List Turn) (run : List Entry) (text piece : List ℕ) (s : Played) (command : Command) (fault : ScriptFault) (before after : Option (List ℕ)) →
+    line_read (stage_of (head_of (lines_of turns))) (bare piece) ≡ Ok (Some command) → takes_memory (Some command) ≡ true → Holds turns run text s →
+    (fault ≡ at_line (s.lines + 1) Memory) × Keeps before after → TurnFails turns piece fault before after
+memory_turn turns run text piece s command fault before after read takes h d =
+    inr (inl (d.0 ∙ ap (λ n. at_line (n + 1) Memory) h.count, rw read takes, d.1))
+
+-- ---- event lines
+
+calls_turn : (turns : List Turn) (run : List Entry) (text piece : List ℕ) (s new : Played) (command : Command) (call : Call) (before after : Option (List ℕ)) (result : Result (Unit {0}) ScriptFault) →
+    line_read (stage_of (head_of (lines_of turns))) (bare piece) ≡ Ok (Some command) → asked_by (Some command) ≡ Calls call → is_event command ≡ true →
+    head_then (length (lines_of turns) + 1) (Some command) (head_of (lines_of turns)) ≡ after_event (head_of (lines_of turns)) →
+    fault_of_word Blank (word_for command) ≡ Some faults.Word → fault_of_word (stage_in s.header s.recorded) (word_for command) ≡ None → Holds turns run text s →
+    PlaysLine s new call before after result → Turned turns text piece new before after result
+calls_turn turns run text piece s new command call before after (Ok done) read asks event heads early stands h d = played turns run text piece s new command call before after read asks heads h d
+calls_turn turns run text piece s new command call before after (Err fault) read asks event heads early stands h d = stopped turns run text piece s command fault before after read event early stands h d
+
+unread_turn : (turns : List Turn) (run : List Entry) (text piece : List ℕ) (s new : Played) (source : Address) (wire : WireFault) (before after : Option (List ℕ)) (result : Result (Unit {0}) ScriptFault) →
+    line_read (stage_of (head_of (lines_of turns))) (bare piece) ≡ Ok (Some (Hear source (Err wire))) → fault_of_word (stage_in s.header s.recorded) words.Hear ≡ None → Holds turns run text s →
+    ShowsLine s new (λ a. wire_text wire) before after result → Turned turns text piece new before after result
+unread_turn turns run text piece s new source wire before after (Ok done) read stands h d =
+    shown turns run text piece s new (Hear source (Err wire)) (λ a. wire_text wire) before after read refl
+    (λ turn asked. rw asked refl) (λ turn o a asked opening past. rw asked refl) h d
+unread_turn turns run text piece s new source wire before after (Err fault) read stands h d =
+    stopped turns run text piece s (Hear source (Err wire)) fault before after read refl refl stands h d
+
+table_turn : (turns : List Turn) (run : List Entry) (text piece : List ℕ) (s new : Played) (before after : Option (List ℕ)) (result : Result (Unit {0}) ScriptFault) →
+    line_read (stage_of (head_of (lines_of turns))) (bare piece) ≡ Ok (Some Table) → fault_of_word (stage_in s.header s.recorded) words.Table ≡ None → Holds turns run text s →
+    ShowsLine s new table_of before after result → Turned turns text piece new before after result
+table_turn turns run text piece s new before after (Ok done) read stands h d =
+    shown turns run text piece s new Table table_of before after read refl
+    (λ turn asked. rw asked refl) (λ turn o a asked opening past. rw (asked, opening, past) refl) h d
+table_turn turns run text piece s new before after (Err fault) read stands h d =
+    stopped turns run text piece s Table fault before after read refl refl stands h d
+
+gap_turn : (turns : List Turn) (run : List Entry) (text piece : List ℕ) (s new : Played) (id : ℕ) (before after : Option (List ℕ)) (result : Result (Unit {0}) ScriptFault) →
+    line_read (stage_of (head_of (lines_of turns))) (bare piece) ≡ Ok (Some (Gap id)) → fault_of_word (stage_in s.header s.recorded) words.Gap ≡ None → Holds turns run text s →
+    ShowsLine s new (gap_of id) before after result → Turned turns text piece new before after result
+gap_turn turns run text piece s new id before after (Ok done) read stands h d =
+    shown turns run text piece s new (Gap id) (gap_of id) before after read refl
+    (λ turn asked. rw asked refl) (λ turn o a asked opening past. rw (asked, opening, past) refl) h d
+gap_turn turns run text piece s new id before after (Err fault) read stands h d =
+    stopped turns run text piece s (Gap id) fault before after read refl refl stands h d
+
+-- what a line did that says something
+pub turned_by : (turns : List Turn) (run : List Entry) (text piece : List ℕ) (s new : Played) (command : Command) (before after : Option (List ℕ)) (result : Result (Unit {0}) ScriptFault) →
+    line_read (stage_of (head_of (lines_of turns))) (bare piece) ≡ Ok (Some command) → fault_of_word (stage_in s.header s.recorded) (word_for command) ≡ None → Holds turns run text s →
+    Done s new command before after result → Turned turns text piece new before after result
+turned_by turns run text piece s new (Open arguments) before after (Ok done) read stands h d =
+    noted_turn turns run text piece s new (told_then (s.lines + 1) (Open arguments) s.header) (Open arguments) before after read refl refl refl stands
+    (λ t is. ap (λ n. told_then (n + 1) (Open arguments) s.header) h.count ∙ ap (told_then (length (lines_of turns) + 1) (Open arguments)) is) (λ within. omega (arith, h.count)) h d
+turned_by turns run text piece s new (Open arguments) before after (Err fault) read stands h d = absurd d
+turned_by turns run text piece s new (Row id peer) before after (Ok done) read stands h d =
+    noted_turn turns run text piece s new (kept (told_then (s.lines + 1) (Row id peer) s.header)) (Row id peer) before after read refl refl refl stands
+    (λ t is. ap (λ (header : Told). kept (told_then (s.lines + 1) (Row id peer) header)) is ∙ kept_more t id peer) (λ within. omega (arith, within)) h d
+turned_by turns run text piece s new (Row id peer) before after (Err fault) read stands h d = absurd d
+turned_by turns run text piece s new (Order order) before after (Ok done) read stands h d =
+    noted_turn turns run text piece s new (told_then (s.lines + 1) (Order order) s.header) (Order order) before after read refl refl refl stands
+    (λ t is. ap (told_then (s.lines + 1) (Order order)) is) (λ within. omega (arith, within)) h d
+turned_by turns run text piece s new (Order order) before after (Err fault) read stands h d = memory_turn turns run text piece s (Order order) fault before after read refl h d
+turned_by turns run text piece s new (Place place) before after (Ok done) read stands h d =
+    noted_turn turns run text piece s new (told_then (s.lines + 1) (Place place) s.header) (Place place) before after read refl refl refl stands
+    (λ t is. ap (told_then (s.lines + 1) (Place place)) is) (λ within. omega (arith, within)) h d
+turned_by turns run text piece s new (Place place) before after (Err fault) read stands h d = memory_turn turns run text piece s (Place place) fault before after read refl h d
+turned_by turns run text piece s new (Seed key) before after (Ok done) read stands h d =
+    noted_turn turns run text piece s new (told_then (s.lines + 1) (Seed key) s.header) (Seed key) before after read refl refl refl stands
+    (λ t is. ap (told_then (s.lines + 1) (Seed key)) is) (λ within. omega (arith, within)) h d
+turned_by turns run text piece s new (Seed key) before after (Err fault) read stands h d = absurd d
+turned_by turns run text piece s new Tick before after result read stands h d = calls_turn turns run text piece s new Tick calls.Tick before after result read refl refl refl refl stands h d
+turned_by turns run text piece s new (Hear source (Ok message)) before after result read stands h d =
+    calls_turn turns run text piece s new (Hear source (Ok message)) (calls.Hear message source) before after result read refl refl refl refl stands h d
+turned_by turns run text piece s new (Hear source (Err wire)) before after result read stands h d = unread_turn turns run text piece s new source wire before after result read stands h d
+turned_by turns run text piece s new (Join id peer) before after result read stands h d = calls_turn turns run text piece s new (Join id peer) (calls.Join id peer) before after result read refl refl refl refl stands h d
+turned_by turns run text piece s new (Remove id) before after result read stands h d = calls_turn turns run text piece s new (Remove id) (calls.Remove id) before after result read refl refl refl refl stands h d
+turned_by turns run text piece s new Table before after result read stands h d = table_turn turns run text piece s new before after result read stands h d
+turned_by turns run text piece s new (Gap id) before after result read stands h d = gap_turn turns run text piece s new id before after result read stands h d

@@ -1,0 +1,82 @@
+-- What a line says may stand where it stands.
+use Rattle.std.proofs.Common.{◌≡◌, ℕ, Bool, true, false, cond, List, [], ◌∷◌, Option, Some, None, Result, Ok, Err, refl, subst}
+use Rattle.swim_wire.specs.Words.{words_of}
+use Rattle.swim_script.specs.declared.commands.LineFault.{LineFault}
+use Rattle.swim_script.specs.declared.commands.Stage.{Stage}
+use Rattle.swim_script.specs.declared.commands.Word.{Word}
+use Rattle.swim_script.specs.declared.commands.Word.TheVariants as words
+use Rattle.swim_script.specs.declared.commands.Command.{Command}
+use Rattle.swim_script.specs.declared.commands.Command.TheVariants.{Open, Row, Order, Place, Seed, Tick, Hear, Join, Remove, Table, Gap}
+use Rattle.swim_wire.specs.Arguments.{◌>>=◌}
+use Rattle.swim_script.specs.Arguments.{take_id, take_number, take_peer, take_order, take_seed, take_datagram, open_arguments}
+use Rattle.swim_script.specs.Commands.{alone, command_after, word_of, fault_of_word, word_read, known_read, words_read, said_by, is_skipped, line_read, word_for, LineStandsAt}
+
+-- the value of a step that did not fail
+bind_ok : {A B : Type 0} (r : Result A LineFault) (f : A → Result B LineFault) (y : B) → (r >>= f) ≡ Ok y → (x : A) × (r ≡ Ok x) × (f x ≡ Ok y)
+bind_ok (Ok x) f y e = (x, refl, e)
+bind_ok (Err fault) f y e = absurd cc
+
+-- no words were left over
+alone_ok : (command other : Command) (after : List (List ℕ)) → alone command after ≡ Ok other → command ≡ other
+alone_ok command other [] e = cc
+alone_ok command other (word ∷ after) e = absurd cc
+
+-- so the first word is that of the command
+word_alone : (command other : Command) (after : List (List ℕ)) → alone command after ≡ Ok other → word_for other ≡ word_for command
+word_alone command other after e = subst (λ (c : Command). word_for c ≡ word_for command) (alone_ok command other after e) refl
+
+-- the command that the words after a first word say begins with that word
+word_after : (word : Word) (after : List (List ℕ)) (command : Command) → command_after word after ≡ Ok command → word_for command ≡ word
+unfolding command_after
+word_after words.Open after command e =
+    let arguments = bind_ok (open_arguments after) (λ a. alone (Open a.0) a.1) command e in
+    word_alone (Open arguments.0.0) command arguments.0.1 arguments.2
+word_after words.Row after command e =
+    let id = bind_ok (take_id after) (λ i. take_peer i.1 >>= λ p. alone (Row i.0 p.0) p.1) command e in
+    let peer = bind_ok (take_peer id.0.1) (λ p. alone (Row id.0.0 p.0) p.1) command id.2 in
+    word_alone (Row id.0.0 peer.0.0) command peer.0.1 peer.2
+word_after words.Order after command e =
+    let order = bind_ok (take_order after) (λ o. alone (Order o.0) o.1) command e in
+    word_alone (Order order.0.0) command order.0.1 order.2
+word_after words.Place after command e =
+    let place = bind_ok (take_number 4294967295 after) (λ p. alone (Place p.0) p.1) command e in
+    word_alone (Place place.0.0) command place.0.1 place.2
+word_after words.Seed after command e =
+    let seed = bind_ok (take_seed after) (λ s. alone (Seed s.0) s.1) command e in
+    word_alone (Seed seed.0.0) command seed.0.1 seed.2
+word_after words.Tick after command e = word_alone Tick command after e
+word_after words.Hear after command e =
+    let peer = bind_ok (take_peer after) (λ p. take_datagram p.1 >>= λ d. alone (Hear p.0 d.0) d.1) command e in
+    let datagram = bind_ok (take_datagram peer.0.1) (λ d. alone (Hear peer.0.0 d.0) d.1) command peer.2 in
+    word_alone (Hear peer.0.0 datagram.0.0) command datagram.0.1 datagram.2
+word_after words.Join after command e =
+    let id = bind_ok (take_id after) (λ i. take_peer i.1 >>= λ p. alone (Join i.0 p.0) p.1) command e in
+    let peer = bind_ok (take_peer id.0.1) (λ p. alone (Join id.0.0 p.0) p.1) command id.2 in
+    word_alone (Join id.0.0 peer.0.0) command peer.0.1 peer.2
+word_after words.Remove after command e =
+    let id = bind_ok (take_id after) (λ i. alone (Remove i.0) i.1) command e in
+    word_alone (Remove id.0.0) command id.0.1 id.2
+word_after words.Table after command e = word_alone Table command after e
+word_after words.Gap after command e =
+    let id = bind_ok (take_id after) (λ i. alone (Gap i.0) i.1) command e in
+    word_alone (Gap id.0.0) command id.0.1 id.2
+
+word_stands : (stage : Stage) (word : Word) (after : List (List ℕ)) (fault : Option LineFault) (read : Result Command LineFault) → fault_of_word stage word ≡ fault → word_read fault word after ≡ read → LineStandsAt stage (said_by read)
+word_stands stage word after fault (Err wrong) stands is = tt
+word_stands stage word after (Some fault) (Ok command) stands is = absurd cc
+word_stands stage word after None (Ok command) stands is = rw (word_after word after command is) stands
+
+words_stand : (stage : Stage) (given : List (List ℕ)) → LineStandsAt stage (said_by (words_read stage given))
+words_stand stage [] = tt
+words_stand stage (word ∷ after) = by (word_of word)
+  where
+    by : (found : Option Word) → LineStandsAt stage (said_by (known_read stage found after))
+    by None = tt
+    by (Some word) = word_stands stage word after (fault_of_word stage word) (word_read (fault_of_word stage word) word after) refl refl
+
+pub line_stands : (stage : Stage) (line : List ℕ) → LineStandsAt stage (line_read stage line)
+line_stands stage line = by (is_skipped line)
+  where
+    by : (skipped : Bool) → LineStandsAt stage (cond skipped (Ok None) (said_by (words_read stage (words_of line))))
+    by true = tt
+    by false = words_stand stage (words_of line)

@@ -1,0 +1,12 @@
+use Rattle.std.proofs.Common.{refl, ◌++◌}
+use Rattle.swim_history.specs.Sends.{sends_of}
+use Rattle.swim_history.specs.Texts.{feed}
+use Rattle.swim_script.specs.Texts.{reply_text, answer_text, sends_text}
+use Rattle.swim_wire.specs.TwoPuts.{first_failed, both_put}
+use Rattle.swim_script.proofs.answers.put_answer.Goals as goal
+
+pub returns-then-not-put_reply-clause-bytes : goal.returns-then-not-put_reply-clause-bytes
+returns-then-not-put_reply-clause-bytes g c = first_failed (g.W.Sink.written c.args.writer.now) (g.W.Sink.written c.put_reply.new.writer) (reply_text c.args.reply.now) (feed ++ sends_text (sends_of c.args.reply.now c.args.opening.now)) (answer_text c.args.opening.now c.args.reply.now) (refl) c.if-not-put_reply.ensures.bytes
+
+pub returns-clause-bytes : goal.returns-clause-bytes
+returns-clause-bytes g c = both_put (g.W.Sink.written c.args.writer.now) (g.W.Sink.written c.put_reply.new.writer) (g.W.Sink.written c.put_end_and_sends.new.writer) (reply_text c.args.reply.now) (feed ++ sends_text (sends_of c.args.reply.now c.args.opening.now)) (answer_text c.args.opening.now c.args.reply.now) c.put_end_and_sends.result (refl) c.if-not-put_reply.ensures.bytes c.put_end_and_sends.ensures.bytes

@@ -1,0 +1,146 @@
+-- What a line of a script says.
+use Rattle.std.specs.Prelude.{◌≡◌, ℕ, Bool, true, ◌==◌, List, [], ◌∷◌, Option, Some, None, Result, Ok, Err, codes}
+use Rattle.std.specs.Prelude.{if◌then◌else◌}
+use Rattle.std.specs.Str.{bytes_eq}
+use Rattle.swim_wire.specs.Arguments.{◌>>=◌, nothing_left}
+use Rattle.swim_wire.specs.Words.{words_of}
+use Rattle.swim_script.specs.declared.commands.LineFault.{LineFault}
+use Rattle.swim_script.specs.declared.commands.LineFault.TheVariants as faults
+use Rattle.swim_script.specs.declared.commands.Draws.TheVariants.{Scripted, Seeded}
+use Rattle.swim_script.specs.declared.commands.Stage.{Stage}
+use Rattle.swim_script.specs.declared.commands.Stage.TheVariants.{Blank, Header, Events}
+use Rattle.swim_script.specs.declared.commands.Word.{Word}
+use Rattle.swim_script.specs.declared.commands.Word.TheVariants as words
+use Rattle.swim_script.specs.declared.commands.Command.{Command}
+use Rattle.swim_script.specs.declared.commands.Command.TheVariants.{Open, Row, Order, Place, Seed, Tick, Hear, Join}
+use Rattle.swim_script.specs.declared.commands.Command.TheVariants.{Remove, Table, Gap}
+use Rattle.swim_script.specs.Arguments.{take_id, take_number, take_peer, take_order, take_seed, take_datagram}
+use Rattle.swim_script.specs.Arguments.{open_arguments}
+
+-- the word that tells a fault of a line's words
+abbrev pub fault_name : LineFault → List ℕ
+fault_name faults.Word = codes "word"
+fault_name faults.Seed = codes "seed"
+fault_name faults.Number = codes "number"
+fault_name faults.Peer = codes "peer"
+fault_name faults.Hex = codes "hex"
+fault_name faults.Order = codes "order"
+fault_name faults.Extra = codes "extra"
+
+-- the first word of a line, if it is known
+abbrev pub word_of : List ℕ → Option Word
+word_of text =
+    if bytes_eq text (codes "tick") then Some words.Tick
+    else (if bytes_eq text (codes "hear") then Some words.Hear
+    else (if bytes_eq text (codes "join") then Some words.Join
+    else (if bytes_eq text (codes "remove") then Some words.Remove
+    else (if bytes_eq text (codes "table") then Some words.Table
+    else (if bytes_eq text (codes "gap") then Some words.Gap
+    else (if bytes_eq text (codes "row") then Some words.Row
+    else (if bytes_eq text (codes "order") then Some words.Order
+    else (if bytes_eq text (codes "place") then Some words.Place
+    else (if bytes_eq text (codes "seed") then Some words.Seed
+    else (if bytes_eq text (codes "open") then Some words.Open else None))))))))))
+
+-- why a word can't stand at that stage, if it can't: the opening stands first and once, header lines stand
+-- before event lines, and a seed stands once, with no order and no place
+abbrev pub fault_of_word : Stage → Word → Option LineFault
+fault_of_word Blank words.Open = None
+fault_of_word Blank word = Some faults.Word
+fault_of_word stage words.Open = Some faults.Word
+fault_of_word Events words.Row = Some faults.Word
+fault_of_word Events words.Order = Some faults.Word
+fault_of_word Events words.Place = Some faults.Word
+fault_of_word Events words.Seed = Some faults.Word
+fault_of_word (Header Scripted) words.Seed = Some faults.Seed
+fault_of_word (Header Seeded) words.Seed = Some faults.Seed
+fault_of_word (Header Seeded) words.Order = Some faults.Seed
+fault_of_word (Header Seeded) words.Place = Some faults.Seed
+fault_of_word stage word = None
+
+-- the command, where no words are left over
+abbrev pub alone : Command → List (List ℕ) → Result Command LineFault
+alone command after = nothing_left faults.Extra after >>= λ done. Ok command
+
+-- what the words after the first say
+unfoldable pub command_after : Word → List (List ℕ) → Result Command LineFault
+command_after words.Open given = do
+  arguments ← open_arguments given
+  alone (Open arguments.0) arguments.1
+command_after words.Row given = do
+  id ← take_id given
+  peer ← take_peer id.1
+  alone (Row id.0 peer.0) peer.1
+command_after words.Order given = do
+  order ← take_order given
+  alone (Order order.0) order.1
+command_after words.Place given = do
+  place ← take_number 4294967295 given
+  alone (Place place.0) place.1
+command_after words.Seed given = do
+  seed ← take_seed given
+  alone (Seed seed.0) seed.1
+command_after words.Tick given = alone Tick given
+command_after words.Hear given = do
+  peer ← take_peer given
+  datagram ← take_datagram peer.1
+  alone (Hear peer.0 datagram.0) datagram.1
+command_after words.Join given = do
+  id ← take_id given
+  peer ← take_peer id.1
+  alone (Join id.0 peer.0) peer.1
+command_after words.Remove given = do
+  id ← take_id given
+  alone (Remove id.0) id.1
+command_after words.Table given = alone Table given
+command_after words.Gap given = do
+  id ← take_id given
+  alone (Gap id.0) id.1
+
+-- what the words after a known first word say, where it may stand
+abbrev pub word_read : Option LineFault → Word → List (List ℕ) → Result Command LineFault
+word_read None word after = command_after word after
+word_read (Some fault) word after = Err fault
+
+-- what the words after the first say, if that is known
+abbrev pub known_read : Stage → Option Word → List (List ℕ) → Result Command LineFault
+known_read stage None after = Err faults.Word
+known_read stage (Some word) after = word_read (fault_of_word stage word) word after
+
+-- what the words of a line say
+abbrev pub words_read : Stage → List (List ℕ) → Result Command LineFault
+words_read stage [] = Err faults.Word
+words_read stage (word ∷ after) = known_read stage (word_of word) after
+
+-- an empty line or a comment
+abbrev pub is_skipped : List ℕ → Bool
+is_skipped [] = true
+is_skipped (first ∷ others) = first == 35
+
+-- what a line says at that stage; nothing where it is skipped
+abbrev pub said_by : Result Command LineFault → Result (Option Command) LineFault
+said_by (Ok command) = Ok (Some command)
+said_by (Err fault) = Err fault
+
+abbrev pub line_read : Stage → List ℕ → Result (Option Command) LineFault
+line_read stage line = if is_skipped line then Ok None else said_by (words_read stage (words_of line))
+
+-- the first word of a line that says this
+abbrev pub word_for : Command → Word
+word_for (Open arguments) = words.Open
+word_for (Row id peer) = words.Row
+word_for (Order order) = words.Order
+word_for (Place place) = words.Place
+word_for (Seed key) = words.Seed
+word_for Tick = words.Tick
+word_for (Hear peer datagram) = words.Hear
+word_for (Join id peer) = words.Join
+word_for (Remove id) = words.Remove
+word_for Table = words.Table
+word_for (Gap id) = words.Gap
+
+-- what a line says may stand at that stage
+abbrev pub LineStandsAt : Stage → Result (Option Command) LineFault → Type 0
+LineStandsAt stage (Ok (Some command)) = fault_of_word stage (word_for command) ≡ None
+LineStandsAt stage (Ok None) = Unit {0}
+LineStandsAt stage (Err fault) = Unit {0}

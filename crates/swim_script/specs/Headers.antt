@@ -1,0 +1,116 @@
+-- What the lines of a script tell before the first event line. Lines are lists of bytes with their line feeds; a
+-- list of
+-- lines is newest first, so that each line stands before the earlier ones.
+use Rattle.std.specs.Prelude.{ℕ, ◌+◌, Bool, true, false, ◌||◌, List, [], ◌∷◌, ◌++◌, length, Option, Some, None, Result}
+use Rattle.std.specs.Prelude.{Ok, Err, if◌then◌else◌}
+use Rattle.swim_wire.specs.Address.{Address}
+use Rattle.swim_wire.specs.Lines.{bare}
+use Rattle.swim_history.specs.Setting.{Setting}
+use Rattle.swim_history.specs.Check.{setting_of}
+use Rattle.swim_targets.specs.Draws.{of_seed}
+use Rattle.swim_script.specs.declared.arguments.Opened.{Opened}
+use Rattle.swim_script.specs.declared.choosers.Drawer.{Drawer}
+use Rattle.swim_script.specs.declared.choosers.Drawer.TheVariants as drawers
+use Rattle.swim_script.specs.declared.commands.LineFault.{LineFault}
+use Rattle.swim_script.specs.declared.commands.Draws.{Draws}
+use Rattle.swim_script.specs.declared.commands.Draws.TheVariants.{Unsaid, Scripted, Seeded}
+use Rattle.swim_script.specs.declared.commands.Stage.{Stage}
+use Rattle.swim_script.specs.declared.commands.Stage.TheVariants.{Blank, Header, Events}
+use Rattle.swim_script.specs.declared.commands.Command.{Command}
+use Rattle.swim_script.specs.declared.commands.Command.TheVariants.{Open, Row, Order, Place, Seed}
+use Rattle.swim_script.specs.Commands.{line_read}
+
+-- what header lines tell: the opening, its rows in order, and who chooses
+pub record Told : Type 0 where
+  pub opened : Option Opened
+  pub rows : List (ℕ × Address)
+  pub orders : List (List ℕ)
+  pub places : List ℕ
+  pub seed : Option (List ℕ)
+
+abbrev pub nothing_told : Told
+nothing_told = record { opened = None; rows = []; orders = []; places = []; seed = None }
+
+-- after a line that says this; n is its number
+abbrev pub told_then : ℕ → Command → Told → Told
+told_then n (Open arguments) told = record told { opened = Some (record { line = n; arguments = arguments }) }
+told_then n (Row id peer) told = record told { rows = told.rows ++ (id, peer) ∷ [] }
+told_then n (Order order) told = record told { orders = told.orders ++ order.items ∷ [] }
+told_then n (Place place) told = record told { places = told.places ++ place ∷ [] }
+told_then n (Seed key) told = record told { seed = Some key }
+told_then n command told = told
+
+-- an event line
+abbrev pub is_event : Command → Bool
+is_event (Open arguments) = false
+is_event (Row id peer) = false
+is_event (Order order) = false
+is_event (Place place) = false
+is_event (Seed key) = false
+is_event command = true
+
+-- what lines told, and whether an event line is among them
+pub record Head : Type 0 where
+  pub told : Told
+  pub begun : Bool
+
+-- what was told of who chooses
+abbrev pub draws_with : List (List ℕ) → List ℕ → Option (List ℕ) → Draws
+draws_with orders places (Some key) = Seeded
+draws_with [] [] None = Unsaid
+draws_with orders places None = Scripted
+
+-- how far a script has come: an opening stands first, and header lines before event lines
+abbrev pub stage_with : Option Opened → Draws → Stage
+stage_with None draws = Blank
+stage_with (Some opened) draws = Header draws
+
+abbrev pub stage_told : Told → Stage
+stage_told told = stage_with told.opened (draws_with told.orders told.places told.seed)
+
+abbrev pub stage_of : Head → Stage
+stage_of head = if head.begun then Events else stage_told head.told
+
+-- what a line says that has no fault; nothing where it is skipped
+abbrev pub command_in : Result (Option Command) LineFault → Option Command
+command_in (Ok said) = said
+command_in (Err fault) = None
+
+abbrev pub said : Head → List ℕ → Option Command
+said head line = command_in (line_read (stage_of head) (bare line))
+
+abbrev pub head_then : ℕ → Option Command → Head → Head
+head_then n None head = head
+head_then n (Some command) head =
+    record { told = told_then n command head.told; begun = is_event command || head.begun }
+
+-- after all these lines
+abbrev pub head_of : List (List ℕ) → Head
+head_of [] = record { told = nothing_told; begun = false }
+head_of (line ∷ before) = head_then (length before + 1) (said (head_of before) line) (head_of before)
+
+-- ---- what follows from it
+
+-- the opening
+abbrev pub setting_with : Option Opened → List (ℕ × Address) → Setting
+setting_with None rows = setting_of 0 0 0 0 rows 0
+setting_with (Some opened) rows = let a = opened.arguments in setting_of a.me a.k a.rtt a.period rows a.last
+
+abbrev pub setting_in : Told → Setting
+setting_in told = setting_with told.opened told.rows
+
+-- how many entries the journal may have
+abbrev pub limit_with : Option Opened → ℕ
+limit_with None = 0
+limit_with (Some opened) = opened.arguments.limit
+
+abbrev pub limit_in : Told → ℕ
+limit_in told = limit_with told.opened
+
+-- who chooses: the generator of the seed, or else the orders and places that were written down
+abbrev pub chooser_with : List (List ℕ) → List ℕ → Option (List ℕ) → Drawer
+chooser_with orders places (Some key) = drawers.Seeded (of_seed key)
+chooser_with orders places None = drawers.Scripted (record { orders = orders; places = places })
+
+abbrev pub chooser_in : Told → Drawer
+chooser_in told = chooser_with told.orders told.places told.seed

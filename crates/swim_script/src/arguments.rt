@@ -1,0 +1,169 @@
+//! The arguments of a line.
+
+ghost use Rattle.std.specs.Prelude.{◌≡◌};
+ghost use Rattle.swim_wire.specs.Arguments.{TakesFrom};
+ghost use Rattle.swim_script.specs.Arguments.{open_arguments, take_number, take_order, take_seed, take_datagram};
+ghost use Rattle.swim_script.specs.Arguments.{order_of, seed_of};
+
+use crate::commands::LineFault;
+use crate::datagrams::read_datagram;
+use std::marker::Model;
+use swim_targets::Order;
+use swim_wire::{Id, Message, WireFault, Words, read_number, take_id};
+
+/// The arguments of an `open` line. Each number is one that the format allows; that they make an opening is looked for
+/// later.
+#[derive(Clone, Copy, Debug, PartialEq, Eq)]
+pub struct OpenArguments {
+    /// The id of the detector's own member.
+    pub me: Id,
+    /// How many relays are asked.
+    pub k: u32,
+    /// The timeout, in ticks.
+    pub rtt: u32,
+    /// The period, in ticks.
+    pub period: u32,
+    /// The last period number that was used before.
+    pub last: u64,
+    /// How many entries the journal may have.
+    pub limit: u32,
+}
+
+/// An `open` line: its number, counted from 1, and its arguments.
+#[derive(Clone, Copy, Debug, PartialEq, Eq)]
+pub struct Opened {
+    pub line: u32,
+    pub arguments: OpenArguments,
+}
+
+/// The text of an order. An order is large, and would be moved with each command; so it is read again where it
+/// is carried out. A contract sees the order.
+#[derive(Debug, Drop)]
+pub struct OrderText<'a> {
+    text: &'a [u8],
+}
+
+impl<'a> Model for OrderText<'a> {
+    ghost use Rattle.std.specs.Prelude.{ℕ};
+    ghost use Rattle.arrayvec.specs.ArrayVec.{ArrayVec};
+    ghost use Rattle.swim_script.specs.Arguments.{order_of, order_read};
+
+    ghost Value = { ArrayVec ℕ };
+
+    ghost view = { λ order. order_read (order_of order.text.now) };
+}
+
+impl<'a> OrderText<'a> {
+    /// The order.
+    pub fn read(&self) -> Order
+        ensures { result ≡ self.now }
+    {
+        match read_order(self.text) {
+            Ok(order) => order,
+            Err(_) => Order::new(),
+        }
+    }
+}
+
+/// Takes the next six words, which are to be the arguments of an `open` line; else the fault is `LineFault::Number`.
+#[tactic(auto, unfolding(crate::specs::Arguments::open_arguments))]
+#[inline(never)]
+pub fn take_open(words: &mut Words<'_>) -> Result<OpenArguments, LineFault>
+    ensures { TakesFrom result words.new (open_arguments words.old) }
+{
+    let me = take_id(words, LineFault::Number)?;
+    let k = take_number(words)?;
+    let rtt = take_number(words)?;
+    let period = take_number(words)?;
+    let last = take_long_number(words)?;
+    let limit = take_number(words)?;
+    Ok(OpenArguments {
+        me,
+        k,
+        rtt,
+        period,
+        last,
+        limit,
+    })
+}
+
+/// Takes the next word, which is to be a decimal number from 0 to 4294967295; else the fault is `LineFault::Number`.
+pub fn take_number(words: &mut Words<'_>) -> Result<u32, LineFault>
+    ensures { TakesFrom result words.new (take_number 4294967295 words.old) }
+{
+    let word = words.next().ok_or(LineFault::Number)?;
+    let number = read_number(word, u64::from(u32::MAX)).ok_or(LineFault::Number)?;
+    Ok(number as u32)
+}
+
+/// Takes the next word, which is to be a decimal number from 0 to 18446744073709551615; else the fault is
+/// `LineFault::Number`.
+pub fn take_long_number(words: &mut Words<'_>) -> Result<u64, LineFault>
+    ensures { TakesFrom result words.new (take_number 18446744073709551615 words.old) }
+{
+    let word = words.next().ok_or(LineFault::Number)?;
+    read_number(word, u64::MAX).ok_or(LineFault::Number)
+}
+
+/// Takes the next word, which is to be an even number of hexadecimal digits of either case; else the fault is
+/// `LineFault::Hex`. What they spell is a message, or the fault of bytes that are none.
+pub fn take_datagram(words: &mut Words<'_>) -> Result<Result<Message, WireFault>, LineFault>
+    ensures { TakesFrom result words.new (take_datagram words.old) }
+{
+    let word = words.next().ok_or(LineFault::Hex)?;
+    read_datagram(word).ok_or(LineFault::Hex)
+}
+
+/// Takes the next word, which is to be 64 hexadecimal digits of either case, a seed; else the fault is
+/// `LineFault::Hex`.
+pub fn take_seed(words: &mut Words<'_>) -> Result<[u8; 32], LineFault>
+    ensures { TakesFrom result words.new (take_seed words.old) }
+{
+    let word = words.next().ok_or(LineFault::Hex)?;
+    read_seed(word).ok_or(LineFault::Hex)
+}
+
+/// The seed that 64 digits spell, of either case.
+fn read_seed(text: &[u8]) -> Option<[u8; 32]>
+    ensures { result ≡ seed_of text.now }
+{
+    let mut seed = [0; 32];
+    match hex::decode_to_slice(text, &mut seed) {
+        Ok(()) => Some(seed),
+        Err(_) => None,
+    }
+}
+
+/// Takes the next word, which is to be ids with commas between; else the fault is `LineFault::Number`, and
+/// `LineFault::Order` where they are more than 128.
+#[inline(never)]
+pub fn take_order<'a>(words: &mut Words<'a>) -> Result<OrderText<'a>, LineFault>
+    ensures { TakesFrom result words.new (take_order words.old) }
+{
+    let text = words.next().ok_or(LineFault::Number)?;
+    let _ = read_order(text)?;
+    Ok(OrderText { text })
+}
+
+/// The ids of an order, with commas between. Where one is no id that is told, and else where they are too
+/// many.
+fn read_order(text: &[u8]) -> Result<Order, LineFault>
+    ensures { result ≡ order_of text.now }
+{
+    let mut parts = Words::split(text, b',');
+    let mut order = Order::new();
+    let mut fits = true;
+    while let Some(part) = parts.next() {
+        let id = Id::read(part).ok_or(LineFault::Number)?;
+        if order.is_full() {
+            fits = false;
+        } else {
+            order.push(id);
+        }
+    }
+    if fits {
+        Ok(order)
+    } else {
+        Err(LineFault::Order)
+    }
+}

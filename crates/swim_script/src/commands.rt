@@ -1,0 +1,274 @@
+//! What a line of a script says.
+
+ghost use Rattle.std.specs.Prelude.{◌≡◌};
+ghost use Rattle.swim_script.specs.Commands.{fault_name, LineStandsAt, word_of, fault_of_word, command_after};
+ghost use Rattle.swim_script.specs.Commands.{line_read, is_skipped, words_read, said_by};
+
+use crate::arguments::{
+    OpenArguments, OrderText, take_datagram, take_number, take_open, take_order, take_seed,
+};
+use swim_wire::{Id, Message, Peer, WireFault, Words, nothing_left, take_id, take_peer};
+
+/// The longest line of a script, in bytes without its line feed.
+pub const LINE_BYTES: usize = 2048;
+
+/// What is wrong with the words of a line.
+#[derive(Clone, Copy, Debug, PartialEq, Eq)]
+pub enum LineFault {
+    /// An unknown first word, or one that can't stand here.
+    Word,
+    /// A second seed, or a seed beside orders or places.
+    Seed,
+    /// A missing, misspelt or out-of-range number or id.
+    Number,
+    /// A missing or refused address.
+    Peer,
+    /// Missing or refused digits of a datagram or a seed.
+    Hex,
+    /// More than 128 ids in an order.
+    Order,
+    /// Words left over.
+    Extra,
+}
+
+impl LineFault {
+    /// The word that tells the fault.
+    pub fn name(self) -> &'static str
+        ensures { result.now ≡ fault_name self }
+    {
+        match self {
+            LineFault::Word => "word",
+            LineFault::Seed => "seed",
+            LineFault::Number => "number",
+            LineFault::Peer => "peer",
+            LineFault::Hex => "hex",
+            LineFault::Order => "order",
+            LineFault::Extra => "extra",
+        }
+    }
+}
+
+/// What a header has told of who chooses.
+#[derive(Clone, Copy, Debug, PartialEq, Eq)]
+pub enum Draws {
+    /// Nothing.
+    Unsaid,
+    /// Orders or places.
+    Scripted,
+    /// A seed.
+    Seeded,
+}
+
+/// How far a script has come.
+#[derive(Clone, Copy, Debug, PartialEq, Eq)]
+pub enum Stage {
+    /// No line but skipped ones.
+    Blank,
+    /// The opening is being told.
+    Header(Draws),
+    /// An event line was met.
+    Events,
+}
+
+/// The first word of a line, which says what the line is. The first five stand in header lines, and the others in event
+/// lines.
+#[derive(Clone, Copy, Debug, PartialEq, Eq)]
+pub enum Word {
+    Open,
+    Row,
+    Order,
+    Place,
+    Seed,
+    Tick,
+    Hear,
+    Join,
+    Remove,
+    Table,
+    Gap,
+}
+
+/// What a line says.
+#[derive(Debug, Drop)]
+pub enum Command<'a> {
+    /// The opening is this one.
+    Open(OpenArguments),
+    /// The opening has this member, at this address.
+    Row(Id, Peer),
+    /// The next order to be followed.
+    Order(OrderText<'a>),
+    /// The next place to be followed.
+    Place(u32),
+    /// Orders and places are drawn from this seed.
+    Seed([u8; 32]),
+    /// One tick.
+    Tick,
+    /// A datagram came from that address: a message, or bytes that are none.
+    Hear(Peer, Result<Message, WireFault>),
+    /// The member joins, at this address.
+    Join(Id, Peer),
+    /// The member is removed.
+    Remove(Id),
+    /// The member table is to be shown.
+    Table,
+    /// The widest gap between probes of this member is to be shown.
+    Gap(Id),
+}
+
+/// What a line says at that stage of its script: nothing where it is skipped, else a command, or the first
+/// fault of its words.
+pub fn read_line<'a>(stage: Stage, line: &'a [u8]) -> Result<Option<Command<'a>>, LineFault>
+    ensures exact { result ≡ line_read stage line.now }
+    ensures stands { LineStandsAt stage result }
+{
+    read_any(stage, line)
+}
+
+fn read_any<'a>(stage: Stage, line: &'a [u8]) -> Result<Option<Command<'a>>, LineFault>
+    ensures { result ≡ line_read stage line.now }
+{
+    if is_skipped(line) {
+        return Ok(None);
+    }
+    let mut words = Words::new(line);
+    read_words(stage, &mut words)
+}
+
+/// Whether a line is empty or a comment.
+fn is_skipped(line: &[u8]) -> bool
+    ensures { result ≡ is_skipped line.now }
+{
+    match line {
+        [] => true,
+        [first, ..] => *first == b'#',
+    }
+}
+
+/// What the words of a line say.
+fn read_words<'a>(stage: Stage, words: &mut Words<'a>) -> Result<Option<Command<'a>>, LineFault>
+    ensures { result ≡ said_by (words_read stage words.old) }
+{
+    let first = words.next().ok_or(LineFault::Word)?;
+    let word = first_word(first).ok_or(LineFault::Word)?;
+    match fault_of_word(stage, word) {
+        Some(fault) => Err(fault),
+        None => read_command(word, words),
+    }
+}
+
+/// The first word of a line, if it is known.
+// It is put in place for each line, also beside the lines that are only noted.
+#[inline(always)]
+pub fn first_word(text: &[u8]) -> Option<Word>
+    ensures { result ≡ word_of text.now }
+{
+    if text == b"tick".as_slice() {
+        Some(Word::Tick)
+    } else if text == b"hear".as_slice() {
+        Some(Word::Hear)
+    } else if text == b"join".as_slice() {
+        Some(Word::Join)
+    } else if text == b"remove".as_slice() {
+        Some(Word::Remove)
+    } else if text == b"table".as_slice() {
+        Some(Word::Table)
+    } else if text == b"gap".as_slice() {
+        Some(Word::Gap)
+    } else if text == b"row".as_slice() {
+        Some(Word::Row)
+    } else if text == b"order".as_slice() {
+        Some(Word::Order)
+    } else if text == b"place".as_slice() {
+        Some(Word::Place)
+    } else if text == b"seed".as_slice() {
+        Some(Word::Seed)
+    } else if text == b"open".as_slice() {
+        Some(Word::Open)
+    } else {
+        None
+    }
+}
+
+/// Why a word can't stand at that stage, if it can't.
+fn fault_of_word(stage: Stage, word: Word) -> Option<LineFault>
+    ensures { result ≡ fault_of_word stage word }
+{
+    match (stage, word) {
+        (Stage::Blank, Word::Open) => None,
+        (Stage::Blank, _) | (_, Word::Open) => Some(LineFault::Word),
+        (Stage::Events, Word::Row | Word::Order | Word::Place | Word::Seed) => {
+            Some(LineFault::Word)
+        }
+        (Stage::Header(Draws::Scripted), Word::Seed) => Some(LineFault::Seed),
+        (Stage::Header(Draws::Seeded), Word::Seed | Word::Order | Word::Place) => {
+            Some(LineFault::Seed)
+        }
+        _ => None,
+    }
+}
+
+/// What the words after the first say.
+// It is put in place for each line, also beside the lines that are read for their words alone.
+#[tactic(auto, unfolding(crate::specs::Commands::command_after))]
+#[inline(always)]
+pub fn read_command<'a>(word: Word, words: &mut Words<'a>) -> Result<Option<Command<'a>>, LineFault>
+    ensures { result ≡ said_by (command_after word words.old) }
+{
+    match word {
+        Word::Open => {
+            let arguments = take_open(words)?;
+            nothing_left(words, LineFault::Extra)?;
+            Ok(Some(Command::Open(arguments)))
+        }
+        Word::Row => {
+            let id = take_id(words, LineFault::Number)?;
+            let peer = take_peer(words, LineFault::Peer)?;
+            nothing_left(words, LineFault::Extra)?;
+            Ok(Some(Command::Row(id, peer)))
+        }
+        Word::Order => {
+            let order = take_order(words)?;
+            nothing_left(words, LineFault::Extra)?;
+            Ok(Some(Command::Order(order)))
+        }
+        Word::Place => {
+            let place = take_number(words)?;
+            nothing_left(words, LineFault::Extra)?;
+            Ok(Some(Command::Place(place)))
+        }
+        Word::Seed => {
+            let seed = take_seed(words)?;
+            nothing_left(words, LineFault::Extra)?;
+            Ok(Some(Command::Seed(seed)))
+        }
+        Word::Tick => {
+            nothing_left(words, LineFault::Extra)?;
+            Ok(Some(Command::Tick))
+        }
+        Word::Hear => {
+            let peer = take_peer(words, LineFault::Peer)?;
+            let datagram = take_datagram(words)?;
+            nothing_left(words, LineFault::Extra)?;
+            Ok(Some(Command::Hear(peer, datagram)))
+        }
+        Word::Join => {
+            let id = take_id(words, LineFault::Number)?;
+            let peer = take_peer(words, LineFault::Peer)?;
+            nothing_left(words, LineFault::Extra)?;
+            Ok(Some(Command::Join(id, peer)))
+        }
+        Word::Remove => {
+            let id = take_id(words, LineFault::Number)?;
+            nothing_left(words, LineFault::Extra)?;
+            Ok(Some(Command::Remove(id)))
+        }
+        Word::Table => {
+            nothing_left(words, LineFault::Extra)?;
+            Ok(Some(Command::Table))
+        }
+        Word::Gap => {
+            let id = take_id(words, LineFault::Number)?;
+            nothing_left(words, LineFault::Extra)?;
+            Ok(Some(Command::Gap(id)))
+        }
+    }
+}

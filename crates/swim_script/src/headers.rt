@@ -1,0 +1,183 @@
+//! What the header of a script tells.
+
+ghost use Rattle.std.specs.Prelude.{◌≡◌, ◌∷◌, ◌++◌, [], List, ℕ, Some, None, Ok, MatchResult, if◌then◌else◌};
+ghost use Rattle.std.specs.Result.{is_ok};
+ghost use Rattle.swim_script.specs.declared.commands.Command.TheVariants as commands;
+ghost use Rattle.swim_script.specs.Headers.{nothing_told, told_then, draws_with, stage_told, setting_with, setting_in};
+ghost use Rattle.swim_script.specs.Headers.{limit_in, chooser_in};
+ghost use Rattle.swim_script.specs.Script.{fault_of_setting, fault_of_header};
+ghost use Rattle.swim_script.specs.Holds.{first_rows, kept};
+
+use crate::arguments::{OpenArguments, Opened};
+use crate::choosers::Drawer;
+use crate::commands::{Draws, LineFault, Stage};
+use crate::faults::{FaultKind, ScriptFault};
+use arrayvec::ArrayVec;
+use std::alloc::{AllocError, Global};
+use std::marker::Model;
+use swim_history::{KNOWN_MEMBERS, Opening};
+use swim_targets::{Order, Scripted, Seeded};
+use swim_wire::{Id, Peer};
+
+/// How many rows are kept: one more than an opening may have, so that its check can tell.
+const KEPT_ROWS: usize = KNOWN_MEMBERS + 1;
+
+/// What header lines told so far. Of the rows the first are kept.
+#[derive(Drop)]
+pub struct Header {
+    opened: Option<Opened>,
+    rows: ArrayVec<(Id, Peer), 129>,
+    orders: Vec<Order>,
+    places: Vec<u32>,
+    seed: Option<[u8; 32]>,
+}
+
+impl Model for Header {
+    ghost use Rattle.std.specs.Prelude.{map};
+    ghost use Rattle.swim_script.specs.Headers.{Told};
+
+    ghost Value = { Told };
+
+    ghost view = { λ h.
+        record {
+          opened = h.opened;
+          rows = h.rows.items;
+          orders = map (λ order. order.items) h.orders.items;
+          places =
+              h.places.items;
+          seed = h.seed;
+        } };
+}
+
+impl Header {
+    /// A header of which no line was read.
+    pub fn new(alloc: Global) -> Header
+        ensures { result ≡ nothing_told }
+    {
+        Header {
+            opened: None,
+            rows: ArrayVec::new(),
+            orders: Vec::new(alloc),
+            places: Vec::new(alloc),
+            seed: None,
+        }
+    }
+
+    /// An `open` line, which is the line of that number.
+    pub fn open(&mut self, line: u32, arguments: OpenArguments)
+        ensures { self.new ≡ told_then line (commands.Open arguments) self.old }
+    {
+        self.opened = Some(Opened { line, arguments });
+    }
+
+    /// A `row` line.
+    pub fn add_row(&mut self, id: Id, peer: Peer)
+        ensures { self.new ≡ kept (record self.old { rows = self.old.rows ++ (id, peer) ∷ [] }) }
+    {
+        keep_row(&mut self.rows, id, peer);
+    }
+
+    /// An `order` line. Without memory nothing changes.
+    pub fn add_order(&mut self, order: Order) -> Result<(), AllocError>
+        ensures { self.new ≡ (if is_ok result then record self.old { orders = self.old.orders ++ order.items ∷ [] }
+            else self.old) }
+    {
+        Ok(self.orders.push(order)?)
+    }
+
+    /// A `place` line. Without memory nothing changes.
+    pub fn add_place(&mut self, place: u32) -> Result<(), AllocError>
+        ensures { self.new ≡ (if is_ok result then record self.old { places = self.old.places ++ place ∷ [] }
+            else self.old) }
+    {
+        Ok(self.places.push(place)?)
+    }
+
+    /// A `seed` line.
+    pub fn set_seed(&mut self, key: [u8; 32])
+        ensures { self.new ≡ record self.old { seed = Some key } }
+    {
+        self.seed = Some(key);
+    }
+
+    /// How far a script has come that ends with this header.
+    pub fn stage(&self) -> Stage
+        ensures { result ≡ stage_told self.now }
+    {
+        match self.opened {
+            None => Stage::Blank,
+            Some(_) => Stage::Header(self.draws()),
+        }
+    }
+
+    /// What was told of who chooses.
+    fn draws(&self) -> Draws
+        ensures { result ≡ draws_with self.now.orders self.now.places self.now.seed }
+    {
+        match (&self.seed, self.orders.as_slice(), self.places.as_slice()) {
+            (Some(_), _, _) => Draws::Seeded,
+            (None, [], []) => Draws::Unsaid,
+            _ => Draws::Scripted,
+        }
+    }
+
+    /// The opening that was told, if there is one within the limits.
+    pub fn opening(&self) -> Result<Opening, ScriptFault>
+        ensures { MatchResult result
+            (λ opening. (fault_of_header self.now ≡ None) × (opening ≡ setting_in self.now))
+            (λ fault. fault_of_header self.now ≡ Some fault) }
+    {
+        match &self.opened {
+            None => Err(ScriptFault {
+                line: 0,
+                kind: FaultKind::Words(LineFault::Word),
+            }),
+            Some(opened) => checked(opened, self.rows.as_slice()),
+        }
+    }
+
+    /// How many entries the journal may have.
+    pub fn limit(&self) -> u32
+        ensures { result ≡ limit_in self.now }
+    {
+        match &self.opened {
+            None => 0,
+            Some(opened) => opened.arguments.limit,
+        }
+    }
+
+    /// Who chooses.
+    pub fn into_chooser(self) -> Drawer
+        ensures { result ≡ chooser_in self }
+    {
+        match self.seed {
+            Some(key) => Drawer::Seeded(Seeded::new(key)),
+            None => Drawer::Scripted(Scripted::new(self.orders, self.places)),
+        }
+    }
+}
+
+/// Puts a row last, unless as many are kept as tell that there are too many.
+fn keep_row(rows: &mut ArrayVec<(Id, Peer), 129>, id: Id, peer: Peer)
+    ensures { rows.new.items ≡ first_rows (rows.old.items ++ (id, peer) ∷ []) }
+{
+    if rows.len() < KEPT_ROWS {
+        rows.push((id, peer));
+    }
+}
+
+/// The opening of an `open` line and these rows, if it is within the limits.
+fn checked(opened: &Opened, rows: &[(Id, Peer)]) -> Result<Opening, ScriptFault>
+    ensures { let o = setting_with (Some opened.now) rows.now in MatchResult result
+        (λ opening. (fault_of_setting (Some opened.now) o ≡ None) × (opening ≡ o))
+        (λ fault. fault_of_setting (Some opened.now) o ≡ Some fault) }
+{
+    let a = opened.arguments;
+    match Opening::check(a.me, a.k, a.rtt, a.period, rows, a.last) {
+        Ok(opening) => Ok(opening),
+        Err(fault) => Err(ScriptFault {
+            line: opened.line,
+            kind: FaultKind::Opening(fault),
+        }),
+    }
+}

@@ -1,0 +1,43 @@
+//! The simulator: a script in, replies out.
+
+ghost use Rattle.std.specs.Prelude.{◌≡◌, if◌then◌else◌};
+ghost use Rattle.swim_wire.specs.Streams.{one_more};
+ghost use Rattle.swim_script.specs.Ends.{LeavesKnown, unplayed};
+ghost use Rattle.swim_script.specs.Script.{RunsKnown, is_read, is_write};
+
+use crate::commands::LINE_BYTES;
+use crate::faults::{FaultKind, SCRIPT_BYTES, ScriptFault};
+use crate::session::Session;
+use arrayvec::ArrayVec;
+use swim_wire::{Sink, Source, Taken, next_line};
+
+/// Plays the script that the reader gives, and writes its answers. Each answer is written as soon as its
+/// line was read, and handed on before the reader is waited for. The session, of which no line was read before, has
+/// the journal of the run afterwards.
+pub fn run<R: Source, W: Sink>(
+    session: &mut Session,
+    reader: &mut R,
+    writer: &mut W,
+) -> Result<(), ScriptFault>
+    requires { session.old ≡ unplayed }
+    ensures told { RunsKnown (R.left reader.old) (R.left reader.new)
+        (W.written writer.old) (W.written writer.new) result }
+    ensures reads { R.failures reader.new ≡
+        (if is_read result then one_more (R.failures reader.old) else R.failures reader.old) }
+    ensures writes { W.failures writer.new ≡
+        (if is_write result then one_more (W.failures writer.old) else W.failures writer.old) }
+    ensures leaves { LeavesKnown result (R.left reader.old) (W.written writer.old) (W.written writer.new) session.new }
+{
+    let mut line = ArrayVec::<u8, LINE_BYTES>::new();
+    let mut budget = SCRIPT_BYTES;
+    loop {
+        match next_line(reader, writer, &mut line, &mut budget) {
+            Taken::Line => session.turn(line.as_slice(), writer)?,
+            Taken::Over => return session.end(),
+            Taken::Long => return Err(session.fault(FaultKind::Long)),
+            Taken::Size => return Err(session.fault(FaultKind::Size)),
+            Taken::Failed => return Err(session.fault(FaultKind::Read)),
+            Taken::Unsent => return Err(session.fault(FaultKind::Write)),
+        }
+    }
+}
