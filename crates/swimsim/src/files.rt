@@ -3,11 +3,12 @@
 ghost use Rattle.std.specs.Prelude.{◌≡◌, IfOk, length};
 ghost use Rattle.std.specs.Io.{ReadsAtMost};
 
-use crate::decoding::Decoded;
+use crate::decoding::Decoder;
 use crate::hearing::Messages;
-use crate::naming::Named;
+use crate::naming::Namer;
 use crate::notes::NoteTaker;
 use crate::overhearing::Overheard;
+use crate::wording::Worded;
 use std::fs::File;
 use std::io::{self, ErrorKind, Read, Stdin, Stdout, Write};
 use swim_wire::{Byte, ReadSource, Sink, Source, WriteSink};
@@ -68,9 +69,9 @@ fn read_byte<R: Source>(script: &mut R, buf: &mut [u8]) -> io::Result<usize>
 #[derive(Drop)]
 pub enum Output<'a> {
     Plain(Stdout),
-    Decoded(Decoded<'a, WriteSink<Stdout>>),
-    Named(Named<'a, WriteSink<Stdout>>),
-    Both(Decoded<'a, Named<'a, WriteSink<Stdout>>>),
+    Decoded(Worded<Decoder<'a>, WriteSink<Stdout>>),
+    Named(Worded<Namer<'a>, WriteSink<Stdout>>),
+    Both(Worded<Decoder<'a>, Worded<Namer<'a>, WriteSink<Stdout>>>),
 }
 
 impl<'a> Write for Output<'a> {

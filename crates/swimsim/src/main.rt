@@ -23,15 +23,16 @@ mod reasons;
 mod showing;
 mod summaries;
 mod tallies;
+mod wording;
 
 use anyhow::Result;
-use decoding::Decoded;
+use decoding::Decoder;
 use drawing::draw_at;
 use draws::warnings_of;
 use explanations::Explanation;
 use files::{Input, Output, Script};
 use hearing::Messages;
-use naming::Named;
+use naming::Namer;
 use notes::{NoteTaker, Notes, Told};
 use options::{Options, read_options, refuse_bytes};
 use overhearing::Overheard;
@@ -46,6 +47,7 @@ use swim_history::Journal;
 use swim_script::{FaultKind, ScriptFault, Session};
 use swim_wire::{Message, ReadSource, Sink, WriteSink};
 use tallies::Tally;
+use wording::Worded;
 
 fn main(rt: HostRuntime) -> ExitCode {
     match begin(&rt) {
@@ -152,12 +154,13 @@ fn word<'a>(
     heard: &'a Cell<Option<Message>>,
     tally: &'a Cell<Tally>,
 ) -> Output<'a> {
-    let alloc = rt.alloc();
     let output = WriteSink::new(rt.stdout());
+    let decoder = Decoder::new(rt.alloc(), heard);
+    let namer = Namer::new(rt.alloc(), tally);
     match (options.decode, options.explain) {
-        (false, true) => Output::Named(Named::new(alloc, output, tally)),
-        (true, true) => Output::Both(Decoded::new(alloc, Named::new(alloc, output, tally), heard)),
-        (_, false) => Output::Decoded(Decoded::new(alloc, output, heard)),
+        (false, true) => Output::Named(Worded::new(namer, output)),
+        (true, true) => Output::Both(Worded::new(decoder, Worded::new(namer, output))),
+        (_, false) => Output::Decoded(Worded::new(decoder, output)),
     }
 }
 

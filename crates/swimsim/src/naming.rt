@@ -1,117 +1,48 @@
-//! A sink that names reasons.
-
-ghost use Rattle.std.specs.Prelude.{◌≡◌, None as none};
-ghost use Rattle.std.specs.Io.KnownBytes.{Keeps};
-ghost use Rattle.swim_wire.specs.Streams.{Puts, failures_if};
+//! The names of reasons, behind their numbers in answers.
 
 use crate::reasons::{Reason, reason_in};
 use crate::tallies::Tally;
-use arrayvec::ArrayVec;
+use crate::wording::Teller;
 use std::alloc::Global;
 use std::cell::Cell;
-use std::marker::Model;
 use swim_wire::Sink;
 
-/// More than an answer has bytes that tells a reason, or that a call was not carried out.
-const ANSWER_BYTES: usize = 16;
-
-/// A sink over another. It puts the lines that it takes, and behind each number of a reason its name. In want of
-/// memory names are left out. It counts the answers that no entry of a journal tells.
+/// Who has names for reasons: behind each number of a reason stands its name. In want of memory names are left out. It
+/// counts the answers that no entry of a journal tells.
 #[derive(Drop)]
-pub struct Named<'a, W: Sink> {
+pub struct Namer<'a> {
     alloc: Global,
-    writer: W,
-    line: ArrayVec<u8, ANSWER_BYTES>,
     tally: &'a Cell<Tally>,
-    failures: u64,
 }
 
-// A contract sees how many writes failed.
-impl<'a, W: Sink> Model for Named<'a, W> {
-    ghost use Rattle.std.specs.Prelude.{ℕ};
-
-    ghost Value = { ℕ };
-
-    ghost view = { λ s. s.failures };
-}
-
-impl<'a, W: Sink> Named<'a, W> {
-    /// The sink over that one, which counts in the cell. Nothing was written yet.
-    pub fn new(alloc: Global, writer: W, tally: &'a Cell<Tally>) -> Named<'a, W>
-        ensures { result ≡ 0 }
-    {
-        Named {
-            alloc,
-            writer,
-            line: ArrayVec::new(),
-            tally,
-            failures: 0,
-        }
+impl<'a> Namer<'a> {
+    /// The namer that counts in the cell.
+    pub fn new(alloc: Global, tally: &'a Cell<Tally>) -> Namer<'a> {
+        Namer { alloc, tally }
     }
 
-    fn put_byte(&mut self, byte: u8) -> bool
-        ensures { self.new ≡ self.old }
-    {
-        if byte == b'\n' {
-            return self.end_line();
-        }
-        if !self.line.is_full() {
-            self.line.push(byte);
-        }
-        self.writer.put(&[byte])
-    }
-
-    /// Ends a line, with the name of its reason before.
-    fn end_line(&mut self) -> bool
-        ensures { self.new ≡ self.old }
-    {
-        let reason = reason_in(self.line.as_slice());
-        let mut tally = self.tally.get();
-        tally.add(self.line.as_slice(), reason);
-        self.tally.set(tally);
-        self.line.clear();
-        self.name(reason) && self.writer.put(b"\n")
-    }
-
-    fn name(&mut self, reason: Option<Reason>) -> bool
-        ensures { self.new ≡ self.old }
-    {
+    fn name<W: Sink>(&self, reason: Option<Reason>, writer: &mut W) -> bool {
         let Some(reason) = reason else {
             return true;
         };
         match format!(in self.alloc; " {reason}") {
-            Ok(name) => self.writer.put(name.as_bytes()),
+            Ok(name) => writer.put(name.as_bytes()),
             Err(_) => true,
         }
     }
 }
 
-impl<'a, W: Sink> Sink for Named<'a, W> {
-    ghost written = { λ s. none };
-
-    ghost failures = { λ s. s };
-
-    fn put(&mut self, text: &[u8]) -> bool
-        ensures bytes { Puts none none text.now result }
-        ensures failures { self.new ≡ failures_if self.old result }
-    {
-        for byte in text {
-            if !self.put_byte(*byte) {
-                self.failures = self.failures.saturating_add(1);
-                return false;
-            }
-        }
+impl<'a> Teller for Namer<'a> {
+    fn put_above<W: Sink>(&mut self, _writer: &mut W) -> bool {
         true
     }
 
-    fn flush(&mut self) -> bool
-        ensures bytes { Keeps none none }
-        ensures failures { self.new ≡ failures_if self.old result }
-    {
-        if self.writer.flush() {
-            return true;
-        }
-        self.failures = self.failures.saturating_add(1);
-        false
+    /// Ends a line, with the name of its reason before.
+    fn end_line<W: Sink>(&mut self, line: &[u8], writer: &mut W) -> bool {
+        let reason = reason_in(line);
+        let mut tally = self.tally.get();
+        tally.add(line, reason);
+        self.tally.set(tally);
+        self.name(reason, writer) && writer.put(b"\n")
     }
 }

@@ -11,7 +11,7 @@ use swim_history::{DropReason, Refusal};
 use swim_wire::{WireFault, read_number};
 
 /// The greatest number of a reason.
-const MOST: u64 = 7;
+pub const MOST_NUMBER: u8 = 7;
 
 /// Why a message was dropped, or a call refused, or bytes are no datagram. It is shown in words.
 #[derive(Clone, Copy, Debug, PartialEq, Eq)]
@@ -58,7 +58,7 @@ fn number_after(line: &[u8], word: &[u8]) -> Option<u64>
     if first != word {
         return None;
     }
-    read_number(digits, MOST)
+    read_number(digits, u64::from(MOST_NUMBER))
 }
 
 /// The reason to drop a message that has a number.

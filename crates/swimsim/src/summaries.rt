@@ -4,14 +4,11 @@ ghost use Rattle.std.specs.Prelude.{◌≡◌, ◌-◌, IfOk, length};
 ghost use Rattle.swim_history.specs.Clock.{period_number};
 ghost use Rattle.swim_history.specs.Judgement.{judgements};
 
-use crate::reasons::{dropped, refused, wire};
+use crate::reasons::{MOST_NUMBER, dropped, refused, wire};
 use crate::tallies::{Counts, Tally};
 use std::alloc::AllocError;
 use std::fmt;
 use swim_history::{Journal, Judged, Reply};
-
-/// More than the greatest number of a reason.
-const NUMBERS: u8 = 8;
 
 /// What a journal holds: its entries, the periods that began, the judgements in order, and why messages were dropped
 /// and calls refused.
@@ -82,7 +79,7 @@ fn show_judged<W: fmt::Write>(judged: &Judged, f: &mut fmt::Formatter<W>) -> fmt
 }
 
 fn show_dropped<W: fmt::Write>(counts: &Counts, f: &mut fmt::Formatter<W>) -> fmt::Result {
-    for number in 1..NUMBERS {
+    for number in 1..=MOST_NUMBER {
         if let Some(why) = dropped(u64::from(number)) {
             show_count(counts.of(number), format_args!("dropped {number} {why}"), f)?;
         }
@@ -91,7 +88,7 @@ fn show_dropped<W: fmt::Write>(counts: &Counts, f: &mut fmt::Formatter<W>) -> fm
 }
 
 fn show_refused<W: fmt::Write>(counts: &Counts, f: &mut fmt::Formatter<W>) -> fmt::Result {
-    for number in 1..NUMBERS {
+    for number in 1..=MOST_NUMBER {
         if let Some(why) = refused(u64::from(number)) {
             show_count(counts.of(number), format_args!("refused {number} {why}"), f)?;
         }
@@ -102,7 +99,7 @@ fn show_refused<W: fmt::Write>(counts: &Counts, f: &mut fmt::Formatter<W>) -> fm
 /// The answers that no entry of a journal tells, a line for each kind.
 impl fmt::Display for Tally {
     fn fmt<W: fmt::Write>(&self, f: &mut fmt::Formatter<W>) -> fmt::Result {
-        for number in 1..NUMBERS {
+        for number in 1..=MOST_NUMBER {
             if let Some(fault) = wire(u64::from(number)) {
                 show_count(
                     self.wire.of(number),

@@ -1,6 +1,6 @@
 -- Nothing failed so far.
 use Rattle.std.proofs.Common.{◌≡◌}
-use Rattle.swimsim.proofs.decoding.DecodedSink.put.Given as goal
+use Rattle.swimsim.proofs.wording.WordedSink.put.Given as goal
 
 abbrev pub invariant-loop-byte : goal.invariant-loop-byte
 invariant-loop-byte g l = l.self ≡ l.initial.self
