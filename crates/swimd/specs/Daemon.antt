@@ -8,6 +8,7 @@ use Rattle.swimd.specs.declared.outcomes.Outcome.{Outcome}
 use Rattle.swimd.specs.declared.outcomes.Outcome.TheVariants.{Unread, Refused, NoListen, NoControl, Stopped, Socket}
 use Rattle.swimd.specs.declared.outcomes.Outcome.TheVariants.{NoPlace, NoDaemon, Asked}
 use Rattle.swim_config.specs.Configuration.{config_of}
+use Rattle.swim_life.specs.Endings.{Written}
 use Rattle.swim_life.specs.Lives.{AreLived}
 use Rattle.swim_config.specs.Reading.{OrNoMemory}
 
@@ -29,21 +30,19 @@ outcome_of ends.NoMemory = Refused faults.NoMemory
 outcome_of ends.NoPlace = NoPlace
 
 -- lives were lived from the configuration's opening, with journals of at most as many entries as it says
-pub record IsLivedBy (config : Config) (old new : Option (List ℕ)) (outcome : Outcome) : Type 0 where
+pub record IsLivedBy (config : Config) (old new : Written) (outcome : Outcome) : Type 0 where
   pub end : LivesEnd
-  pub failed_old : ℕ
-  pub failed_new : ℕ
-  pub lived : AreLived config.opening config.journal (old, failed_old) (new, failed_new) end
+  pub lived : AreLived config.opening config.journal old new end
   pub is : outcome ≡ outcome_of end
 
 -- what a daemon of this configuration does: without its sockets nothing is written
-abbrev pub Starts : Config → Option (List ℕ) → Option (List ℕ) → Outcome → Type 0
+abbrev pub Starts : Config → Written → Written → Outcome → Type 0
 Starts config old new NoListen = new ≡ old
 Starts config old new NoControl = new ≡ old
 Starts config old new outcome = IsLivedBy config old new outcome
 
 -- what a daemon of some configuration file does: without a configuration nothing is written
-abbrev pub Runs : Option (List ℕ) → Option (List ℕ) → Outcome → Type 0
+abbrev pub Runs : Written → Written → Outcome → Type 0
 Runs old new outcome =
     (IsNoConfiguration outcome × (new ≡ old))
     ⊎ ((config : Config) × IsConfiguration config × Starts config old new outcome)

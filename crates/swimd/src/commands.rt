@@ -27,8 +27,8 @@ pub fn command<R: Files + Net + Clock + Threads + Wait + Sync, S: Source, W: Sin
     faults: &mut F,
 ) -> u8
     ensures { Commanded (asked_of (map (λ word. word.now) words.now)) (S.left reader.old) (S.left reader.new)
-        (W.written writer.old) (W.written writer.new) (F.written faults.old) (F.written faults.new)
-        (F.failures faults.old) (F.failures faults.new) result }
+        (W.written writer.old, W.failures writer.old) (W.written writer.new, W.failures writer.new)
+        (F.written faults.old) (F.written faults.new) (F.failures faults.old) (F.failures faults.new) result }
 {
     let outcome = carry_out(rt, alloc, words, reader, writer);
     tell(outcome, faults)
@@ -43,8 +43,8 @@ fn carry_out<R: Files + Net + Clock + Threads + Wait + Sync, S: Source, W: Sink>
     writer: &mut W,
 ) -> Outcome
     ensures { Does (asked_of (map (λ word. word.now) words.now)) (S.left reader.old) (S.left reader.new)
-        (W.written writer.old) (W.written writer.new) result
-        ⊎ IsShort (W.written writer.old) (W.written writer.new) result }
+        (W.written writer.old, W.failures writer.old) (W.written writer.new, W.failures writer.new) result
+        ⊎ IsShort (W.written writer.old, W.failures writer.old) (W.written writer.new, W.failures writer.new) result }
 {
     match read_words(alloc, words) {
         Ok(Asked::Check) => check(alloc, reader, writer),

@@ -22,7 +22,7 @@ pub fn run<R: Files + Net + Clock + Threads + Wait + Sync, W: Sink>(
     path: &str,
     writer: &mut W,
 ) -> Outcome
-    ensures { Runs (W.written writer.old) (W.written writer.new) result }
+    ensures { Runs (W.written writer.old, W.failures writer.old) (W.written writer.new, W.failures writer.new) result }
 {
     match configuration(rt, alloc, path) {
         Ok(config) => start(rt, alloc, config, writer),
@@ -54,7 +54,8 @@ fn start<R: Files + Net + Clock + Threads + Wait + Sync, W: Sink>(
     config: Config,
     writer: &mut W,
 ) -> Outcome
-    ensures { Starts config (W.written writer.old) (W.written writer.new) result }
+    ensures { Starts config (W.written writer.old, W.failures writer.old)
+        (W.written writer.new, W.failures writer.new) result }
 {
     let Ok(line) = UdpLine::bind(rt, config.listen) else {
         return Outcome::NoListen;
