@@ -5,18 +5,31 @@ use swim_history::OpeningFault;
 /// A key of a configuration, or of one of its members.
 #[derive(Clone, Copy, Debug, PartialEq, Eq)]
 pub enum Key {
+    /// This member.
     Id,
+    /// Where its datagrams come in.
     Listen,
+    /// The path of its control socket.
     Control,
+    /// How many relays are asked.
     K,
+    /// For how many ticks a direct ack is waited for.
     Rtt,
+    /// How many ticks a period has.
     Period,
+    /// How many milliseconds a tick has.
     TickMs,
+    /// What is drawn from.
     Seed,
+    /// How many entries the journal may have.
     Journal,
+    /// The last period number that was used before.
     Last,
+    /// The other members.
     Member,
+    /// Another member's id.
     MemberId,
+    /// Another member's address.
     MemberAt,
 }
 

@@ -57,8 +57,10 @@ pub enum Knock<A: Drop, B: Drop> {
 
 /// Where operators come in. One connection is served at a time.
 pub trait Door {
+    /// Where an operator's control lines come from.
     type Reader: Source + Drop;
 
+    /// Where the answers to them go.
     type Writer: Sink + Drop;
 
     /// Waits for the next connection.

@@ -21,7 +21,9 @@ use swim_wire::Sink;
 /// What stays of a life: why it ended, its journal, and its counts.
 #[derive(Drop)]
 pub struct Past {
+    /// The gravest reason of its workers.
     pub why: Why,
+    /// Everything that happened, in one order.
     pub journal: Journal,
     /// Datagrams that couldn't be sent. The counts stop at 2^64-1.
     pub unsent: u64,
@@ -34,7 +36,9 @@ pub struct Past {
 /// What stays the same from life to life: the seed of the draws, and how many entries a journal may have.
 #[derive(Clone, Copy, Debug)]
 pub struct Terms {
+    /// What all lives draw from, each from a stream of its own.
     pub seed: [u8; 32],
+    /// The most entries of a journal.
     pub limit: u32,
 }
 
@@ -127,7 +131,8 @@ fn end_without(fault: OpenFault) -> LivesEnd
     }
 }
 
-/// Opens a node and runs its life over these gates.
+/// Opens a node with a journal of at most `limit` entries, and runs its life over these gates. There is no life where
+/// the node gets no memory (`NoMemory`), or no reader of its member table (`NoPlace`).
 pub fn live<R: Threads + Wait + Sync, L: Line + Sync, P: Pace + Send, D: Door>(
     rt: &R,
     alloc: Global,

@@ -20,12 +20,12 @@ pub struct UdpLine {
 }
 
 impl UdpLine {
-    /// A socket bound to this address.
+    /// A socket bound to this address. Fails where the system refuses it, as where another socket is bound to it.
     pub fn bind<R: Net>(rt: &R, listen: Peer) -> io::Result<UdpLine> {
         UdpLine::over(UdpSocket::bind(rt, to_address(listen))?)
     }
 
-    /// The line of a socket that is bound already.
+    /// The line of a socket that is bound already. Fails where the system can't limit its waits, to 100 milliseconds.
     pub fn over(socket: UdpSocket) -> io::Result<UdpLine> {
         socket.set_read_timeout(Some(Duration::from_millis(WAIT_MS)))?;
         Ok(UdpLine { socket })

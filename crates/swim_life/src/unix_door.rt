@@ -27,7 +27,8 @@ pub struct UnixDoor {
 }
 
 impl UnixDoor {
-    /// A socket bound to this path, at which no file may exist.
+    /// A socket bound to this path, at which no file may exist. Fails where the system refuses it, or can't make it its
+    /// owner's alone.
     pub fn bind<R: Files + Net>(rt: &R, path: &str) -> io::Result<UnixDoor> {
         let listener = UnixListener::bind(rt, path)?;
         fs::set_permissions(rt, path, Permissions::from_mode(0o600))?;
