@@ -1,6 +1,6 @@
-ghost use Rattle.std.specs.Prelude.{◌≡◌, ◌<◌, [], ◌∷◌, IfSome};
-ghost use Rattle.std.specs.Option.{SomeIff};
+ghost use Rattle.std.specs.Prelude.{◌≡◌, ◌<◌, [], ◌∷◌};
 
+use std::process::Abort;
 use swim_history::*;
 use swim_wire::{Id, Peer};
 
@@ -11,10 +11,14 @@ mod journals;
 mod openings;
 mod replies;
 
-fn id(value: u32) -> Option<Id>
-    ensures { SomeIff result (0 < value) value }
+fn id(value: u32) -> Id
+    requires { 0 < value }
+    ensures { result ≡ value }
 {
-    Id::new(value)
+    match Id::new(value) {
+        Some(id) => id,
+        None => unreachable!(),
+    }
 }
 
 fn address(last: u8) -> Peer
@@ -27,8 +31,11 @@ fn address(last: u8) -> Peer
 }
 
 // Of member 1, with two relays, a timeout of one tick and a period of three.
-fn opening(last: u64) -> Option<Opening>
-    ensures { IfSome result (λ opening. (opening.period ≡ 3) × (opening.last ≡ last)) }
+fn opening<R: Abort>(rt: &R, last: u64) -> Opening
+    ensures { (result.period ≡ 3) × (result.last ≡ last) }
 {
-    Opening::check(id(1)?, 2, 1, 3, &[(id(2)?, address(2))], last).ok()
+    match Opening::check(id(1), 2, 1, 3, &[(id(2), address(2))], last) {
+        Ok(opening) => opening,
+        Err(_) => panic!(rt; "an opening"),
+    }
 }

@@ -1,5 +1,6 @@
 ghost use Rattle.std.specs.Prelude.{◌≡◌};
 
+mod desk;
 mod gates;
 mod lives;
 mod two;

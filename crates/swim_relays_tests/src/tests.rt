@@ -75,6 +75,12 @@ fn ticks_are_counted_past_the_greatest_count(rt: HostRuntime) -> Result<(), Fail
     relays.tick();
     assert_eq!(rt; relays.len(), 0);
     assert_eq!(rt; relays.due(), None);
+    assert_eq!(rt; relays.ask(key, peer_of("10.0.0.2:7000")?), Ok(()));
+    relays.tick();
+    assert_eq!(rt; relays.ask(key, peer_of("10.0.0.2:7001")?), Ok(()));
+    relays.tick();
+    relays.tick();
+    assert_eq!(rt; relays.answer(&key), Some(peer_of("10.0.0.2:7001")?));
     Ok(())
 }
 

@@ -1,87 +1,90 @@
 //! Entries as a journal gives them back. It stores orders and relays apart from what else an entry has.
 
 use super::*;
-use swim_history::{Choice, Entry};
+use swim_history::{Choice, Entry, Journal};
 
-// Its first round goes by the first of these orders, and its first relays by the second.
-fn recorder_of_orders(rt: HostRuntime) -> Result<Recorder<Scripted>, Fail> {
-    let mut orders = Vec::new(rt.alloc());
-    orders.push(order_of(&[3, 2, 4])?)?;
-    orders.push(order_of(&[4, 2])?)?;
-    let chooser = Scripted::new(orders, Vec::new(rt.alloc()));
-    Ok(Recorder::open(rt.alloc(), opening(2, &[2, 3, 4], 0)?, chooser, 1000))
-}
-
-fn entry(seat: u8, number: u32, call: Call, reply: Reply) -> Entry {
+fn entry(seat: u8, number: u32, call: Call, reply: Reply, choice: Choice) -> Entry {
     Entry {
         seat,
         number,
         call,
-        choice: Choice::Nothing,
+        choice,
         reply,
     }
 }
 
-#[test]
-fn entries_come_back_whole(rt: HostRuntime) -> Result<(), Fail> {
-    let mut recorder = recorder_of_orders(rt)?;
-    let remove = Call::Remove(id(2)?);
+// The entry at that place is this one, or there is none.
+fn assert_entry<R: Abort>(rt: &R, journal: &Journal, place: u32, expected: Option<&Entry>) {
+    assert_eq!(rt; journal.entry(place).as_ref(), expected, "at {place}");
+}
+
+// The first round goes by the first order, and the first relays by the second.
+fn called_by_two<R: Abort>(rt: &R, alloc: Global) -> Result<Journal, Fail> {
+    let orders = [order_of(&[3, 2, 4]), order_of(&[4, 2])];
+    let mut recorder = opened_with(alloc, opening(rt, 2, &[2, 3, 4], 0), orders)?;
     for (seat, call) in [
         (1, Call::Tick),
         (1, Call::Tick),
-        (2, remove),
+        (2, Call::Remove(id(2))),
         (1, Call::Tick),
         (1, Call::Tick),
         (1, Call::Tick),
     ] {
         assert!(rt; recorder.apply(seat, call).is_ok());
     }
-    let mut round = entry(1, 0, Call::Tick, started(None, Some((3, 1)))?);
-    round.choice = Choice::Round(order_of(&[3, 2, 4])?);
-    let wanted = [
-        round,
-        entry(1, 1, Call::Tick, asked_of(3, 1, &[4, 2])?),
-        entry(2, 0, remove, Reply::Removed),
-        entry(1, 2, Call::Tick, Reply::Quiet),
-        entry(1, 3, Call::Tick, started(Some(3), Some((4, 2)))?),
-        entry(1, 4, Call::Tick, asked_of(4, 2, &[])?),
-    ];
-    let journal = recorder.into_journal();
+    Ok(recorder.into_journal())
+}
+
+// A tick of seat 1, for which no round was drawn.
+fn ticked(number: u32, reply: Reply) -> Entry {
+    entry(1, number, Call::Tick, reply, Choice::Nothing)
+}
+
+#[test]
+fn entries_come_back_whole(rt: HostRuntime) -> Result<(), Fail> {
+    let journal = called_by_two(&rt, rt.alloc())?;
     assert_eq!(rt; journal.len(), 6);
-    for (place, entry) in wanted.iter().enumerate() {
-        assert_eq!(rt;
-            journal.entry(place as u32).as_ref(),
-            Some(entry),
-            "at {place}"
-        );
-    }
-    assert!(rt; journal.entry(6).is_none());
+    let round = Choice::Round(order_of(&[3, 2, 4]));
+    let first = entry(1, 0, Call::Tick, started(None, 3, 1), round);
+    assert_entry(&rt, &journal, 0, Some(&first));
+    assert_entry(&rt, &journal, 1, Some(&ticked(1, asked_of(3, 1, &[4, 2]))));
+    let removal = Call::Remove(id(2));
+    let removed = entry(2, 0, removal, Reply::Removed, Choice::Nothing);
+    assert_entry(&rt, &journal, 2, Some(&removed));
+    assert_entry(&rt, &journal, 3, Some(&ticked(2, Reply::Quiet)));
+    let judging = started(Some(3), 4, 2);
+    assert_entry(&rt, &journal, 4, Some(&ticked(3, judging)));
+    assert_entry(&rt, &journal, 5, Some(&ticked(4, asked_of(4, 2, &[]))));
+    assert_entry(&rt, &journal, 6, None);
     Ok(())
+}
+
+// The choice of the entry at that place is this one.
+fn assert_choice<R: Abort>(rt: &R, journal: &Journal, place: u32, expected: &Choice) {
+    match journal.entry(place) {
+        Some(entry) => assert_eq!(rt; &entry.choice, expected, "at {place}"),
+        None => panic!(rt; "an entry at {place}"),
+    }
+}
+
+// Each aim acks, so that both stay listed, and the third period begins a round.
+fn three_periods<R: Abort>(rt: &R, alloc: Global) -> Result<Journal, Fail> {
+    let orders = [order_of(&[3, 2]), order_of(&[2, 3])];
+    let mut recorder = opened_with(alloc, opening(rt, 0, &[2, 3], 0), orders)?;
+    for (aim, number) in [(3, 1), (2, 2)] {
+        let ack = message(Kind::Ack, u32::from(aim), 1, u32::from(aim), number);
+        let calls = [Call::Tick, Call::Hear(ack, at(aim)), Call::Tick, Call::Tick];
+        call_each(rt, &mut recorder, &calls);
+    }
+    call_each(rt, &mut recorder, &[Call::Tick]);
+    Ok(recorder.into_journal())
 }
 
 #[test]
 fn each_round_keeps_its_order(rt: HostRuntime) -> Result<(), Fail> {
-    let mut orders = Vec::new(rt.alloc());
-    orders.push(order_of(&[3, 2])?)?;
-    orders.push(order_of(&[2, 3])?)?;
-    let chooser = Scripted::new(orders, Vec::new(rt.alloc()));
-    let mut recorder = Recorder::open(rt.alloc(), opening(0, &[2, 3], 0)?, chooser, 1000);
-    // Each aim acks, so that both stay listed, and the third period begins a round.
-    for (aim, number) in [(3, 1), (2, 2)] {
-        let ack = Call::Hear(message(Kind::Ack, aim, 1, aim, number)?, at(aim as u8));
-        last_reply(&mut recorder, &[Call::Tick, ack, Call::Tick, Call::Tick])?;
-    }
-    last_reply(&mut recorder, &[Call::Tick])?;
-    let journal = recorder.into_journal();
-    let mut found = Vec::new(rt.alloc());
-    for place in [0, 4, 8] {
-        found.push(journal.entry(place).ok_or("an entry")?.choice)?;
-    }
-    let wanted = [
-        Choice::Round(order_of(&[3, 2])?),
-        Choice::Nothing,
-        Choice::Round(order_of(&[2, 3])?),
-    ];
-    assert_eq!(rt; found.as_slice(), wanted.as_slice());
+    let journal = three_periods(&rt, rt.alloc())?;
+    assert_choice(&rt, &journal, 0, &Choice::Round(order_of(&[3, 2])));
+    assert_choice(&rt, &journal, 4, &Choice::Nothing);
+    assert_choice(&rt, &journal, 8, &Choice::Round(order_of(&[2, 3])));
     Ok(())
 }

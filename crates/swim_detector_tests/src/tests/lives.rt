@@ -1,105 +1,117 @@
+use super::steps::{Step, knows, take_steps};
 use super::*;
 use swim_history::Refusal;
 
-// The detector of member 1 that goes on after one which was called so.
-fn later(rt: HostRuntime, opening: Opening, calls: &[Call]) -> Result<Recorder<Scripted>, Fail> {
-    let mut first = opened(rt, opening, 1000);
-    last_reply(&mut first, calls)?;
-    Ok(opened(rt, Opening::after(&first.into_journal()), 1000))
+// The detector that goes on after one of this opening which was called so takes these steps.
+fn assert_later<R: Abort>(rt: &R, alloc: Global, opening: Opening, calls: &[Call], steps: &[Step]) {
+    let mut second = later(rt, alloc, opening, calls);
+    take_steps(rt, &mut second, steps);
+}
+
+fn later<R: Abort>(rt: &R, alloc: Global, opening: Opening, calls: &[Call]) -> Recorder<Scripted> {
+    let mut first = opened(alloc, opening, 1000);
+    call_each(rt, &mut first, calls);
+    opened(alloc, Opening::after(&first.into_journal()), 1000)
+}
+
+// The same after two periods of members 2 and 3, by the first of which member 2 was judged.
+fn assert_later_by_two<R: Abort>(rt: &R, alloc: Global, steps: &[Step]) {
+    let opening = opening(rt, 1, &[2, 3], 0);
+    assert_later(rt, alloc, opening, &[Call::Tick; 4], steps);
 }
 
 #[test]
-fn numbers_go_on(rt: HostRuntime) -> Result<(), Fail> {
-    let mut second = later(rt, opening(1, &[2, 3], 0)?, &[Call::Tick; 4])?;
-    let start = last_reply(&mut second, &[Call::Tick])?;
-    assert_eq!(rt; start, started(None, Some((3, 3)))?);
-    let asked = last_reply(&mut second, &[Call::Tick])?;
-    assert_eq!(rt; asked, asked_of(3, 3, &[])?);
-    Ok(())
+fn numbers_and_rows_go_on(rt: HostRuntime) {
+    let steps = [
+        Step::Began(2),
+        Step::Told(Call::Tick, started(None, 3, 3)),
+        Step::Told(Call::Tick, asked_of(3, 3, &[])),
+        knows(&[failed(2, 1), up(3)]),
+        Step::Told(Call::Remove(id(2)), Reply::Removed),
+    ];
+    assert_later_by_two(&rt, rt.alloc(), &steps);
 }
 
 #[test]
-fn who_failed_stays_failed(rt: HostRuntime) -> Result<(), Fail> {
-    let second = later(rt, opening(1, &[3, 2], 0)?, &[Call::Tick; 7])?;
-    assert_eq!(rt; second.journal().opening().last(), 3);
-    assert_eq!(rt;
-        second.table().as_slice(),
-        [failed(2, 2)?, failed(3, 1)?].as_slice()
-    );
-    Ok(())
+fn who_failed_stays_failed(rt: HostRuntime) {
+    let steps = [Step::Began(3), knows(&[failed(2, 2), failed(3, 1)])];
+    let opening = opening(&rt, 1, &[3, 2], 0);
+    assert_later(&rt, rt.alloc(), opening, &[Call::Tick; 7], &steps);
 }
 
 #[test]
-fn who_failed_can_be_removed(rt: HostRuntime) -> Result<(), Fail> {
-    let mut second = later(rt, opening(1, &[2, 3], 0)?, &[Call::Tick; 4])?;
-    let removed = last_reply(&mut second, &[Call::Remove(id(2)?)])?;
-    assert_eq!(rt; removed, Reply::Removed);
-    assert_eq!(rt; second.table().as_slice(), [up(3)?].as_slice());
-    Ok(())
+fn who_failed_can_be_removed(rt: HostRuntime) {
+    let steps = [
+        Step::Told(Call::Remove(id(2)), Reply::Removed),
+        knows(&[up(3)]),
+    ];
+    assert_later_by_two(&rt, rt.alloc(), &steps);
 }
 
 #[test]
-fn who_failed_joins_again(rt: HostRuntime) -> Result<(), Fail> {
-    let mut second = later(rt, opening(1, &[2, 3], 0)?, &[Call::Tick; 4])?;
-    let joined = last_reply(&mut second, &[Call::Join(id(2)?, at(2))])?;
-    assert_eq!(rt; joined, Reply::Joined { place: 1 });
-    Ok(())
+fn who_failed_joins_again(rt: HostRuntime) {
+    let join = Call::Join(id(2), at(2));
+    let steps = [Step::Told(join, Reply::Joined { place: 1 })];
+    assert_later_by_two(&rt, rt.alloc(), &steps);
 }
 
 #[test]
-fn a_full_table_stays_full(rt: HostRuntime) -> Result<(), Fail> {
-    let mut others = arrayvec::ArrayVec::<u8, 128>::new();
+fn a_full_table_stays_full(rt: HostRuntime) {
+    let mut others = ArrayVec::<u8, 128>::new();
     for other in 2..130u8 {
-        others.try_push(other)?;
+        let _ = others.try_push(other);
     }
-    let mut second = later(rt, opening(0, others.as_slice(), 0)?, &[Call::Tick; 4])?;
-    let full = last_reply(&mut second, &[Call::Join(id(130)?, at(130))])?;
-    assert_eq!(rt; full, Reply::Refused(Refusal::Full));
-    let joined = last_reply(&mut second, &[Call::Join(id(2)?, at(9))])?;
-    assert_eq!(rt; joined, Reply::Joined { place: 127 });
-    Ok(())
+    assert_eq!(rt; others.len(), 128);
+    let steps = [
+        Step::Told(Call::Join(id(130), at(130)), Reply::Refused(Refusal::Full)),
+        Step::Told(Call::Join(id(2), at(9)), Reply::Joined { place: 127 }),
+    ];
+    let opening = opening(&rt, 0, others.as_slice(), 0);
+    assert_later(&rt, rt.alloc(), opening, &[Call::Tick; 4], &steps);
 }
 
 #[test]
-fn an_aim_is_left_behind(rt: HostRuntime) -> Result<(), Fail> {
-    let mut second = later(rt, opening(1, &[2], 0)?, &[Call::Tick])?;
-    let start = last_reply(&mut second, &[Call::Tick])?;
-    assert_eq!(rt; start, started(None, Some((2, 2)))?);
-    Ok(())
+fn an_aim_is_left_behind(rt: HostRuntime) {
+    let steps = [Step::Told(Call::Tick, started(None, 2, 2))];
+    let opening = opening(&rt, 1, &[2], 0);
+    assert_later(&rt, rt.alloc(), opening, &[Call::Tick], &steps);
 }
 
 #[test]
-fn the_last_number_stays_the_last(rt: HostRuntime) -> Result<(), Fail> {
-    let mut second = later(rt, opening(1, &[2], u64::MAX - 1)?, &[Call::Tick])?;
-    let spent = last_reply(&mut second, &[Call::Tick])?;
-    assert_eq!(rt; spent, Reply::Refused(Refusal::Spent));
-    Ok(())
+fn the_last_number_stays_the_last(rt: HostRuntime) {
+    let steps = [Step::Told(Call::Tick, Reply::Refused(Refusal::Spent))];
+    let opening = opening(&rt, 1, &[2], u64::MAX - 1);
+    assert_later(&rt, rt.alloc(), opening, &[Call::Tick], &steps);
 }
 
-// Whether the detector that goes on after these calls knows the members and the last number of the one before.
-fn goes_on_after(rt: HostRuntime, calls: &[Call]) -> Result<bool, Fail> {
-    let mut first = opened(rt, opening(1, &[2, 3], 0)?, 1000);
-    for call in calls {
-        first.apply(0, *call).map_err(|_| "an entry")?;
-    }
+// The detector that goes on after these calls knows the members and the last number of the one before.
+fn assert_goes_on<R: Abort>(rt: &R, alloc: Global, calls: &[Call]) {
+    let mut first = opened(alloc, opening(rt, 1, &[2, 3], 0), 1000);
+    call_each(rt, &mut first, calls);
     let table = first.table();
     let journal = first.into_journal();
-    let second = opened(rt, Opening::after(&journal), 1000);
-    let knows_all = second.table().as_slice() == table.as_slice();
-    Ok(knows_all && second.journal().opening().last() == journal.last_number())
+    let second = opened(alloc, Opening::after(&journal), 1000);
+    assert!(rt; second.table().as_slice() == table.as_slice());
+    assert_eq!(rt; second.journal().opening().last(), journal.last_number());
 }
 
 #[test]
-fn a_journal_may_end_anywhere(rt: HostRuntime) -> Result<(), Fail> {
-    let tick = Call::Tick;
-    let join = Call::Join(id(4)?, at(4));
-    let back = Call::Join(id(2)?, at(9));
-    let remove = Call::Remove(id(3)?);
+fn a_journal_may_end_anywhere(rt: HostRuntime) {
     let calls = [
-        tick, tick, tick, tick, join, tick, back, tick, tick, remove, tick, tick,
+        Call::Tick,
+        Call::Tick,
+        Call::Tick,
+        Call::Tick,
+        Call::Join(id(4), at(4)),
+        Call::Tick,
+        Call::Join(id(2), at(9)),
+        Call::Tick,
+        Call::Tick,
+        Call::Remove(id(3)),
+        Call::Tick,
+        Call::Tick,
     ];
     for count in 0..calls.len() {
-        assert!(rt; goes_on_after(rt, &calls[..count])?);
+        assert_goes_on(&rt, rt.alloc(), &calls[..count]);
     }
-    Ok(())
 }

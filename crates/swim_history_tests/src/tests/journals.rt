@@ -1,4 +1,4 @@
-ghost use Rattle.std.specs.Prelude.{◌≡◌, ◌<◌, ◌≤◌, ◌∷◌, [], None, Some, length, OnOk, IfSome};
+ghost use Rattle.std.specs.Prelude.{◌≡◌, ◌<◌, ◌≤◌, ◌∷◌, [], None, Some, length};
 ghost use Rattle.swim_history.specs.declared.calls.Call.TheVariants.{Tick, Join, Remove};
 ghost use Rattle.swim_history.specs.declared.entries.Choice.TheVariants.{Nothing};
 ghost use Rattle.swim_history.specs.declared.replies.Refusal.TheVariants.{Spent};
@@ -10,21 +10,31 @@ ghost use Rattle.swim_history_tests.specs.Worked.Histories.{two_members, first_s
 use super::{address, id, opening};
 use arrayvec::ArrayVec;
 use std::alloc::Global;
-use std::test::Fail;
+use std::process::Abort;
 use swim_history::*;
 use swim_wire::Id;
 
+fn assert_judged<R: Abort>(rt: &R, journal: &Journal, expected: &[Judged]) {
+    match journal.judgements() {
+        Ok(judgements) => assert_eq!(rt; judgements.as_slice(), expected),
+        Err(_) => panic!(rt; "judgements"),
+    }
+}
+
+fn assert_entry<R: Abort>(rt: &R, journal: &Journal, place: u32, expected: Option<&Entry>) {
+    assert_eq!(rt; journal.entry(place).as_ref(), expected);
+}
+
 #[test]
-fn begins_empty(rt: HostRuntime) -> Result<(), Fail> {
-    let mut journal = Journal::new(rt.alloc(), opening(0).ok_or("an opening")?);
+fn begins_empty(rt: HostRuntime) {
+    let mut journal = Journal::new(rt.alloc(), opening(&rt, 0));
     assert_eq!(rt; journal.opening().period(), 3);
     assert_eq!(rt; journal.len(), 0);
     assert!(rt; journal.is_empty());
-    assert!(rt; journal.entry(0).is_none());
+    assert_entry(&rt, &journal, 0, None);
     assert_eq!(rt; journal.judged_count(), 0);
-    assert!(rt; journal.judgements()?.is_empty());
+    assert_judged(&rt, &journal, &[]);
     assert!(rt; journal.room().is_ok());
-    Ok(())
 }
 
 // A tick that is refused because the numbers are used up.
@@ -41,30 +51,28 @@ fn refused(number: u32) -> Entry
 }
 
 #[test]
-fn holds_its_entries_in_order(rt: HostRuntime) -> Result<(), Fail> {
-    let mut journal = Journal::new(rt.alloc(), opening(u64::MAX).ok_or("an opening")?);
-    journal.room()?;
-    journal.add(&refused(0));
-    journal.room()?;
-    journal.add(&refused(1));
+fn holds_its_entries_in_order(rt: HostRuntime) {
+    let mut journal = Journal::new(rt.alloc(), opening(&rt, u64::MAX));
+    append(&rt, &mut journal, &refused(0));
+    append(&rt, &mut journal, &refused(1));
     assert_eq!(rt; journal.len(), 2);
     assert!(rt; !journal.is_empty());
-    for place in 0..2 {
-        let entry = journal.entry(place).ok_or("an entry")?;
-        assert_eq!(rt; entry.number, place);
-    }
-    assert!(rt; journal.entry(2).is_none());
+    assert_entry(&rt, &journal, 0, Some(&refused(0)));
+    assert_entry(&rt, &journal, 1, Some(&refused(1)));
+    assert_entry(&rt, &journal, 2, None);
     assert_eq!(rt; journal.judged_count(), 0);
-    assert!(rt; journal.judgements()?.is_empty());
-    Ok(())
+    assert_judged(&rt, &journal, &[]);
 }
 
 // Of member 1, with one relay, a timeout of one tick and a period of three. Members 2 and 3 are up.
-fn two_members() -> Option<Opening>
-    ensures { IfSome result (λ opening. opening ≡ two_members) }
+fn two_members<R: Abort>(rt: &R) -> Opening
+    ensures { result ≡ two_members }
 {
-    let members = [(id(2)?, address(2)), (id(3)?, address(3))];
-    Opening::check(id(1)?, 1, 1, 3, &members, 0).ok()
+    let members = [(id(2), address(2)), (id(3), address(3))];
+    match Opening::check(id(1), 1, 1, 3, &members, 0) {
+        Ok(opening) => opening,
+        Err(_) => panic!(rt; "an opening"),
+    }
 }
 
 // An entry of the one caller.
@@ -87,146 +95,153 @@ pub(super) fn start(
     target: u8,
     number: u64,
     choice: Choice,
-) -> Option<Entry>
-    ensures { IfSome result (λ e. e ≡ starting place judged target number choice) }
+) -> Entry
+    requires { 0 < target }
+    ensures { result ≡ starting place judged target number choice }
 {
     let probe = Some(Probe {
-        target: id(u32::from(target))?,
+        target: id(u32::from(target)),
         peer: address(target),
         number,
     });
-    Some(entry(place, Call::Tick, Reply::Started { judged, probe }, choice))
+    entry(place, Call::Tick, Reply::Started { judged, probe }, choice)
 }
 
 // The first start, which draws the order of a round.
-pub(super) fn first_start() -> Option<Entry>
-    ensures { IfSome result (λ e. e ≡ first_start) }
+pub(super) fn first_start() -> Entry
+    ensures { result ≡ first_start }
 {
     let mut order = ArrayVec::new();
-    order.push(id(2)?);
-    order.push(id(3)?);
+    order.push(id(2));
+    order.push(id(3));
     start(0, None, 2, 1, Choice::Round(order))
 }
 
 // The second start, by which member 2 is judged and member 3 probed.
-fn second_start() -> Option<Entry>
-    ensures { IfSome result (λ e. e ≡ starting 3 (Some 2) 3 2 Nothing) }
+fn second_start() -> Entry
+    ensures { result ≡ starting 3 (Some 2) 3 2 Nothing }
 {
-    start(3, Some(id(2)?), 3, 2, Choice::Nothing)
+    start(3, Some(id(2)), 3, 2, Choice::Nothing)
 }
 
 // Member 3 is asked to ping member 2.
-fn ask() -> Option<Entry>
-    ensures { IfSome result (λ e. e ≡ asking 1 2 1 (record { id = 3; peer = at 3 } ∷ [])) }
+fn ask() -> Entry
+    ensures { result ≡ asking 1 2 1 (record { id = 3; peer = at 3 } ∷ []) }
 {
     let mut relays = ArrayVec::new();
     relays.push(Relay {
-        id: id(3)?,
+        id: id(3),
         peer: address(3),
     });
     let reply = Reply::Asked {
-        target: id(2)?,
+        target: id(2),
         number: 1,
         relays,
     };
-    Some(entry(1, Call::Tick, reply, Choice::Nothing))
+    entry(1, Call::Tick, reply, Choice::Nothing)
 }
 
-pub(super) fn append(journal: &mut Journal, entry: &Entry) -> Result<(), Fail>
+pub(super) fn append<R: Abort>(rt: &R, journal: &mut Journal, entry: &Entry)
     requires count { length journal.old.past < u32.MAX }
     requires continues { Continues journal.old.opening journal.old.past entry.now }
-    ensures opening { OnOk result (journal.new.opening ≡ journal.old.opening) }
-    ensures past { OnOk result (journal.new.past ≡ entry.now ∷ journal.old.past) }
+    ensures opening { journal.new.opening ≡ journal.old.opening }
+    ensures past { journal.new.past ≡ entry.now ∷ journal.old.past }
 {
-    journal.room()?;
+    assert!(rt; journal.room().is_ok());
     journal.add(entry);
-    Ok(())
 }
 
 // Member 2 is probed, and judged as no ack of it comes. Then member 3 is probed, it is removed, and member 4
 // joins.
-pub(super) fn played(alloc: Global) -> Result<Journal, Fail> {
-    let mut journal = Journal::new(alloc, two_members().ok_or("an opening")?);
-    append(&mut journal, &first_start().ok_or("a start")?)?;
-    append(&mut journal, &ask().ok_or("an ask")?)?;
+pub(super) fn played<R: Abort>(rt: &R, alloc: Global) -> Journal {
+    let mut journal = Journal::new(alloc, two_members(rt));
+    append(rt, &mut journal, &first_start());
+    append(rt, &mut journal, &ask());
     append(
+        rt,
         &mut journal,
         &entry(2, Call::Tick, Reply::Quiet, Choice::Nothing),
-    )?;
-    append(&mut journal, &second_start().ok_or("a start")?)?;
-    let removal = Call::Remove(id(3).ok_or("an id")?);
+    );
+    append(rt, &mut journal, &second_start());
+    let removal = Call::Remove(id(3));
     append(
+        rt,
         &mut journal,
         &entry(4, removal, Reply::Removed, Choice::Nothing),
-    )?;
-    let joining = Call::Join(id(4).ok_or("an id")?, address(4));
+    );
+    let joining = Call::Join(id(4), address(4));
     append(
+        rt,
         &mut journal,
         &entry(5, joining, Reply::Joined { place: 0 }, Choice::Nothing),
-    )?;
-    Ok(journal)
+    );
+    journal
+}
+
+fn row(member: u8, state: RowState) -> Row
+    requires { 0 < member }
+{
+    Row {
+        id: id(u32::from(member)),
+        peer: address(member),
+        state,
+    }
+}
+
+fn assert_row<R: Abort>(rt: &R, journal: &Journal, member: u32, expected: Option<Row>)
+    requires { 0 < member }
+{
+    assert_eq!(rt; journal.row(id(member)), expected);
 }
 
 // What the run that is played makes, worked by hand: member 2 failed in period 1, and member 4 is up.
 #[test]
-fn keeps_the_table(rt: HostRuntime) -> Result<(), Fail> {
-    let journal = played(rt.alloc())?;
-    let failed = Row {
-        id: id(2).ok_or("an id")?,
-        peer: address(2),
-        state: RowState::Failed(1),
-    };
-    let joined = Row {
-        id: id(4).ok_or("an id")?,
-        peer: address(4),
-        state: RowState::Up,
-    };
-    let gone = id(3).ok_or("an id")?;
-    assert_eq!(rt; journal.rows().as_slice(), [failed, joined].as_slice());
+fn keeps_the_table(rt: HostRuntime) {
+    let journal = played(&rt, rt.alloc());
+    let rows = [row(2, RowState::Failed(1)), row(4, RowState::Up)];
+    assert_eq!(rt; journal.rows().as_slice(), rows.as_slice());
     assert_eq!(rt; journal.known(), 2);
-    assert_eq!(rt; journal.row(failed.id), Some(failed));
-    assert_eq!(rt; journal.row(joined.id), Some(joined));
-    assert!(rt; journal.row(gone).is_none());
-    Ok(())
+    assert_row(&rt, &journal, 2, Some(row(2, RowState::Failed(1))));
+    assert_row(&rt, &journal, 4, Some(row(4, RowState::Up)));
+    assert_row(&rt, &journal, 3, None);
 }
 
 #[test]
-fn keeps_numbers_and_judgements(rt: HostRuntime) -> Result<(), Fail> {
-    let journal = played(rt.alloc())?;
+fn keeps_numbers_and_judgements(rt: HostRuntime) {
+    let journal = played(&rt, rt.alloc());
     let judged = Judged {
-        member: id(2).ok_or("an id")?,
+        member: id(2),
         number: 1,
     };
     assert_eq!(rt; journal.last_number(), 2);
     assert_eq!(rt; journal.judged_count(), 1);
-    assert_eq!(rt; journal.judgements()?.as_slice(), [judged].as_slice());
-    Ok(())
+    assert_judged(&rt, &journal, &[judged]);
+}
+
+fn assert_probed<R: Abort>(rt: &R, journal: &Journal, expected: &[Probed]) {
+    match journal.probes() {
+        Ok(probes) => assert_eq!(rt; probes.as_slice(), expected),
+        Err(_) => panic!(rt; "probes"),
+    }
 }
 
 #[test]
-fn tells_its_probes(rt: HostRuntime) -> Result<(), Fail> {
-    let journal = played(rt.alloc())?;
-    let probed = [
-        Probed {
-            number: 1,
-            member: id(2).ok_or("an id")?,
-        },
-        Probed {
-            number: 2,
-            member: id(3).ok_or("an id")?,
-        },
-    ];
-    assert_eq!(rt; journal.probes()?.as_slice(), probed.as_slice());
-    Ok(())
+fn tells_its_probes(rt: HostRuntime) {
+    let first = Probed {
+        number: 1,
+        member: id(2),
+    };
+    let second = Probed {
+        number: 2,
+        member: id(3),
+    };
+    assert_probed(&rt, &played(&rt, rt.alloc()), &[first, second]);
 }
 
 #[test]
-fn gives_entries_back(rt: HostRuntime) -> Result<(), Fail> {
-    let journal = played(rt.alloc())?;
-    let started = first_start().ok_or("a start")?;
-    let asked = ask().ok_or("an ask")?;
-    assert_eq!(rt; journal.entry(0).ok_or("an entry")?, started);
-    assert_eq!(rt; journal.entry(1).ok_or("an entry")?, asked);
-    assert!(rt; journal.entry(6).is_none());
-    Ok(())
+fn gives_entries_back(rt: HostRuntime) {
+    let journal = played(&rt, rt.alloc());
+    assert_entry(&rt, &journal, 0, Some(&first_start()));
+    assert_entry(&rt, &journal, 1, Some(&ask()));
+    assert_entry(&rt, &journal, 6, None);
 }

@@ -1,49 +1,84 @@
-use super::{address, id};
-use std::test::Fail;
-use swim_history::*;
+ghost use Rattle.std.specs.Prelude.{◌<◌, ◌≤◌};
 
-#[test]
-fn checks_openings(rt: HostRuntime) -> Result<(), Fail> {
-    let me = id(1).ok_or("an id")?;
-    let rows = [
-        (id(2).ok_or("an id")?, address(2)),
-        (id(3).ok_or("an id")?, address(3)),
-    ];
-    let with_me = [(me, address(1))];
-    let twice = [rows[0], rows[0]];
-    let none = [];
-    let faults = [
-        (9, 1, 3, rows.as_slice(), 1),
-        (1, 0, 3, rows.as_slice(), 2),
-        (1, 2, 5, rows.as_slice(), 2),
-        (1, 1, 65536, rows.as_slice(), 2),
-        (1, 1, 3, with_me.as_slice(), 4),
-        (1, 1, 3, twice.as_slice(), 5),
-        (9, 0, 3, twice.as_slice(), 1),
-        (1, 0, 3, twice.as_slice(), 2),
-    ];
-    for (k, rtt, period, members, number) in faults {
-        match Opening::check(me, k, rtt, period, members, 0) {
-            Ok(_) => assert!(rt; false, "fault {number}"),
-            Err(fault) => assert_eq!(rt; fault.number(), number),
-        }
+use super::{address, id};
+use arrayvec::ArrayVec;
+use std::process::Abort;
+use swim_history::*;
+use swim_wire::{Id, Peer};
+
+fn member(number: u8) -> (Id, Peer)
+    requires { 0 < number }
+{
+    (id(u32::from(number)), address(number))
+}
+
+// Member 1 can't begin so: the first fault has this number.
+fn assert_fault<R: Abort>(
+    rt: &R,
+    k: u32,
+    rtt: u32,
+    period: u32,
+    members: &[(Id, Peer)],
+    number: u8,
+) {
+    match Opening::check(id(1), k, rtt, period, members, 0) {
+        Ok(_) => panic!(rt; "fault {number}"),
+        Err(fault) => assert_eq!(rt; fault.number(), number),
     }
-    assert!(rt; Opening::check(me, 8, 2, 6, rows.as_slice(), u64::MAX).is_ok());
-    assert!(rt; Opening::check(me, 0, 21845, 65535, none.as_slice(), 0).is_ok());
-    Ok(())
 }
 
 #[test]
-fn copies_an_opening(rt: HostRuntime) -> Result<(), Fail> {
-    let member = (id(2).ok_or("an id")?, address(2));
-    let me = id(1).ok_or("an id")?;
-    let opening = Opening::check(me, 3, 2, 6, &[member], 9).map_err(|_| "an opening")?;
+fn checks_openings(rt: HostRuntime) {
+    let rows = [member(2), member(3)];
+    let with_me = [member(1)];
+    let twice = [member(2), member(2)];
+    assert_fault(&rt, 9, 1, 3, &rows, 1);
+    assert_fault(&rt, 1, 0, 3, &rows, 2);
+    assert_fault(&rt, 1, 2, 5, &rows, 2);
+    assert_fault(&rt, 1, 1, 65536, &rows, 2);
+    assert_fault(&rt, 1, 1, 3, &with_me, 4);
+    assert_fault(&rt, 1, 1, 3, &twice, 5);
+    assert_fault(&rt, 9, 0, 3, &twice, 1);
+    assert_fault(&rt, 1, 0, 3, &twice, 2);
+    assert!(rt; Opening::check(id(1), 8, 2, 6, &rows, u64::MAX).is_ok());
+    assert!(rt; Opening::check(id(1), 0, 21845, 65535, &[], 0).is_ok());
+}
+
+// So many members, from 2 on.
+fn members(count: u8) -> ArrayVec<(Id, Peer), 129>
+    requires { count ≤ 129 }
+{
+    let mut members = ArrayVec::new();
+    for place in 0..count {
+        let _ = members.try_push(member(place + 2));
+    }
+    members
+}
+
+#[test]
+fn members_fit_up_to_128(rt: HostRuntime) {
+    let most = members(128);
+    assert_eq!(rt; most.len(), 128);
+    assert!(rt; Opening::check(id(1), 1, 1, 3, most.as_slice(), 0).is_ok());
+    let more = members(129);
+    assert_eq!(rt; more.len(), 129);
+    assert_fault(&rt, 1, 1, 3, more.as_slice(), 3);
+}
+
+fn assert_copied<R: Abort>(rt: &R, opening: &Opening) {
     let copy = opening.copy();
-    assert_eq!(rt; copy.me(), me);
+    assert_eq!(rt; copy.me(), id(1));
     assert_eq!(rt;
         (copy.k(), copy.rtt(), copy.period(), copy.last()),
         (3, 2, 6, 9)
     );
     assert!(rt; copy.rows() == opening.rows());
-    Ok(())
+}
+
+#[test]
+fn copies_an_opening(rt: HostRuntime) {
+    match Opening::check(id(1), 3, 2, 6, &[member(2)], 9) {
+        Ok(opening) => assert_copied(&rt, &opening),
+        Err(_) => panic!(rt; "an opening"),
+    }
 }

@@ -1,25 +1,18 @@
 use super::{address, id, opening};
 use arrayvec::ArrayVec;
-use std::test::Fail;
+use std::process::Abort;
 use swim_history::*;
-use swim_wire::{Id, Kind, Message, Peer, PeriodNumber};
-
-fn relay(last: u8) -> Option<Relay> {
-    Some(Relay {
-        id: id(u32::from(last))?,
-        peer: address(last),
-    })
-}
+use swim_wire::{Kind, Message, Peer, PeriodNumber};
 
 // This member's message of its probe of member 2 in its period 9.
-fn own(kind: Kind) -> Option<Message> {
-    Some(Message {
+fn own(kind: Kind) -> Message {
+    Message {
         kind,
-        sender: id(1)?,
-        initiator: id(1)?,
-        target: id(2)?,
-        number: PeriodNumber::new(9)?,
-    })
+        sender: id(1),
+        initiator: id(1),
+        target: id(2),
+        number: PeriodNumber::new(9).unwrap_or_default(),
+    }
 }
 
 #[test]
@@ -58,65 +51,64 @@ fn numbers_reasons(rt: HostRuntime) {
     }
 }
 
-#[test]
-fn sends_pings_at_starts(rt: HostRuntime) -> Result<(), Fail> {
-    let opening = opening(8).ok_or("an opening")?;
-    let target = id(2).ok_or("an id")?;
-    let peer = address(2);
-    let ping = own(Kind::Ping).ok_or("a ping")?;
-    let started = Reply::Started {
+// A detector whose last number is 8 sends these for the reply.
+fn assert_sends<R: Abort>(rt: &R, reply: &Reply, expected: &[(Peer, Message)]) {
+    let opening = opening(rt, 8);
+    assert_eq!(rt; sends(reply, &opening).as_slice(), expected);
+}
+
+// A start that probes member 2 in the period of that number.
+fn probing(number: u64) -> Reply {
+    Reply::Started {
         judged: None,
         probe: Some(Probe {
-            target,
-            peer,
-            number: 9,
+            target: id(2),
+            peer: address(2),
+            number,
         }),
-    };
-    assert_eq!(rt;
-        sends(&started, &opening).as_slice(),
-        [(peer, ping)].as_slice()
-    );
-    let unnumbered = Reply::Started {
-        judged: None,
-        probe: Some(Probe {
-            target,
-            peer,
-            number: 0,
-        }),
-    };
-    assert!(rt; sends(&unnumbered, &opening).is_empty());
-    let idle = Reply::Started {
-        judged: Some(target),
-        probe: None,
-    };
-    assert!(rt; sends(&idle, &opening).is_empty());
-    Ok(())
+    }
 }
 
 #[test]
-fn sends_what_replies_say(rt: HostRuntime) -> Result<(), Fail> {
-    let opening = opening(8).ok_or("an opening")?;
-    let target = id(2).ok_or("an id")?;
-    let request = own(Kind::PingReq).ok_or("a request")?;
+fn sends_pings_at_starts(rt: HostRuntime) {
+    assert_sends(&rt, &probing(9), &[(address(2), own(Kind::Ping))]);
+    assert_sends(&rt, &probing(0), &[]);
+    let idle = Reply::Started {
+        judged: Some(id(2)),
+        probe: None,
+    };
+    assert_sends(&rt, &idle, &[]);
+}
+
+// Members 4 and 3 are asked to ping member 2.
+fn asking() -> Reply {
     let mut relays = ArrayVec::new();
-    relays.push(relay(4).ok_or("a relay")?);
-    relays.push(relay(3).ok_or("a relay")?);
-    let asked = Reply::Asked {
-        target,
+    relays.push(Relay {
+        id: id(4),
+        peer: address(4),
+    });
+    relays.push(Relay {
+        id: id(3),
+        peer: address(3),
+    });
+    Reply::Asked {
+        target: id(2),
         number: 9,
         relays,
-    };
-    let requests = [(address(4), request), (address(3), request)];
-    assert_eq!(rt; sends(&asked, &opening).as_slice(), requests.as_slice());
-    let ack = own(Kind::Ack).ok_or("an ack")?;
+    }
+}
+
+#[test]
+fn sends_what_replies_say(rt: HostRuntime) {
+    let requests = [
+        (address(4), own(Kind::PingReq)),
+        (address(3), own(Kind::PingReq)),
+    ];
+    assert_sends(&rt, &asking(), &requests);
     let answer = Reply::Send {
         peer: address(7),
-        message: ack,
+        message: own(Kind::Ack),
     };
-    assert_eq!(rt;
-        sends(&answer, &opening).as_slice(),
-        [(address(7), ack)].as_slice()
-    );
-    assert!(rt; sends(&Reply::Quiet, &opening).is_empty());
-    Ok(())
+    assert_sends(&rt, &answer, &[(address(7), own(Kind::Ack))]);
+    assert_sends(&rt, &Reply::Quiet, &[]);
 }

@@ -33,6 +33,7 @@ const LIST: &[u8] = b"2 10.0.0.2:7000 up\n3 10.0.0.3:7000 up\n.\n";
 #[derive(Drop)]
 pub struct Signals {
     pub is_listed: AtomicBool,
+    pub is_failing: AtomicBool,
     pub is_acked: AtomicBool,
     pub is_stopping: AtomicBool,
     pub receives: AtomicU32,
@@ -42,6 +43,7 @@ impl Signals {
     pub fn new(is_listed: bool) -> Signals {
         Signals {
             is_listed: AtomicBool::new(is_listed),
+            is_failing: AtomicBool::new(false),
             is_acked: AtomicBool::new(false),
             is_stopping: AtomicBool::new(false),
             receives: AtomicU32::new(0),
@@ -61,8 +63,8 @@ pub fn pause<K: Clock>(clock: &K) {
     thread::sleep(clock, Duration::from_micros(50));
 }
 
-/// A line with one datagram, the ping, after so many faults. It holds it back until the list was answered, and is idle
-/// before and after it. Sends of it succeed or fail.
+/// A line with one datagram, the ping, after so many faults, of which it tells the last. It holds the ping back until
+/// the list was answered, and is idle before and after it. Sends of it succeed or fail.
 #[derive(Drop)]
 pub struct PingLine<'s, K: Clock + Drop> {
     pub clock: K,
@@ -78,6 +80,9 @@ impl<'s, K: Clock + Drop> Line for PingLine<'s, K> {
     {
         let turn = self.signals.receives.fetch_add(1, Ordering::SeqCst);
         if turn < self.faults {
+            if turn == self.faults - 1 {
+                set(&self.signals.is_failing);
+            }
             return Got::Fault;
         }
         pause(&self.clock);

@@ -4,7 +4,7 @@ use std::sync::atomic::{AtomicBool, Ordering};
 use swim_life::{LivesEnd, Terms, run_lives};
 use swim_wire::Page;
 
-fn line<'s, K: Clock + Drop>(clock: K, signals: &'s Signals, faults: u32) -> PingLine<'s, K> {
+pub fn line<'s, K: Clock + Drop>(clock: K, signals: &'s Signals, faults: u32) -> PingLine<'s, K> {
     PingLine {
         clock,
         signals,
@@ -14,7 +14,7 @@ fn line<'s, K: Clock + Drop>(clock: K, signals: &'s Signals, faults: u32) -> Pin
     }
 }
 
-fn pace<'s, K: Clock + Drop>(clock: K, signal: &'s AtomicBool, ticks: u32) -> StopPace<'s, K> {
+pub fn pace<'s, K: Clock + Drop>(clock: K, signal: &'s AtomicBool, ticks: u32) -> StopPace<'s, K> {
     StopPace {
         clock,
         signal,
@@ -80,13 +80,13 @@ fn a_failed_send(rt: HostRuntime) -> Result<(), Fail> {
     Ok(())
 }
 
-// Sixteen faults in a row: the receiver gives up, and nothing is heard.
+// Sixteen faults in a row, and a stop after the sixteenth was asked for: the receiver gives up, and nothing is heard.
 #[test]
 fn sixteen_faults(rt: HostRuntime) -> Result<(), Fail> {
     let opening = opening()?;
     let signals = Signals::new(true);
     let line = line(rt, &signals, 16);
-    let mut pace = pace(rt, &signals.is_acked, 0);
+    let mut pace = pace(rt, &signals.is_failing, 0);
     let past = live_alone(&rt, rt.alloc(), opening, 1000, &line, &mut pace);
     assert_ended(&rt, past, Why::Socket, 0, 0);
     assert_eq!(rt; signals.receives.load(Ordering::SeqCst), 16);
@@ -142,7 +142,7 @@ const FIRST_LIFE: &[u8] = b"life 0 entries 2 judged 0 unsent 0 wire 0 refused 0\
 
 const LAST_LIFE: &[u8] = b"ended stopped entries 2 judged 0 unsent 0 wire 0 refused 0\n";
 
-fn assert_ended<R: Abort>(rt: &R, past: Option<Past>, why: Why, entries: u32, unsent: u64) {
+pub fn assert_ended<R: Abort>(rt: &R, past: Option<Past>, why: Why, entries: u32, unsent: u64) {
     match past {
         Some(past) => {
             assert_eq!(rt; past.why, why);

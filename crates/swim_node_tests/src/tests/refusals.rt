@@ -1,4 +1,4 @@
-//! Calls that are refused memory. tests/refusals runs these with one request for memory refused, the first, the second
+//! Calls that are refused memory. tests/node/refusals runs these with one request for memory refused, the first, the second
 //! and so on; else none is.
 
 ghost use Rattle.std.specs.Prelude.{◌≡◌, IfOk};

@@ -1,8 +1,5 @@
 use Rattle.swim_history_tests.specs.Worked.Gaps.{joined_is_run}
 use Rattle.swim_history_tests.proofs.tests.gaps.counts_joiners.Goals as goal
 
-pub replayed-requires-clause-run : goal.replayed-requires-clause-run
-replayed-requires-clause-run g c =
-    let opening = rw c.in_ok-opening.ensures.ok_part at c.no_relays.ensures in
-    let entries = rw c.in_ok-entries.ensures.ok_part at c.joined.ensures in
-    rw (opening, entries) joined_is_run
+pub replayed-journal-requires-clause-run : goal.replayed-journal-requires-clause-run
+replayed-journal-requires-clause-run g c = rw c.joined.ensures joined_is_run

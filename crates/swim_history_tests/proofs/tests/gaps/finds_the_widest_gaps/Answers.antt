@@ -1,8 +1,5 @@
 use Rattle.swim_history_tests.specs.Worked.Gaps.{four_periods_are_run}
 use Rattle.swim_history_tests.proofs.tests.gaps.finds_the_widest_gaps.Goals as goal
 
-pub replayed-requires-clause-run : goal.replayed-requires-clause-run
-replayed-requires-clause-run g c =
-    let opening = rw c.in_ok-opening.ensures.ok_part at c.no_relays.ensures in
-    let entries = rw c.in_ok-entries.ensures.ok_part at c.four_periods.ensures in
-    rw (opening, entries) four_periods_are_run
+pub replayed-journal-requires-clause-run : goal.replayed-journal-requires-clause-run
+replayed-journal-requires-clause-run g c = rw c.four_periods.ensures four_periods_are_run

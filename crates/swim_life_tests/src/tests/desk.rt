@@ -1,0 +1,102 @@
+ghost use Rattle.std.specs.Prelude.{None};
+
+use super::gates::{Signals, is_set, pause, set};
+use super::lives::{assert_ended, line, pace};
+use super::*;
+use arrayvec::ArrayVec;
+use std::sync::atomic::{AtomicBool, Ordering};
+use swim_life::{Door, Knock};
+use swim_wire::{Sink, Text};
+
+// A list, a join of no id, and a line that is cut off.
+const LINES: &[u8] = b"list\njoin 0 1.2.3.4:5\nlis";
+
+const ANSWERS: &[u8] = b"2 10.0.0.2:7000 up\n3 10.0.0.3:7000 up\n.\nfault 3\nfault 6\n";
+
+// A door to which one operator comes, who types these lines. It tells when the next is waited for.
+#[derive(Drop)]
+struct TypingDoor<'s, K: Clock + Drop> {
+    clock: K,
+    is_answered: &'s AtomicBool,
+    is_left: &'s AtomicBool,
+    was_open: bool,
+}
+
+impl<'s, K: Clock + Drop> Door for TypingDoor<'s, K> {
+    type Reader = Text<'static>;
+
+    type Writer = Expecting<'s>;
+
+    fn next<R: Wait>(&mut self, _rt: &R) -> Knock<Text<'static>, Expecting<'s>> {
+        if self.was_open {
+            set(self.is_left);
+            pause(&self.clock);
+            return Knock::Idle;
+        }
+        self.was_open = true;
+        let answers = Expecting {
+            is_answered: self.is_answered,
+            text: ArrayVec::new(),
+        };
+        Knock::Conn(Text::new(LINES), answers)
+    }
+}
+
+// Where the answers go. It tells at each flush whether they are those that are expected, and no more.
+#[derive(Drop)]
+struct Expecting<'s> {
+    is_answered: &'s AtomicBool,
+    text: ArrayVec<u8, 128>,
+}
+
+impl<'s> Sink for Expecting<'s> {
+    ghost written = { λ answers. None };
+
+    ghost failures = { λ answers. 0 };
+
+    fn put(&mut self, text: &[u8]) -> bool {
+        for byte in text {
+            let _ = self.text.try_push(*byte);
+        }
+        true
+    }
+
+    fn flush(&mut self) -> bool {
+        let are_expected = *self.text.as_slice() == *ANSWERS;
+        self.is_answered.store(are_expected, Ordering::SeqCst);
+        true
+    }
+}
+
+// The lines of an operator, the last of which is cut off, are answered by a node's desk. The connection ends alone: the
+// door is asked for the next one, and nothing is in the journal.
+#[test]
+fn an_operator_is_answered(rt: HostRuntime) -> Result<(), Fail> {
+    let opening = opening()?;
+    let signals = Signals::new(false);
+    let line = line(rt, &signals, 0);
+    let is_answered = AtomicBool::new(false);
+    let is_left = AtomicBool::new(false);
+    let mut pace = pace(rt, &is_left, 0);
+    let mut door = TypingDoor {
+        clock: rt,
+        is_answered: &is_answered,
+        is_left: &is_left,
+        was_open: false,
+    };
+    let past = live(
+        &rt,
+        rt.alloc(),
+        opening,
+        chooser(),
+        1000,
+        &line,
+        &mut pace,
+        &mut door,
+    )
+    .ok();
+    assert_ended(&rt, past, Why::Stopped, 0, 0);
+    assert!(rt; is_set(&is_left));
+    assert!(rt; is_set(&is_answered));
+    Ok(())
+}
