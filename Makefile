@@ -2,7 +2,7 @@
 # `bench` also `rustc`, the Rust compiler, and `compare` Python 3.11.
 
 PREFIX = /usr/local
-# Programs that were built already, to be installed in place of those that tests/build prints.
+# Programs that were built already, to be installed in place of those that tests/support/build prints.
 SWIMSIM =
 SWIMD =
 
@@ -14,12 +14,14 @@ UNIT = $(DESTDIR)$(PREFIX)/lib/systemd/system
 .PHONY: help build run demo test compare bench install uninstall
 
 help:
-	@echo 'make run        proves and builds swimsim if need be, and runs it on examples/first.swim'
-	@echo 'make demo       proves and builds swimd if need be, and shows a group of five at work, of which one is killed'
-	@echo 'make test       rt ci (every proof, edit and test), and then the parts of tests/ that run the built programs:'
-	@echo '                refusals, run and compare of swimsim, run_swimd, compare_swimd, daemon and flood of swimd, and'
-	@echo '                install_test'
-	@echo 'make build      proves and builds swimsim and swimd if need be, and prints where they lie'
+	@echo 'make run        plays examples/first.swim: by the proved swimsim where that was built, and else by its sources, as'
+	@echo '                they are before any proof, within a minute or so'
+	@echo 'make demo       proves and builds swimd if need be, which takes some twenty minutes at first and says how far it is,'
+	@echo '                and shows a group of five at work, of which one is killed'
+	@echo 'make build      proves and builds swimsim and swimd if need be, which takes half an hour at first and says how far'
+	@echo '                it is, and prints where they lie'
+	@echo 'make test       rt ci (every proof and test), the edits, and then the parts of tests/ that run the built programs;'
+	@echo '                tests/all --list names them, and tests/all --only NAME runs one'
 	@echo 'make compare    runs swimsim and tests/reference on random scripts, and swimd on random configurations and'
 	@echo '                control lines beside models of both, and compares what they write'
 	@echo 'make bench      measures swimsim and the node beside tests/reference, and swimd beside that and the least responder'
@@ -29,30 +31,29 @@ help:
 	@echo 'make help       this list'
 
 build:
-	@tests/build swimsim
-	@tests/build swimd
+	@tests/support/build swimsim swimd
 
 run:
-	@tests/build swimsim > /dev/null
-	@crates/swimsim/out/swimsim < examples/first.swim
+	@tests/support/play examples/first.swim
 
 demo:
-	@tests/demo
+	@tests/swimd/demo
 
 test:
 	@tests/all
 
 compare:
-	@tests/compare
-	@tests/compare_swimd
+	@tests/swimsim/compare
+	@tests/swimd/compare
 
 bench:
-	@tests/bench
-	@tests/bench_daemon
+	@tests/bench/swimsim
+	@tests/bench/node
+	@tests/bench/swimd
 
 install:
-	@set -e; simulator='$(SWIMSIM)'; test -n "$$simulator" || simulator=$$(tests/build swimsim); \
-	daemon='$(SWIMD)'; test -n "$$daemon" || daemon=$$(tests/build swimd); \
+	@set -e; simulator='$(SWIMSIM)'; test -n "$$simulator" || simulator=$$(tests/support/build swimsim); \
+	daemon='$(SWIMD)'; test -n "$$daemon" || daemon=$$(tests/support/build swimd); \
 	install -d '$(BIN)' '$(MAN)' '$(UNIT)' '$(DOC)/swimsim/examples' '$(DOC)/swimd/examples'; \
 	install "$$simulator" '$(BIN)/swimsim'; \
 	install "$$daemon" '$(BIN)/swimd'; \

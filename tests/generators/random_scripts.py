@@ -1,0 +1,44 @@
+"""Random scripts of swimsim, each the same for its seed.
+
+`random_script(seed)` gives (kind, script). The kinds take turns, so that any stretch of seeds has them all. A script is
+written without knowing what will be answered; only its period's number is followed, and in some kinds its rounds, so
+that acks hit the aim. `large_script(seed)` gives one that is about as large as may be.
+"""
+
+import random
+
+from tests.generators.broken_scripts import about_as_large_as_may_be, broken, misspelt, noisy
+from tests.generators.detector_scripts import churning, crowded, flooding, growing_from_nobody, misread, mixed
+from tests.generators.detector_scripts import near_the_last_number, openings, planned, relaying, seeded, with_a_small_journal
+from tests.generators.growing_scripts import Script, joined
+
+KINDS = [
+    mixed,
+    churning,
+    planned,
+    growing_from_nobody,
+    relaying,
+    flooding,
+    crowded,
+    near_the_last_number,
+    with_a_small_journal,
+    seeded,
+    misread,
+    openings,
+    broken,
+    misspelt,
+    misspelt,
+    noisy,
+]
+
+
+def random_script(seed):
+    kind = KINDS[seed % len(KINDS)]
+    made = kind(random.Random(seed))
+    if isinstance(made, Script):
+        made = made.lines()
+    return kind.__name__, made if isinstance(made, bytes) else joined(made)
+
+
+def large_script(seed):
+    return about_as_large_as_may_be.__name__, about_as_large_as_may_be(random.Random(seed))

@@ -1,0 +1,323 @@
+"""A daemon at its limits: datagrams that are none, a full journal, what can't be sent, refusals, and a daemon that is idle."""
+
+import glob
+import os
+import resource
+import subprocess
+import time
+
+from tests.support.daemons import ACK, PING, SECONDS, configuration, datagram, fields, must, until
+
+MINUTE = 60_000
+MEGABYTE = 2**20
+LITTLE_MEMORY = 1_024 * MEGABYTE
+IDLE_SECONDS = 4
+MOST_IDLE_SHARE = 0.005
+MOST_STOP_SECONDS = 0.5
+
+
+def ping_and_hear(peer, daemon, number):
+    peer.sendto(datagram(PING, 9, 9, daemon.id, number), daemon.address)
+    found = fields(peer.recv(100))
+    must(found == (ACK, daemon.id, 9, daemon.id, number), f"ping {number} is answered {found}")
+
+
+def datagrams_that_are_none(machine):
+    """They are counted, and nothing is sent for them."""
+    daemon, peer = machine.started(tick_ms=MINUTE), machine.socket()
+    ping = datagram(PING, 9, 9, 1, 1)
+    texts = [(ping + bytes(2_000))[:length] for length in (0, 23, 25, 64, 65, 1_400)]
+    texts += [b"XW" + ping[2:], b"SX" + ping[2:], ping[:2] + b"\x02" + ping[3:], ping[:3] + b"\x00" + ping[4:]]
+    texts += [ping[:3] + b"\x04" + ping[4:], datagram(PING, 0, 9, 1, 1), datagram(PING, 9, 9, 1, 0), bytes(24)]
+    for place, text in enumerate(texts, 1):
+        peer.sendto(text, daemon.address)
+        ping_and_hear(peer, daemon, place)
+    dropped = [datagram(PING, 9, 9, 2, 1), datagram(ACK, 9, 1, 9, 1), datagram(ACK, 9, 9, 9, 1)]
+    for text in dropped:
+        peer.sendto(text, daemon.address)
+    ping_and_hear(peer, daemon, 100)
+    closing, entries = daemon.stop(), len(texts) + len(dropped) + 1
+    must(closing == (0, "stopped", entries, 0, 0, len(texts), 0), f"it ended {closing}")
+
+
+def every_entry_is_counted(machine):
+    """Pings, ping-reqs, acks, joins and removals, also refused ones: one entry each."""
+    daemon, peer = machine.started(members=[(2, "10.0.0.2:7000")], tick_ms=MINUTE), machine.socket()
+    for number in range(1, 101):
+        ping_and_hear(peer, daemon, number)
+    answers = daemon.ask(b"join 2 1.2.3.4:5\njoin 1 1.2.3.4:5\nremove 9\nremove 1\nremove 2\njoin 0 1.2.3.4:5\nlist\ngap 2\n")
+    wanted = b"refused 2\nrefused 1\nrefused 4\nrefused 1\nremoved\nfault 3\n.\ngap none\n"
+    must(answers == wanted, f"the lines are answered {answers!r}")
+    closing = daemon.stop()
+    must(closing == (0, "stopped", 105, 0, 0, 0, 0), f"it ended {closing}")
+
+
+def a_journal_that_fills_by_pings(machine):
+    """The ping that meets the full journal is in no life; those behind it are answered in the next."""
+    daemon, peer = machine.started(members=[(2, "10.0.0.2:7000")], tick_ms=MINUTE, journal=5), machine.socket()
+    for number in range(1, 6):
+        ping_and_hear(peer, daemon, number)
+    peer.sendto(datagram(PING, 9, 9, 1, 6), daemon.address)
+    for number in range(7, 10):
+        ping_and_hear(peer, daemon, number)
+    must(daemon.table() == {2: ("10.0.0.2:7000", "up")}, f"the next life lists {daemon.table()}")
+    closing = daemon.stop()
+    must(daemon.lives == [(0, 5, 0, 0, 0, 0)], f"its lives are {daemon.lives}")
+    must(closing == (0, "stopped", 3, 0, 0, 0, 0), f"it ended {closing}")
+
+
+def a_journal_that_fills_by_ticks(machine):
+    """A member that never answers is judged in the first life, and stays so with that number."""
+    member = machine.socket()
+    values = {"k": 0, "rtt": 1, "period": 3, "tick_ms": 1, "journal": 20}
+    daemon = machine.started(members=[(2, member.getsockname()[1])], **values)
+    until(lambda: daemon.lives_so_far() >= 4, "four lives of twenty ticks")
+    row = daemon.table()[2]
+    must(row.state == "failed 1", f"member 2 is listed as {row}")
+    closing = daemon.stop()
+    must(closing.status == 0 and closing.judged == 0, f"it ended {closing}")
+    must(daemon.lives[0] == (0, 20, 1, 0, 0, 0), f"its first life is {daemon.lives[0]}")
+    must(all(it[1:] == (20, 0, 0, 0, 0) for it in daemon.lives[1:]), f"its lives are {daemon.lives[:20]}")
+
+
+def a_journal_that_fills_by_lines(machine):
+    """The connection that meets the full journal is closed; the next one is in the next life."""
+    daemon = machine.started(tick_ms=MINUTE, journal=2)
+    answers = daemon.ask(b"join 2 10.0.0.2:7000\nlist\nremove 9\nlist\njoin 3 10.0.0.3:7000\nlist\n")
+    wanted = b"joined 0\n2 10.0.0.2:7000 up\n.\nrefused 4\n2 10.0.0.2:7000 up\n.\njournal full\n"
+    must(answers == wanted, f"the lines are answered {answers!r}")
+    answers = daemon.ask(b"list\njoin 2 10.0.0.2:7001\nremove 2\nlist\n")
+    must(answers == b"2 10.0.0.2:7000 up\n.\nrefused 2\nremoved\n.\n", f"the next life answers {answers!r}")
+    closing = daemon.stop()
+    must(daemon.lives == [(0, 2, 0, 0, 0, 0)], f"its lives are {daemon.lives}")
+    must(closing == (0, "stopped", 2, 0, 0, 0, 0), f"it ended {closing}")
+
+
+def period_numbers_go_on(machine):
+    """From life to life, and no number comes twice. In the first start of a life nobody is judged: its aim is none."""
+    member = machine.socket()
+    values = {"k": 0, "rtt": 1, "period": 3, "tick_ms": 50, "journal": 8}
+    daemon = machine.started(members=[(2, member.getsockname()[1])], **values)
+    numbers = []
+    for _ in range(12):
+        numbers.append(fields(member.recv(100))[4])
+        member.sendto(datagram(ACK, 2, 1, 2, numbers[-1]), daemon.address)
+    must(numbers == sorted(set(numbers)), f"the numbers of its pings are {numbers}")
+    must(daemon.states() == {2: "up"}, "a member that answers is judged")
+    daemon.stop()
+    must(len(daemon.lives) >= 2 and not any(it.judged for it in daemon.lives), f"its lives are {daemon.lives}")
+
+
+def what_cannot_be_sent(machine):
+    """From a socket of the loopback nothing goes to another net: it is counted, and the daemon goes on."""
+    daemon = machine.started(members=[(2, "192.0.2.1:7000")], k=0)
+    until(lambda: daemon.states() == {2: "failed"}, "the member that nothing can be sent to is judged")
+    closing = daemon.stop()
+    must((closing.status, closing.judged, closing.unsent) == (0, 1, 1), f"it ended {closing}")
+
+
+def a_socket_that_fails(machine):
+    """Where no connection can be accepted, sixteen times in a row, the daemon ends."""
+    daemon = machine.started(tick_ms=MINUTE)
+    daemon.table()
+    resource.prlimit(daemon.child.pid, resource.RLIMIT_NOFILE, (3, 3))
+    with daemon.connect():
+        closing = daemon.ended()
+    must(closing == (5, "socket", 0, 0, 0, 0, 0), f"it ended {closing}")
+
+
+def seconds_of_processor(child):
+    """What all threads of a process took so far."""
+    total = 0
+    for path in glob.glob(f"/proc/{child.pid}/task/*/schedstat"):
+        with open(path) as file:
+            total += int(file.read().split()[0])
+    return total / 1e9
+
+
+def an_idle_daemon_sleeps(machine):
+    """It takes less than half a hundredth of a processor."""
+    daemon = machine.started(tick_ms=1_000)
+    daemon.table()
+    before, began = seconds_of_processor(daemon.child), time.monotonic()
+    time.sleep(IDLE_SECONDS)
+    share = (seconds_of_processor(daemon.child) - before) / (time.monotonic() - began)
+    print(f"  an idle daemon takes {share:.2%} of a processor")
+    must(share < MOST_IDLE_SHARE, f"it takes {share:.2%} of a processor")
+    daemon.stop()
+
+
+def stop_ends_it_soon(machine):
+    """Within half a second, also where the next tick is a minute away. The least of three tries counts, as others work here."""
+    least = SECONDS
+    for id in (1, 2, 3):
+        daemon = machine.started(id, tick_ms=MINUTE)
+        daemon.table()
+        began = time.monotonic()
+        daemon.stop()
+        least = min(least, time.monotonic() - began)
+    print(f"  `stop` takes {least * 1000:.0f} milliseconds")
+    must(least < MOST_STOP_SECONDS, f"it takes {least:.2f} seconds")
+
+
+def refused(program, words, wanted, **streams):
+    """A run that has to end at once, with that line on standard error and that status."""
+    streams = {"stdin": subprocess.DEVNULL, **streams}
+    ran = subprocess.run([program, *words], stdout=subprocess.PIPE, stderr=subprocess.PIPE, timeout=SECONDS, **streams)
+    found = (ran.stdout, ran.stderr, ran.returncode)
+    must(found == (b"", *wanted), f"{words}: {found}, and not {wanted}")
+
+
+def with_memory(most):
+    return lambda: resource.setrlimit(resource.RLIMIT_AS, (most, most))
+
+
+def how_it_ends(daemon, most):
+    """Status and texts of a daemon with so much memory, which is stopped if it runs."""
+    daemon.launch(preexec_fn=with_memory(most))
+    until(lambda: daemon.child.poll() is not None or daemon.answers(), f"a daemon with {most:,} bytes runs or ends")
+    if daemon.child.poll() is None:
+        daemon.ask(b"stop\n")
+    stdout, stderr = daemon.child.communicate(timeout=SECONDS)
+    return daemon.child.returncode, stdout, stderr
+
+
+def too_little_memory(machine):
+    """With ever less, it runs, or says `no memory` at its start or in its closing line, as long as its image can be loaded."""
+    daemon, found = machine.daemon(1, tick_ms=MINUTE), []
+    wanted = [
+        (0, b"ended stopped entries 0 judged 0 unsent 0 wire 0 refused 0\n", b""),
+        (4, b"ended no memory entries 0 judged 0 unsent 0 wire 0 refused 0\n", b"no memory\n"),
+        (4, b"", b"no memory\n"),
+    ]
+    for most in (MEGABYTE * 2**it // 4 for it in range(12, 3, -1)):
+        words = [machine.program, "check"]
+        ran = subprocess.run(words, input=b"", capture_output=True, preexec_fn=with_memory(most), timeout=SECONDS)
+        if 0 <= ran.returncode < 126:
+            found.append(how_it_ends(daemon, most))
+            must(found[-1] in wanted, f"with {most:,} bytes: {found[-1]}")
+    must(found and found[0] == wanted[0], "it doesn't run with a gigabyte")
+    print(f"  with a gigabyte, a half, a fourth and so on it ends with the statuses {[it[0] for it in found]}")
+
+
+def words_that_are_refused(machine):
+    daemon = machine.daemon(1)
+    usage = (b"usage\n", 2)
+    for words in (["run"], ["run", "--config"], ["run", daemon.file], ["run", "--config", daemon.file, "x"], ["ask"]):
+        refused(machine.program, words, usage)
+    for words in (["ask", "--control"], ["ask", daemon.control], ["run", "--control", daemon.file], ["--config", daemon.file]):
+        refused(machine.program, words, usage)
+
+
+def files_that_are_refused(machine):
+    for path in (f"{machine.folder}/nobody.toml", machine.folder):
+        refused(machine.program, ["run", "--config", path], (b"configuration file\n", 1))
+    endless = ["run", "--config", "/dev/zero"]
+    refused(machine.program, endless, (b"configuration 1\n", 1), preexec_fn=with_memory(LITTLE_MEMORY))
+    daemon = machine.daemon(1)
+    faults = {
+        "2": "id",
+        "3": configuration(members=[], **daemon.values, name=1),
+        "4 rtt": configuration(members=[], **{key: it for key, it in daemon.values.items() if key != "rtt"}),
+        "5 rtt": configuration(members=[], **{**daemon.values, "rtt": "1"}),
+        "6 journal": configuration(members=[], **{**daemon.values, "journal": 0}),
+        "7 member.at": configuration(members=[(2, "10.0.0.2")], **daemon.values),
+        "8 seed": configuration(members=[], **{**daemon.values, "seed": "5"}),
+        "9 2": configuration(members=[], **{**daemon.values, "period": 2}),
+    }
+    for fault, text in faults.items():
+        with open(daemon.file, "w", encoding="utf-8") as file:
+            file.write(text)
+        refused(machine.program, ["run", "--config", daemon.file], (f"configuration {fault}\n".encode(), 1))
+    must(not os.path.exists(daemon.control), "a configuration that is refused leaves a control path")
+
+
+def a_file_that_comes_in_pieces(machine):
+    """Through a pipe the configuration comes byte by byte, with comments of some length."""
+    daemon = machine.daemon(1, members=[(2, "10.0.0.2:7000")], tick_ms=MINUTE)
+    with open(daemon.file, "rb") as file:
+        text = file.read()
+    os.remove(daemon.file)
+    os.mkfifo(daemon.file)
+    daemon.launch()
+    pieces = [text[at : at + 1] for at in range(len(text))] + [b"#" * 60_000, b'\n[[member]]\nid = 3\nat = "1.2.3.4:5"\n']
+    with open(daemon.file, "wb", buffering=0) as pipe:
+        for piece in pieces:
+            pipe.write(piece)
+            time.sleep(0.001)
+    must(daemon.ready().states() == {2: "up", 3: "up"}, "it read something else")
+    must(daemon.stop().status == 0, "it ended otherwise")
+
+
+def sockets_that_cannot_be_bound(machine):
+    """The listening address before the control path; a path that exists is left as it was."""
+    first = machine.started(1, tick_ms=MINUTE)
+    run = lambda it: ["run", "--config", it.file]
+    listen, control = (b"bind listen\n", 5), (b"bind control\n", 5)
+    refused(machine.program, run(first), listen)
+    refused(machine.program, run(machine.daemon(2, first.port)), listen)
+    refused(machine.program, run(machine.daemon(3, listen="192.0.2.1:7000")), listen)
+    refused(machine.program, run(machine.daemon(4, control=first.control)), control)
+    refused(machine.program, run(machine.daemon(5, control=f"{machine.folder}/no/folder.sock")), control)
+    kept = machine.daemon(6)
+    with open(kept.control, "w") as file:
+        file.write("kept")
+    refused(machine.program, run(kept), control)
+    with open(kept.control) as file:
+        must(file.read() == "kept", "a file that stood at the control path has changed")
+    must(first.states() == {}, "the first daemon is disturbed")
+    first.kill()
+    refused(machine.program, run(first), control)
+    for path in (kept.control, f"{machine.folder}/none.sock", machine.folder):
+        refused(machine.program, ["ask", "--control", path], (b"connect control\n", 5))
+
+
+def the_longest_control_path(machine):
+    path = machine.folder + "/" + "x" * (99 - len(machine.folder))
+    daemon = machine.daemon(1, control=path, tick_ms=MINUTE)
+    daemon.control = path
+    must(len(path) == 100 and daemon.start().states() == {}, "it isn't answered")
+    must(daemon.stop().status == 0 and os.path.exists(path), "it ended otherwise, or took its path away")
+
+
+def the_last_number_goes_on(machine):
+    """The first probe has the number behind the last one used."""
+    peer = machine.socket()
+    daemon = machine.started(1, members=[(2, peer.getsockname()[1])], k=0, last=2**63 - 1)
+    must(fields(peer.recv(100)) == (PING, 1, 1, 2, 2**63), "the first ping has another number")
+    until(lambda: daemon.table()[2].state == f"failed {2**63}", "the verdict with that number")
+    must(daemon.stop().judged == 1, "it judged others")
+
+
+def another_port_of_the_member(machine):
+    """An ack counts wherever it comes from, and goes to where the ping came from."""
+    member, other = machine.socket(), machine.socket()
+    daemon = machine.started(1, members=[(2, member.getsockname()[1])], k=0)
+    for _ in range(5):
+        _, _, _, _, number = fields(member.recv(100))
+        other.sendto(datagram(ACK, 2, 1, 2, number), daemon.address)
+    must(daemon.states() == {2: "up"}, "an ack from another port isn't counted")
+    ping_and_hear(other, daemon, 7)
+    must(daemon.stop().status == 0, "it ended otherwise")
+
+
+EDGES = [
+    datagrams_that_are_none,
+    every_entry_is_counted,
+    a_journal_that_fills_by_pings,
+    a_journal_that_fills_by_ticks,
+    a_journal_that_fills_by_lines,
+    period_numbers_go_on,
+    what_cannot_be_sent,
+    a_socket_that_fails,
+    another_port_of_the_member,
+    the_last_number_goes_on,
+    an_idle_daemon_sleeps,
+    stop_ends_it_soon,
+    too_little_memory,
+    words_that_are_refused,
+    files_that_are_refused,
+    a_file_that_comes_in_pieces,
+    sockets_that_cannot_be_bound,
+    the_longest_control_path,
+]

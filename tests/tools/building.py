@@ -1,0 +1,174 @@
+"""Which program tests/support/build and tests/support/play take, and what they build. Each test has a copy of the sources in a
+folder of its own, where `rt` is a stand-in that writes down what it is asked for: nothing is proved here."""
+
+import os
+import re
+import shutil
+import subprocess
+import time
+
+from tests.support.crates import Crates
+from tests.support.parts import TOP
+
+SECONDS = 60
+# It makes a library or a program where there is none, as `rt` leaves what is there where only times are newer. It fails where a
+# file `refused` lies.
+STAND_IN = """\
+#!/bin/sh
+crate=$(basename "$PWD")
+echo "$crate $*" >> "$(dirname "$0")/calls"
+if [ -e refused ]; then echo 'it is not so' >&2; exit 1; fi
+case $1 in
+    lib) mkdir -p out/rlib/$crate.rlib ;;
+    run) mkdir -p out
+         [ -e out/$crate ] || printf '#!/bin/sh\\necho a proved program\\n' > out/$crate
+         chmod +x out/$crate ;;
+    try) cat > /dev/null; echo sources ;;
+esac
+"""
+
+
+class Copy:
+    """A copy of what programs are built of, with a stand-in of `rt`."""
+
+    def __init__(self, folder):
+        self.top, self.bin = f"{folder}/copy", f"{folder}/bin"
+        shutil.copytree(f"{TOP}/crates", f"{self.top}/crates", ignore=shutil.ignore_patterns("out"))
+        shutil.copytree(f"{TOP}/tests/support", f"{self.top}/tests/support")
+        for path in ("crates.txt", "tests/__init__.py", "examples/first.swim"):
+            os.makedirs(os.path.dirname(f"{self.top}/{path}"), exist_ok=True)
+            shutil.copy2(f"{TOP}/{path}", f"{self.top}/{path}")
+        os.makedirs(self.bin)
+        with open(f"{self.bin}/rt", "w", encoding="utf-8") as file:
+            file.write(STAND_IN)
+        os.chmod(f"{self.bin}/rt", 0o755)
+        self.crates = Crates(self.top)
+
+    def run(self, *words):
+        variables = {**os.environ, "PATH": f"{self.bin}:{os.environ['PATH']}"}
+        words = {"cwd": self.top, "env": variables, "capture_output": True, "text": True, "timeout": SECONDS, "args": words}
+        return subprocess.run(**words)
+
+    def calls(self):
+        """What `rt` was asked for since this was asked last: pairs of a crate and words."""
+        path = f"{self.bin}/calls"
+        if not os.path.exists(path):
+            return []
+        with open(path, encoding="utf-8") as file:
+            lines = file.read().splitlines()
+        os.remove(path)
+        return [tuple(line.split(" ", 1)) for line in lines]
+
+    def with_program(self):
+        """The proved program of swimsim is there, a second newer than all that it is made of."""
+        subprocess.run([f"{self.bin}/rt", "run"], cwd=self.crates.folder("swimsim"), check=True, timeout=SECONDS)
+        self.calls()
+        newest = max(os.stat(it).st_mtime for it in self.crates.sources("swimsim"))
+        os.utime(self.crates.made("swimsim"), (newest + 1, newest + 1))
+        return self
+
+    def touch(self, path):
+        """From now on that file or folder is newer than the program."""
+        self.date(path, os.stat(self.crates.made("swimsim")).st_mtime + 1)
+
+    def date(self, path, seconds):
+        os.utime(f"{self.top}/{path}", (seconds, seconds))
+
+
+def unlike(what, wanted, found):
+    return [] if wanted == found else [f"{what} is {found!r}, and not {wanted!r}"]
+
+
+def a_fresh_program_is_taken(_programs, folder):
+    copy = Copy(folder).with_program()
+    ran = copy.run("tests/support/build", "swimsim")
+    said = unlike("what is printed", ("crates/swimsim/out/swimsim\n", "", 0), (ran.stdout, ran.stderr, ran.returncode))
+    return said + unlike("what rt is asked for", [], copy.calls())
+
+
+def another_program_s_sources_make_none_older(_programs, folder):
+    copy = Copy(folder).with_program()
+    copy.touch("crates/swimd/src/main.rt")
+    ran = copy.run("tests/support/build", "swimsim")
+    return unlike("the status", 0, ran.returncode) + unlike("what rt is asked for", [], copy.calls())
+
+
+def an_older_program_is_built_anew(_programs, folder):
+    """Whatever of it is newer: a file of its own, one below it, the list of crates, or a folder, from which a file went."""
+    copy, said = Copy(folder), []
+    newer = ["crates/swimsim/src/main.rt", "crates/swim_history/specs/Run.antt", "crates.txt", "crates/swim_wire/proofs"]
+    for path in newer:
+        copy.with_program().touch(path)
+        copy.run("tests/support/build", "swimsim")
+        calls = copy.calls()
+        said += [] if ("swimsim", "run --") in calls else [f"{path} is newer, and rt is asked for {calls}"]
+    return said
+
+
+def what_was_built_anew_is_fresh(_programs, folder):
+    """Also where `rt` found that nothing but a time had changed. A later change makes the program older again."""
+    copy = Copy(folder).with_program()
+    copy.date("crates/swimsim/src/main.rt", time.time() - 60)
+    copy.date("crates/swimsim/out/swimsim", time.time() - 120)
+    copy.run("tests/support/build", "swimsim")
+    first, _ = copy.calls(), copy.run("tests/support/build", "swimsim")
+    said = unlike("what rt is asked for again", [], copy.calls()) + ([] if first else ["rt isn't asked at first"])
+    copy.date("crates/swimsim/src/main.rt", time.time() + 1)
+    return said + (["it is fresh for ever"] if copy.crates.is_fresh("swimsim") else [])
+
+
+def crates_are_proved_one_by_one(_programs, folder):
+    """The libraries below a program first, each behind those that it stands on, with a line for each; and its path last."""
+    copy = Copy(folder)
+    ran = copy.run("tests/support/build", "swimsim")
+    calls, said = copy.calls(), unlike("standard output", "crates/swimsim/out/swimsim\n", ran.stdout)
+    said += unlike("the last call", ("swimsim", "run --"), calls[-1])
+    said += unlike("the other calls", {"lib"}, {words for _, words in calls[:-1]})
+    order = [crate for crate, _ in calls]
+    for place, crate in enumerate(order):
+        late = [it for it in copy.crates.below[crate] if it in copy.crates.below and it not in order[:place]]
+        said += [f"{crate} is proved before {it}" for it in late]
+    lines = [rf"proved {crate} in \d+ s \({place} of {len(order)}\)\n" for place, crate in enumerate(order, 1)]
+    is_told = re.fullmatch(r"proving and building swimsim: [^\n]* minutes [^\n]*\n" + "".join(lines), ran.stderr)
+    return said + ([] if is_told else [f"standard error is {ran.stderr!r}"])
+
+
+def a_failed_proof_ends_it(_programs, folder):
+    """What was said of it is shown, nothing above it is tried, and no path is printed."""
+    copy = Copy(folder)
+    open(f"{copy.crates.folder('swim_history')}/refused", "w").close()
+    ran = copy.run("tests/support/build", "swimsim")
+    said = unlike("what is printed", ("", 1), (ran.stdout, ran.returncode))
+    said += unlike("the last call", ("swim_history", "lib"), copy.calls()[-1])
+    return said + ([] if "it is not so" in ran.stderr and "swim_history" in ran.stderr else [f"it says {ran.stderr!r}"])
+
+
+def a_fresh_program_plays(_programs, folder):
+    copy = Copy(folder).with_program()
+    ran = copy.run("tests/support/play", "examples/first.swim")
+    said = unlike("what is written", ("a proved program\n", "", 0), (ran.stdout, ran.stderr, ran.returncode))
+    return said + unlike("what rt is asked for", [], copy.calls())
+
+
+def sources_play_where_no_program_is_fresh(_programs, folder):
+    """One that is missing, and one that is older. It is said that what ran isn't proved, and how it is."""
+    copy, said = Copy(folder), []
+    for make in (lambda: None, lambda: copy.with_program().touch("crates/swim_wire/src/lib.rt")):
+        make()
+        ran = copy.run("tests/support/play", "examples/first.swim")
+        said += unlike("what is written", ("sources\n", 0), (ran.stdout, ran.returncode))
+        said += unlike("what rt is asked for", [("swimsim", "try --")], copy.calls())
+        said += [f"standard error has no `{it}`" for it in ("not proved", "make build") if it not in ran.stderr]
+    return said
+
+
+BUILDING = [
+    a_fresh_program_is_taken,
+    another_program_s_sources_make_none_older,
+    an_older_program_is_built_anew,
+    what_was_built_anew_is_fresh,
+    crates_are_proved_one_by_one,
+    a_failed_proof_ends_it,
+    a_fresh_program_plays,
+    sources_play_where_no_program_is_fresh,
+]
