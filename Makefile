@@ -11,7 +11,7 @@ MAN = $(DESTDIR)$(PREFIX)/share/man/man1
 DOC = $(DESTDIR)$(PREFIX)/share/doc
 UNIT = $(DESTDIR)$(PREFIX)/lib/systemd/system
 
-.PHONY: help build run demo test compare bench install uninstall
+.PHONY: help build run demo check test compare bench install uninstall
 
 help:
 	@echo 'make run        plays examples/first.swim: by the proved swimsim where that was built, and else by its sources, as'
@@ -20,6 +20,8 @@ help:
 	@echo '                and shows a group of five at work, of which one is killed'
 	@echo 'make build      proves and builds swimsim and swimd if need be, which takes half an hour at first and says how far'
 	@echo '                it is, and prints where they lie'
+	@echo 'make check      for people at work: checks what changed since it was last proved here and what stands on it, with the'
+	@echo '                tests of those, and runs the short parts of tests/; it takes what was proved before as it is'
 	@echo 'make test       rt ci (every proof and test), the edits, and then the parts of tests/ that run the built programs;'
 	@echo '                tests/all --list names them, and tests/all --only NAME runs one'
 	@echo 'make compare    runs swimsim and tests/reference on random scripts, and swimd on random configurations and'
@@ -38,6 +40,9 @@ run:
 
 demo:
 	@tests/swimd/demo
+
+check:
+	@tests/all --short
 
 test:
 	@tests/all

@@ -6,7 +6,7 @@ import re
 import subprocess
 
 from tests.generators.cut_scripts import answers
-from tests.support.daemons import PING, DaemonFault, Machine, datagram, fields, must, until
+from tests.support.daemons import PING, PORTS_TRIED, DaemonFault, Machine, PortTaken, datagram, fields, must, until
 from tests.generators.growing_scripts import joined
 from tests.node.refusing import REFUSED, Ran
 
@@ -120,19 +120,21 @@ def lines_wanted(join, remove):
 
 
 def how_it_runs(refuser, program, number):
-    """How a daemon ends whose request of that number is refused, and what isn't as it has to be. None where none was."""
+    """How a daemon ends whose request of that number is refused, and what isn't as it has to be. None where it asked for less."""
     with Machine(program) as machine:
         daemon = machine.daemon(1, members=[(2, "10.0.0.2:7000")], tick_ms=60_000)
         daemon.launch(env={**os.environ, "LD_PRELOAD": refuser.library, "REFUSE": str(number)})
         until(lambda: daemon.child.poll() is not None or daemon.answers(), "it runs or ends")
         found = asked(daemon, machine.socket()) if daemon.child.poll() is None else None
         stdout, stderr = daemon.child.communicate(timeout=20)
-    if REFUSED not in stderr:
-        return None
     ran = Ran(stdout, stderr.replace(REFUSED, b"", 1), daemon.child.returncode)
+    if ran.stderr == b"bind listen\n":
+        raise PortTaken(f"port {daemon.port} is taken")
     if not found:
+        must(REFUSED in stderr, f"it ended without a refusal: {ran}")
         return NOT_BEGUN, [] if must_not_begin(ran) else [f"request {number}: {ran}"]
-    return goes_on(ran, *found, number)
+    ending = goes_on(ran, *found, number)
+    return ending if REFUSED in stderr or ending != (AS_EVER, []) else None
 
 
 def must_not_begin(ran):
@@ -155,9 +157,11 @@ def of_a_daemon(refuser, program, pool):
     """Either a daemon doesn't begin, and says `no memory`; or one call has no memory, is counted, and changes nothing; or it runs
     as ever."""
 
-    def tried(number):
+    def tried(number, ports=PORTS_TRIED):
         try:
             return how_it_runs(refuser, program, number)
+        except PortTaken as fault:
+            return tried(number, ports - 1) if ports > 1 else (NOT_BEGUN, [f"request {number}: {fault}"])
         except (DaemonFault, OSError, subprocess.SubprocessError, LookupError) as fault:
             return NOT_BEGUN, [f"request {number}: {type(fault).__name__}: {fault}"]
 

@@ -17,6 +17,8 @@ HOST = "127.0.0.1"
 SECONDS = 20
 # So often a daemon is told to stop.
 STOPS = 10
+# So many ports are tried: one that was free a moment ago may be taken.
+PORTS_TRIED = 10
 PING, REQUEST, ACK = 1, 2, 3
 COUNTS = rb"entries (\d+) judged (\d+) unsent (\d+) wire (\d+) refused (\d+)\n"
 LIFE = re.compile(rb"life (\d+) " + COUNTS)
@@ -338,12 +340,12 @@ class Machine:
 
     def started(self, id=1, how=None, **values):
         """A daemon that runs. A port that was free a moment ago may have been taken, and then another is."""
-        for _ in range(10):
+        for _ in range(PORTS_TRIED):
             try:
                 return self.daemon(id, **values).start(**(how or {}))
             except PortTaken:
                 pass
-        raise DaemonFault("ten ports that were free are taken")
+        raise DaemonFault(f"{PORTS_TRIED} ports that were free are taken")
 
     def members(self, count, **values):
         """So many daemons that aren't started, each of which knows all others."""
