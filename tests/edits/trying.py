@@ -56,18 +56,16 @@ class Trial:
         alone = [it for it in self.left if not it.function(self.texts)]
         self.left = [it for it in self.left if it.function(self.texts)]
         while self.left:
-            batch = one_a_function(self.left, self.texts)
+            batch, texts = together(self.left, self.texts)
             self.left = [it for it in self.left if it not in batch]
-            alone += self.unseen(batch) if len(batch) > 1 else batch
+            alone += self.unseen(batch, texts) if len(batch) > 1 else batch
         for edit in alone:
             self.alone(edit)
         return sorted(self.tried)
 
-    def unseen(self, batch):
-        """Tries edits of different functions together, and gives those of which no error of their own was told."""
-        texts = self.texts
-        for edit in batch:
-            texts = edit.planted(texts)
+    def unseen(self, batch, texts):
+        """Tries edits of different functions, all of which are in these texts, and gives those of which no error of their own was
+        told."""
         paths = [edit.function(self.texts)[1] for edit in batch]
         said = self.check(texts, *(word for it in paths for word in ("--only", it)))
         unseen = []
@@ -89,12 +87,19 @@ class Trial:
         self.tell(edit.name, *whole_ending(self.check(texts)), "alone, in the whole crate")
 
 
-def one_a_function(edits, texts):
-    """The first edit of each function."""
-    first = {}
+def together(edits, texts):
+    """The first edit of each function, and the crate's texts with all of them. One whose old text stands twice beside what an earlier
+    edit wrote is left for later."""
+    first, planted = {}, texts
     for edit in edits:
-        first.setdefault(edit.function(texts), edit)
-    return list(first.values())
+        function = edit.function(texts)
+        if function not in first:
+            try:
+                planted = edit.planted(planted)
+                first[function] = edit
+            except BadEdit:
+                pass
+    return list(first.values()), planted
 
 
 def whole_ending(said):
