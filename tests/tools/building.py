@@ -1,5 +1,5 @@
-"""Which program tests/support/build and tests/support/play take, and what they build. Each test has a copy of the sources in a
-folder of its own, where `rt` is a stand-in that writes down what it is asked for: nothing is proved here."""
+"""Which program tests/support/build and tests/support/play take, what they build, and what tests/support/check checks. Each test has a
+copy of the sources in a folder of its own, where `rt` is a stand-in that writes down what it is asked for: nothing is proved here."""
 
 import os
 import re
@@ -23,6 +23,7 @@ case $1 in
     run) mkdir -p out
          [ -e out/$crate ] || printf '#!/bin/sh\\necho a proved program\\n' > out/$crate
          chmod +x out/$crate ;;
+    test) mkdir -p out; touch out/${crate}_tests ;;
     try) cat > /dev/null; echo sources ;;
 esac
 """
@@ -66,6 +67,11 @@ class Copy:
         newest = max(os.stat(it).st_mtime for it in self.crates.sources("swimsim"))
         os.utime(self.crates.made("swimsim"), (newest + 1, newest + 1))
         return self
+
+    def check(self):
+        """Checks what changed, and gives the status, the last line, and which crates `rt` was asked for."""
+        ran = self.run("tests/support/check", "--lanes", "3")
+        return ran.returncode, ran.stdout.splitlines()[-1], [crate for crate, _ in self.calls()]
 
     def touch(self, path):
         """From now on that file or folder is newer than the program."""
@@ -125,12 +131,16 @@ def crates_are_proved_one_by_one(_programs, folder):
     said += unlike("the last call", ("swimsim", "run --"), calls[-1])
     said += unlike("the other calls", {"lib"}, {words for _, words in calls[:-1]})
     order = [crate for crate, _ in calls]
-    for place, crate in enumerate(order):
-        late = [it for it in copy.crates.below[crate] if it in copy.crates.below and it not in order[:place]]
-        said += [f"{crate} is proved before {it}" for it in late]
+    said += too_early(copy.crates, order)
     lines = [rf"proved {crate} in \d+ s \({place} of {len(order)}\)\n" for place, crate in enumerate(order, 1)]
     is_told = re.fullmatch(r"proving and building swimsim: [^\n]* minutes [^\n]*\n" + "".join(lines), ran.stderr)
     return said + ([] if is_told else [f"standard error is {ran.stderr!r}"])
+
+
+def too_early(crates, order):
+    """What is wrong with the order in which crates were proved: one comes before another that it stands on."""
+    pairs = [(crate, it, order[: place + 1]) for place, crate in enumerate(order) for it in crates.chain(crate)]
+    return [f"{crate} is proved before {it}" for crate, it, proved in pairs if it not in proved]
 
 
 def a_failed_proof_ends_it(_programs, folder):
@@ -162,6 +172,33 @@ def sources_play_where_no_program_is_fresh(_programs, folder):
     return said
 
 
+def a_change_is_checked_with_all_above_it(_programs, folder):
+    """All crates at first, then none, and then the changed one and those that stand on it."""
+    copy = Copy(folder)
+    count, (status, last, order) = len(copy.crates.below), copy.check()
+    said = unlike("the first end", (0, f"{count} passed, 0 failed"), (status, last)) + too_early(copy.crates, order)
+    said += unlike("what is checked first", sorted(copy.crates.below), sorted(order))
+    said += unlike("the second check", (0, "0 passed, 0 failed", []), copy.check())
+    os.utime(f"{copy.top}/crates/swim_life/src/lib.rt")
+    status, last, order = copy.check()
+    said += unlike("the third end", (0, "3 passed, 0 failed"), (status, last))
+    said += unlike("what is checked then", ("swim_life", ["swim_life_tests", "swimd"]), (order[0], sorted(order[1:])))
+    return said + unlike("the last check", (0, "0 passed, 0 failed", []), copy.check())
+
+
+def a_failed_check_fails_all_above_it(_programs, folder):
+    """Those aren't tried. What failed is tried again the next time."""
+    copy, above = Copy(folder), {"swimd", "swim_life_tests"}
+    refused = f"{copy.crates.folder('swim_life')}/refused"
+    open(refused, "w").close()
+    count, (status, last, order) = len(copy.crates.below), copy.check()
+    said = unlike("the end", (1, f"{count - 3} passed, 3 failed"), (status, last))
+    said += unlike("what is checked", set(copy.crates.below) - above, set(order))
+    os.remove(refused)
+    status, last, order = copy.check()
+    return said + unlike("the next end", (0, "3 passed, 0 failed", {"swim_life", *above}), (status, last, set(order)))
+
+
 BUILDING = [
     a_fresh_program_is_taken,
     another_program_s_sources_make_none_older,
@@ -171,4 +208,6 @@ BUILDING = [
     a_failed_proof_ends_it,
     a_fresh_program_plays,
     sources_play_where_no_program_is_fresh,
+    a_change_is_checked_with_all_above_it,
+    a_failed_check_fails_all_above_it,
 ]
