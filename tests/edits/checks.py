@@ -1,4 +1,4 @@
-"""Checks of a crate with edits in it, by `rt check` in a room of its own, and what they say of each function."""
+"""Checks of a crate with edits in it, by the toolchain's prover in a room of its own, and what they say of each function."""
 
 import os
 import re
@@ -11,18 +11,11 @@ from typing import NamedTuple
 ONLY_NAMES = re.compile(r"has no field|is not in scope|has no `|was not admitted|which was rejected, was not checked")
 ERROR = re.compile(r"(?:\./)?(\S+?):\d+:\d+: error: .*")
 SEARCH = re.compile(r"`search` did not prove .*")
-
-
-def copy_lines(source, to, names):
-    """Copies the lines of a crates.txt that are of these crates."""
-    with open(source, encoding="utf-8") as file:
-        lines = [it for it in file if it.split(":")[0].split()[:1] and it.split(":")[0].split()[0] in names]
-    with open(to, "w", encoding="utf-8") as file:
-        file.writelines(lines)
+PARTS = ("src", "specs", "proofs")
 
 
 class Check(NamedTuple):
-    """What a check wrote, without the lines that only say how far it is."""
+    """What a check wrote."""
 
     lines: list
 
@@ -58,34 +51,48 @@ class Check(NamedTuple):
         return next((it for it in self.errors(*folders) if not ONLY_NAMES.search(it)), None)
 
 
-class Room:
-    """A repository of its own for one crate: a copy of the crate, and links to what the libraries below it are and were proved to.
-    What was kept of the crate's own proof goes with it."""
+def toolchain():
+    """The folder of the toolchain: `rt doc` prints the path of a page there."""
+    page = subprocess.run(["rt", "doc"], stdout=subprocess.PIPE, check=True, text=True).stdout.strip()
+    return os.path.dirname(page)
 
-    def __init__(self, base, folder, name, below):
-        self.name, self.folder = name, f"{folder}/crates/{name}"
-        os.makedirs(folder)
-        shutil.copyfile(f"{base}/HANDLES", f"{folder}/HANDLES")
-        copy_lines(f"{base}/crates.txt", f"{folder}/crates.txt", {name, *below})
-        for library in below:
-            shutil.copytree(f"{base}/crates/{library}", f"{folder}/crates/{library}", copy_function=os.link,
-                            ignore=shutil.ignore_patterns("incremental"))
-        shutil.copytree(f"{base}/crates/{name}", self.folder, ignore=shutil.ignore_patterns("out"))
-        if os.path.isdir(f"{base}/crates/{name}/out/incremental"):
-            os.makedirs(f"{self.folder}/out")
-            shutil.move(f"{base}/crates/{name}/out/incremental", f"{self.folder}/out/incremental")
+
+def prover_words(crates, name):
+    """What checks a crate over the libraries that lie below it, as they are. `rt check` would prove those anew that `rt ci` left: it
+    takes only what it built itself."""
+    kit, below = toolchain(), crates.below[name]
+    root = "main" if os.path.exists(f"{crates.folder(name)}/src/main.rt") else "lib"
+    libraries = {"std": f"{kit}/rlibs/std.rlib"}
+    libraries.update({it: crates.made(it) if it in crates.below else f"{kit}/rlibs/{it}.rlib" for it in below})
+    folders = [f"{kit}/rlibs", *(os.path.dirname(crates.made(it)) for it in crates.chain(*below))]
+    return [f"{kit}/bin/rattle", "check", "--crate-name", name, f"src/{root}.rt",
+            *(word for it, path in libraries.items() for word in ("--extern", f"{it}={path}")),
+            *(word for it in folders for word in ("-L", f"dependency={it}")),
+            "--antt-project", f"{kit}/rattle/logic/antt-project.json", "--logic-built", f"{kit}/logic_built",
+            "--links", f"{name}=", "--jobs", "1"]
+
+
+class Room:
+    """A copy of a crate, in which it is checked with edits. What its checks prove is kept for the next ones."""
+
+    def __init__(self, crates, name, folder, kept):
+        self.name, self.folder = name, folder
+        for part in PARTS:
+            if os.path.isdir(f"{crates.folder(name)}/{part}"):
+                shutil.copytree(f"{crates.folder(name)}/{part}", f"{folder}/{part}")
+        os.makedirs(kept, exist_ok=True)
+        self.words = [*prover_words(crates, name), "--incremental", kept]
 
     def check(self, before, texts, *words):
         """Checks the crate with these texts in place of those before, and puts those back."""
         changed = [it for it in texts if texts[it] != before[it]]
         try:
             self.write({it: texts[it] for it in changed})
-            ran = subprocess.run(["rt", "check", "--jobs", "1", *words], cwd=self.folder, stdin=subprocess.DEVNULL,
+            ran = subprocess.run([*self.words, *words], cwd=self.folder, stdin=subprocess.DEVNULL,
                                  stdout=subprocess.PIPE, stderr=subprocess.STDOUT)
         finally:
             self.write({it: before[it] for it in changed})
-        lines = ran.stdout.decode(errors="replace").split("\n")
-        return Check([it for it in lines if not it.startswith("so far: ")])
+        return Check(ran.stdout.decode(errors="replace").split("\n"))
 
     def write(self, texts):
         for file, text in texts.items():
