@@ -75,13 +75,11 @@ def prover_words(crates, name):
 class Room:
     """A copy of a crate, in which it is checked with edits. What its checks prove is kept for the next ones."""
 
-    def __init__(self, crates, name, folder, kept):
-        self.name, self.folder = name, folder
-        for part in PARTS:
-            if os.path.isdir(f"{crates.folder(name)}/{part}"):
-                shutil.copytree(f"{crates.folder(name)}/{part}", f"{folder}/{part}")
-        os.makedirs(kept, exist_ok=True)
-        self.words = [*prover_words(crates, name), "--incremental", kept]
+    def __init__(self, crates, name, folder):
+        self.name, self.folder, self.words = name, folder, [*prover_words(crates, name), "--incremental", f"{folder}/kept"]
+        os.makedirs(f"{folder}/kept")
+        for part in (it for it in PARTS if os.path.isdir(f"{crates.folder(name)}/{it}")):
+            shutil.copytree(f"{crates.folder(name)}/{part}", f"{folder}/{part}")
 
     def check(self, before, texts, *words):
         """Checks the crate with these texts in place of those before, and puts those back."""

@@ -55,9 +55,10 @@ class Crates:
                     yield from (f"{at}/{file}" for file in files)
 
     def is_fresh(self, name):
-        """Whether what is made of a crate is there, and nothing that it is made of is newer."""
-        made = self.made(name)
-        return os.path.exists(made) and all(os.stat(it).st_mtime_ns <= os.stat(made).st_mtime_ns for it in self.sources(name))
+        """Whether what is made of a crate is there, and nothing that it is made of is newer, nor a library that was built below it."""
+        made, libraries = self.made(name), [self.made(it) for it in self.chain(name) if it != name]
+        below = [*self.sources(name), *(it for it in libraries if os.path.exists(it))]
+        return os.path.exists(made) and all(os.stat(it).st_mtime_ns <= os.stat(made).st_mtime_ns for it in below)
 
     def command(self, name):
         """What proves a crate and makes what is made of it, and what it reads. A program is also run, on its stored input."""
