@@ -29,6 +29,10 @@ class Check(NamedTuple):
         head = f"fn {crate}::{path}: "
         return next((it[len(head) :] for it in self.lines if it.startswith(head)), None)
 
+    def unproved(self):
+        """What is said of the functions that aren't proved."""
+        return [it for it in self.lines if it.startswith("fn ") and not it.endswith(": proved")]
+
     def errors(self, *folders):
         """The errors that are told, of all files or of those below some folders."""
         found = [it for it in self.lines if ERROR.match(it)]

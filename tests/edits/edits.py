@@ -39,7 +39,7 @@ class Edit:
         for file, old, _ in self.pairs:
             text = texts.get(file, "")
             at = text.find(old)
-            inside = function_at(file, text, at, at + len(old)) if at >= 0 and file.startswith("src/") else None
+            inside = function_at(file, texts, at, at + len(old)) if at >= 0 and file.startswith("src/") else None
             found.add((file, inside.path) if inside else None)
         return found.pop() if len(found) == 1 else None
 

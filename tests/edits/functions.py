@@ -9,6 +9,7 @@ import re
 from typing import NamedTuple
 
 IMPL = re.compile(r"(?:unsafe )?impl\b(.*)")
+TYPE = re.compile(r"^(?:pub(?:\([^)]*\))? )?(?:struct|enum) (\w+)", re.MULTILINE)
 FUNCTION = re.compile(r"( *)(?:pub(?:\([^)]*\))? )?(?:const |unsafe |extern \"C\" )*fn (\w+)")
 
 
@@ -26,6 +27,13 @@ def module_of(file):
     return [] if parts in (["lib"], ["main"]) else [it for it in parts if it != "mod"]
 
 
+def home_of(name, file, texts):
+    """The module of the type of that name, under which its functions are named: that of the one file of src/ where it stands, and else
+    that of the file with the `impl`."""
+    homes = [it for it in texts if it.startswith("src/") and name in TYPE.findall(texts[it])]
+    return module_of(homes[0] if len(homes) == 1 else file)
+
+
 def without_arguments(text):
     """A type or a trait without what stands between its angle brackets."""
     kept, depth = "", 0
@@ -35,11 +43,11 @@ def without_arguments(text):
     return kept
 
 
-def owner_of(head):
-    """The name under which the functions of an `impl` stand: its type, and behind it the trait, if there is one."""
+def owner_of(head, file, texts):
+    """The path under which the functions of an `impl` stand: its type, and right behind that the trait, if there is one."""
     words = without_arguments(head).split("{")[0].split(" where ")[0].split(" for ")
     names = [it.strip().split("::")[-1] for it in reversed(words)]
-    return "".join(names)
+    return [*home_of(names[0], file, texts), "".join(names)]
 
 
 def body_of(lines, at, indent):
@@ -54,26 +62,26 @@ def body_of(lines, at, indent):
     return None
 
 
-def functions_of(file, text):
+def functions_of(file, texts):
     """The functions of a file of src/."""
-    lines, owner, found = text.split("\n"), None, []
+    lines, owner, found = texts[file].split("\n"), None, []
     offsets = [0]
     for line in lines:
         offsets.append(offsets[-1] + len(line) + 1)
     for at, line in enumerate(lines):
         if IMPL.match(line):
-            owner = owner_of(IMPL.match(line)[1])
+            owner = owner_of(IMPL.match(line)[1], file, texts)
         elif line == "}":
             owner = None
         head = FUNCTION.match(line)
         body = body_of(lines, at, head[1]) if head else None
         if body:
-            path = [*module_of(file), *([owner] if owner and head[1] else []), head[2]]
+            path = [*(owner if owner and head[1] else module_of(file)), head[2]]
             found.append(Function("::".join(path), offsets[body[0]], offsets[body[1]]))
     return found
 
 
-def function_at(file, text, start, end):
-    """The function in whose body a part of the text stands, if there is one."""
-    inside = [it for it in functions_of(file, text) if it.start <= start and end <= it.end]
+def function_at(file, texts, start, end):
+    """The function in whose body a part of a file's text stands, if there is one."""
+    inside = [it for it in functions_of(file, texts) if it.start <= start and end <= it.end]
     return inside[-1] if inside else None

@@ -109,8 +109,10 @@ def whole_ending(said):
         return NOT_REFUSED, "the crate is still proved with this edit"
     if said.verdict() is None:
         return BAD_EDIT, f"it did not reach the prover: {next(iter(said.rejections()), ' '.join(said.lines[:3]))}"
-    searched = [it for it in said.lines if it.startswith("fn ") and "`search` did not prove" in it]
+    searched = [it for it in said.unproved() if "`search` did not prove" in it]
     told = [it for it in errors if not ONLY_NAMES.search(it)] + searched
-    if not told and errors:
+    if told:
+        return REFUSED, told[0]
+    if errors:
         return BAD_EDIT, f"refused only because a proof names what the edit took away: {errors[0]}"
-    return REFUSED, told[0] if told else "no error is told"
+    return BAD_EDIT, f"refused, but not by a contract: {next(iter(said.unproved()), 'nothing is told')}"

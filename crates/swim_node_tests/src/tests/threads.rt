@@ -25,15 +25,25 @@ fn two_in_threads<N: Naming + Send + Sync, R: Threads + Wait + Abort + Send + Sy
     let ((first, second), others) = callers;
     let callers = hear_and_tick(&rt, &node, first, second);
     let (journal, callers) = close(&rt, node, (callers, others));
+    assert_two_called(&rt, &callers);
+    assert_judged(&rt, &journal);
+    Ok(())
+}
+
+fn assert_two_called<N: Naming, R: Abort>(rt: &R, callers: &Four<Seat<N>>) {
     let ((first, second), _others) = callers;
-    assert_calls(&rt, &first, 0, 100);
-    assert_calls(&rt, &second, 1, 90);
+    assert_calls(rt, first, 0, 100);
+    assert_calls(rt, second, 1, 90);
+}
+
+fn assert_judged<R: Abort>(rt: &R, journal: &Journal) {
     assert_eq!(rt; journal.len(), 190);
     let judged = |member, number| Judged { member, number };
     let expected = [judged(id(2), 1), judged(id(3), 2)];
-    let judgements = journal.judgements()?;
-    assert!(rt; judgements.as_slice() == expected.as_slice());
-    Ok(())
+    match journal.judgements() {
+        Ok(judgements) => assert!(rt; judgements.as_slice() == expected.as_slice()),
+        Err(_) => panic!(rt; "memory"),
+    }
 }
 
 // The seat's calls are numbered in order.
@@ -118,15 +128,19 @@ fn four_in_threads<N: Naming + Send + Sync, R: Threads + Wait + Abort + Send + S
     let (listening, changing) = callers;
     let callers = call_at_once(&rt, &node, listening, changing);
     let (journal, callers) = close(&rt, node, callers);
-    let ((first, second), (third, fourth)) = callers;
-    assert_calls(&rt, &first, 0, 100);
-    assert_calls(&rt, &second, 1, 90);
-    assert_calls(&rt, &third, 2, 50);
-    assert_calls(&rt, &fourth, 3, 50);
-    assert_joined(&rt, &third);
-    assert_unknown(&rt, &fourth);
+    assert_four_called(&rt, &callers);
     assert_eq!(rt; journal.len(), 290);
     Ok(())
+}
+
+fn assert_four_called<N: Naming, R: Abort>(rt: &R, callers: &Four<Seat<N>>) {
+    let ((first, second), (third, fourth)) = callers;
+    assert_calls(rt, first, 0, 100);
+    assert_calls(rt, second, 1, 90);
+    assert_calls(rt, third, 2, 50);
+    assert_calls(rt, fourth, 3, 50);
+    assert_joined(rt, third);
+    assert_unknown(rt, fourth);
 }
 
 fn assert_joined<N: Naming, R: Abort>(rt: &R, seat: &Seat<N>) {
