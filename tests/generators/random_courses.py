@@ -86,7 +86,7 @@ class Course:
         self.must_have_failed()
         ended = self.told.count("journal full")
         until(lambda: self.daemon.lives_so_far() >= ended, f"{ended} lives end")
-        must(self.daemon.stop_between_lives().status == 0, "it ended otherwise")
+        must(self.daemon.stop().status == 0, "it ended otherwise")
         self.must_have_lived()
 
     def must_have_failed(self):

@@ -15,8 +15,6 @@ from typing import NamedTuple
 
 HOST = "127.0.0.1"
 SECONDS = 20
-# So often a daemon is told to stop.
-STOPS = 10
 # So many ports are tried: one that was free a moment ago may be taken.
 PORTS_TRIED = 10
 PING, REQUEST, ACK = 1, 2, 3
@@ -177,8 +175,13 @@ class Daemon:
         self.file = f"{folder}/{id}.toml"
         usual = {"k": 1, "rtt": 3, "period": 12, "tick_ms": 20, "seed": f"{id:064x}", "journal": 1_000_000}
         self.values = {"id": id, "listen": f"{HOST}:{port}", "control": self.control, **usual, **values}
+        self.members = members
+        self.write()
+
+    def write(self):
+        """Writes its configuration, with its values as they are now."""
         with open(self.file, "w", encoding="utf-8") as file:
-            file.write(configuration(members=members, **self.values))
+            file.write(configuration(members=self.members, **self.values))
 
     def launch(self, **how):
         """Starts it, and doesn't wait."""
@@ -247,17 +250,6 @@ class Daemon:
         answer = self.ask(b"stop\n")
         must(answer == b"stopping\n", f"member {self.id} answers `stop` with {answer!r}")
         return self.ended()
-
-    def stop_between_lives(self):
-        """The same of one whose lives are short. A `stop` that comes while a life ends doesn't reach the next, and is said again."""
-        for _ in range(STOPS):
-            self.ask(b"stop\n")
-            end = time.monotonic() + 1
-            while self.child.poll() is None and time.monotonic() < end:
-                time.sleep(0.01)
-            if self.child.poll() is not None:
-                return self.ended()
-        raise DaemonFault(f"member {self.id} goes on after {STOPS} stops")
 
     def ended(self, seconds=SECONDS):
         """Waits for its end, and says how it ended."""

@@ -88,40 +88,18 @@ def many_connections(machine):
 
 
 def a_client_that_never_sends(machine):
-    """The next client waits until it hangs up. Pings are answered meanwhile."""
+    """The next client is served beside it, and pings are answered."""
     daemon, peer = quiet(machine), machine.socket()
-    with daemon.connect() as silent:
+    with daemon.connect() as silent, connected(daemon.control) as second:
         silent.sendall(b"gap 2\n")
         must_be(silent.recv(100), b"gap none\n", "the first client")
-        with connected(daemon.control) as second:
-            second.sendall(b"list\n")
-            peer.sendto(datagram(PING, 9, 9, 1, 1), daemon.address)
-            must(fields(peer.recv(100)) == (ACK, 1, 9, 1, 1), "another ack")
-            must(not select.select([second], [], [], 0.2)[0], "two connections are served at a time")
-            silent.close()
-            must_be(talk(second, []), LISTED, "the second client")
-    must(daemon.stop().entries == 1, "other entries than one ping")
-
-
-def a_silent_client_holds_up_the_next_life(machine):
-    """A full journal ends a life, but not before its client went. What came meanwhile is answered then."""
-    daemon, peer = quiet(machine, journal=1), machine.socket()
-    with daemon.connect() as silent:
-        silent.sendall(b"gap 2\n")
-        must_be(silent.recv(100), b"gap none\n", "the client")
-        for number in (1, 2, 3):
-            peer.sendto(datagram(PING, 9, 9, 1, number), daemon.address)
-        must(fields(peer.recv(100))[4] == 1, "another ack")
+        second.sendall(b"list\n")
+        peer.sendto(datagram(PING, 9, 9, 1, 1), daemon.address)
+        must(fields(peer.recv(100)) == (ACK, 1, 9, 1, 1), "another ack")
+        must_be(talk(second, []), LISTED, "the second client")
         silent.sendall(b"list\n")
-        must_be(silent.recv(100), LISTED, "a line of a client at a full journal")
-        must(not select.select([peer], [], [], 0.3)[0], "a ping is answered while the journal is full")
-        silent.sendall(b"remove 9\n")
-        must_be(silent.recv(100), b"journal full\n", "a call at a full journal")
-        must(silent.recv(1) == b"", "the connection goes on")
-    must(fields(peer.recv(100))[4] == 3, "another ack in the next life")
-    closing = daemon.stop()
-    must(daemon.lives == [(0, 1, 0, 0, 0, 0)], f"its lives are {daemon.lives}")
-    must(closing == (0, "stopped", 1, 0, 0, 0, 0), f"it ended {closing}")
+        must_be(silent.recv(100), LISTED, "the first client, later")
+    must(daemon.stop().entries == 1, "other entries than one ping")
 
 
 def as_many_reads_as_may_be(machine):
@@ -216,7 +194,6 @@ LINES = [
     half_a_line_and_away,
     many_connections,
     a_client_that_never_sends,
-    a_silent_client_holds_up_the_next_life,
     as_many_reads_as_may_be,
     lines_by_ask,
     a_dialogue_by_ask,

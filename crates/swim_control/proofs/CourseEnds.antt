@@ -17,9 +17,9 @@ use Rattle.swim_control.specs.declared.serving.Served.TheVariants as ends
 use Rattle.swim_control.specs.Commands.{said, said_by, line_said}
 use Rattle.swim_control.specs.Desks.{Told, Shows, Measures, Answers}
 use Rattle.swim_control.specs.Texts.{fault_text}
-use Rattle.swim_control.specs.Serving.{lines_of, line_text, output_of, end_at, GoesOn, EndsWith, AreCutOff, NewestHas, IsPart, IsServed, Ends}
+use Rattle.swim_control.specs.Serving.{Course, lines_of, line_text, output_of, end_at, GoesOn, EndsWith, AreCutOff, NewestHas, IsPart, IsServed, Ends}
 use Rattle.swim_control.specs.Turns.{closed, Asked, Turned, IsLast}
-use Rattle.swim_control.proofs.Courses.{whole_line, IsOneLine, said_unended, said_long, one_unended, lines_more, added_to, line_added, whole_more, Course, Added}
+use Rattle.swim_control.proofs.Courses.{whole_line, IsOneLine, said_unended, said_long, one_unended, lines_more, added_to, line_added, whole_more, Added}
 
 -- a text was written, or a front of it
 front_of : (old new : Option (List ℕ)) (text : List ℕ) (done : Bool) → Puts old new text done → PutsFront old new text

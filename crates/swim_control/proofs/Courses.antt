@@ -16,7 +16,7 @@ use Rattle.swim_control.specs.declared.faults.Fault.TheVariants.{LongLine, Unend
 use Rattle.swim_control.specs.declared.serving.Served.{Served}
 use Rattle.swim_control.specs.Commands.{said, said_by, line_said}
 use Rattle.swim_control.specs.Desks.{Told}
-use Rattle.swim_control.specs.Serving.{lines_of, commands_then, commands_in, Tells, told_before, line_text, output_of, end_at, GoesOn, EndsWith, AreCutOff}
+use Rattle.swim_control.specs.Serving.{Course, lines_of, commands_then, commands_in, Tells, told_before, line_text, output_of, end_at, GoesOn, EndsWith, AreCutOff}
 use Rattle.swim_control.specs.Turns.{closed, Asked, Turned}
 
 -- ---- what a line says
@@ -85,17 +85,6 @@ run_more asks (Ok (Asks command)) first now after commands (x ∷ []) told run a
 run_more asks (Ok (Asks command)) first now after commands (x ∷ y ∷ t) told run asked = absurd asked
 
 -- ---- where serving has come
-
--- the lines that were read were answered, and serving goes on
-pub record Course {S : Type 0} (asks : S → Command → Told → S → Type 0) (text rest : List ℕ) (first now : S) (old new : Option (List ℕ)) (reads : ℕ) : Type 0 where
-  pub read : List ℕ
-  pub whole : text ≡ read ++ rest
-  pub joins : (more : List ℕ) → pieces (read ++ more) ≡ pieces read ++ pieces more
-  pub spent : length read + reads ≡ 1048576
-  pub told : List Told
-  pub run : Tells asks first (commands_in (lines_of read)) told now
-  pub goes_on : GoesOn (lines_of read) told
-  pub written : Appends old new (output_of (lines_of read) told)
 
 -- a line more was read, and the desk was asked what it asks
 pub record Added {S : Type 0} (asks : S → Command → Told → S → Type 0) (first after : S) (lines : List (List ℕ)) (before : List (List ℕ)) (told earlier t : List Told) (read : Result Said Fault) : Type 0 where

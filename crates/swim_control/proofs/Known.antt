@@ -12,16 +12,10 @@ use Rattle.swim_control.specs.declared.serving.Served.TheVariants as ends
 use Rattle.swim_control.specs.Commands.{said_by, line_said}
 use Rattle.swim_control.specs.Desks.{Told}
 use Rattle.swim_control.specs.Texts.{fault_text}
-use Rattle.swim_control.specs.Serving.{IsServedKnown, AreSpent, ReadsFail, end_at}
+use Rattle.swim_control.specs.Serving.{CourseKnown, IsServedKnown, AreSpent, ReadsFail, end_at}
 use Rattle.swim_control.specs.Turns.{closed, Turned, IsLast}
-use Rattle.swim_control.proofs.Courses.{Course, at_start, next}
+use Rattle.swim_control.proofs.Courses.{at_start, next}
 use Rattle.swim_control.proofs.CourseEnds.{ends_over, ends_unread, ends_turn, ends_long, ends_unended, spends_all, end_of_line}
-
--- the course of a text that is known
-abbrev pub CourseKnown : {S : Type 0} → (S → Command → Told → S → Type 0) → Option (List ℕ) → Option (List ℕ) → S → S → Option (List ℕ) → Option (List ℕ) → ℕ → Type 0
-CourseKnown asks None rest first now old new reads = Unit {0}
-CourseKnown asks (Some text) None first now old new reads = ⊥
-CourseKnown asks (Some text) (Some rest) first now old new reads = Course asks text rest first now old new reads
 
 pub start_known : {S : Type 0} (asks : S → Command → Told → S → Type 0) (text : Option (List ℕ)) (first : S) (written : Option (List ℕ)) → CourseKnown asks text text first first written written 1048576
 start_known asks None first written = tt

@@ -1,4 +1,5 @@
 pub mod Courses
 pub mod CourseEnds
+pub mod Heard
 pub mod Known
 pub mod LineTurns

@@ -1,6 +1,9 @@
 pub mod Commands
+pub mod Connections
 pub mod Desks
 pub mod Serving
+pub mod SideBySide
+pub mod Talks
 pub mod Texts
 pub mod Turns
 pub mod Worked

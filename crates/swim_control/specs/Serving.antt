@@ -134,6 +134,27 @@ Ends ReadFault read part rest told old new =
 -- a write failed, in the newest line's answer or after it
 Ends WriteFault read part rest told old new = IsPart part × AreCutOff (lines_of read) told old new
 
+-- ---- on the way
+
+-- the whole lines that were read were answered, and serving goes on
+pub record Course {S : Type 0} (asks : S → Command → Told → S → Type 0) (text rest : List ℕ) (first now : S)
+    (old new : Option (List ℕ)) (reads : ℕ) : Type 0 where
+  pub read : List ℕ
+  pub whole : text ≡ read ++ rest
+  pub joins : (more : List ℕ) → pieces (read ++ more) ≡ pieces read ++ pieces more
+  pub spent : length read + reads ≡ 1048576
+  pub told : List Told
+  pub run : Tells asks first (commands_in (lines_of read)) told now
+  pub goes_on : GoesOn (lines_of read) told
+  pub written : Appends old new (output_of (lines_of read) told)
+
+-- the same of a text that is known
+abbrev pub CourseKnown : {S : Type 0} → (S → Command → Told → S → Type 0) → Option (List ℕ) → Option (List ℕ) → S → S →
+    Option (List ℕ) → Option (List ℕ) → ℕ → Type 0
+CourseKnown asks None rest first now old new reads = Unit {0}
+CourseKnown asks (Some text) None first now old new reads = ⊥
+CourseKnown asks (Some text) (Some rest) first now old new reads = Course asks text rest first now old new reads
+
 -- ---- the whole
 
 -- the text was served up to what is left of it: its lines gave the desk their commands, and it ended so

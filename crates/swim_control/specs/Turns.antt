@@ -1,6 +1,8 @@
 -- What one line of a connection does.
 use Rattle.std.specs.Prelude.{◌≡◌, ℕ, Bool, true, false, ◌⊎◌, List, [], ◌∷◌, Option, Some, None, Result, Ok}
 use Rattle.std.specs.Io.KnownBytes.{Appends}
+use Rattle.swim_wire.specs.declared.short_lines.LineEnd.{LineEnd}
+use Rattle.swim_wire.specs.declared.short_lines.LineEnd.TheVariants as lines
 use Rattle.swim_wire.specs.Streams.{Puts, PutsFront}
 use Rattle.swim_control.specs.declared.desks.Answer.{Answer}
 use Rattle.swim_control.specs.declared.desks.Answer.TheVariants as answers
@@ -8,10 +10,13 @@ use Rattle.swim_control.specs.declared.desks.Command.{Command}
 use Rattle.swim_control.specs.declared.commands.Said.{Said}
 use Rattle.swim_control.specs.declared.commands.Said.TheVariants.{Asks}
 use Rattle.swim_control.specs.declared.faults.Fault.{Fault}
+use Rattle.swim_control.specs.declared.faults.Fault.TheVariants.{LongLine, Unended}
 use Rattle.swim_control.specs.declared.serving.Served.{Served}
 use Rattle.swim_control.specs.declared.serving.Served.TheVariants as ends
+use Rattle.swim_control.specs.Commands.{said_by, line_said}
 use Rattle.swim_control.specs.Desks.{Told}
 use Rattle.swim_control.specs.Serving.{line_text, end_at}
+use Rattle.swim_control.specs.Texts.{fault_text}
 
 -- how serving ends with an answer, if it does
 abbrev pub end_of_answer : Answer → Option Served
@@ -38,6 +43,20 @@ pub record Turned {S : Type 0} (asks : S → Command → Told → S → Type 0) 
   pub done : Bool
   pub put : Puts old new (line_text read told) done
   pub is : result ≡ closed done (end_at read told)
+
+-- a fault was told, and serving ends with it
+abbrev pub IsFaulted : Fault → Served → Option (List ℕ) → Option (List ℕ) → Option Served → Type 0
+IsFaulted fault end old new result =
+    (done : Bool) × Puts old new (fault_text fault) done × (result ≡ closed done (Some end))
+
+-- what the end of a line asks for was done, before anything is handed on
+abbrev pub Meets : {S : Type 0} → (S → Command → Told → S → Type 0) → LineEnd → List ℕ → S → S → Option (List ℕ) →
+    Option (List ℕ) → Option Served → Type 0
+Meets asks lines.Feed line now after old new result = Turned asks (said_by (line_said line)) now after old new result
+Meets asks lines.Long line now after old new result = (after ≡ now) × IsFaulted LongLine ends.TooLong old new result
+Meets asks lines.Unended line now after old new result = (after ≡ now) × IsFaulted Unended ends.Unended old new result
+Meets asks lines.Over line now after old new result = (after ≡ now) × (new ≡ old) × (result ≡ Some ends.Ended)
+Meets asks met line now after old new result = (after ≡ now) × (new ≡ old) × (result ≡ Some ends.ReadFault)
 
 -- the last text was written and handed on, or a write failed
 abbrev pub IsLast : Option (List ℕ) → Option (List ℕ) → List ℕ → Served → Served → Type 0

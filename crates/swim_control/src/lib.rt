@@ -2,11 +2,15 @@
 #![tactic(auto)]
 
 mod commands;
+mod connections;
 mod desks;
 mod faults;
+mod queues;
 mod serving;
 mod texts;
 mod turns;
 
+pub use connections::{Close, MOST_SILENT_MS, MOST_UNTAKEN_MS, Stand};
 pub use desks::{Answer, Command, Desk};
+pub use queues::{Connections, MOST_CONNECTIONS};
 pub use serving::{Served, serve};

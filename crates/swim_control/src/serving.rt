@@ -18,7 +18,7 @@ use std::sync::Wait;
 use swim_wire::{LineEnd, Sink, Source, next_short_line};
 
 /// How many reads of one byte a connection may have.
-const READS: u32 = 1_048_576;
+pub(crate) const READS: u32 = 1_048_576;
 
 /// How serving a connection ended.
 #[derive(Clone, Copy, Debug, PartialEq, Eq)]

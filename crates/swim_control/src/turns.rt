@@ -5,7 +5,8 @@ ghost use Rattle.swim_wire.specs.Streams.{failures_if};
 ghost use Rattle.swim_control.specs.declared.commands.Said.TheVariants.{Asks};
 ghost use Rattle.swim_control.specs.Commands.{line_said, said_by};
 ghost use Rattle.swim_control.specs.Serving.{is_write_fault};
-ghost use Rattle.swim_control.specs.Turns.{Turned, end_of_answer, closed};
+ghost use Rattle.swim_control.specs.Texts.{fault_text};
+ghost use Rattle.swim_control.specs.Turns.{Turned, IsFaulted, Meets, end_of_answer, closed};
 
 use crate::commands::{Said, read_line};
 use crate::desks::{Answer, Command, Desk};
@@ -15,7 +16,7 @@ use crate::texts::{put_answer, put_fault, put_list};
 use std::alloc::Global;
 use std::sync::Wait;
 use swim_history::put_gap;
-use swim_wire::Sink;
+use swim_wire::{LineEnd, Sink};
 
 /// Answers a line, and tells how serving ends with it, if it does.
 pub fn turn<R: Wait, W: Sink, D: Desk>(
@@ -34,6 +35,34 @@ pub fn turn<R: Wait, W: Sink, D: Desk>(
         Ok(Said::Stop) => close(writer.put(b"stopping\n"), Some(Served::Stopped)),
         Ok(Said::Asks(command)) => carry_out(rt, alloc, command, writer, desk),
     }
+}
+
+/// Does what the end of a line asks for: a whole line is answered, one that is none is told to be. Tells how serving
+/// ends with it, if it does. Nothing is handed on.
+pub fn meet<R: Wait, W: Sink, D: Desk>(
+    rt: &R,
+    alloc: Global,
+    met: LineEnd,
+    line: &[u8],
+    writer: &mut W,
+    desk: &mut D,
+) -> Option<Served>
+    ensures { Meets D.asks met line.now desk.old desk.new (W.written writer.old) (W.written writer.new) result }
+{
+    match met {
+        LineEnd::Feed => turn(rt, alloc, line, writer, desk),
+        LineEnd::Long => put_end(writer, Fault::LongLine, Served::TooLong),
+        LineEnd::Unended => put_end(writer, Fault::Unended, Served::Unended),
+        LineEnd::Over => Some(Served::Ended),
+        LineEnd::Spent | LineEnd::Failed | LineEnd::Unsent => Some(Served::ReadFault),
+    }
+}
+
+/// Writes the fault that ends serving, and tells how it ends.
+fn put_end<W: Sink>(writer: &mut W, fault: Fault, end: Served) -> Option<Served>
+    ensures { IsFaulted fault end (W.written writer.old) (W.written writer.new) result }
+{
+    close(put_fault(writer, fault), Some(end))
 }
 
 /// Does what a command asks, and answers it.

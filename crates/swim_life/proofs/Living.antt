@@ -1,5 +1,5 @@
 -- Lives that went on one from the other, step by step.
-use Rattle.std.proofs.Common.{◌≡◌, ℕ, ◌+◌, ◌-◌, ◌^◌, min, List, [], ◌∷◌, length, Some, None}
+use Rattle.std.proofs.Common.{◌≡◌, ℕ, ◌+◌, ◌-◌, ◌^◌, min, true, false, List, [], ◌∷◌, length, Some, None}
 use Rattle.std.proofs.Common.{refl, subst, inl, inr, arith}
 use Rattle.swim_history.specs.After.{setting_after}
 use Rattle.swim_history.specs.Setting.{Setting}
@@ -7,8 +7,9 @@ use Rattle.swim_node.specs.declared.receipts.OpenFault.{OpenFault}
 use Rattle.swim_life.specs.declared.counts.Why.{Why}
 use Rattle.swim_life.specs.declared.counts.Why.TheVariants.{JournalFull, NoMemory, Socket, Stopped}
 use Rattle.swim_life.specs.declared.lives.LivesEnd.{LivesEnd}
+use Rattle.swim_life.specs.declared.lives.LivesEnd.TheVariants as life_ends
 use Rattle.swim_life.specs.declared.lives.Past.{Past}
-use Rattle.swim_life.specs.Endings.{TellsLife, Written}
+use Rattle.swim_life.specs.Endings.{TellsLife, TellsText, Written, stopped_text}
 use Rattle.swim_life.specs.Lives.{AreLived, AreLives, AreFull, AreTold, IsLife, end_after, end_without, number_after, opening_after}
 
 -- all lives so far were ended by a full journal; the next one begins so, and has this number
@@ -42,13 +43,13 @@ full_where_none Stopped is = absurd cc
 
 pub one_more_lived : (first : Setting) (limit : ℕ) (next after : Setting) (number count : ℕ) (old mid new : Written)
     (past : Past) → HaveLived first limit next number old mid → IsLife next limit past → end_after past.why ≡ None →
-    TellsLife number past mid new →
+    past.is_stopped ≡ false → TellsLife number past mid new →
     after ≡ setting_after past.journal.opening past.journal.past → count ≡ min (number + 1) (2 ^ 64 - 1) →
     HaveLived first limit after count old new
-one_more_lived first limit next after number count old mid new past so is goes_on line after_is count_is = record {
+one_more_lived first limit next after number count old mid new past so is goes_on unstopped line after_is count_is = record {
   lives = past ∷ so.lives;
   lived = lives_with first limit next number old mid past so is;
-  full = (full_where_none past.why goes_on, so.full);
+  full = ((full_where_none past.why goes_on, unstopped), so.full);
   next_is = after_is;
   number_is = let was : number ≡ min (length so.lives) (2 ^ 64 - 1) = so.number_is in omega arith;
   told = told_with first limit next number old mid new past so line;
@@ -61,8 +62,21 @@ pub last_lived : (first : Setting) (limit : ℕ) (next : Setting) (number : ℕ)
 last_lived first limit next number old mid new past end so is ends line = record {
   lives = past ∷ so.lives;
   lived = lives_with first limit next number old mid past so is;
+  after_lives = new;
   told = told_with first limit next number old mid new past so line;
-  ended = inl (so.full, ends);
+  ended = inl (refl, (so.full, ends));
+}
+
+-- the last one, which was told to stop while its journal was full
+pub last_stopped : (first : Setting) (limit : ℕ) (next : Setting) (number : ℕ) (old mid told new : Written) (past : Past) →
+    HaveLived first limit next number old mid → IsLife next limit past → end_after past.why ≡ None → past.is_stopped ≡ true →
+    TellsLife number past mid told → TellsText stopped_text told new → AreLived first limit old new life_ends.Stopped
+last_stopped first limit next number old mid told new past so is goes_on stopped line text = record {
+  lives = past ∷ so.lives;
+  lived = lives_with first limit next number old mid past so is;
+  after_lives = told;
+  told = told_with first limit next number old mid told past so line;
+  ended = inr (inr (so.full, full_where_none past.why goes_on, stopped, text, refl));
 }
 
 -- and none more, as it got no node
@@ -72,6 +86,7 @@ pub last_opened : (first : Setting) (limit : ℕ) (next : Setting) (number : ℕ
 last_opened first limit next number old new fault end so is = record {
   lives = so.lives;
   lived = so.lived;
+  after_lives = new;
   told = so.told;
-  ended = inr (so.full, (fault, is));
+  ended = inr (inl (refl, so.full, (fault, is)));
 }

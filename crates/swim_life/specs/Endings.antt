@@ -40,9 +40,17 @@ line_text number past = line_of past.why number past
 abbrev pub Written : Type 0
 Written = Option (List ℕ) × ℕ
 
--- it was written, as far as it was taken; a failed write and a failed flush were counted
-pub record TellsLife (number : ℕ) (past : Past) (old new : Written) : Type 0 where
+-- a text was written, as far as it was taken; a failed write and a failed flush were counted
+pub record TellsText (text : List ℕ) (old new : Written) : Type 0 where
   pub done : Bool
-  pub put : Puts old.0 new.0 (line_text number past) done
+  pub put : Puts old.0 new.0 text done
   pub sent : Bool
   pub failed : new.1 ≡ failures_if (failures_if old.1 done) sent
+
+-- the line of a life was written so
+abbrev pub TellsLife : ℕ → Past → Written → Written → Type 0
+TellsLife number past old new = TellsText (line_text number past) old new
+
+-- the line of a life that was stopped at once
+abbrev pub stopped_text : List ℕ
+stopped_text = codes "ended stopped entries 0 judged 0 unsent 0 wire 0 refused 0\n"

@@ -1,6 +1,9 @@
 -- How a life ends, and what its workers counted.
 use Rattle.std.specs.Prelude.{◌≡◌, ℕ, ◌+◌, ◌-◌, ◌^◌, ◌≤◌, Bool, nat_lt, if◌then◌else◌, List, codes, min}
 use Rattle.std.specs.Prelude.{Option, Some, None, Result, Ok, Err}
+use Rattle.swim_control.specs.declared.connections.Stand.{Stand}
+use Rattle.swim_control.specs.declared.connections.Stand.TheVariants.{Ended}
+use Rattle.swim_control.specs.declared.serving.Served.TheVariants as served
 use Rattle.swim_node.specs.declared.receipts.CallFault.{CallFault}
 use Rattle.swim_node.specs.declared.receipts.CallFault.TheVariants as faults
 use Rattle.swim_life.specs.declared.counts.Counts.{Counts}
@@ -21,6 +24,12 @@ graver one other = if nat_lt (gravity one) (gravity other) then other else one
 abbrev pub why_of : Why → Why → Why → Bool → Why
 why_of first second third all_began =
     graver (graver (graver first second) third) (if all_began then Stopped else NoMemory)
+
+-- a life ends where a connection was answered that it is to stop, or met the full journal
+abbrev pub why_at : Stand → Option Why
+why_at (Ended served.Stopped) = Some Stopped
+why_at (Ended served.JournalFull) = Some JournalFull
+why_at stand = None
 
 -- a reason's words
 abbrev pub why_text : Why → List ℕ

@@ -1,5 +1,5 @@
 -- Lives of a daemon, newest first, each of which goes on from the journal of the one before.
-use Rattle.std.specs.Prelude.{◌≡◌, ◌⊎◌, ℕ, ◌≤◌, ◌-◌, ◌^◌, min, List, [], ◌∷◌, length, Option, Some, None}
+use Rattle.std.specs.Prelude.{◌≡◌, ◌⊎◌, ℕ, true, false, ◌≤◌, ◌-◌, ◌^◌, min, List, [], ◌∷◌, length, Option, Some, None}
 use Rattle.std.specs.List.{AllByRecursion}
 use Rattle.swim_history.specs.After.{setting_after}
 use Rattle.swim_history.specs.Changes.{changes}
@@ -13,7 +13,7 @@ use Rattle.swim_life.specs.declared.counts.Why.TheVariants as whys
 use Rattle.swim_life.specs.declared.lives.LivesEnd.{LivesEnd}
 use Rattle.swim_life.specs.declared.lives.LivesEnd.TheVariants.{Stopped, Socket, NoMemory, NoPlace}
 use Rattle.swim_life.specs.declared.lives.Past.{Past}
-use Rattle.swim_life.specs.Endings.{TellsLife, Written}
+use Rattle.swim_life.specs.Endings.{TellsLife, TellsText, Written, stopped_text}
 
 -- a life from this opening: its journal is one history, with the calls of some four seats, and has at most so many
 -- entries
@@ -35,9 +35,9 @@ AreLives first limit [] = Unit {0}
 AreLives first limit (past ∷ before) =
     IsLife (opening_after first before) limit past × AreLives first limit before
 
--- all of them were ended by a full journal
+-- all of them were ended by a full journal, and none was told to stop
 abbrev pub AreFull : List Past → Type 0
-AreFull lives = AllByRecursion (λ past. past.why ≡ whys.JournalFull) lives
+AreFull lives = AllByRecursion (λ past. (past.why ≡ whys.JournalFull) × (past.is_stopped ≡ false)) lives
 
 -- the number of the life after these; it stops at 2^64-1
 abbrev pub number_after : List Past → ℕ
@@ -61,14 +61,30 @@ abbrev pub IsEndedByLife : List Past → LivesEnd → Type 0
 IsEndedByLife [] end = ⊥
 IsEndedByLife (past ∷ before) end = AreFull before × (end_after past.why ≡ Some end)
 
+-- the last life was told to stop while its journal was full, and the end was told as if the next life had been stopped
+-- at once
+abbrev pub IsStopped : List Past → Written → Written → LivesEnd → Type 0
+IsStopped [] old new end = ⊥
+IsStopped (past ∷ before) old new end =
+    AreFull before × (past.why ≡ whys.JournalFull) × (past.is_stopped ≡ true) × TellsText stopped_text old new
+    × (end ≡ Stopped)
+
 -- and whose next life got no node
 abbrev pub end_without : OpenFault → LivesEnd
 end_without faults.NoMemory = NoMemory
 end_without faults.NoPlace = NoPlace
 
+-- how lives ended that were told so far: by the last one; as the next one got no node; or as the last one was told to
+-- stop. Only the last writes more
+abbrev pub AreEnded : List Past → Written → Written → LivesEnd → Type 0
+AreEnded lives old new end =
+    ((new ≡ old) × IsEndedByLife lives end)
+    ⊎ ((new ≡ old) × AreFull lives × ((fault : OpenFault) × (end ≡ end_without fault))) ⊎ IsStopped lives old new end
+
 -- lives were lived from this opening, with journals of at most so many entries, and told; and they ended so
 pub record AreLived (opening : Setting) (limit : ℕ) (old new : Written) (end : LivesEnd) : Type 0 where
   pub lives : List Past
   pub lived : AreLives opening limit lives
-  pub told : AreTold old new lives
-  pub ended : IsEndedByLife lives end ⊎ (AreFull lives × ((fault : OpenFault) × (end ≡ end_without fault)))
+  pub after_lives : Written
+  pub told : AreTold old after_lives lives
+  pub ended : AreEnded lives after_lives new end

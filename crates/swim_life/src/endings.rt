@@ -8,6 +8,9 @@ use crate::lives::Past;
 use itoa::Buffer;
 use swim_wire::{Piece, Sink, put_pieces};
 
+/// The line of a life that was stopped at once.
+pub const STOPPED: &[u8] = b"ended stopped entries 0 judged 0 unsent 0 wire 0 refused 0\n";
+
 /// The line of the last life: why it ended, and its counts. Answers whether the sink took it.
 pub fn put_ended<W: Sink>(writer: &mut W, past: &Past) -> bool
     ensures bytes { Puts (W.written writer.old) (W.written writer.new) (ended_text past.now) result }

@@ -1,10 +1,11 @@
 //! The gates of a life: where its datagrams, its ticks and its operators' connections come from. A worker asks its gate
-//! once a turn, so a gate that has nothing waits a moment, but not long, before it answers that it is idle.
+//! once a turn, so a gate that has nothing waits a moment, but not long, before it answers that it is idle; a door is told
+//! when to wait.
 
 ghost use Rattle.swim_life.specs.Gates.{FitsInto};
 
 use std::sync::Wait;
-use swim_wire::{Peer, Sink, Source};
+use swim_wire::{Peer, Polled, Sink};
 
 /// What a line got.
 #[derive(Clone, Copy, Debug, PartialEq, Eq)]
@@ -49,20 +50,26 @@ pub trait Pace {
 pub enum Knock<A: Drop, B: Drop> {
     /// A connection: its control lines, and where the answers go.
     Conn(A, B),
-    /// Nobody came for a moment.
+    /// Nobody came.
     Idle,
     /// The door is out of order, for now or for good.
     Fault,
 }
 
-/// Where operators come in. One connection is served at a time.
+/// Where operators come in. Nothing of it waits but `wait`.
 pub trait Door {
     /// Where an operator's control lines come from.
-    type Reader: Source + Drop;
+    type Reader: Polled + Drop;
 
-    /// Where the answers to them go.
+    /// Where the answers to them go. What it can't hand on at once, it holds back.
     type Writer: Sink + Drop;
 
-    /// Waits for the next connection.
+    /// The next connection, if one has come.
     fn next<R: Wait>(&mut self, rt: &R) -> Knock<Self::Reader, Self::Writer>;
+
+    /// Waits a moment, or until something comes: a connection, bytes of one, or room for an answer of one.
+    fn wait<R: Wait>(&mut self, rt: &R);
+
+    /// The time now, in milliseconds since some moment.
+    fn now(&mut self) -> u64;
 }

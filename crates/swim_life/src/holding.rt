@@ -12,10 +12,11 @@ pub(crate) struct Held<N: Naming, const SEAT: u8> {
     pub(crate) ghost is: { seat.number ≡ SEAT },
 }
 
-/// What a worker hands back: its seat, why it ended, and what it counted.
+/// What a worker hands back: its seat, why it ended, whether it was told to stop, and what it counted.
 #[derive(Drop)]
 pub(crate) struct Ended<N: Naming, const SEAT: u8> {
     pub(crate) held: Held<N, SEAT>,
     pub(crate) why: Why,
+    pub(crate) is_stopped: bool,
     pub(crate) counts: Counts,
 }

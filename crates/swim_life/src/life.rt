@@ -1,6 +1,6 @@
 //! A life: a node with its three workers, from its opening to its close.
 
-ghost use Rattle.std.specs.Prelude.{◌≡◌, ◌≤◌, length};
+ghost use Rattle.std.specs.Prelude.{◌≡◌, ◌≤◌, ◌||◌, length};
 ghost use Rattle.swim_history.specs.Changes.{changes};
 ghost use Rattle.swim_node.specs.Seats.{AreTheSeats};
 ghost use Rattle.swim_node.specs.OneHistory.{IsOneHistory};
@@ -8,6 +8,7 @@ ghost use Rattle.swim_life.specs.Ends.{together, why_of};
 
 use crate::counts::Why;
 use crate::gates::{Door, Line, Pace};
+use crate::halls::Hall;
 use crate::holding::Held;
 use crate::threads::{Controlling, Hearing, Over, Ticking, work_at_once};
 use std::alloc::Global;
@@ -23,6 +24,8 @@ use swim_targets::Seeded;
 pub struct Life<N: Naming> {
     /// Why it ended: the gravest reason of its workers.
     pub why: Why,
+    /// Whether a worker was told to stop, whatever else it ended for.
+    pub is_stopped: bool,
     /// Everything that happened, in one order.
     pub journal: Journal,
     /// The node's four seats, in order.
@@ -47,7 +50,7 @@ pub fn run_life<
     R: Threads + Wait + Sync,
     L: Line + Sync,
     P: Pace + Send,
-    D: Door,
+    D: Door + Drop,
 >(
     rt: &R,
     alloc: Global,
@@ -56,7 +59,7 @@ pub fn run_life<
     viewers: [Viewer<N>; 4],
     line: &L,
     pace: &mut P,
-    door: &mut D,
+    hall: &mut Hall<D>,
 ) -> Life<N>
     requires { AreTheSeats seats }
     ensures opening { result.journal.opening ≡ N.opening }
@@ -67,7 +70,7 @@ pub fn run_life<
 {
     let (viewer, _others) = apart(viewers);
     let (workers, fourth) = held(seats);
-    let ended = work(rt, alloc, &node, line, pace, door, workers, viewer);
+    let ended = work(rt, alloc, &node, line, pace, hall, workers, viewer);
     closed(rt, node, ended, fourth)
 }
 
@@ -105,14 +108,14 @@ fn work<
     R: Threads + Wait + Sync,
     L: Line + Sync,
     P: Pace + Send,
-    D: Door,
+    D: Door + Drop,
 >(
     rt: &R,
     alloc: Global,
     node: &Node<N, Seeded, H>,
     line: &L,
     pace: &mut P,
-    door: &mut D,
+    hall: &mut Hall<D>,
     workers: Workers<N>,
     viewer: Viewer<N>,
 ) -> Over<N> {
@@ -136,7 +139,7 @@ fn work<
         over: &over,
         held: workers.third,
         viewer,
-        door,
+        hall,
     };
     work_at_once(rt, &over, hearing, ticking, controlling)
 }
@@ -154,6 +157,7 @@ fn closed<N: Naming, H: Wait + Drop, R: Wait>(
     ensures history { IsOneHistory N.opening result.journal.past result.seats
         (changes N.opening result.journal.past) }
     ensures why { result.why ≡ why_of ended.first.why ended.second.why ended.third.why ended.all_began }
+    ensures stopped { result.is_stopped ≡ (ended.first.is_stopped || ended.second.is_stopped || ended.third.is_stopped) }
     ensures counts { together (together ended.first.counts ended.second.counts) ended.third.counts
         ≡ record { unsent = result.unsent; wire = result.wire; refused = result.refused } }
 {
@@ -169,6 +173,7 @@ fn closed<N: Naming, H: Wait + Drop, R: Wait>(
         Why::NoMemory
     };
     let why = first.why.or(second.why).or(third.why).or(began);
+    let is_stopped = first.is_stopped | second.is_stopped | third.is_stopped;
     let counts = first.counts.and(second.counts).and(third.counts);
     let seats = [
         first.held.seat,
@@ -179,6 +184,7 @@ fn closed<N: Naming, H: Wait + Drop, R: Wait>(
     let (journal, seats, _news) = node.close(rt, seats);
     Life {
         why,
+        is_stopped,
         journal,
         seats,
         unsent: counts.unsent,

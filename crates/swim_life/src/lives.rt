@@ -2,12 +2,13 @@
 
 ghost use Rattle.std.specs.Prelude.{◌≡◌, IfOk};
 ghost use Rattle.swim_targets.specs.Draws.{of_seed};
-ghost use Rattle.swim_life.specs.Endings.{TellsLife};
+ghost use Rattle.swim_life.specs.Endings.{TellsLife, TellsText, stopped_text};
 ghost use Rattle.swim_life.specs.Lives.{AreLived, IsLife, end_after, end_without};
 
 use crate::counts::Why;
-use crate::endings::{put_ended, put_life};
+use crate::endings::{STOPPED, put_ended, put_life};
 use crate::gates::{Door, Line, Pace};
+use crate::halls::Hall;
 use crate::life::run_life;
 use std::alloc::Global;
 use std::marker::Brand;
@@ -23,6 +24,8 @@ use swim_wire::Sink;
 pub struct Past {
     /// The gravest reason of its workers.
     pub why: Why,
+    /// Whether it was told to stop, whatever else it ended for.
+    pub is_stopped: bool,
     /// Everything that happened, in one order.
     pub journal: Journal,
     /// Datagrams that couldn't be sent. The counts stop at 2^64-1.
@@ -58,15 +61,17 @@ pub enum LivesEnd {
 /// Runs lives over these gates until one ends otherwise than by a full journal. A full journal ends its life, and the
 /// next one goes on from it: with the members that are known, up or failed, and with period numbers above all that
 /// were used, but without an aim and without waiting requests. Life `i`, counted from 0, draws from stream `i` of the
-/// seed. How each life ended is written in a line; that a line can't be written changes nothing.
-pub fn run_lives<R: Threads + Wait + Sync, L: Line + Sync, P: Pace + Send, D: Door, W: Sink>(
+/// seed. How each life ended is written in a line; that a line can't be written changes nothing. Behind a life that
+/// was told to stop there is none: where its journal was full, the end is told as if the next life had been stopped at
+/// once.
+pub fn run_lives<R: Threads + Wait + Sync, L: Line + Sync, P: Pace + Send, D: Door + Drop, W: Sink>(
     rt: &R,
     alloc: Global,
     opening: Opening,
     terms: Terms,
     line: &L,
     pace: &mut P,
-    door: &mut D,
+    hall: &mut Hall<D>,
     writer: &mut W,
 ) -> LivesEnd
     ensures { AreLived opening terms.limit (W.written writer.old, W.failures writer.old)
@@ -76,13 +81,17 @@ pub fn run_lives<R: Threads + Wait + Sync, L: Line + Sync, P: Pace + Send, D: Do
     let mut number: u64 = 0;
     for _life in rt.forever() {
         let chooser = chooser_of(terms, number);
-        let past = match live(rt, alloc, opening, chooser, terms.limit, line, pace, door) {
+        let past = match live(rt, alloc, opening, chooser, terms.limit, line, pace, hall) {
             Ok(past) => past,
             Err(fault) => return end_without(fault),
         };
         tell(writer, number, &past);
         if let Some(end) = end_of(past.why) {
             return end;
+        }
+        if past.is_stopped {
+            tell_stopped(writer);
+            return LivesEnd::Stopped;
         }
         opening = Opening::after(&past.journal);
         number = number.saturating_add(1);
@@ -106,6 +115,15 @@ fn tell<W: Sink>(writer: &mut W, number: u64, past: &Past)
         Why::JournalFull => put_life(writer, number, past),
         Why::NoMemory | Why::Socket | Why::Stopped => put_ended(writer, past),
     };
+    let _is_sent = writer.flush();
+}
+
+/// Writes that the daemon ended as if a life had been stopped at once. That it can't be written changes nothing.
+fn tell_stopped<W: Sink>(writer: &mut W)
+    ensures { TellsText stopped_text (W.written writer.old, W.failures writer.old)
+        (W.written writer.new, W.failures writer.new) }
+{
+    let _is_put = writer.put(STOPPED);
     let _is_sent = writer.flush();
 }
 
@@ -133,7 +151,7 @@ fn end_without(fault: OpenFault) -> LivesEnd
 
 /// Opens a node with a journal of at most `limit` entries, and runs its life over these gates. There is no life where
 /// the node gets no memory (`NoMemory`), or no reader of its member table (`NoPlace`).
-pub fn live<R: Threads + Wait + Sync, L: Line + Sync, P: Pace + Send, D: Door>(
+pub fn live<R: Threads + Wait + Sync, L: Line + Sync, P: Pace + Send, D: Door + Drop>(
     rt: &R,
     alloc: Global,
     opening: Opening,
@@ -141,14 +159,14 @@ pub fn live<R: Threads + Wait + Sync, L: Line + Sync, P: Pace + Send, D: Door>(
     limit: u32,
     line: &L,
     pace: &mut P,
-    door: &mut D,
+    hall: &mut Hall<D>,
 ) -> Result<Past, OpenFault>
     ensures { IfOk result (IsLife opening limit) }
 {
     let Ok(parts) = Parts::make(alloc, limit) else {
         return Err(OpenFault::NoMemory);
     };
-    live_so::<Brand, R, L, P, D>(rt, alloc, parts, opening, chooser, limit, line, pace, door)
+    live_so::<Brand, R, L, P, D>(rt, alloc, parts, opening, chooser, limit, line, pace, hall)
 }
 
 /// The same, of a node that its types know by a name.
@@ -157,7 +175,7 @@ fn live_so<
     R: Threads + Wait + Sync,
     L: Line + Sync,
     P: Pace + Send,
-    D: Door,
+    D: Door + Drop,
 >(
     rt: &R,
     alloc: Global,
@@ -167,7 +185,7 @@ fn live_so<
     limit: u32,
     line: &L,
     pace: &mut P,
-    door: &mut D,
+    hall: &mut Hall<D>,
 ) -> Result<Past, OpenFault>
     requires parts { parts ≡ record { limit = N.limit; ledgers = N.ledgers; log = N.log; cells = N.cells } }
     requires opening { opening ≡ N.opening }
@@ -177,9 +195,10 @@ fn live_so<
     match Node::<N, Seeded, &R>::open(alloc, rt, parts, opening, chooser, limit) {
         Ok(opened) => {
             let (node, seats, viewers) = opened;
-            let life = run_life(rt, alloc, node, seats, viewers, line, pace, door);
+            let life = run_life(rt, alloc, node, seats, viewers, line, pace, hall);
             Ok(Past {
                 why: life.why,
+                is_stopped: life.is_stopped,
                 journal: life.journal,
                 unsent: life.unsent,
                 wire: life.wire,

@@ -2,9 +2,11 @@
 
 ghost use denote.Param.Send.{IsSend, IsSync};
 
+use crate::controlling::control;
 use crate::gates::{Door, Line, Pace};
+use crate::halls::Hall;
 use crate::holding::{Ended, Held};
-use crate::workers::{control, receive, tick};
+use crate::workers::{receive, tick};
 use std::alloc::Global;
 use std::sync::Wait;
 use std::sync::atomic::{AtomicBool, Ordering};
@@ -34,13 +36,13 @@ pub(crate) struct Ticking<'n, 'o, 'l, 'p, N: Naming, C: Chooser, H: Wait + Drop,
 
 /// What the controller takes.
 #[derive(Drop)]
-pub(crate) struct Controlling<'n, 'o, 'd, N: Naming, H: Wait + Drop, D> {
+pub(crate) struct Controlling<'n, 'o, 'd, N: Naming, H: Wait + Drop, D: Door + Drop> {
     pub(crate) alloc: Global,
     pub(crate) node: &'n Node<N, Seeded, H>,
     pub(crate) over: &'o AtomicBool,
     pub(crate) held: Held<N, 2>,
     pub(crate) viewer: Viewer<N>,
-    pub(crate) door: &'d mut D,
+    pub(crate) hall: &'d mut Hall<D>,
 }
 
 /// What the three workers hand back, and whether each of them was started.
@@ -79,7 +81,7 @@ fn run_ticking<'n, 'o, 'l, 'p, N: Naming, C: Chooser, H: Wait + Drop, L: Line, P
     tick(rt, node, over, line, held, pace)
 }
 
-fn run_controlling<'n, 'o, 'd, N: Naming, H: Wait + Drop, D: Door, R: Wait>(
+fn run_controlling<'n, 'o, 'd, N: Naming, H: Wait + Drop, D: Door + Drop, R: Wait>(
     rt: &R,
     it: Controlling<'n, 'o, 'd, N, H, D>,
 ) -> Ended<N, 2> {
@@ -89,9 +91,9 @@ fn run_controlling<'n, 'o, 'd, N: Naming, H: Wait + Drop, D: Door, R: Wait>(
         over,
         held,
         viewer,
-        door,
+        hall,
     } = it;
-    control(rt, alloc, node, over, held, viewer, door)
+    control(rt, alloc, node, over, held, viewer, hall)
 }
 
 /// Tells the workers that run to end, where one could not be started.
@@ -109,7 +111,7 @@ pub(crate) fn work_at_once<
     R: Threads + Wait + Sync,
     L: Line + Sync,
     P: Pace + Send,
-    D: Door,
+    D: Door + Drop,
 >(
     rt: &R,
     over: &AtomicBool,

@@ -1,69 +1,105 @@
 //! The door of a daemon: a Unix socket.
 
 use crate::gates::{Door, Knock};
+use crate::unix_streams::{StreamSink, StreamSource};
+use mio::unix::SourceFd;
+use mio::{Events, Interest, Poll, Token};
+use std::alloc::Global;
 use std::fs::Permissions;
 use std::io::ErrorKind;
 use std::net::Net;
-use std::os::fd::OwnedFd;
+use std::os::fd::{AsRawFd, RawFd};
 use std::os::unix::fs::PermissionsExt;
 use std::os::unix::net::{UnixListener, UnixStream};
-use std::rt::Files;
+use std::rt::{Clock, Files};
 use std::sync::Wait;
-use std::time::Duration;
+use std::time::{Duration, Instant};
 use std::{fs, io};
-use swim_wire::{ReadSource, WriteSink};
 
-/// How long the door waits for a connection, in milliseconds.
+/// How long the door waits, in milliseconds.
 const WAIT_MS: u64 = 100;
 
 /// How many connections may have come before the socket was its owner's alone: as many as the system lets wait, and
 /// more.
 const EARLY: u32 = 65_536;
 
+/// How many events are taken at a time. They only end a wait, so none is missed.
+const EVENTS: usize = 64;
+
 /// A Unix socket that only its owner may connect to. Its file stays when it is dropped.
 #[derive(Drop)]
-pub struct UnixDoor {
+pub struct UnixDoor<K: Clock + Drop> {
     listener: UnixListener,
+    poll: Poll,
+    events: Events<Global>,
+    clock: K,
+    began: Instant,
+    now: u64,
 }
 
-impl UnixDoor {
+impl<K: Clock + Drop> UnixDoor<K> {
     /// A socket bound to this path, at which no file may exist. Fails where the system refuses it, or can't make it its
     /// owner's alone.
-    pub fn bind<R: Files + Net>(rt: &R, path: &str) -> io::Result<UnixDoor> {
+    pub fn bind<R: Files + Net>(
+        rt: &R,
+        alloc: Global,
+        clock: K,
+        path: &str,
+    ) -> io::Result<UnixDoor<K>> {
         let listener = UnixListener::bind(rt, path)?;
         fs::set_permissions(rt, path, Permissions::from_mode(0o600))?;
-        turn_away(&listener)?;
-        wait_at_most(&listener, Duration::from_millis(WAIT_MS))?;
-        Ok(UnixDoor { listener })
+        listener.set_nonblocking(true)?;
+        turn_away(&listener);
+        let poll = Poll::new(rt)?;
+        watch(&poll, listener.as_raw_fd())?;
+        let events = Events::with_capacity(alloc, EVENTS)?;
+        let began = Instant::now(&clock)?;
+        Ok(UnixDoor {
+            listener,
+            poll,
+            events,
+            clock,
+            began,
+            now: 0,
+        })
+    }
+
+    /// A connection as it is served.
+    fn open(&self, stream: UnixStream) -> io::Result<(StreamSource, StreamSink)> {
+        stream.set_nonblocking(true)?;
+        let other = stream.try_clone()?;
+        watch(&self.poll, stream.as_raw_fd())?;
+        Ok((StreamSource::new(stream), StreamSink::new(other)))
     }
 }
 
 /// Closes what connected before only the owner might.
-fn turn_away(listener: &UnixListener) -> io::Result<()> {
-    listener.set_nonblocking(true)?;
+fn turn_away(listener: &UnixListener) {
     for _connection in 0..EARLY {
         if listener.accept().is_err() {
             break;
         }
     }
-    listener.set_nonblocking(false)
 }
 
-/// Makes `accept` answer `WouldBlock` after that time. A listener has no call for this, but the system has: its option
-/// for reads holds for `accept` too.
-fn wait_at_most(listener: &UnixListener, time: Duration) -> io::Result<()> {
-    let same = UnixStream::from(OwnedFd::from(listener.try_clone()?));
-    same.set_read_timeout(Some(time))
+/// Has a wait end where something comes to a descriptor, or it has room again.
+fn watch(poll: &Poll, descriptor: RawFd) -> io::Result<()> {
+    let both = Interest::READABLE | Interest::WRITABLE;
+    poll.registry()
+        .register(&mut SourceFd(&descriptor), Token(0), both)
 }
 
-impl Door for UnixDoor {
-    type Reader = ReadSource<UnixStream>;
+impl<K: Clock + Drop> Door for UnixDoor<K> {
+    type Reader = StreamSource;
 
-    type Writer = WriteSink<UnixStream>;
+    type Writer = StreamSink;
 
-    fn next<R: Wait>(&mut self, _rt: &R) -> Knock<ReadSource<UnixStream>, WriteSink<UnixStream>> {
+    fn next<R: Wait>(&mut self, _rt: &R) -> Knock<StreamSource, StreamSink> {
         match self.listener.accept() {
-            Ok((stream, _address)) => open(stream),
+            Ok((stream, _address)) => match self.open(stream) {
+                Ok((reader, writer)) => Knock::Conn(reader, writer),
+                Err(_) => Knock::Fault,
+            },
             Err(fault) => match fault.kind() {
                 ErrorKind::WouldBlock | ErrorKind::Interrupted | ErrorKind::ConnectionAborted => {
                     Knock::Idle
@@ -72,12 +108,16 @@ impl Door for UnixDoor {
             },
         }
     }
-}
 
-/// A connection as the controller serves it.
-fn open(stream: UnixStream) -> Knock<ReadSource<UnixStream>, WriteSink<UnixStream>> {
-    match stream.try_clone() {
-        Ok(other) => Knock::Conn(ReadSource::new(stream), WriteSink::new(other)),
-        Err(_) => Knock::Fault,
+    fn wait<R: Wait>(&mut self, _rt: &R) {
+        let time = Some(Duration::from_millis(WAIT_MS));
+        let _is_waited = self.poll.poll(&mut self.events, time);
+    }
+
+    fn now(&mut self) -> u64 {
+        if let Ok(time) = self.began.elapsed(&self.clock) {
+            self.now = u64::try_from(time.as_millis()).unwrap_or(u64::MAX);
+        }
+        self.now
     }
 }

@@ -1,21 +1,18 @@
-//! The three workers of a life. Each has a seat of the node for itself. It reads the shared flag once a turn, then asks
+//! The receiver and the ticker, two of the three workers of a life. Each worker has a seat of the node for itself. It reads the shared flag once a turn, then asks
 //! its gate once, and sets the flag when it ends.
 
-ghost use Rattle.std.specs.Prelude.{◌≡◌, ◌≤◌, length};
+ghost use Rattle.std.specs.Prelude.{◌≤◌, length};
 ghost use Rattle.swim_history.specs.Sends.{sends_of};
 ghost use Rattle.swim_life.specs.Ends.{IsFinished};
 
 use crate::counts::{Counts, Faults, Why};
-use crate::gates::{Beat, Door, Got, Knock, Line, Pace};
+use crate::gates::{Beat, Got, Line, Pace};
 use crate::holding::{Ended, Held};
-use crate::node_desk::NodeDesk;
-use std::alloc::Global;
 use std::sync::Wait;
 use std::sync::atomic::{AtomicBool, Ordering};
-use swim_control::{Served, serve};
 use swim_history::{Opening, sends};
-use swim_node::{CallFault, Naming, Node, Receipt, Viewer};
-use swim_targets::{Chooser, Seeded};
+use swim_node::{CallFault, Naming, Node, Receipt};
+use swim_targets::Chooser;
 use swim_wire::{Message, Peer, encode};
 
 /// As many bytes as are taken of a datagram: more than one of the protocol has, so that one that is too long is seen to
@@ -34,6 +31,7 @@ pub(crate) fn receive<N: Naming, C: Chooser, H: Wait + Drop, R: Wait, L: Line>(
     let mut counts = Counts::none();
     let mut faults = Faults::none();
     let mut why = Why::Stopped;
+    let mut is_stopped = false;
     for _turn in rt.forever() {
         if over.load(Ordering::SeqCst) {
             break;
@@ -41,11 +39,17 @@ pub(crate) fn receive<N: Naming, C: Chooser, H: Wait + Drop, R: Wait, L: Line>(
         let end = hear_next(rt, node, line, &mut held, &mut counts, &mut faults);
         if let Some(end) = end {
             why = end;
+            is_stopped = end == Why::Stopped;
             break;
         }
     }
     over.store(true, Ordering::SeqCst);
-    Ended { held, why, counts }
+    Ended {
+        held,
+        why,
+        is_stopped,
+        counts,
+    }
 }
 
 /// A turn of the receiver; why it ends, if it does.
@@ -84,6 +88,7 @@ pub(crate) fn tick<N: Naming, C: Chooser, H: Wait + Drop, R: Wait, L: Line, P: P
     let mut held = held;
     let mut counts = Counts::none();
     let mut why = Why::Stopped;
+    let mut is_stopped = false;
     for _turn in rt.forever() {
         if over.load(Ordering::SeqCst) {
             break;
@@ -95,11 +100,17 @@ pub(crate) fn tick<N: Naming, C: Chooser, H: Wait + Drop, R: Wait, L: Line, P: P
         };
         if let Some(end) = end {
             why = end;
+            is_stopped = end == Why::Stopped;
             break;
         }
     }
     over.store(true, Ordering::SeqCst);
-    Ended { held, why, counts }
+    Ended {
+        held,
+        why,
+        is_stopped,
+        counts,
+    }
 }
 
 /// A tick; why the ticker ends, if it does.
@@ -112,71 +123,6 @@ fn tick_once<N: Naming, C: Chooser, H: Wait + Drop, R: Wait, L: Line>(
 ) -> Option<Why> {
     let answer = node.tick(rt, &mut held.seat);
     finish(rt, line, node.opening(), answer, counts)
-}
-
-/// The controller: serves the door's connections. No reply to a control line sends a datagram.
-pub(crate) fn control<N: Naming, H: Wait + Drop, R: Wait, D: Door>(
-    rt: &R,
-    alloc: Global,
-    node: &Node<N, Seeded, H>,
-    over: &AtomicBool,
-    held: Held<N, 2>,
-    viewer: Viewer<N>,
-    door: &mut D,
-) -> Ended<N, 2> {
-    let mut desk = NodeDesk::new(node, held, viewer);
-    let mut faults = Faults::none();
-    let mut why = Why::Stopped;
-    for _turn in rt.forever() {
-        if over.load(Ordering::SeqCst) {
-            break;
-        }
-        let end = serve_next(rt, alloc, &mut desk, &mut faults, door);
-        if let Some(end) = end {
-            why = end;
-            break;
-        }
-    }
-    over.store(true, Ordering::SeqCst);
-    left(desk, why)
-}
-
-/// What the controller hands back: what its desk refused for want of memory is all that it counts.
-fn left<N: Naming, H: Wait + Drop>(desk: NodeDesk<N, H, 2>, why: Why) -> Ended<N, 2>
-    ensures why { result.why ≡ why }
-    ensures counts { result.counts ≡ record { unsent = 0; wire = 0; refused = desk.entry.refused } }
-{
-    let (held, refused) = desk.leave();
-    let mut counts = Counts::none();
-    counts.refused = refused;
-    Ended { held, why, counts }
-}
-
-/// A turn of the controller; why it ends, if it does. A connection that fails ends alone.
-fn serve_next<N: Naming, H: Wait + Drop, R: Wait, D: Door>(
-    rt: &R,
-    alloc: Global,
-    desk: &mut NodeDesk<N, H, 2>,
-    faults: &mut Faults,
-    door: &mut D,
-) -> Option<Why> {
-    match door.next(rt) {
-        Knock::Conn(reader, writer) => {
-            faults.clear();
-            let mut reader = reader;
-            let mut writer = writer;
-            match serve(rt, alloc, &mut reader, &mut writer, desk) {
-                Served::Stopped => Some(Why::Stopped),
-                Served::JournalFull => Some(Why::JournalFull),
-                _ => None,
-            }
-        }
-        Knock::Idle => {
-            faults.clear();
-            None
-        }
-        Knock::Fault => faults.more(),
-    }
 }
 
 /// Sends the datagrams of a reply, after the lock was given back; or counts why there is no reply. Why the worker ends,

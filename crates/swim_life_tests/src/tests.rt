@@ -13,7 +13,7 @@ use std::sync::Wait;
 use std::test::*;
 use std::thread::Threads;
 use swim_history::{Journal, Opening, Probe, Reply};
-use swim_life::{Line, Pace, Past, Why, live};
+use swim_life::{Hall, Line, Pace, Past, Why, live};
 use swim_targets::Seeded;
 use swim_wire::{Id, Peer};
 
@@ -48,6 +48,6 @@ fn live_alone<R: Threads + Wait + Clock + Sync + Copy + Drop, L: Line + Sync, P:
     line: &L,
     pace: &mut P,
 ) -> Option<Past> {
-    let mut door = NoDoor { clock: *rt };
-    live(rt, alloc, opening, chooser(), limit, line, pace, &mut door).ok()
+    let mut hall = Hall::new(alloc, NoDoor { clock: *rt });
+    live(rt, alloc, opening, chooser(), limit, line, pace, &mut hall).ok()
 }

@@ -12,6 +12,7 @@ pub mod Memory
 pub mod Numbers
 pub mod Parts
 pub mod Pieces
+pub mod Polled
 pub mod Probe
 pub mod Requests
 pub mod RequestLaws

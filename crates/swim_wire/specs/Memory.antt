@@ -1,7 +1,8 @@
 -- What contracts see of a source and a sink in memory, which fail where a test wants them to.
-use Rattle.std.specs.Prelude.{◌≡◌, ℕ, ◌≤◌, Bool, true, false, not, ◌==◌, List, [], ◌∷◌, length, take, drop, slice_index}
+use Rattle.std.specs.Prelude.{◌≡◌, ℕ, ◌<◌, ◌≤◌, Bool, true, false, not, ◌==◌, List, [], ◌∷◌, length, take, drop, slice_index}
 use Rattle.std.specs.Prelude.{Option, Some, None, cond, refl}
 use Rattle.std.specs.Io.{StartsWith}
+use Rattle.std.specs.Option.{is_some}
 use Rattle.std.specs.Io.BufRead.{take_through}
 use Rattle.std.proofs.Common.{zero, suc, sym, ap, ◌∙◌, arith}
 use Rattle.std.proofs.lemmas.List.{take_all, length-take}
@@ -68,6 +69,16 @@ take_ready None false left zero fits = refl
 take_ready None false left (suc count) fits = absurd (omega arith)
 take_ready (Some calls) in_line left zero fits = refl
 take_ready (Some calls) in_line left (suc count) fits = absurd (omega arith)
+
+-- where bytes are left, and no call is yet to fail, some are ready within a line
+pub ready_within : (fails_in : Option ℕ) (left : List ℕ) → false ≡ is_some fails_in → false ≡ (length left == 0) →
+    0 < length (ready_at fails_in true left)
+ready_within None [] none some = absurd (cc some)
+ready_within None (b ∷ left) none some = by (b == 10) where
+  by : (c : Bool) → 0 < length (cond c (b ∷ []) (b ∷ take_through 10 left))
+  by true = omega arith
+  by false = omega arith
+ready_within (Some calls) left none some = absurd (cc none)
 
 pub ready_front : (fails_in : Option ℕ) (in_line : Bool) (left : List ℕ) →
     StartsWith left (ready_at fails_in in_line left)

@@ -7,8 +7,10 @@ ghost use Rattle.std.specs.Io.BufRead.{take_through};
 ghost use Rattle.std.specs.Io.KnownBytes.{Keeps, Consumes};
 ghost use Rattle.swim_wire.specs.Streams.{Gives, Puts, failures_then, failures_if};
 ghost use Rattle.swim_wire.specs.Memory.{counted_down, is_in_line, ready_of};
+ghost use Rattle.swim_wire.specs.Polled.{Looks};
 
 use crate::parts::cut;
+use crate::polled::{Look, Polled};
 use crate::streams::{Byte, Sink, Source};
 use std::alloc::Global;
 use std::marker::Model;
@@ -114,6 +116,26 @@ impl<'a> Source for Text<'a> {
             self.is_in_line = self.left[count - 1] != b'\n';
             self.left = left;
         }
+    }
+}
+
+/// A look finds all that is left at once, unless a call is yet to fail; the failing call may be a look.
+impl<'a> Polled for Text<'a> {
+    fn look(&mut self) -> Look
+        ensures { Looks (Some self.old.left) (Some self.new.left) (ready_of self.new) result }
+    {
+        if is_due(&mut self.fails_in) {
+            self.failures = self.failures.saturating_add(1);
+            return Look::Fault;
+        }
+        if self.left.is_empty() {
+            return Look::Over;
+        }
+        if self.fails_in.is_some() {
+            return Look::Nothing;
+        }
+        self.is_in_line = true;
+        Look::Ready
     }
 }
 

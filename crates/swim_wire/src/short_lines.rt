@@ -64,7 +64,7 @@ pub fn next_short_line<R: Source, W: Sink, const LIMIT: usize>(
 }
 
 /// Takes the bytes of the line that are ready, and answers what ended it if anything did.
-fn read_ready<R: Source, const LIMIT: usize>(
+pub(crate) fn read_ready<R: Source, const LIMIT: usize>(
     reader: &mut R,
     line: &mut ArrayVec<u8, LIMIT>,
     reads: &mut u32,
@@ -160,7 +160,7 @@ fn met_at(is_ended: bool, is_kept: bool) -> Option<LineEnd>
 }
 
 /// What the end of the source is to a line.
-fn at_end(is_empty: bool) -> LineEnd
+pub(crate) fn at_end(is_empty: bool) -> LineEnd
     ensures { result ≡ at_end is_empty }
 {
     if is_empty {

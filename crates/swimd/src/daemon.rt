@@ -12,7 +12,7 @@ use std::rt::{Clock, Files};
 use std::sync::Wait;
 use std::thread::Threads;
 use swim_config::{Config, ConfigFault, INPUT_BYTES, read_config, read_input};
-use swim_life::{LivesEnd, SleepingPace, Terms, UdpLine, UnixDoor, run_lives};
+use swim_life::{Hall, LivesEnd, SleepingPace, Terms, UdpLine, UnixDoor, run_lives};
 use swim_wire::{ReadSource, Sink};
 
 /// Runs the daemon of a configuration file, and writes how its lives ended.
@@ -60,14 +60,15 @@ fn start<R: Files + Net + Clock + Threads + Wait + Sync, W: Sink>(
     let Ok(line) = UdpLine::bind(rt, config.listen) else {
         return Outcome::NoListen;
     };
-    let Ok(mut door) = UnixDoor::bind(rt, config.control.as_str()) else {
+    let Ok(door) = UnixDoor::bind(rt, alloc, rt, config.control.as_str()) else {
         return Outcome::NoControl;
     };
+    let mut hall = Hall::new(alloc, door);
     let mut pace = SleepingPace::new(rt, config.tick_ms);
     let terms = terms_of(&config);
     let opening = config.opening;
     let end = run_lives(
-        rt, alloc, opening, terms, &line, &mut pace, &mut door, writer,
+        rt, alloc, opening, terms, &line, &mut pace, &mut hall, writer,
     );
     outcome_of(end)
 }

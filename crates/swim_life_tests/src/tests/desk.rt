@@ -5,7 +5,7 @@ use super::lives::{assert_ended, line, pace};
 use super::*;
 use arrayvec::ArrayVec;
 use std::sync::atomic::{AtomicBool, Ordering};
-use swim_life::{Door, Knock};
+use swim_life::{Door, Hall, Knock};
 use swim_wire::{Sink, Text};
 
 // A list, a join of no id, and a line that is cut off.
@@ -13,24 +13,25 @@ const LINES: &[u8] = b"list\njoin 0 1.2.3.4:5\nlis";
 
 const ANSWERS: &[u8] = b"2 10.0.0.2:7000 up\n3 10.0.0.3:7000 up\n.\nfault 3\nfault 6\n";
 
-// A door to which one operator comes, who types these lines. It tells when the next is waited for.
+// A door to which one operator comes, who types these lines. It tells when it is asked again behind the answers.
 #[derive(Drop)]
-struct TypingDoor<'s, K: Clock + Drop> {
+struct TypingDoor<'a, 'l, K: Clock + Drop> {
     clock: K,
-    is_answered: &'s AtomicBool,
-    is_left: &'s AtomicBool,
+    is_answered: &'a AtomicBool,
+    is_left: &'l AtomicBool,
     was_open: bool,
 }
 
-impl<'s, K: Clock + Drop> Door for TypingDoor<'s, K> {
+impl<'a, 'l, K: Clock + Drop> Door for TypingDoor<'a, 'l, K> {
     type Reader = Text<'static>;
 
-    type Writer = Expecting<'s>;
+    type Writer = Expecting<'a>;
 
-    fn next<R: Wait>(&mut self, _rt: &R) -> Knock<Text<'static>, Expecting<'s>> {
+    fn next<R: Wait>(&mut self, _rt: &R) -> Knock<Text<'static>, Expecting<'a>> {
         if self.was_open {
-            set(self.is_left);
-            pause(&self.clock);
+            if is_set(self.is_answered) {
+                set(self.is_left);
+            }
             return Knock::Idle;
         }
         self.was_open = true;
@@ -39,6 +40,14 @@ impl<'s, K: Clock + Drop> Door for TypingDoor<'s, K> {
             text: ArrayVec::new(),
         };
         Knock::Conn(Text::new(LINES), answers)
+    }
+
+    fn wait<R: Wait>(&mut self, _rt: &R) {
+        pause(&self.clock);
+    }
+
+    fn now(&mut self) -> u64 {
+        0
     }
 }
 
@@ -78,12 +87,13 @@ fn an_operator_is_answered(rt: HostRuntime) -> Result<(), Fail> {
     let is_answered = AtomicBool::new(false);
     let is_left = AtomicBool::new(false);
     let mut pace = pace(rt, &is_left, 0);
-    let mut door = TypingDoor {
+    let door = TypingDoor {
         clock: rt,
         is_answered: &is_answered,
         is_left: &is_left,
         was_open: false,
     };
+    let mut hall = Hall::new(rt.alloc(), door);
     let past = live(
         &rt,
         rt.alloc(),
@@ -92,7 +102,7 @@ fn an_operator_is_answered(rt: HostRuntime) -> Result<(), Fail> {
         1000,
         &line,
         &mut pace,
-        &mut door,
+        &mut hall,
     )
     .ok();
     assert_ended(&rt, past, Why::Stopped, 0, 0);

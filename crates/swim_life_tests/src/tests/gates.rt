@@ -11,13 +11,13 @@ use std::sync::atomic::{AtomicBool, AtomicU32, Ordering};
 use std::thread;
 use std::time::Duration;
 use swim_life::{Beat, Door, Got, Knock, Line, Pace};
-use swim_wire::{Byte, Page, Peer, Sink, Source, Text};
+use swim_wire::{Byte, Look, Page, Peer, Polled, Sink, Source, Text};
 
 /// How many turns a gate waits for another. After that it gives up, and the test's signals stay unset.
 pub const TURNS: u32 = 100_000;
 
 /// A ping of member 2 for member 1, number 5.
-const PING: [u8; 24] = [
+pub const PING: [u8; 24] = [
     0x53, 0x57, 1, 1, 0, 0, 0, 2, 0, 0, 0, 2, 0, 0, 0, 1, 0, 0, 0, 0, 0, 0, 0, 5,
 ];
 
@@ -143,8 +143,15 @@ impl<K: Clock + Drop> Door for NoDoor<K> {
     type Writer = Page;
 
     fn next<R: Wait>(&mut self, _rt: &R) -> Knock<Text<'static>, Page> {
-        pause(&self.clock);
         Knock::Idle
+    }
+
+    fn wait<R: Wait>(&mut self, _rt: &R) {
+        pause(&self.clock);
+    }
+
+    fn now(&mut self) -> u64 {
+        0
     }
 }
 
@@ -157,20 +164,20 @@ pub struct OneDoor<'s, K: Clock + Copy + Drop> {
 }
 
 impl<'s, K: Clock + Copy + Drop> Door for OneDoor<'s, K> {
-    type Reader = TwoLines<'s, K>;
+    type Reader = TwoLines<'s>;
 
     type Writer = Answers<'s>;
 
-    fn next<R: Wait>(&mut self, _rt: &R) -> Knock<TwoLines<'s, K>, Answers<'s>> {
+    fn next<R: Wait>(&mut self, _rt: &R) -> Knock<TwoLines<'s>, Answers<'s>> {
         if self.was_open {
-            pause(&self.clock);
             return Knock::Idle;
         }
         self.was_open = true;
         let lines = TwoLines {
-            clock: self.clock,
             signals: self.signals,
-            taken: 0,
+            ready: b"",
+            looks: 0,
+            given: 0,
         };
         let answers = Answers {
             signals: self.signals,
@@ -178,30 +185,36 @@ impl<'s, K: Clock + Copy + Drop> Door for OneDoor<'s, K> {
         };
         Knock::Conn(lines, answers)
     }
+
+    fn wait<R: Wait>(&mut self, _rt: &R) {
+        pause(&self.clock);
+    }
+
+    fn now(&mut self) -> u64 {
+        0
+    }
 }
 
-/// The lines `list` and `stop`, the second of which is held back until the ack was sent.
+/// The lines `list` and `stop`, the second of which comes when the ack was sent.
 #[derive(Drop)]
-pub struct TwoLines<'s, K: Clock + Drop> {
-    clock: K,
+pub struct TwoLines<'s> {
     signals: &'s Signals,
-    taken: usize,
+    ready: &'static [u8],
+    looks: u32,
+    given: u32,
 }
 
-impl<'s, K: Clock + Drop> Source for TwoLines<'s, K> {
+impl<'s> Source for TwoLines<'s> {
     ghost left = { λ lines. None };
 
-    ghost ready = { λ lines. [] };
+    ghost ready = { λ lines. lines.ready.now };
 
     ghost failures = { λ lines. 0 };
 
     fn byte(&mut self) -> Byte {
-        if self.taken == 5 && !is_set_in_time(&self.clock, &self.signals.is_acked) {
-            return Byte::End;
-        }
-        match b"list\nstop\n".get(self.taken) {
-            Some(byte) => {
-                self.taken += 1;
+        match self.ready.split_first() {
+            Some((byte, rest)) => {
+                self.ready = rest;
                 Byte::One(*byte)
             }
             None => Byte::End,
@@ -209,20 +222,33 @@ impl<'s, K: Clock + Drop> Source for TwoLines<'s, K> {
     }
 
     fn ready(&self) -> &[u8] {
-        &[]
+        self.ready
     }
 
-    fn skip(&mut self, _count: usize) {}
+    fn skip(&mut self, count: usize) {
+        self.ready = &self.ready[count..];
+    }
 }
 
-fn is_set_in_time<K: Clock>(clock: &K, signal: &AtomicBool) -> bool {
-    for _turn in 0..TURNS {
-        if is_set(signal) {
-            return true;
+impl<'s> Polled for TwoLines<'s> {
+    fn look(&mut self) -> Look {
+        self.looks = self.looks.saturating_add(1);
+        if self.given == 0 {
+            self.given = 1;
+            self.ready = b"list\n";
+            return Look::Ready;
         }
-        pause(clock);
+        if self.given == 1 && is_set(&self.signals.is_acked) {
+            self.given = 2;
+            self.ready = b"stop\n";
+            return Look::Ready;
+        }
+        if self.given == 1 && self.looks < TURNS {
+            Look::Nothing
+        } else {
+            Look::Over
+        }
     }
-    false
 }
 
 /// Where the operator's answers go. It tells that the list was answered, and that the life is stopping.

@@ -1,7 +1,9 @@
-use super::gates::{NoDoor, OneDoor, PingLine, Signals, StopPace, is_set};
+ghost use Rattle.swim_life.specs.Gates.{FitsInto};
+
+use super::gates::{NoDoor, OneDoor, PING, PingLine, Signals, StopPace, TURNS, is_set, pause, set};
 use super::*;
 use std::sync::atomic::{AtomicBool, Ordering};
-use swim_life::{LivesEnd, Terms, run_lives};
+use swim_life::{Beat, Got, Hall, LivesEnd, Terms, run_lives};
 use swim_wire::Page;
 
 pub fn line<'s, K: Clock + Drop>(clock: K, signals: &'s Signals, faults: u32) -> PingLine<'s, K> {
@@ -31,11 +33,12 @@ fn workers_at_once(rt: HostRuntime) -> Result<(), Fail> {
     let signals = Signals::new(false);
     let line = line(rt, &signals, 0);
     let mut pace = pace(rt, &signals.is_stopping, 0);
-    let mut door = OneDoor {
+    let door = OneDoor {
         clock: rt,
         signals: &signals,
         was_open: false,
     };
+    let mut hall = Hall::new(rt.alloc(), door);
     let past = live(
         &rt,
         rt.alloc(),
@@ -44,7 +47,7 @@ fn workers_at_once(rt: HostRuntime) -> Result<(), Fail> {
         1000,
         &line,
         &mut pace,
-        &mut door,
+        &mut hall,
     )
     .ok();
     assert_ended(&rt, past, Why::Stopped, 1, 0);
@@ -115,7 +118,7 @@ fn two_lives(rt: HostRuntime) -> Result<(), Fail> {
     let is_told = AtomicBool::new(true);
     let line = line(rt, &signals, 0);
     let mut pace = pace(rt, &is_told, 5);
-    let mut door = NoDoor { clock: rt };
+    let mut hall = Hall::new(rt.alloc(), NoDoor { clock: rt });
     let mut page = Page::new(rt.alloc());
     let terms = Terms {
         seed: [0; 32],
@@ -128,7 +131,7 @@ fn two_lives(rt: HostRuntime) -> Result<(), Fail> {
         terms,
         &line,
         &mut pace,
-        &mut door,
+        &mut hall,
         &mut page,
     );
     assert_eq!(rt; end, LivesEnd::Stopped);
@@ -137,6 +140,107 @@ fn two_lives(rt: HostRuntime) -> Result<(), Fail> {
     assert_eq!(rt; page.text().len(), FIRST_LIFE.len() + LAST_LIFE.len());
     Ok(())
 }
+
+// A line with a ping, which it gives when the journal is full. It tells that it did.
+#[derive(Drop)]
+struct LateLine<'f, 'g, K: Clock + Drop> {
+    clock: K,
+    is_full: &'f AtomicBool,
+    was_given: &'g AtomicBool,
+}
+
+impl<'f, 'g, K: Clock + Drop> Line for LateLine<'f, 'g, K> {
+    fn receive<R: Wait>(&self, _rt: &R, bytes: &mut [u8]) -> Got
+        ensures { FitsInto result bytes.new }
+    {
+        pause(&self.clock);
+        if !is_set(self.is_full) || is_set(self.was_given) {
+            return Got::Idle;
+        }
+        match bytes.get_mut(..24) {
+            Some(front) => {
+                front.copy_from_slice(&PING);
+                set(self.was_given);
+                Got::Datagram(24, at(2))
+            }
+            None => Got::Fault,
+        }
+    }
+
+    fn send<R: Wait>(&self, _rt: &R, _bytes: &[u8], _to: Peer) -> bool {
+        true
+    }
+}
+
+// Two ticks, which fill the journal, and a stop once the ping was given.
+#[derive(Drop)]
+struct FillingPace<'f, 'g, K: Clock + Drop> {
+    clock: K,
+    is_full: &'f AtomicBool,
+    was_given: &'g AtomicBool,
+    ticks: u32,
+}
+
+impl<'f, 'g, K: Clock + Drop> Pace for FillingPace<'f, 'g, K> {
+    fn next<R: Wait>(&mut self, _rt: &R) -> Beat {
+        if self.ticks < 2 {
+            self.ticks += 1;
+            return Beat::Tick;
+        }
+        set(self.is_full);
+        for _turn in 0..TURNS {
+            if is_set(self.was_given) {
+                break;
+            }
+            pause(&self.clock);
+        }
+        Beat::Stop
+    }
+}
+
+// A ping meets the full journal, and the pace gives a stop at the same time: the life ends by both, and none begins.
+#[test]
+fn a_stop_at_a_full_journal(rt: HostRuntime) -> Result<(), Fail> {
+    let rows = [(id(2), at(2))];
+    let opening = Opening::check(id(1), 0, 1, 3, &rows, 0).map_err(|_| "an opening")?;
+    let is_full = AtomicBool::new(false);
+    let was_given = AtomicBool::new(false);
+    let line = LateLine {
+        clock: rt,
+        is_full: &is_full,
+        was_given: &was_given,
+    };
+    let mut pace = FillingPace {
+        clock: rt,
+        is_full: &is_full,
+        was_given: &was_given,
+        ticks: 0,
+    };
+    let mut hall = Hall::new(rt.alloc(), NoDoor { clock: rt });
+    let mut page = Page::new(rt.alloc());
+    let terms = Terms {
+        seed: [0; 32],
+        limit: 2,
+    };
+    let end = run_lives(
+        &rt,
+        rt.alloc(),
+        opening,
+        terms,
+        &line,
+        &mut pace,
+        &mut hall,
+        &mut page,
+    );
+    assert_eq!(rt; end, LivesEnd::Stopped);
+    assert!(rt; is_set(&was_given));
+    assert!(rt; page.text().starts_with(FIRST_LIFE));
+    assert!(rt; page.text().ends_with(NO_LIFE));
+    assert_eq!(rt; page.text().len(), FIRST_LIFE.len() + NO_LIFE.len());
+    Ok(())
+}
+
+const NO_LIFE: &[u8] = b"ended stopped entries 0 judged 0 unsent 0 wire 0 refused 0\n";
 
 const FIRST_LIFE: &[u8] = b"life 0 entries 2 judged 0 unsent 0 wire 0 refused 0\n";
 

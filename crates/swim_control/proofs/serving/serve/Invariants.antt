@@ -1,6 +1,6 @@
 -- The lines that were read were answered; no read and no write has failed.
 use Rattle.std.proofs.Common.{◌≡◌}
-use Rattle.swim_control.proofs.Known.{CourseKnown}
+use Rattle.swim_control.specs.Serving.{CourseKnown}
 use Rattle.swim_control.proofs.serving.serve.Given as goal
 
 abbrev pub invariant-loop-line : goal.invariant-loop-line

@@ -1,0 +1,111 @@
+-- Connections that are served side by side, none of which is waited for: what a turn of one does. Moments are in
+-- milliseconds.
+use Rattle.std.specs.Prelude.{◌≡◌, ℕ, ◌+◌, ◌<◌, ◌≤◌, true, false, ◌⊎◌, List, [], ◌∷◌, ◌++◌, Option, Some, None}
+use Rattle.std.specs.Io.KnownBytes.{Keeps}
+use Rattle.swim_wire.specs.declared.short_lines.LineEnd.{LineEnd}
+use Rattle.swim_wire.specs.ShortLines.{Advances}
+use Rattle.swim_control.specs.declared.desks.Command.{Command}
+use Rattle.swim_control.specs.declared.connections.Close.TheVariants as closes
+use Rattle.swim_control.specs.declared.connections.Stand.{Stand}
+use Rattle.swim_control.specs.declared.connections.Stand.TheVariants.{Idle, Busy, Ended, Closed}
+use Rattle.swim_control.specs.declared.serving.Served.{Served}
+use Rattle.swim_control.specs.Desks.{Told}
+use Rattle.swim_control.specs.Talks.{Talk}
+use Rattle.swim_control.specs.Turns.{Meets}
+
+-- an answer waits to be taken
+abbrev pub IsWaiting : Talk → Type 0
+IsWaiting t = t.is_taken ≡ false
+
+-- none does, and serving goes on
+abbrev pub IsServing : Talk → Type 0
+IsServing t = (t.is_taken ≡ true) × (t.end ≡ None)
+
+-- nothing was read and nothing was put
+abbrev pub HandsOn : Talk → Talk → Type 0
+HandsOn old new =
+    IsWaiting old × Keeps old.written new.written
+    × (new ≡ record old { written = new.written; is_taken = new.is_taken })
+
+-- what a turn does where an answer waits, which may do so for a second
+abbrev pub Hands : ℕ → Stand → Talk → Talk → Type 0
+Hands now Idle old new = HandsOn old new × IsWaiting new × (now < old.since + 1000)
+Hands now Busy old new = HandsOn old new × (new.is_taken ≡ true)
+Hands now (Closed closes.Untaken) old new = HandsOn old new × IsWaiting new × (old.since + 1000 ≤ now)
+Hands now stand old new = ⊥
+
+-- no line ended: at most a part more of one was read, and what was put was handed on as far as it was taken
+abbrev pub ReadsOn : Talk → Talk → Type 0
+ReadsOn old new =
+    IsServing old × Advances None old.left new.left old.part new.part 128 old.reads new.reads
+    × Keeps old.written new.written
+    × (new ≡ record old {
+      left = new.left;
+      part = new.part;
+      reads = new.reads;
+      written = new.written;
+      is_taken = new.is_taken;
+    })
+
+-- a line ended so, it was answered, and what was put was handed on as far as it was taken; serving ends so with it, if
+-- it does
+pub record Answers {S : Type 0} (asks : S → Command → Told → S → Type 0) (now : ℕ) (old new : Talk) (desk after : S)
+    (end : Option Served) : Type 0 where
+  pub serving : IsServing old
+  pub met : LineEnd
+  pub line : List ℕ
+  pub read : Advances (Some met) old.left new.left old.part line 128 old.reads new.reads
+  pub put : Option (List ℕ)
+  pub meets : Meets asks met line desk after old.written put end
+  pub sent : Keeps put new.written
+  pub rest : new ≡ record old {
+    left = new.left;
+    part = [];
+    reads = new.reads;
+    written = new.written;
+    since = now;
+    is_taken = new.is_taken;
+    end = end;
+  }
+
+-- what a turn at this moment does to a connection and to the desk, and how the connection stands then; for a minute it
+-- may send no whole line
+abbrev pub Turns : {S : Type 0} → (S → Command → Told → S → Type 0) → ℕ → Stand → Talk → Talk → S → S → Type 0
+Turns asks now Idle old new desk after =
+    (after ≡ desk) × (Hands now Idle old new ⊎ (ReadsOn old new × (now < old.since + 60000)))
+Turns asks now Busy old new desk after =
+    ((after ≡ desk) × (Hands now Busy old new ⊎ (ReadsOn old new × (now < old.since + 60000))))
+    ⊎ Answers asks now old new desk after None
+Turns asks now (Ended end) old new desk after = Answers asks now old new desk after (Some end)
+Turns asks now (Closed (closes.Served end)) old new desk after =
+    (after ≡ desk) × (new ≡ old) × (old.is_taken ≡ true) × (old.end ≡ Some end)
+Turns asks now (Closed closes.Silent) old new desk after = (after ≡ desk) × ReadsOn old new × (old.since + 60000 ≤ now)
+Turns asks now (Closed closes.Untaken) old new desk after = (after ≡ desk) × Hands now (Closed closes.Untaken) old new
+
+-- a connection stays unless it was closed
+abbrev pub kept_at : Stand → Talk → List Talk
+kept_at (Closed why) t = []
+kept_at stand t = t ∷ []
+
+-- the first connection has its turn, and is the last from then on, unless it was closed
+pub record TakesTurn {S : Type 0} (asks : S → Command → Told → S → Type 0) (now : ℕ) (stand : Stand)
+    (old new : List Talk) (desk after : S) : Type 0 where
+  pub first : Talk
+  pub others : List Talk
+  pub was : old ≡ first ∷ others
+  pub then_so : Talk
+  pub turn : Turns asks now stand first then_so desk after
+  pub are : new ≡ others ++ kept_at stand then_so
+
+-- a connection that has just come
+abbrev pub newcomer : ℕ → Option (List ℕ) → Option (List ℕ) → ℕ → Talk
+newcomer id left written now = record {
+  id = id;
+  left = left;
+  part = [];
+  reads = 1048576;
+  written = written;
+  since = now;
+  is_taken = true;
+  end = None;
+}
