@@ -1,7 +1,7 @@
 //! Lines that are read up to a limit of bytes and of reads.
 
 use arrayvec::ArrayVec;
-use swim_wire::{Byte, LineEnd, Page, Source, Text, next_short_line};
+use swim_wire::{Byte, LineEnd, Met, Page, Source, Text, next_short_line, read_on};
 
 /// What the first line of a text ends with, where a line has at most 4 bytes, its bytes, and the reads that are left.
 fn first(text: &[u8], page: &mut Page, mut reads: u32) -> (LineEnd, ArrayVec<u8, 4>, u32) {
@@ -60,4 +60,38 @@ fn tells_failures_of_short_lines(rt: HostRuntime) {
         let got = next_short_line(&mut source, &mut page, &mut line, &mut reads);
         assert_eq!(rt; got, end);
     }
+}
+
+// A line that is read on in as it comes: first it is looked for, and then it is there.
+#[test]
+fn reads_on_without_waiting(rt: HostRuntime) {
+    let mut source = Text::new(b"one\nt");
+    let mut line = ArrayVec::<u8, 8>::new();
+    let mut reads = 7;
+    assert_eq!(rt; read_on(&mut source, &mut line, &mut reads), Met::Part);
+    assert_eq!(rt;
+        read_on(&mut source, &mut line, &mut reads),
+        Met::End(LineEnd::Feed)
+    );
+    assert_eq!(rt; line.as_slice(), b"one".as_slice());
+    line.clear();
+    assert_eq!(rt; read_on(&mut source, &mut line, &mut reads), Met::Part);
+    assert_eq!(rt; read_on(&mut source, &mut line, &mut reads), Met::Part);
+    assert_eq!(rt;
+        read_on(&mut source, &mut line, &mut reads),
+        Met::End(LineEnd::Unended)
+    );
+    assert_eq!(rt; line.as_slice(), b"t".as_slice());
+    assert_eq!(rt; reads, 1);
+    let mut failing = Text::failing_after(b"one\n", 1);
+    assert_eq!(rt; read_on(&mut failing, &mut line, &mut reads), Met::Nothing);
+    assert_eq!(rt;
+        read_on(&mut failing, &mut line, &mut reads),
+        Met::End(LineEnd::Failed)
+    );
+    reads = 0;
+    assert_eq!(rt;
+        read_on(&mut failing, &mut line, &mut reads),
+        Met::End(LineEnd::Spent)
+    );
 }
