@@ -61,6 +61,43 @@ CAUSES = [
      "a number has no sign and no zero in front")),
     # capitals
     (OPEN + b"Tick\n", told("line 2: word", ["Tick", "^^^^"], ANY, "first words have small letters")),
+    # a zero in front of an octet, and of a port
+    (OPEN + b"row 2 10.0.0.02:7000\n", told("line 2: peer", ["row 2 10.0.0.02:7000", "      ^^^^^^^^^^^^^^"], PEER,
+     "a number has no sign and no zero in front")),
+    (OPEN + b"row 2 10.0.0.2:07000\n", told("line 2: peer", ["row 2 10.0.0.2:07000", "      ^^^^^^^^^^^^^^"], PEER,
+     "a number has no sign and no zero in front")),
+    # a host's name, with and without a port
+    (OPEN + b"row 2 db-1.example:7000\n", told("line 2: peer", ["row 2 db-1.example:7000", "      ^^^^^^^^^^^^^^^^^"], PEER,
+     "a host's name stands there: an address has numbers alone")),
+    (OPEN + b"join 2 localhost\n", told("line 2: peer", ["join 2 localhost", "       ^^^^^^^^^"], PEER,
+     "a host's name stands there: an address has numbers alone")),
+    # a comma at either end, or two in a row
+    (OPEN + b"order 2,3,\n", told("line 2: number", ["order 2,3,", "          ^"], IDS,
+     "a comma stands between two IDs, and nowhere else")),
+    (OPEN + b"order ,2,3\n", told("line 2: number", ["order ,2,3", "      ^"], IDS,
+     "a comma stands between two IDs, and nowhere else")),
+    (OPEN + b"order 2,,3\n", told("line 2: number", ["order 2,,3", "        ^"], IDS,
+     "a comma stands between two IDs, and nowhere else")),
+    (OPEN + b"order  2\n", told("line 2: number", ["order  2", "      ^"], IDS,
+     "two spaces in a row, or one at the end of the line, have an empty word between them")),
+    (OPEN + b"order 2,x 3\n", told("line 2: number", ["order 2,x 3", "        ^"], IDS)),
+    # a comment behind a line, and behind a part of one
+    (OPEN + b"tick # first\n", told("line 2: extra", ["tick # first", "     ^"], "the end of the line",
+     "a comment has a line of its own, which begins with #")),
+    (OPEN + b"row 2 #10.0.0.2:7000\n", told("line 2: peer", ["row 2 #10.0.0.2:7000", "      ^^^^^^^^^^^^^^"], PEER,
+     "a comment has a line of its own, which begins with #")),
+    # two letters that are swapped, at the end and in front
+    (OPEN + b"tikc\n", told("line 2: word", ["tikc", "^^^^"], ANY, "two letters of tick are swapped")),
+    (b"poen 1 0 1 3 0 100\n", told("line 1: word", ["poen 1 0 1 3 0 100", "^^^^"], FIRST, "two letters of open are swapped")),
+    (OPEN + b"ticck\n", told("line 2: word", ["ticck", "^^^^^"], ANY)),
+    (OPEN + b"itkc\n", told("line 2: word", ["itkc", "^^^^"], ANY)),
+    # text of another encoding, with its mark in either order and without one
+    (b"\xff\xfeo\x00p\x00\n", told("line 1: word", ["\\xff\\xfeo\\x00p\\x00", "^^^^^^^^^^^^^^^^^^"], FIRST,
+     "the script is UTF-16 text, which some editors write: save it as UTF-8")),
+    (b"\xfe\xff\x00o\n", told("line 1: word", ["\\xfe\\xff\\x00o", "^^^^^^^^^^^^^"], FIRST,
+     "the script is UTF-16 text, which some editors write: save it as UTF-8")),
+    (b"o\x00p\x00\n", told("line 1: word", ["o\\x00p\\x00", "^^^^^^^^^^"], FIRST,
+     "the script is UTF-16 text, which some editors write: save it as UTF-8")),
     # half a byte
     (OPEN + b"hear 10.0.0.2:7000 123\n", told("line 2: hex", ["hear 10.0.0.2:7000 123", "                   ^^^"], HEX,
      "it has 3 digits, an odd number")),

@@ -169,6 +169,32 @@ def with_a_picture(program):
             return said + ([] if file.read().endswith(b"</svg>\n") else ["the picture has no end"])
 
 
+def with_a_picture_over_a_file(program):
+    """A picture is drawn over a picture of ours and over an empty file, and over nothing else: not over the script that is played,
+    whether it is named or standard input, nor over another program's picture or a part of one of ours. With the word it is."""
+    script, wanted = content("examples/first.swim"), re.escape(content("examples/first.stdout"))
+    ours = content("docs/timeline.svg")
+    others = {"played.swim": script, "notes.txt": b"notes\n", "other.svg": b'<svg xmlns="http://www.w3.org/2000/svg" width="9">\n</svg>\n',
+              "line.svg": ours[: ours.index(b"\n")], "later.svg": b"\n" + ours}
+    said = []
+    with tempfile.TemporaryDirectory() as folder:
+        for name, text in [*others.items(), ("ours.svg", ours), ("empty.svg", b"")]:
+            path, played = f"{folder}/{name}", f"{folder}/script.swim"
+            for file, held in ((played, script), (path, text)):
+                with open(file, "wb") as to:
+                    to.write(held)
+            kept = b"swimsim: " + re.escape(path.encode()) + b": it holds something else than a picture of swimsim: --force writes over it\n"
+            is_kept = name in others
+            input_path = path if name == "played.swim" else played
+            for words, given in (([input_path], b""), (["-"], script), ([], script)):
+                said += called(program, [Called(["--timeline", path, *words], int(is_kept), wanted, kept if is_kept else b"", given)])
+                drawn = content(path) != text
+                said += [f"{name} was {'drawn over' if drawn else 'kept'}"] if drawn == is_kept else []
+            said += called(program, [Called(["--force", "--timeline", path, played], 0, wanted, b"")])
+            said += [] if content(path).endswith(b"</svg>\n") else [f"{name} was kept where the word stands"]
+    return said
+
+
 def with_help(program):
     """Help and the version are answers, and no script is played."""
     text = rb"(?s)Replays a script .*\n\nUsage: \S+ [^\n]*\[FILE\]\n.*--help.*--version.*"
@@ -206,5 +232,5 @@ def with_a_file_that_cannot_be_read(program):
         return said
 
 
-ATTEMPTS = [with_a_file, with_decode, with_names, with_explain, with_failures, with_both, with_a_picture, with_help]
-ATTEMPTS += [with_other_words, with_a_file_that_cannot_be_read]
+ATTEMPTS = [with_a_file, with_decode, with_names, with_explain, with_failures, with_both, with_a_picture, with_a_picture_over_a_file]
+ATTEMPTS += [with_help, with_other_words, with_a_file_that_cannot_be_read]

@@ -23,8 +23,8 @@ value_rule name = record (new_rule name) { long = Some name; value_names = 1 }
 -- the flags, and the option of a value
 abbrev pub command_line : App
 command_line =
-    with_rule (with_rule (with_rule (with_rule (on_top versioned (new_app (codes "swimsim"))) script_rule)
-    (flag_rule (codes "decode"))) (flag_rule (codes "explain"))) (value_rule (codes "timeline"))
+    with_rule (with_rule (with_rule (with_rule (with_rule (on_top versioned (new_app (codes "swimsim"))) script_rule)
+    (flag_rule (codes "decode"))) (flag_rule (codes "explain"))) (value_rule (codes "timeline"))) (flag_rule (codes "force"))
 
 -- the path of the script that the words name, if any
 abbrev pub script_in : List Text → Option Text

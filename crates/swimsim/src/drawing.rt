@@ -1,24 +1,34 @@
 //! The picture of a run, in a file.
 
+use crate::options::Options;
 use anyhow::{Result, anyhow};
 use std::fs::File;
+use std::io::{Read, Seek};
 use std::process::ExitCode;
 use swim_history::Journal;
 use swim_timeline::put_timeline;
-use swim_wire::{Sink, WriteSink};
+use swim_wire::{Sink, Words, WriteSink};
 
-/// Draws the run into the file at that path, if there is one, and answers this status. Where the picture can't be
-/// made, the error names the file, and the status is that of a failure.
+/// What the first two lines of a picture begin with.
+const FIRST_LINE: &[u8; 39] = b"<svg xmlns=\"http://www.w3.org/2000/svg\"";
+
+const SECOND_LINE: &[u8; 32] = b"<title id=\"title\">Run of member ";
+
+/// They have at most so many bytes together.
+const HEAD_BYTES: usize = 512;
+
+/// Draws the run into the file that the options name, if they name one, and answers this status. Where the picture
+/// can't be made, the error names the file, and the status is that of a failure.
 pub fn draw_at(
     rt: &HostRuntime,
-    path: Option<&str>,
+    options: &Options<'_>,
     journal: Option<&Journal>,
     code: ExitCode,
 ) -> ExitCode {
-    let Some(path) = path else {
+    let Some(path) = options.timeline else {
         return code;
     };
-    match draw(rt, path, journal) {
+    match draw(rt, path, options.force, journal) {
         Ok(()) => code,
         Err(error) => {
             let _ = eprintln!(rt; "swimsim: {path}: {error}");
@@ -27,14 +37,60 @@ pub fn draw_at(
     }
 }
 
-fn draw(rt: &HostRuntime, path: &str, journal: Option<&Journal>) -> Result<()> {
+fn draw(rt: &HostRuntime, path: &str, is_forced: bool, journal: Option<&Journal>) -> Result<()> {
     let Some(journal) = journal else {
         return Err(anyhow!("there is no event to be drawn"));
     };
-    let mut writer = WriteSink::new(File::create(rt, path)?);
+    let file = if is_forced {
+        File::create(rt, path)?
+    } else {
+        open_unless_lost(rt, path)?
+    };
+    let mut writer = WriteSink::new(file);
     if put_timeline(rt.alloc(), journal, &mut writer)? && writer.flush() {
         Ok(())
     } else {
         Err(anyhow!("the picture can't be written"))
+    }
+}
+
+/// Opens the file for a picture, unless what it holds would be lost.
+fn open_unless_lost(rt: &HostRuntime, path: &str) -> Result<File> {
+    let mut options = File::options();
+    options.read(true).write(true).create(true);
+    let mut file = options.open(rt, path)?;
+    if !make_empty(&mut file)? {
+        return Err(anyhow!(
+            "it holds something else than a picture of swimsim: --force writes over it"
+        ));
+    }
+    Ok(file)
+}
+
+/// Makes the file empty, and answers whether it is to be written: not where it is one of a disk that holds something
+/// else than a picture, which stays as it is.
+fn make_empty(file: &mut File) -> Result<bool> {
+    let found = file.metadata()?;
+    if !found.is_file() || found.len() == 0 {
+        return Ok(true);
+    }
+    let mut head = [0; HEAD_BYTES];
+    let count = file.read(&mut head)?;
+    if !is_picture(head.get(..count).unwrap_or_default()) {
+        return Ok(false);
+    }
+    file.set_len(0)?;
+    file.rewind()?;
+    Ok(true)
+}
+
+/// Whether a file that begins so has a picture of a run.
+fn is_picture(head: &[u8]) -> bool {
+    let mut lines = Words::split(head, b'\n');
+    match (lines.next(), lines.next()) {
+        (Some(first), Some(second)) => {
+            first.starts_with(FIRST_LINE) && second.starts_with(SECOND_LINE)
+        }
+        _ => false,
     }
 }

@@ -1,6 +1,6 @@
 //! A fault of a script, explained to a person.
 
-use crate::causes::{Cause, cause_for, cause_in};
+use crate::causes::{Cause, cause_for, cause_in, cause_in_spelling};
 use crate::expectations::Expected;
 use crate::grammar::Argument;
 use crate::marks::{Mark, first_refused, part_at, word_at};
@@ -130,20 +130,16 @@ fn of_words<'a>(kind: LineFault, line: &'a [u8], told: &Told) -> Explanation<'a>
 
 /// A first word that is unknown, or can't stand there.
 fn of_first_word(first: Option<Word>, word: &[u8], told: &Told) -> (Expected, Option<Cause>) {
-    let capitals = if word.iter().any(|byte| byte.is_ascii_uppercase()) {
-        Some(Cause::Capitals)
-    } else {
-        None
-    };
+    let spelling = cause_in_spelling(word);
     if told.open.is_none() {
-        return (Expected::Opening, capitals);
+        return (Expected::Opening, spelling);
     }
     match (first, told.event) {
         (Some(Word::Open), Some(_)) => (Expected::Event, Some(Cause::SecondOpen)),
         (Some(Word::Open), None) => (Expected::AnyLine, Some(Cause::SecondOpen)),
         (Some(_), Some(line)) => (Expected::Event, Some(Cause::EventLine(line))),
-        (_, Some(_)) => (Expected::Event, capitals),
-        (_, None) => (Expected::AnyLine, capitals),
+        (_, Some(_)) => (Expected::Event, spelling),
+        (_, None) => (Expected::AnyLine, spelling),
     }
 }
 
@@ -184,12 +180,27 @@ fn of_ids<'a>(line: &'a [u8], mark: Mark<'a>) -> Explanation<'a> {
     let mut index: usize = 0;
     while let Some(part) = parts.next() {
         if Id::read(part).is_none() {
-            let mark = part_at(line, b',', mark.before.len(), index);
-            return at(line, mark, expected, cause_for(Argument::Member, mark.word));
+            return at_id(line, mark, index);
         }
         index = index.saturating_add(1);
     }
     at(line, mark, expected, Some(Cause::TooManyIds(index)))
+}
+
+/// One of an order's ids, which is none.
+fn at_id<'a>(line: &'a [u8], ids: Mark<'a>, index: usize) -> Explanation<'a> {
+    let expected = Expected::Argument(Argument::Ids);
+    let end = ids.before.len().saturating_add(ids.word.len());
+    let text = line.get(..end).unwrap_or(line);
+    let mark = part_at(text, b',', ids.before.len(), index);
+    if mark.word.is_empty() && !ids.word.is_empty() {
+        return Explanation {
+            marked: Some(Marked { line, mark }),
+            expected,
+            cause: Some(Cause::Comma),
+        };
+    }
+    at(line, mark, expected, cause_for(Argument::Member, mark.word))
 }
 
 /// An opening that is refused, at its `open` line.

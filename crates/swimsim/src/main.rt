@@ -21,6 +21,7 @@ mod options;
 mod overhearing;
 mod reasons;
 mod showing;
+mod spelling;
 mod summaries;
 mod tallies;
 mod wording;
@@ -70,8 +71,8 @@ fn begin(rt: &HostRuntime) -> Result<ExitCode> {
     };
     match read_options(rt.alloc(), words.as_slice()) {
         Ok(options) => match options.script {
-            None => Ok(play(rt, Script::Standard(rt.stdin()), &options)),
-            Some(path) => Ok(play_file(rt, path, &options)),
+            Some(path) if path != "-" => Ok(play_file(rt, path, &options)),
+            _ => Ok(play(rt, Script::Standard(rt.stdin()), &options)),
         },
         Err(answer) => tell(rt, &answer),
     }
@@ -115,7 +116,7 @@ fn play(rt: &HostRuntime, script: Script, options: &Options<'_>) -> ExitCode {
     let input = Input::Plain(script);
     let output = Output::Plain(rt.stdout());
     let code = finish(rt, play_between(&mut session, input, output));
-    draw_at(rt, options.timeline, session.into_journal().as_ref(), code)
+    draw_at(rt, options, session.into_journal().as_ref(), code)
 }
 
 /// Plays it, and puts into words what the options ask for.
@@ -134,7 +135,7 @@ fn play_in_words(rt: &HostRuntime, script: Script, options: &Options<'_>) -> Exi
         let tally = tally.get();
         let _ = eprint!(rt; "{tally}");
     }
-    draw_at(rt, options.timeline, journal.as_ref(), code)
+    draw_at(rt, options, journal.as_ref(), code)
 }
 
 /// The bytes of a script, of which notes are taken.

@@ -13,7 +13,7 @@ use std::convert::AsStr;
 /// What the words of the command line ask for.
 #[derive(Debug, Drop)]
 pub struct Options<'a> {
-    /// The path of the script; `None` for standard input.
+    /// The path of the script; `None`, and `-`, for standard input.
     pub script: Option<&'a str>,
     /// Whether datagrams are put into words.
     pub decode: bool,
@@ -21,6 +21,8 @@ pub struct Options<'a> {
     pub explain: bool,
     /// The path of a picture of the run; `None` where none is wanted.
     pub timeline: Option<&'a str>,
+    /// Whether the picture is written over whatever stands there.
+    pub force: bool,
 }
 
 /// Reads the words of the command line, of which the first is the program's name. Where they ask for help or the
@@ -34,6 +36,8 @@ pub fn read_options<'a, S: AsStr>(alloc: Global, words: &'a [S]) -> Result<Optio
         (flag_in (codes "explain") (map S.text words.entry.now))) }
     ensures timeline { IfOk result (λ options. option_map (λ path. path.now) options.timeline
         ≡ value_in (codes "timeline") (map S.text words.entry.now)) }
+    ensures force { IfOk result (λ options. TellsFlag options.force
+        (flag_in (codes "force") (map S.text words.entry.now))) }
     ensures refused { FailsBy (fault_of command_line (map S.text words.entry.now)) result }
 {
     let command = command_line(alloc)?;
@@ -43,6 +47,7 @@ pub fn read_options<'a, S: AsStr>(alloc: Global, words: &'a [S]) -> Result<Optio
         decode: matches.get_flag("decode"),
         explain: matches.get_flag("explain"),
         timeline: matches.get_str("timeline"),
+        force: matches.get_flag("force"),
     })
 }
 
@@ -68,13 +73,19 @@ fn command_line<'a>(alloc: Global) -> Result<Command<'a>, AllocError>
         "explain",
         "Explains faults and numbers, and sums the run up on standard error",
     );
+    let force = flag(
+        alloc,
+        "force",
+        "Draws over a file that holds something else than a picture of swimsim",
+    );
     Command::new(alloc, "swimsim")
         .version("1.0")
         .about("Replays a script of a SWIM failure detector")
         .arg(script(alloc))?
         .arg(decode)?
         .arg(explain)?
-        .arg(timeline(alloc))
+        .arg(timeline(alloc))?
+        .arg(force)
 }
 
 /// The one word that is no option.
@@ -82,7 +93,7 @@ fn script<'a>(alloc: Global) -> Arg<'a>
     ensures rule { rule_of result ≡ script_rule }
     ensures local { result.global ≡ false }
 {
-    Arg::new(alloc, "FILE").help("The script [default: standard input]")
+    Arg::new(alloc, "FILE").help("The script; - for standard input, as where none is named")
 }
 
 /// An option that takes no value.

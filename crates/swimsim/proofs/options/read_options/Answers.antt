@@ -44,6 +44,15 @@ returns-clause-timeline g c =
     c.get_str-2.ensures ∙ (first_value-rows (found_of c.in_ok-matches.matches) (codes "timeline")
     ∙ ap (first_of (codes "timeline")) (rows ∙ ap (λ (a : App). matches_of a words) c.in_ok-command.ensures))
 
+pub returns-clause-force : goal.returns-clause-force
+returns-clause-force g c =
+    let words = map g.S.AsStr.text c.args.words.now in
+    let rows = (c.in_ok-matches.ensures.matches (ap is_simple c.in_ok-command.ensures ∙ is_simple_line)).0 in
+    let written : one_text (found_of c.in_ok-matches.matches) (codes "force") ≡ one_of (codes "force") (matches_of command_line words)
+    = one_text-rows (found_of c.in_ok-matches.matches) (codes "force")
+    ∙ ap (one_of (codes "force")) (rows ∙ ap (λ (a : App). matches_of a words) c.in_ok-command.ensures) in
+    (λ e. c.get_flag-3.ensures.none (written ∙ e), λ e. c.get_flag-3.ensures.value (written ∙ e), λ e. c.get_flag-3.ensures.other (written ∙ e))
+
 pub returns-clause-refused : goal.returns-clause-refused
 returns-clause-refused g c =
     let words = map g.S.AsStr.text c.args.words.now in
