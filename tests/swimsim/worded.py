@@ -171,28 +171,38 @@ def with_a_picture(program):
 
 def with_a_picture_over_a_file(program):
     """A picture is drawn over a picture of ours and over an empty file, and over nothing else: not over the script that is played,
-    whether it is named or standard input, nor over another program's picture or a part of one of ours. With the word it is."""
-    script, wanted = content("examples/first.swim"), re.escape(content("examples/first.stdout"))
-    ours = content("docs/timeline.svg")
-    others = {"played.swim": script, "notes.txt": b"notes\n", "other.svg": b'<svg xmlns="http://www.w3.org/2000/svg" width="9">\n</svg>\n',
-              "line.svg": ours[: ours.index(b"\n")], "later.svg": b"\n" + ours}
+    whether it is named or standard input, nor over another program's picture or a part of ours. With `--force` it is."""
+    script, ours = content("examples/first.swim"), content("docs/timeline.svg")
+    kept = {
+        "played.swim": script,
+        "notes.txt": b"notes\n",
+        "other.svg": b'<svg xmlns="http://www.w3.org/2000/svg" width="9">\n</svg>\n',
+        "line.svg": ours[: ours.index(b"\n")],
+        "later.svg": b"\n" + ours,
+    }
     said = []
     with tempfile.TemporaryDirectory() as folder:
-        for name, text in [*others.items(), ("ours.svg", ours), ("empty.svg", b"")]:
-            path, played = f"{folder}/{name}", f"{folder}/script.swim"
-            for file, held in ((played, script), (path, text)):
-                with open(file, "wb") as to:
-                    to.write(held)
-            kept = b"swimsim: " + re.escape(path.encode()) + b": it holds something else than a picture of swimsim: --force writes over it\n"
-            is_kept = name in others
-            input_path = path if name == "played.swim" else played
-            for words, given in (([input_path], b""), (["-"], script), ([], script)):
-                said += called(program, [Called(["--timeline", path, *words], int(is_kept), wanted, kept if is_kept else b"", given)])
-                drawn = content(path) != text
-                said += [f"{name} was {'drawn over' if drawn else 'kept'}"] if drawn == is_kept else []
-            said += called(program, [Called(["--force", "--timeline", path, played], 0, wanted, b"")])
-            said += [] if content(path).endswith(b"</svg>\n") else [f"{name} was kept where the word stands"]
+        for name, text in {**kept, "ours.svg": ours, "empty.svg": b""}.items():
+            path = f"{folder}/{name}"
+            with open(path, "wb") as file:
+                file.write(text)
+            said += drawn_over(program, path, script, name in kept)
     return said
+
+
+def drawn_over(program, path, script, is_kept):
+    """What isn't so of a picture over the file of this path, which has to be kept or not; in the end it is drawn over it anyway."""
+    wanted, held = re.escape(content("examples/first.stdout")), content(path)
+    fault = b"it holds something else than a picture of swimsim: --force writes over it"
+    refusal = b"swimsim: " + re.escape(path.encode()) + b": " + fault + b"\n" if is_kept else b""
+    named = path if held == script else "examples/first.swim"
+    said = []
+    for words, given in (([named], b""), (["-"], script), ([], script)):
+        said += called(program, [Called(["--timeline", path, *words], int(is_kept), wanted, refusal, given)])
+        if (content(path) == held) != is_kept:
+            said.append(f"{path} was {'drawn over' if is_kept else 'kept'}")
+    said += called(program, [Called(["--force", "--timeline", path, "-"], 0, wanted, b"", script)])
+    return said + ([] if content(path).endswith(b"</svg>\n") else [f"{path} was kept, in spite of --force"])
 
 
 def with_help(program):
