@@ -99,16 +99,26 @@ def of_a_configuration(refuser, program, document, wanted):
         yield NO_MEMORY if is_refused else AS_EVER, [] if is_refused or ran == wanted else [f"request {number}: {ran}"]
 
 
+def answered(daemon, text):
+    """What a daemon answers to control lines. Nothing where it had no memory for the connection, and has closed it."""
+    try:
+        return daemon.ask(text)
+    except ConnectionError:
+        return b""
+
+
 def asked(daemon, peer):
-    """What a daemon answers to a ping, and then to control lines. None as the first where no ack comes."""
+    """What a daemon answers to a ping, and then to control lines. None as the first where no ack comes. Where the connection is closed
+    at once, the next one is served."""
     peer.settimeout(1)
     peer.sendto(datagram(PING, 9, 9, 1, 1), daemon.address)
     try:
         ack = fields(peer.recv(100))
     except OSError:
         ack = None
-    lines = daemon.ask(b"join 3 10.0.0.3:7000\nlist\nremove 3\nlist\nstop\n").decode().splitlines()
-    return ack, lines
+    text = b"join 3 10.0.0.3:7000\nlist\nremove 3\nlist\nstop\n"
+    lines = answered(daemon, text) or answered(daemon, text)
+    return ack, lines.decode().splitlines()
 
 
 def lines_wanted(join, remove):

@@ -192,8 +192,8 @@ def memory_of_lives(machine):
             for number in range(number + 1, number + 101):
                 sender.sendto(datagram(PING, 9, 9, 1, number), daemon.address)
             time.sleep(0.002)
-        found.append(memory_of(daemon))
-    print(f"  after ten lives of 10,000 entries {found[0]:,} bytes, after forty {found[1]:,}")
+        found.append(memory_of(daemon, "VmHWM"))
+    print(f"  in ten lives of 10,000 entries {found[0]:,} bytes at most, in forty {found[1]:,}")
     must(found[1] < found[0] + MOST_GROWTH, "it grows from life to life")
     daemon.kill()
 

@@ -46,13 +46,13 @@ impl<K: Clock + Drop> UnixDoor<K> {
         clock: K,
         path: &str,
     ) -> io::Result<UnixDoor<K>> {
+        let poll = Poll::new(rt)?;
+        let events = Events::with_capacity(alloc, EVENTS)?;
         let listener = UnixListener::bind(rt, path)?;
         fs::set_permissions(rt, path, Permissions::from_mode(0o600))?;
         listener.set_nonblocking(true)?;
         turn_away(&listener);
-        let poll = Poll::new(rt)?;
         watch(&poll, listener.as_raw_fd())?;
-        let events = Events::with_capacity(alloc, EVENTS)?;
         let began = Instant::now(&clock)?;
         Ok(UnixDoor {
             listener,

@@ -8,7 +8,7 @@ use Rattle.swim_config.specs.declared.config_fault.ConfigFault.{ConfigFault}
 use Rattle.swim_config.specs.declared.config_fault.ConfigFault.TheVariants.{Size}
 use Rattle.swimd.specs.declared.outcomes.Outcome.{Outcome}
 use Rattle.swimd.specs.declared.outcomes.Outcome.TheVariants.{Checked, Stopped, Asked, Usage, Unread, Refused, Unwritten}
-use Rattle.swimd.specs.declared.outcomes.Outcome.TheVariants.{NoListen, NoControl, Socket, NoPlace, NoDaemon}
+use Rattle.swimd.specs.declared.outcomes.Outcome.TheVariants.{NoListen, NoControl, NoMemory, Socket, NoPlace, NoDaemon}
 use Rattle.swimd.specs.Checking.{ChecksKnown, Shows}
 use Rattle.swim_config.specs.Configuration.{config_of}
 use Rattle.swim_config.specs.Inputs.{IsRead}
@@ -49,6 +49,7 @@ shown None old new items config Stopped read is shows = absurd shows
 shown None old new items config Asked read is shows = absurd shows
 shown None old new items config NoListen read is shows = absurd shows
 shown None old new items config NoControl read is shows = absurd shows
+shown None old new items config NoMemory read is shows = absurd shows
 shown None old new items config Socket read is shows = absurd shows
 shown None old new items config NoPlace read is shows = absurd shows
 shown None old new items config NoDaemon read is shows = absurd shows
@@ -63,6 +64,7 @@ shown (Some text) old new items config Stopped read is shows = absurd shows
 shown (Some text) old new items config Asked read is shows = absurd shows
 shown (Some text) old new items config NoListen read is shows = absurd shows
 shown (Some text) old new items config NoControl read is shows = absurd shows
+shown (Some text) old new items config NoMemory read is shows = absurd shows
 shown (Some text) old new items config Socket read is shows = absurd shows
 shown (Some text) old new items config NoPlace read is shows = absurd shows
 shown (Some text) old new items config NoDaemon read is shows = absurd shows

@@ -5,7 +5,7 @@ use Rattle.swim_config.specs.declared.config_fault.ConfigFault.TheVariants as fa
 use Rattle.swim_life.specs.declared.lives.LivesEnd.{LivesEnd}
 use Rattle.swim_life.specs.declared.lives.LivesEnd.TheVariants as ends
 use Rattle.swimd.specs.declared.outcomes.Outcome.{Outcome}
-use Rattle.swimd.specs.declared.outcomes.Outcome.TheVariants.{Unread, Refused, NoListen, NoControl, Stopped, Socket}
+use Rattle.swimd.specs.declared.outcomes.Outcome.TheVariants.{Unread, Refused, NoListen, NoControl, NoMemory, Stopped, Socket}
 use Rattle.swimd.specs.declared.outcomes.Outcome.TheVariants.{NoPlace, NoDaemon, Asked}
 use Rattle.swim_config.specs.Configuration.{config_of}
 use Rattle.swim_life.specs.Endings.{Written}
@@ -39,6 +39,7 @@ pub record IsLivedBy (config : Config) (old new : Written) (outcome : Outcome) :
 abbrev pub Starts : Config → Written → Written → Outcome → Type 0
 Starts config old new NoListen = new ≡ old
 Starts config old new NoControl = new ≡ old
+Starts config old new NoMemory = new ≡ old
 Starts config old new outcome = IsLivedBy config old new outcome
 
 -- what a daemon of some configuration file does: without a configuration nothing is written

@@ -1,9 +1,9 @@
 -- How a command of the program ends: its status, and what is told on standard error.
 use Rattle.std.specs.Prelude.{ℕ, List, [], codes}
-use Rattle.swim_config.specs.declared.config_fault.ConfigFault.TheVariants.{NoMemory}
+use Rattle.swim_config.specs.declared.config_fault.ConfigFault.TheVariants as faults
 use Rattle.swimd.specs.declared.outcomes.Outcome.{Outcome}
 use Rattle.swimd.specs.declared.outcomes.Outcome.TheVariants.{Checked, Stopped, Asked, Usage, Unread, Refused}
-use Rattle.swimd.specs.declared.outcomes.Outcome.TheVariants.{Unwritten, NoListen, NoControl, Socket, NoPlace, NoDaemon}
+use Rattle.swimd.specs.declared.outcomes.Outcome.TheVariants.{Unwritten, NoListen, NoControl, NoMemory, Socket, NoPlace, NoDaemon}
 use Rattle.swim_config.specs.FaultTexts.{fault_text}
 
 abbrev pub status_of : Outcome → ℕ
@@ -12,11 +12,12 @@ status_of Stopped = 0
 status_of Asked = 0
 status_of Usage = 2
 status_of Unread = 1
-status_of (Refused NoMemory) = 4
+status_of (Refused faults.NoMemory) = 4
 status_of (Refused fault) = 1
 status_of Unwritten = 1
 status_of NoListen = 5
 status_of NoControl = 5
+status_of NoMemory = 4
 status_of Socket = 5
 status_of NoPlace = 4
 status_of NoDaemon = 5
@@ -31,6 +32,7 @@ outcome_text (Refused fault) = fault_text fault
 outcome_text Unwritten = []
 outcome_text NoListen = codes "bind listen\n"
 outcome_text NoControl = codes "bind control\n"
+outcome_text NoMemory = codes "no memory\n"
 outcome_text Socket = []
 outcome_text NoPlace = codes "no place\n"
 outcome_text NoDaemon = codes "connect control\n"

@@ -7,6 +7,7 @@ use crate::outcomes::Outcome;
 use arrayvec::ArrayVec;
 use std::alloc::Global;
 use std::fs;
+use std::io::ErrorKind;
 use std::net::Net;
 use std::rt::{Clock, Files};
 use std::sync::Wait;
@@ -60,8 +61,10 @@ fn start<R: Files + Net + Clock + Threads + Wait + Sync, W: Sink>(
     let Ok(line) = UdpLine::bind(rt, config.listen) else {
         return Outcome::NoListen;
     };
-    let Ok(door) = UnixDoor::bind(rt, alloc, rt, config.control.as_str()) else {
-        return Outcome::NoControl;
+    let door = match UnixDoor::bind(rt, alloc, rt, config.control.as_str()) {
+        Ok(door) => door,
+        Err(fault) if fault.kind() == ErrorKind::OutOfMemory => return Outcome::NoMemory,
+        Err(_) => return Outcome::NoControl,
     };
     let mut hall = Hall::new(alloc, door);
     let mut pace = SleepingPace::new(rt, config.tick_ms);

@@ -28,6 +28,8 @@ pub enum Outcome {
     NoListen,
     /// The control socket can't be bound.
     NoControl,
+    /// Memory for the control socket was refused.
+    NoMemory,
     /// A socket of the daemon failed too often in a row.
     Socket,
     /// No reader of the member table is to be had.
@@ -44,7 +46,7 @@ impl Outcome {
         match self {
             Outcome::Checked | Outcome::Stopped | Outcome::Asked => 0,
             Outcome::Usage => 2,
-            Outcome::Refused(ConfigFault::NoMemory) | Outcome::NoPlace => 4,
+            Outcome::Refused(ConfigFault::NoMemory) | Outcome::NoMemory | Outcome::NoPlace => 4,
             Outcome::Refused(_) | Outcome::Unread | Outcome::Unwritten => 1,
             Outcome::NoListen | Outcome::NoControl | Outcome::Socket | Outcome::NoDaemon => 5,
         }
@@ -62,6 +64,7 @@ pub fn put_outcome<W: Sink>(writer: &mut W, outcome: Outcome) -> bool
         Outcome::Unread => writer.put(b"configuration file\n"),
         Outcome::NoListen => writer.put(b"bind listen\n"),
         Outcome::NoControl => writer.put(b"bind control\n"),
+        Outcome::NoMemory => writer.put(b"no memory\n"),
         Outcome::NoPlace => writer.put(b"no place\n"),
         Outcome::NoDaemon => writer.put(b"connect control\n"),
         Outcome::Checked
