@@ -1,5 +1,5 @@
-//! The receiver and the ticker, two of the three workers of a life. Each worker has a seat of the node for itself. It reads the shared flag once a turn, then asks
-//! its gate once, and sets the flag when it ends.
+//! The receiver and the ticker, two of the three workers of a life. Each worker has a seat of the node for itself. It
+//! reads the shared flag once a turn, then asks its gate once, and sets the flag when it ends.
 
 ghost use Rattle.std.specs.Prelude.{◌≤◌, length};
 ghost use Rattle.swim_history.specs.Sends.{sends_of};
