@@ -6,19 +6,15 @@ indent. What isn't laid out so has no function here, and an edit of it is tried 
 
 import os
 import re
-from typing import NamedTuple
 
-IMPL = re.compile(r"(?:unsafe )?impl\b(.*)")
+# The head of an `impl`, or the end of an item.
+IMPL = re.compile(r"^(?:unsafe )?impl\b(.*)|^\}$", re.MULTILINE)
 TYPE = re.compile(r"^(?:pub(?:\([^)]*\))? )?(?:struct|enum) (\w+)", re.MULTILINE)
-FUNCTION = re.compile(r"( *)(?:pub(?:\([^)]*\))? )?(?:const |unsafe |extern \"C\" )*fn (\w+)")
-
-
-class Function(NamedTuple):
-    """A function with a body: its path below the crate, and where the body stands in the file's text."""
-
-    path: str
-    start: int
-    end: int
+# The brace before a body ends the first line of the head or that of the last parameters, or it stands alone.
+FUNCTION = re.compile(
+    r"""^(?P<indent>\ *)(?:pub(?:\([^)]*\))?\ )?(?:const\ |unsafe\ |extern\ "C"\ )*fn\ (?P<name>\w+)
+        (?:.*\ \{\n|.*\n(?:(?:(?P=indent)[\ )].*|\ *)\n)*?(?P=indent)(?:\).*\ )?\{\n)
+        (?P<body>(?:.*\n)*?)(?P=indent)\}$""", re.MULTILINE | re.VERBOSE)
 
 
 def module_of(file):
@@ -50,38 +46,13 @@ def owner_of(head, file, texts):
     return [*home_of(names[0], file, texts), "".join(names)]
 
 
-def body_of(lines, at, indent):
-    """The lines of the body of the function whose head begins there: behind its brace, and before the one that ends it."""
-    for first in range(at, len(lines)):
-        line = lines[first]
-        if line == indent + "{" or line.endswith(" {") and (first == at or line.startswith(indent + ")")):
-            ends = (it for it in range(first + 1, len(lines)) if lines[it] == indent + "}")
-            return next(((first + 1, it) for it in ends), None)
-        if first > at and line.strip() and not line.startswith((indent + " ", indent + ")")):
-            return None
+def function_around(part, file, texts):
+    """The path of the function in whose body a part of a file of src/ stands, or None."""
+    text = texts[file]
+    start = text.find(part) if file.startswith("src/") else -1
+    for found in FUNCTION.finditer(text):
+        if found.start("body") <= start and start + len(part) <= found.end("body"):
+            heads = [it[1] for it in IMPL.finditer(text, 0, found.start())]
+            is_inside = found["indent"] and heads and heads[-1]
+            return "::".join([*(owner_of(heads[-1], file, texts) if is_inside else module_of(file)), found["name"]])
     return None
-
-
-def functions_of(file, texts):
-    """The functions of a file of src/."""
-    lines, owner, found = texts[file].split("\n"), None, []
-    offsets = [0]
-    for line in lines:
-        offsets.append(offsets[-1] + len(line) + 1)
-    for at, line in enumerate(lines):
-        if IMPL.match(line):
-            owner = owner_of(IMPL.match(line)[1], file, texts)
-        elif line == "}":
-            owner = None
-        head = FUNCTION.match(line)
-        body = body_of(lines, at, head[1]) if head else None
-        if body:
-            path = [*(owner if owner and head[1] else module_of(file)), head[2]]
-            found.append(Function("::".join(path), offsets[body[0]], offsets[body[1]]))
-    return found
-
-
-def function_at(file, texts, start, end):
-    """The function in whose body a part of a file's text stands, if there is one."""
-    inside = [it for it in functions_of(file, texts) if it.start <= start and end <= it.end]
-    return inside[-1] if inside else None

@@ -2,7 +2,7 @@
 
 import os
 
-from tests.edits.trying import BAD_EDIT, NOT_REFUSED, REFUSED
+from tests.edits.checks import BAD_EDIT, NOT_REFUSED, REFUSED
 
 SAMPLES = f"{os.path.dirname(os.path.abspath(__file__))}/samples"
 # The crate that they are edits of: a small one.
