@@ -1,10 +1,14 @@
 ghost use Rattle.std.specs.Prelude.{◌≡◌, IfOk};
+ghost use Rattle.swim_node.specs.Seats.{AreTheSeats};
 
+mod at_once;
+mod draws;
 mod gaps;
 mod limits;
 mod refusals;
 mod replays;
 mod soak;
+mod steps;
 mod threads;
 mod views;
 
@@ -61,18 +65,32 @@ fn up(member: u8) -> Row {
 // Four values, two by two.
 type Four<T> = ((T, T), (T, T));
 
-fn four<T>(first: T, second: T, third: T, fourth: T) -> Four<T>
-    ensures { result ≡ ((first, second), (third, fourth)) }
-{
+fn two_by_two<T>(all: [T; 4]) -> Four<T> {
+    let [first, second, third, fourth] = all;
     ((first, second), (third, fourth))
 }
 
-fn four_of<T>(all: [T; 4]) -> Four<T> {
-    let [first, second, third, fourth] = all;
-    four(first, second, third, fourth)
+fn callers_of<N: Naming>(seats: [Seat<N>; 4]) -> Four<Seat<N>>
+    requires { AreTheSeats seats }
+    ensures listening { (result.0.0.number ≡ 0) × (result.0.1.number ≡ 1) }
+    ensures changing { (result.1.0.number ≡ 2) × (result.1.1.number ≡ 3) }
+{
+    let [first, second, third, fourth] = seats;
+    ((first, second), (third, fourth))
+}
+
+fn seats_of<N: Naming>(callers: Four<Seat<N>>) -> [Seat<N>; 4]
+    requires listening { (callers.0.0.number ≡ 0) × (callers.0.1.number ≡ 1) }
+    requires changing { (callers.1.0.number ≡ 2) × (callers.1.1.number ≡ 3) }
+    ensures { AreTheSeats result }
+{
+    let ((first, second), (third, fourth)) = callers;
+    [first, second, third, fourth]
 }
 
 // A node that was just opened, with its seats and its viewers.
+type Opened<N, C, R> = (Node<N, C, R>, Four<Seat<N>>, Four<Viewer<N>>);
+
 fn open<N: Naming, C: Chooser, R: Wait + Copy + Drop>(
     rt: R,
     alloc: Global,
@@ -80,7 +98,7 @@ fn open<N: Naming, C: Chooser, R: Wait + Copy + Drop>(
     opening: Opening,
     chooser: C,
     limit: u32,
-) -> Result<(Node<N, C, R>, Four<Seat<N>>, Four<Viewer<N>>), Fail>
+) -> Result<Opened<N, C, R>, Fail>
     requires parts { parts ≡ record { limit = N.limit; ledgers = N.ledgers; log = N.log; cells = N.cells } }
     requires opening { opening ≡ N.opening }
     requires limit { limit ≡ N.limit }
@@ -90,28 +108,23 @@ fn open<N: Naming, C: Chooser, R: Wait + Copy + Drop>(
     match Node::<N, C, R>::open(alloc, rt, parts, opening, chooser, limit) {
         Ok(opened) => {
             let (node, seats, viewers) = opened;
-            let [first, second, third, fourth] = seats;
-            let [viewer, other_viewer, third_viewer, fourth_viewer] = viewers;
-            let callers = four(first, second, third, fourth);
-            let readers = four(viewer, other_viewer, third_viewer, fourth_viewer);
-            Ok((node, callers, readers))
+            Ok((node, callers_of(seats), two_by_two(viewers)))
         }
         Err(_) => Err(Fail::new("a node")),
     }
 }
 
 // The journal of a node at its end, and its seats.
-fn close<N: Naming, R: Wait + Copy + Drop>(
+fn close<N: Naming, C: Chooser, R: Wait + Copy + Drop>(
     rt: &R,
-    node: Node<N, Scripted, R>,
+    node: Node<N, C, R>,
     callers: Four<Seat<N>>,
 ) -> (Journal, Four<Seat<N>>)
     requires listening { (callers.0.0.number ≡ 0) × (callers.0.1.number ≡ 1) }
     requires changing { (callers.1.0.number ≡ 2) × (callers.1.1.number ≡ 3) }
 {
-    let ((first, second), (third, fourth)) = callers;
-    let (journal, seats, _news) = node.close(rt, [first, second, third, fourth]);
-    (journal, four_of(seats))
+    let (journal, seats, _news) = node.close(rt, seats_of(callers));
+    (journal, two_by_two(seats))
 }
 
 // A message of a member, about its own probe.

@@ -1,5 +1,4 @@
-ghost use Rattle.std.specs.Prelude.{◌≡◌};
-
+use super::steps::{Step, take_and_close};
 use super::*;
 use swim_history::Gap;
 
@@ -7,59 +6,50 @@ use swim_history::Gap;
 // same.
 #[test]
 fn gaps_are_those_of_all_calls(rt: HostRuntime) -> Result<(), Fail> {
-    gaps_through_a_node::<Brand, _>(rt, rt.alloc(), Parts::make(rt.alloc(), 1000)?, opening(0)?)
-}
-
-fn gaps_through_a_node<N: Naming, R: Wait + Abort + Copy + Drop>(
-    rt: R,
-    alloc: Global,
-    parts: Parts,
-    opening: Opening,
-) -> Result<(), Fail>
-    requires parts { parts ≡ record { limit = N.limit; ledgers = N.ledgers; log = N.log; cells = N.cells } }
-    requires opening { opening ≡ N.opening }
-    requires limit { N.limit ≡ 1000 }
-{
-    let orders = vec![in alloc; order_of(&[2, 3])?, order_of(&[3, 2])?]?;
-    let chooser = Scripted::new(orders, Vec::new(alloc));
-    let opened = open::<N, Scripted, R>(rt, alloc, parts, opening, chooser, 1000)?;
-    let (node, callers, readers) = opened;
-    drop(readers);
-    let ((first, second), others) = callers;
-    drop(others);
-    let caller = four_periods(&rt, &node, first);
-    assert_gaps(&rt, &node, caller);
-    assert_gaps(&rt, &node, second);
+    let alloc = rt.alloc();
+    let chooser = two_orders(alloc)?;
+    let (first, second) = (periods_and_gaps(), [gap_of_2(), gap_of_3(), no_gap()]);
+    let parts = Parts::make(alloc, 1000)?;
+    take_and_close::<Brand, _>(
+        rt,
+        alloc,
+        parts,
+        opening(0)?,
+        chooser,
+        1000,
+        (&first, &second),
+    )?;
     Ok(())
 }
 
-// A start with a probe, its ack, and the two ticks after it, three times; and a fourth start.
-fn four_periods<N: Naming, R: Wait + Abort + Copy + Drop>(
-    rt: &R,
-    node: &Node<N, Scripted, R>,
-    seat: Seat<N>,
-) -> Seat<N> {
-    let mut seat = seat;
-    for (target, number) in [(2, 1), (3, 2), (3, 3)] {
-        let ack = encode(&message(Kind::Ack, 1, target, number));
-        assert!(rt; node.tick(rt, &mut seat).is_ok());
-        assert!(rt; node.hear(rt, &mut seat, &ack, at(2)).is_ok());
-        assert!(rt; node.tick(rt, &mut seat).is_ok());
-        assert!(rt; node.tick(rt, &mut seat).is_ok());
-    }
-    assert!(rt; node.tick(rt, &mut seat).is_ok());
-    seat
+fn two_orders(alloc: Global) -> Result<Scripted, Fail> {
+    let mut orders = Vec::new(alloc);
+    orders.push(order_of(&[2, 3])?)?;
+    orders.push(order_of(&[3, 2])?)?;
+    Ok(Scripted::new(orders, Vec::new(alloc)))
 }
 
-fn assert_gaps<N: Naming, R: Wait + Abort + Copy + Drop>(
-    rt: &R,
-    node: &Node<N, Scripted, R>,
-    seat: Seat<N>,
-) {
-    let mut seat = seat;
-    let first = node.gap(rt, &mut seat, id(2));
-    assert!(rt; first == Some(Gap { a: 1, b: 4, n: 2 }));
-    let second = node.gap(rt, &mut seat, id(3));
-    assert!(rt; second == Some(Gap { a: 2, b: 3, n: 2 }));
-    assert!(rt; node.gap(rt, &mut seat, id(9)).is_none());
+// Three periods and the start of a fourth.
+fn periods_and_gaps() -> [Step; 7] {
+    [
+        Step::Acked(2, 1),
+        Step::Acked(3, 2),
+        Step::Acked(3, 3),
+        Step::Made(Call::Tick),
+        gap_of_2(),
+        gap_of_3(),
+        no_gap(),
+    ]
+}
+
+fn gap_of_2() -> Step {
+    Step::Gap(id(2), Some(Gap { a: 1, b: 4, n: 2 }))
+}
+
+fn gap_of_3() -> Step {
+    Step::Gap(id(3), Some(Gap { a: 2, b: 3, n: 2 }))
+}
+
+fn no_gap() -> Step {
+    Step::Gap(id(9), None)
 }

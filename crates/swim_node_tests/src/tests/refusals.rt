@@ -1,8 +1,9 @@
-//! Calls that are refused memory. tests/node/refusals runs these with one request for memory refused, the first, the second
-//! and so on; else none is.
+//! Calls that are refused memory. tests/node/refusals runs these with one request for memory refused, the first, the
+//! second and so on; else none is.
 
 ghost use Rattle.std.specs.Prelude.{◌≡◌, IfOk};
 
+use super::steps::make;
 use super::*;
 
 // Whatever is refused, and where, the same call made again is answered, and the journal has each call once.
@@ -42,8 +43,7 @@ fn called_again<N: Naming, R: Wait + Abort + Copy + Drop>(
         Ok(opened) => {
             let (node, seats, readers) = opened;
             drop(readers);
-            let [first, second, third, fourth] = seats;
-            call_and_close(&rt, node, four(first, second, third, fourth));
+            call_and_close(&rt, node, callers_of(seats));
             true
         }
         Err(_) => false,
@@ -59,20 +59,20 @@ fn call_and_close<N: Naming, R: Wait + Abort + Copy + Drop>(
     requires changing { (callers.1.0.number ≡ 2) × (callers.1.1.number ≡ 3) }
 {
     let ((first, second), others) = callers;
-    let first = answer_four(rt, &node, first);
-    let (journal, _callers) = close(rt, node, ((first, second), others));
+    let first = answer_all(rt, &node, first, &four_calls());
+    let (journal, callers) = close(rt, node, ((first, second), others));
+    drop(callers);
+    assert_changed(rt, &journal);
+}
+
+fn assert_changed<R: Abort>(rt: &R, journal: &Journal) {
+    let rows = [up(2), up(4)];
     assert_eq!(rt; journal.len(), 4);
-    assert!(rt; journal.rows().as_slice() == [up(2), up(4)].as_slice());
+    assert!(rt; journal.rows().as_slice() == rows.as_slice());
 }
 
 // A period begins with a probe of member 2, which acks it; member 4 joins, and member 3 is removed.
-fn answer_four<N: Naming, R: Wait + Abort + Copy + Drop>(
-    rt: &R,
-    node: &Node<N, Scripted, R>,
-    seat: Seat<N>,
-) -> Seat<N>
-    ensures { result.number ≡ seat.number }
-{
+fn four_calls() -> [(Call, Reply); 4] {
     let probe = Probe {
         target: id(2),
         peer: at(2),
@@ -82,18 +82,26 @@ fn answer_four<N: Naming, R: Wait + Abort + Copy + Drop>(
         judged: None,
         probe: Some(probe),
     };
-    let ack = Call::Hear(message(Kind::Ack, 1, 2, 1), at(2));
+    [
+        (Call::Tick, started),
+        (Call::Hear(message(Kind::Ack, 1, 2, 1), at(2)), Reply::Heard),
+        (Call::Join(id(4), at(4)), Reply::Joined { place: 2 }),
+        (Call::Remove(id(3)), Reply::Removed),
+    ]
+}
+
+fn answer_all<N: Naming, R: Wait + Abort + Copy + Drop>(
+    rt: &R,
+    node: &Node<N, Scripted, R>,
+    seat: Seat<N>,
+    calls: &[(Call, Reply)],
+) -> Seat<N>
+    ensures { result.number ≡ seat.number }
+{
     let mut seat = seat;
-    answer(rt, node, &mut seat, &Call::Tick, &started);
-    answer(rt, node, &mut seat, &ack, &Reply::Heard);
-    answer(
-        rt,
-        node,
-        &mut seat,
-        &Call::Join(id(4), at(4)),
-        &Reply::Joined { place: 2 },
-    );
-    answer(rt, node, &mut seat, &Call::Remove(id(3)), &Reply::Removed);
+    for (call, expected) in calls {
+        answer(rt, node, &mut seat, call, expected);
+    }
     seat
 }
 
@@ -116,21 +124,5 @@ fn answer<N: Naming, R: Wait + Abort + Copy + Drop>(
     match answered {
         Ok(receipt) => assert!(rt; receipt.reply == *expected),
         Err(_) => panic!(rt; "a receipt"),
-    }
-}
-
-fn make<N: Naming, R: Wait + Copy + Drop>(
-    rt: &R,
-    node: &Node<N, Scripted, R>,
-    seat: &mut Seat<N>,
-    call: &Call,
-) -> Result<Receipt<N>, CallFault>
-    ensures { seat.new.number ≡ seat.old.number }
-{
-    match call {
-        Call::Tick => node.tick(rt, seat),
-        Call::Hear(message, source) => node.hear(rt, seat, &encode(message), *source),
-        Call::Join(id, peer) => node.join(rt, seat, *id, *peer),
-        Call::Remove(id) => node.remove(rt, seat, *id),
     }
 }

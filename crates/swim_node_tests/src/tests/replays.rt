@@ -36,22 +36,39 @@ pub(crate) fn assert_replays<R: Abort>(
     journal: &Journal,
     lists: Vec<Watched>,
 ) -> Result<(), Fail> {
+    let script = script_of(alloc, journal)?;
+    let recorder = Recorder::open(alloc, opening, script, journal.len());
+    replay(rt, recorder, journal, lists);
+    Ok(())
+}
+
+fn replay<R: Abort>(rt: &R, recorder: Recorder<Scripted>, journal: &Journal, lists: Vec<Watched>) {
+    let mut recorder = recorder;
     let mut lists = lists;
-    let mut recorder = Recorder::open(alloc, opening, script_of(alloc, journal)?, journal.len());
     for place in 0..journal.len() {
         meet_all(&mut lists, &recorder.table());
-        let entry = journal.entry(place).ok_or("an entry")?;
-        assert!(rt; entry.seat < 4);
-        let again = recorder
-            .apply(entry.seat, entry.call)
-            .map_err(|_| "a reply")?;
-        assert!(rt; again == entry);
+        assert_again(rt, &mut recorder, journal.entry(place));
     }
     meet_all(&mut lists, &recorder.table());
+    assert_all_met(rt, &lists);
+}
+
+// The detector writes this entry again.
+fn assert_again<R: Abort>(rt: &R, recorder: &mut Recorder<Scripted>, entry: Option<Entry>) {
+    let Some(entry) = entry else {
+        panic!(rt; "an entry")
+    };
+    assert!(rt; entry.seat < 4);
+    match recorder.apply(entry.seat, entry.call) {
+        Ok(again) => assert!(rt; again == entry),
+        Err(_) => panic!(rt; "a reply"),
+    }
+}
+
+fn assert_all_met<R: Abort>(rt: &R, lists: &Vec<Watched>) {
     for watched in lists.as_slice() {
         assert!(rt; watched.met == watched.tables.len());
     }
-    Ok(())
 }
 
 fn meet_all(lists: &mut Vec<Watched>, table: &Table) {

@@ -2,8 +2,10 @@
 
 ghost use Rattle.std.specs.Prelude.{◌≡◌};
 
+use super::at_once::{Asked, Work, four_at_once};
+use super::draws::Draws;
+use super::replays::{Watched, assert_replays};
 use super::*;
-use crate::tests::replays::{Watched, assert_replays};
 use swim_targets::Seeded;
 
 const CALLS: u32 = 100_000;
@@ -15,12 +17,11 @@ const TABLES: usize = 1_000;
 
 #[test]
 fn four_callers_and_four_readers(rt: HostRuntime) -> Result<(), Fail> {
-    soaked::<Brand, _>(
-        rt,
-        rt.alloc(),
-        Parts::make(rt.alloc(), 4 * CALLS)?,
-        opening(1)?,
-    )
+    let alloc = rt.alloc();
+    let parts = Parts::make(alloc, 4 * CALLS)?;
+    let (journal, lists) = soaked::<Brand, _>(rt, alloc, parts, opening(1)?)?;
+    assert_eq!(rt; journal.len(), 4 * CALLS);
+    assert_replays(&rt, alloc, opening(1)?, &journal, watched_of(alloc, lists)?)
 }
 
 fn soaked<N: Naming + Send + Sync, R: Threads + Wait + Abort + Send + Sync + Copy + Drop>(
@@ -28,40 +29,46 @@ fn soaked<N: Naming + Send + Sync, R: Threads + Wait + Abort + Send + Sync + Cop
     alloc: Global,
     parts: Parts,
     start: Opening,
-) -> Result<(), Fail>
+) -> Result<(Journal, Four<Watched>), Fail>
     requires parts { parts ≡ record { limit = N.limit; ledgers = N.ledgers; log = N.log; cells = N.cells } }
     requires opening { start ≡ N.opening }
     requires limit { N.limit ≡ 400000 }
 {
     let opened = open::<N, Seeded, R>(rt, alloc, parts, start, Seeded::new([7; 32]), 4 * CALLS)?;
+    Ok(call_and_close(&rt, alloc, opened))
+}
+
+fn call_and_close<N: Naming + Send + Sync, R: Threads + Wait + Send + Sync + Copy + Drop>(
+    rt: &R,
+    alloc: Global,
+    opened: Opened<N, Seeded, R>,
+) -> (Journal, Four<Watched>)
+    requires listening { (opened.1.0.0.number ≡ 0) × (opened.1.0.1.number ≡ 1) }
+    requires changing { (opened.1.1.0.number ≡ 2) × (opened.1.1.1.number ≡ 3) }
+{
     let (node, callers, readers) = opened;
-    let ended = call_and_look(&rt, alloc, &node, callers, readers);
-    let (callers, lists) = ended;
-    let journal = close_drawn(&rt, node, callers);
-    assert_eq!(rt; journal.len(), 4 * CALLS);
+    let (callers, lists) = call_and_look(rt, alloc, &node, callers, readers);
+    let (journal, callers) = close(rt, node, callers);
+    drop(callers);
+    (journal, lists)
+}
+
+fn watched_of(alloc: Global, lists: Four<Watched>) -> Result<Vec<Watched>, Fail> {
     let ((one, two), (three, four)) = lists;
     let mut watched = Vec::new(alloc);
     watched.push(one)?;
     watched.push(two)?;
     watched.push(three)?;
     watched.push(four)?;
-    assert_replays(&rt, alloc, opening(1)?, &journal, watched)
+    Ok(watched)
 }
 
-fn close_drawn<N: Naming, R: Wait + Copy + Drop>(
-    rt: &R,
-    node: Node<N, Seeded, R>,
-    callers: Four<Seat<N>>,
-) -> Journal
-    requires listening { (callers.0.0.number ≡ 0) × (callers.0.1.number ≡ 1) }
-    requires changing { (callers.1.0.number ≡ 2) × (callers.1.1.number ≡ 3) }
-{
-    let ((first, second), (third, fourth)) = callers;
-    let (journal, _seats, _news) = node.close(rt, [first, second, third, fourth]);
-    journal
+// Calls of a seat, drawn from this seed.
+fn drawn(seed: u64) -> Work {
+    Work::of(Asked::Drawn(Draws::new(seed)), CALLS)
 }
 
-fn call_and_look<N: Naming + Send + Sync, R: Threads + Wait + Abort + Send + Sync + Copy + Drop>(
+fn call_and_look<N: Naming + Send + Sync, R: Threads + Wait + Send + Sync + Copy + Drop>(
     rt: &R,
     alloc: Global,
     node: &Node<N, Seeded, R>,
@@ -73,169 +80,36 @@ fn call_and_look<N: Naming + Send + Sync, R: Threads + Wait + Abort + Send + Syn
     ensures third { result.0.1.0.number ≡ callers.1.0.number }
     ensures fourth { result.0.1.1.number ≡ callers.1.1.number }
 {
-    let ((first, second), (third, fourth)) = callers;
-    let ((one, two), (three, four)) = readers;
+    let works = ((drawn(1), drawn(2)), (drawn(3), drawn(4)));
     join(
         rt,
         move || -> Four<Seat<N>>
-            ensures { (result.0.0.number ≡ first.number) × (result.0.1.number ≡ second.number)
-                × (result.1.0.number ≡ third.number) × (result.1.1.number ≡ fourth.number) }
-        { call_four(rt, node, first, second, third, fourth) },
-        move || look_four(rt, alloc, one, two, three, four),
+            ensures { (result.0.0.number ≡ callers.0.0.number) × (result.0.1.number ≡ callers.0.1.number)
+                × (result.1.0.number ≡ callers.1.0.number) × (result.1.1.number ≡ callers.1.1.number) }
+        { four_at_once(rt, node, callers, works) },
+        move || look_four(rt, alloc, readers),
     )
 }
 
-fn call_four<N: Naming + Send + Sync, R: Threads + Wait + Abort + Send + Sync + Copy + Drop>(
-    rt: &R,
-    node: &Node<N, Seeded, R>,
-    first: Seat<N>,
-    second: Seat<N>,
-    third: Seat<N>,
-    fourth: Seat<N>,
-) -> Four<Seat<N>>
-    ensures { (result.0.0.number ≡ first.number) × (result.0.1.number ≡ second.number)
-        × (result.1.0.number ≡ third.number) × (result.1.1.number ≡ fourth.number) }
-{
-    join(
-        rt,
-        move || -> (Seat<N>, Seat<N>)
-            ensures { (result.0.number ≡ first.number) × (result.1.number ≡ second.number) }
-        { call_two(rt, node, first, second, 1) },
-        move || -> (Seat<N>, Seat<N>)
-            ensures { (result.0.number ≡ third.number) × (result.1.number ≡ fourth.number) }
-        { call_two(rt, node, third, fourth, 3) },
-    )
-}
-
-fn call_two<N: Naming + Send + Sync, R: Threads + Wait + Abort + Send + Sync + Copy + Drop>(
-    rt: &R,
-    node: &Node<N, Seeded, R>,
-    first: Seat<N>,
-    second: Seat<N>,
-    seed: u64,
-) -> (Seat<N>, Seat<N>)
-    ensures { (result.0.number ≡ first.number) × (result.1.number ≡ second.number) }
-{
-    join(
-        rt,
-        move || -> Seat<N>
-            ensures { result.number ≡ first.number }
-        { call_often(rt, node, first, seed) },
-        move || -> Seat<N>
-            ensures { result.number ≡ second.number }
-        { call_often(rt, node, second, seed.wrapping_add(1)) },
-    )
-}
-
-fn call_often<N: Naming, R: Wait + Copy + Drop>(
-    rt: &R,
-    node: &Node<N, Seeded, R>,
-    seat: Seat<N>,
-    seed: u64,
-) -> Seat<N>
-    ensures { result.number ≡ seat.number }
-{
-    let mut seat = seat;
-    let mut draws = Draws { state: seed };
-    for _turn in 0..CALLS {
-        call_once(rt, node, &mut seat, &mut draws);
-    }
-    seat
-}
-
-// A call that is drawn: often a tick, and often a message of some member.
-fn call_once<N: Naming, R: Wait + Copy + Drop>(
-    rt: &R,
-    node: &Node<N, Seeded, R>,
-    seat: &mut Seat<N>,
-    draws: &mut Draws,
-)
-    ensures { seat.new.number ≡ seat.old.number }
-{
-    let member = draws.member();
-    let source = Peer {
-        ip: [10, 0, 0, 9],
-        port: 7000,
-    };
-    match draws.below_8() {
-        0 | 1 => {
-            let _ = node.tick(rt, seat);
-        }
-        2 => {
-            let _ = node.join(rt, seat, member, source);
-        }
-        3 => {
-            let _ = node.remove(rt, seat, member);
-        }
-        _ => {
-            let message = draws.message(member);
-            let _ = node.hear(rt, seat, &encode(&message), source);
-        }
-    }
-}
-
-// Numbers that look drawn, the same in each run.
-#[derive(Drop)]
-struct Draws {
-    state: u64,
-}
-
-impl Draws {
-    fn next(&mut self) -> u64 {
-        self.state = self
-            .state
-            .wrapping_mul(6364136223846793005)
-            .wrapping_add(1442695040888963407);
-        self.state / 4294967296
-    }
-
-    fn below_8(&mut self) -> u64 {
-        self.next() % 8
-    }
-
-    fn member(&mut self) -> Id {
-        Id::new((self.next() % 16) as u32 + 1).unwrap_or_default()
-    }
-
-    // Of a probe of this member or of another, by that member.
-    fn message(&mut self, member: Id) -> Message {
-        let me = Id::default();
-        let (kind, initiator, target) = match self.next() % 4 {
-            0 => (Kind::Ping, member, me),
-            1 => (Kind::PingReq, member, self.member()),
-            _ => (Kind::Ack, me, member),
-        };
-        Message {
-            kind,
-            sender: member,
-            initiator,
-            target,
-            number: PeriodNumber::new(self.next() % 1000 + 1).unwrap_or_default(),
-        }
-    }
-}
-
-fn look_four<N: Naming + Send + Sync, R: Threads + Wait + Abort + Send + Sync + Copy + Drop>(
+fn look_four<N: Naming + Send + Sync, R: Threads + Wait + Send + Sync + Copy + Drop>(
     rt: &R,
     alloc: Global,
-    one: Viewer<N>,
-    two: Viewer<N>,
-    three: Viewer<N>,
-    four: Viewer<N>,
+    viewers: Four<Viewer<N>>,
 ) -> Four<Watched> {
+    let (some, others) = viewers;
     join(
         rt,
-        move || look_two(rt, alloc, one, two),
-        move || look_two(rt, alloc, three, four),
+        move || look_two(rt, alloc, some),
+        move || look_two(rt, alloc, others),
     )
 }
 
-fn look_two<N: Naming + Send + Sync, R: Threads + Wait + Abort + Send + Sync + Copy + Drop>(
+fn look_two<N: Naming + Send + Sync, R: Threads + Wait + Send + Sync + Copy + Drop>(
     rt: &R,
     alloc: Global,
-    one: Viewer<N>,
-    two: Viewer<N>,
+    viewers: (Viewer<N>, Viewer<N>),
 ) -> (Watched, Watched) {
+    let (one, two) = viewers;
     join(
         rt,
         move || look_often(alloc, one),

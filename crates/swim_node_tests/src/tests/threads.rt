@@ -1,5 +1,6 @@
 ghost use Rattle.std.specs.Prelude.{◌≡◌};
 
+use super::at_once::{Asked, Work, four_at_once, two_at_once};
 use super::*;
 use swim_history::{Judged, Refusal};
 
@@ -20,14 +21,40 @@ fn two_in_threads<N: Naming + Send + Sync, R: Threads + Wait + Abort + Send + Sy
     requires limit { N.limit ≡ 1000 }
 {
     let opened = open::<N, Scripted, R>(rt, alloc, parts, opening, no_script(alloc), 1000)?;
+    call_by_two(&rt, opened);
+    Ok(())
+}
+
+fn call_by_two<N: Naming + Send + Sync, R: Threads + Wait + Abort + Send + Sync + Copy + Drop>(
+    rt: &R,
+    opened: Opened<N, Scripted, R>,
+)
+    requires listening { (opened.1.0.0.number ≡ 0) × (opened.1.0.1.number ≡ 1) }
+    requires changing { (opened.1.1.0.number ≡ 2) × (opened.1.1.1.number ≡ 3) }
+{
     let (node, callers, readers) = opened;
     drop(readers);
-    let ((first, second), others) = callers;
-    let callers = hear_and_tick(&rt, &node, first, second);
-    let (journal, callers) = close(&rt, node, (callers, others));
-    assert_two_called(&rt, &callers);
-    assert_judged(&rt, &journal);
-    Ok(())
+    let (listening, others) = callers;
+    let listening = two_at_once(rt, &node, listening, (pings(), ticks()));
+    let (journal, callers) = close(rt, node, (listening, others));
+    assert_two_called(rt, &callers);
+    assert_judged(rt, &journal);
+}
+
+fn pings() -> Work {
+    Work::of(Asked::Pings, 100)
+}
+
+fn ticks() -> Work {
+    Work::of(Asked::Same(Call::Tick), 90)
+}
+
+fn joins() -> Work {
+    Work::of(Asked::Same(Call::Join(id(4), at(4))), 50)
+}
+
+fn removals() -> Work {
+    Work::of(Asked::Same(Call::Remove(id(9))), 50)
 }
 
 fn assert_two_called<N: Naming, R: Abort>(rt: &R, callers: &Four<Seat<N>>) {
@@ -38,72 +65,36 @@ fn assert_two_called<N: Naming, R: Abort>(rt: &R, callers: &Four<Seat<N>>) {
 
 fn assert_judged<R: Abort>(rt: &R, journal: &Journal) {
     assert_eq!(rt; journal.len(), 190);
-    let judged = |member, number| Judged { member, number };
-    let expected = [judged(id(2), 1), judged(id(3), 2)];
     match journal.judgements() {
-        Ok(judgements) => assert!(rt; judgements.as_slice() == expected.as_slice()),
+        Ok(judgements) => assert_eq!(rt; judgements.as_slice(), judged().as_slice()),
         Err(_) => panic!(rt; "memory"),
     }
+}
+
+fn judged() -> [Judged; 2] {
+    [
+        Judged {
+            member: id(2),
+            number: 1,
+        },
+        Judged {
+            member: id(3),
+            number: 2,
+        },
+    ]
 }
 
 // The seat's calls are numbered in order.
 fn assert_calls<N: Naming, R: Abort>(rt: &R, seat: &Seat<N>, number: u8, count: usize) {
     assert_eq!(rt; seat.number(), number);
     assert_eq!(rt; seat.calls().len(), count);
-    for (number, kept) in seat.calls().iter().enumerate() {
-        assert_eq!(rt; kept.number as usize, number);
-    }
+    assert_in_order(rt, seat.calls());
 }
 
-fn hear_and_tick<N: Naming + Send + Sync, R: Threads + Wait + Abort + Send + Sync + Copy + Drop>(
-    rt: &R,
-    node: &Node<N, Scripted, R>,
-    first: Seat<N>,
-    second: Seat<N>,
-) -> (Seat<N>, Seat<N>)
-    ensures { (result.0.number ≡ first.number) × (result.1.number ≡ second.number) }
-{
-    join(
-        rt,
-        move || -> Seat<N>
-            ensures { result.number ≡ first.number }
-        { hear_pings(rt, node, first, 100) },
-        move || -> Seat<N>
-            ensures { result.number ≡ second.number }
-        { tick_often(rt, node, second, 90) },
-    )
-}
-
-// Pings of member 2 for member 1, with the numbers from 1 on.
-fn hear_pings<N: Naming, R: Wait + Copy + Drop>(
-    rt: &R,
-    node: &Node<N, Scripted, R>,
-    seat: Seat<N>,
-    times: u32,
-) -> Seat<N>
-    ensures { result.number ≡ seat.number }
-{
-    let mut seat = seat;
-    for turn in 0..times {
-        let ping = encode(&message(Kind::Ping, 2, 1, u64::from(turn) + 1));
-        let _ = node.hear(rt, &mut seat, &ping, at(2));
+fn assert_in_order<R: Abort>(rt: &R, calls: &[Kept]) {
+    for (number, kept) in calls.iter().enumerate() {
+        assert!(rt; kept.number as usize == number);
     }
-    seat
-}
-
-fn tick_often<N: Naming, R: Wait + Copy + Drop>(
-    rt: &R,
-    node: &Node<N, Scripted, R>,
-    seat: Seat<N>,
-    times: u32,
-) -> Seat<N>
-    ensures { result.number ≡ seat.number }
-{
-    let mut seat = seat;
-    for _turn in 0..times {
-        let _ = node.tick(rt, &mut seat);
-    }
-    seat
 }
 
 // Four threads at once: pings, ticks, joins of a member that joined already, removals of one that nobody knows.
@@ -123,14 +114,24 @@ fn four_in_threads<N: Naming + Send + Sync, R: Threads + Wait + Abort + Send + S
     requires limit { N.limit ≡ 1000 }
 {
     let opened = open::<N, Scripted, R>(rt, alloc, parts, opening, no_script(alloc), 1000)?;
+    call_by_four(&rt, opened);
+    Ok(())
+}
+
+fn call_by_four<N: Naming + Send + Sync, R: Threads + Wait + Abort + Send + Sync + Copy + Drop>(
+    rt: &R,
+    opened: Opened<N, Scripted, R>,
+)
+    requires listening { (opened.1.0.0.number ≡ 0) × (opened.1.0.1.number ≡ 1) }
+    requires changing { (opened.1.1.0.number ≡ 2) × (opened.1.1.1.number ≡ 3) }
+{
     let (node, callers, readers) = opened;
     drop(readers);
-    let (listening, changing) = callers;
-    let callers = call_at_once(&rt, &node, listening, changing);
-    let (journal, callers) = close(&rt, node, callers);
-    assert_four_called(&rt, &callers);
+    let works = ((pings(), ticks()), (joins(), removals()));
+    let callers = four_at_once(rt, &node, callers, works);
+    let (journal, callers) = close(rt, node, callers);
+    assert_four_called(rt, &callers);
     assert_eq!(rt; journal.len(), 290);
-    Ok(())
 }
 
 fn assert_four_called<N: Naming, R: Abort>(rt: &R, callers: &Four<Seat<N>>) {
@@ -156,76 +157,4 @@ fn assert_unknown<N: Naming, R: Abort>(rt: &R, seat: &Seat<N>) {
     for kept in seat.calls() {
         assert!(rt; kept.reply == Reply::Refused(Refusal::Unknown));
     }
-}
-
-// The third seat joins member 4, and the fourth removes member 9.
-fn call_at_once<N: Naming + Send + Sync, R: Threads + Wait + Abort + Send + Sync + Copy + Drop>(
-    rt: &R,
-    node: &Node<N, Scripted, R>,
-    listening: (Seat<N>, Seat<N>),
-    changing: (Seat<N>, Seat<N>),
-) -> Four<Seat<N>>
-    ensures listening { (result.0.0.number ≡ listening.0.number) × (result.0.1.number ≡ listening.1.number) }
-    ensures changing { (result.1.0.number ≡ changing.0.number) × (result.1.1.number ≡ changing.1.number) }
-{
-    let (first, second) = listening;
-    let (third, fourth) = changing;
-    join(
-        rt,
-        move || -> (Seat<N>, Seat<N>)
-            ensures { (result.0.number ≡ first.number) × (result.1.number ≡ second.number) }
-        { hear_and_tick(rt, node, first, second) },
-        move || -> (Seat<N>, Seat<N>)
-            ensures { (result.0.number ≡ third.number) × (result.1.number ≡ fourth.number) }
-        { join_and_remove(rt, node, third, fourth) },
-    )
-}
-
-fn join_and_remove<N: Naming + Send + Sync, R: Threads + Wait + Abort + Send + Sync + Copy + Drop>(
-    rt: &R,
-    node: &Node<N, Scripted, R>,
-    third: Seat<N>,
-    fourth: Seat<N>,
-) -> (Seat<N>, Seat<N>)
-    ensures { (result.0.number ≡ third.number) × (result.1.number ≡ fourth.number) }
-{
-    join(
-        rt,
-        move || -> Seat<N>
-            ensures { result.number ≡ third.number }
-        { join_often(rt, node, third, 50) },
-        move || -> Seat<N>
-            ensures { result.number ≡ fourth.number }
-        { remove_often(rt, node, fourth, 50) },
-    )
-}
-
-fn join_often<N: Naming, R: Wait + Copy + Drop>(
-    rt: &R,
-    node: &Node<N, Scripted, R>,
-    seat: Seat<N>,
-    times: u32,
-) -> Seat<N>
-    ensures { result.number ≡ seat.number }
-{
-    let mut seat = seat;
-    for _turn in 0..times {
-        let _ = node.join(rt, &mut seat, id(4), at(4));
-    }
-    seat
-}
-
-fn remove_often<N: Naming, R: Wait + Copy + Drop>(
-    rt: &R,
-    node: &Node<N, Scripted, R>,
-    seat: Seat<N>,
-    times: u32,
-) -> Seat<N>
-    ensures { result.number ≡ seat.number }
-{
-    let mut seat = seat;
-    for _turn in 0..times {
-        let _ = node.remove(rt, &mut seat, id(9));
-    }
-    seat
 }

@@ -1,5 +1,6 @@
 ghost use Rattle.std.specs.Prelude.{◌≡◌};
 
+use super::steps::{Step, make, take_steps};
 use super::*;
 
 #[test]
@@ -18,16 +19,25 @@ fn joined_then_listed<N: Naming, R: Wait + Abort + Copy + Drop>(
     requires limit { N.limit ≡ 1000 }
 {
     let opened = open::<N, Scripted, R>(rt, alloc, parts, opening, no_script(alloc), 1000)?;
+    join_and_close(&rt, opened);
+    Ok(())
+}
+
+fn join_and_close<N: Naming, R: Wait + Abort + Copy + Drop>(rt: &R, opened: Opened<N, Scripted, R>)
+    requires listening { (opened.1.0.0.number ≡ 0) × (opened.1.0.1.number ≡ 1) }
+    requires changing { (opened.1.1.0.number ≡ 2) × (opened.1.1.1.number ≡ 3) }
+{
     let (node, callers, readers) = opened;
     let ((first, second), (third, fourth)) = callers;
-    let (readers, others) = readers;
+    let ((other, viewer), others) = readers;
     drop(others);
-    let (third, readers) = join_and_list(&rt, &node, third, readers);
-    let first = probes_the_joiner(&rt, &node, first);
-    let (journal, _callers) = close(&rt, node, ((first, second), (third, fourth)));
-    lists_nothing(&rt, readers);
+    let (third, viewer) = join_and_list(rt, &node, third, viewer);
+    let first = take_steps(rt, &node, first, &[probes_the_joiner()]);
+    let (journal, callers) = close(rt, node, ((first, second), (third, fourth)));
+    drop(callers);
+    lists_nothing(rt, other);
+    lists_nothing(rt, viewer);
     assert_eq!(rt; journal.len(), 2);
-    Ok(())
 }
 
 // Member 5 joins last in the round, and is seen at once by who learns of it, also later.
@@ -35,22 +45,33 @@ fn join_and_list<N: Naming, R: Wait + Abort + Copy + Drop>(
     rt: &R,
     node: &Node<N, Scripted, R>,
     seat: Seat<N>,
-    readers: (Viewer<N>, Viewer<N>),
-) -> (Seat<N>, (Viewer<N>, Viewer<N>))
+    viewer: Viewer<N>,
+) -> (Seat<N>, Viewer<N>)
     ensures { result.0.number ≡ seat.number }
 {
     let mut seat = seat;
-    let (other, mut viewer) = readers;
-    match node.join(rt, &mut seat, id(5), at(5)) {
+    let mut viewer = viewer;
+    let answer = make(rt, node, &mut seat, &Call::Join(id(5), at(5)));
+    learn(rt, &mut viewer, answer, &Reply::Joined { place: 2 });
+    assert_lists(rt, &mut viewer);
+    assert_lists(rt, &mut viewer);
+    (seat, viewer)
+}
+
+// The viewer learns of a call that was answered so.
+fn learn<N: Naming, R: Abort>(
+    rt: &R,
+    viewer: &mut Viewer<N>,
+    answer: Result<Receipt<N>, CallFault>,
+    expected: &Reply,
+) {
+    match answer {
         Ok(receipt) => {
-            assert!(rt; receipt.reply == Reply::Joined { place: 2 });
+            assert_eq!(rt; &receipt.reply, expected);
             viewer.learn(&receipt.news);
         }
         Err(_) => panic!(rt; "a receipt"),
     }
-    assert_lists(rt, &mut viewer);
-    assert_lists(rt, &mut viewer);
-    (seat, (other, viewer))
 }
 
 fn assert_lists<N: Naming, R: Abort>(rt: &R, viewer: &mut Viewer<N>) {
@@ -62,14 +83,7 @@ fn assert_lists<N: Naming, R: Abort>(rt: &R, viewer: &mut Viewer<N>) {
 }
 
 // The joiner was put among those to be probed, so the first period probes it.
-fn probes_the_joiner<N: Naming, R: Wait + Abort + Copy + Drop>(
-    rt: &R,
-    node: &Node<N, Scripted, R>,
-    seat: Seat<N>,
-) -> Seat<N>
-    ensures { result.number ≡ seat.number }
-{
-    let mut seat = seat;
+fn probes_the_joiner() -> Step {
     let probe = Probe {
         target: id(5),
         peer: at(5),
@@ -79,17 +93,12 @@ fn probes_the_joiner<N: Naming, R: Wait + Abort + Copy + Drop>(
         judged: None,
         probe: Some(probe),
     };
-    match node.tick(rt, &mut seat) {
-        Ok(receipt) => assert!(rt; receipt.reply == started),
-        Err(_) => panic!(rt; "a receipt"),
-    }
-    seat
+    Step::Told(Call::Tick, started)
 }
 
-fn lists_nothing<N: Naming, R: Abort>(rt: &R, readers: (Viewer<N>, Viewer<N>)) {
-    let (mut viewer, mut other) = readers;
+fn lists_nothing<N: Naming, R: Abort>(rt: &R, viewer: Viewer<N>) {
+    let mut viewer = viewer;
     assert!(rt; viewer.list().is_none());
-    assert!(rt; other.list().is_none());
 }
 
 // The last call makes no change; who learns its news lists all that the journal's rows show.
@@ -109,15 +118,27 @@ fn listed_as_the_journal<N: Naming, R: Wait + Abort + Copy + Drop>(
     requires limit { N.limit ≡ 1000 }
 {
     let opened = open::<N, Scripted, R>(rt, alloc, parts, opening, no_script(alloc), 1000)?;
+    wait_and_close(&rt, opened);
+    Ok(())
+}
+
+fn wait_and_close<N: Naming, R: Wait + Abort + Copy + Drop>(rt: &R, opened: Opened<N, Scripted, R>)
+    requires listening { (opened.1.0.0.number ≡ 0) × (opened.1.0.1.number ≡ 1) }
+    requires changing { (opened.1.1.0.number ≡ 2) × (opened.1.1.1.number ≡ 3) }
+{
     let (node, callers, readers) = opened;
-    let ((first, second), callers) = callers;
-    let (readers, others) = readers;
-    drop(others);
-    let (first, table) = join_and_wait(&rt, &node, first, readers);
-    let (journal, _callers) = close(&rt, node, ((first, second), callers));
+    let ((first, second), changing) = callers;
+    let ((viewer, other), others) = readers;
+    drop((other, others));
+    let (first, table) = join_and_wait(rt, &node, first, viewer);
+    let (journal, callers) = close(rt, node, ((first, second), changing));
+    drop(callers);
+    assert_shows(rt, &journal, &table);
+}
+
+fn assert_shows<R: Abort>(rt: &R, journal: &Journal, table: &Table) {
     assert!(rt; journal.rows().as_slice() == table.as_slice());
     assert_eq!(rt; table.len(), 3);
-    Ok(())
 }
 
 // A period begins, a member joins, and two ticks pass, of which the last is quiet.
@@ -125,21 +146,18 @@ fn join_and_wait<N: Naming, R: Wait + Abort + Copy + Drop>(
     rt: &R,
     node: &Node<N, Scripted, R>,
     seat: Seat<N>,
-    readers: (Viewer<N>, Viewer<N>),
+    viewer: Viewer<N>,
 ) -> (Seat<N>, Table)
     ensures { result.0.number ≡ seat.number }
 {
-    let mut seat = seat;
-    assert!(rt; node.tick(rt, &mut seat).is_ok());
-    assert!(rt; node.tick(rt, &mut seat).is_ok());
-    assert!(rt; node.join(rt, &mut seat, id(5), at(5)).is_ok());
-    let (mut viewer, _other) = readers;
-    match node.tick(rt, &mut seat) {
-        Ok(receipt) => {
-            assert!(rt; receipt.reply == Reply::Quiet);
-            viewer.learn(&receipt.news);
-        }
-        Err(_) => panic!(rt; "a receipt"),
-    }
+    let steps = [
+        Step::Made(Call::Tick),
+        Step::Made(Call::Tick),
+        Step::Made(Call::Join(id(5), at(5))),
+    ];
+    let mut seat = take_steps(rt, node, seat, &steps);
+    let mut viewer = viewer;
+    let answer = make(rt, node, &mut seat, &Call::Tick);
+    learn(rt, &mut viewer, answer, &Reply::Quiet);
     (seat, viewer.list().unwrap_or_default())
 }

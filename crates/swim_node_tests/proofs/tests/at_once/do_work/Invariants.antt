@@ -1,5 +1,5 @@
 use Rattle.std.proofs.Common.{◌≡◌}
-use Rattle.swim_node_tests.proofs.tests.threads.tick_often.Given as goal
+use Rattle.swim_node_tests.proofs.tests.at_once.do_work.Given as goal
 
 -- the seat keeps its number
 abbrev pub invariant-loop-turn : goal.invariant-loop-turn

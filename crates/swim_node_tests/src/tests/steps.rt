@@ -1,0 +1,136 @@
+//! What a seat asks of a node, as data: a test that writes down steps is proved soon, and one loop takes them.
+
+ghost use Rattle.std.specs.Prelude.{◌≡◌};
+
+use super::*;
+use swim_history::Gap;
+
+/// What a seat asks of its node, or what it finds.
+#[derive(Drop)]
+pub(crate) enum Step {
+    /// A call that gets some reply.
+    Made(Call),
+    /// A call that gets this reply.
+    Told(Call, Reply),
+    /// A period: a start, the ack of member 1's probe of this member, with this number, and the two ticks after it.
+    Acked(u32, u64),
+    /// A call that is refused, as the journal is full. The seat keeps as many calls as this says.
+    Full(Call, usize),
+    /// The widest gap of a member, if there is one.
+    Gap(Id, Option<Gap>),
+}
+
+/// The seat takes these steps.
+pub(crate) fn take_steps<N: Naming, R: Wait + Abort + Copy + Drop>(
+    rt: &R,
+    node: &Node<N, Scripted, R>,
+    seat: Seat<N>,
+    steps: &[Step],
+) -> Seat<N>
+    ensures { result.number ≡ seat.number }
+{
+    let mut seat = seat;
+    for step in steps {
+        take(rt, node, &mut seat, step);
+    }
+    seat
+}
+
+fn take<N: Naming, R: Wait + Abort + Copy + Drop>(
+    rt: &R,
+    node: &Node<N, Scripted, R>,
+    seat: &mut Seat<N>,
+    step: &Step,
+)
+    ensures { seat.new.number ≡ seat.old.number }
+{
+    match step {
+        Step::Made(call) => assert_made(rt, make(rt, node, seat, call)),
+        Step::Told(call, reply) => assert_told(rt, make(rt, node, seat, call), reply),
+        Step::Acked(target, number) => {
+            let ack = Call::Hear(message(Kind::Ack, 1, *target, *number), at(2));
+            assert_made(rt, make(rt, node, seat, &Call::Tick));
+            assert_made(rt, make(rt, node, seat, &ack));
+            assert_made(rt, make(rt, node, seat, &Call::Tick));
+            assert_made(rt, make(rt, node, seat, &Call::Tick));
+        }
+        Step::Full(call, count) => {
+            assert_full(rt, make(rt, node, seat, call));
+            assert_eq!(rt; seat.calls().len(), *count);
+        }
+        Step::Gap(member, gap) => assert_eq!(rt; &node.gap(rt, seat, *member), gap),
+    }
+}
+
+fn assert_made<N: Naming, R: Abort>(rt: &R, answer: Result<Receipt<N>, CallFault>) {
+    assert!(rt; answer.is_ok());
+}
+
+fn assert_told<N: Naming, R: Abort>(
+    rt: &R,
+    answer: Result<Receipt<N>, CallFault>,
+    expected: &Reply,
+) {
+    match answer {
+        Ok(receipt) => assert_eq!(rt; &receipt.reply, expected),
+        Err(_) => panic!(rt; "a receipt"),
+    }
+}
+
+fn assert_full<N: Naming, R: Abort>(rt: &R, answer: Result<Receipt<N>, CallFault>) {
+    assert!(rt; matches!(answer, Err(CallFault::JournalFull)));
+}
+
+/// A node of these parts, of which the first two seats take these steps, one after the other, is closed.
+pub(crate) fn take_and_close<N: Naming, R: Wait + Abort + Copy + Drop>(
+    rt: R,
+    alloc: Global,
+    parts: Parts,
+    opening: Opening,
+    chooser: Scripted,
+    limit: u32,
+    steps: (&[Step], &[Step]),
+) -> Result<Journal, Fail>
+    requires parts { parts ≡ record { limit = N.limit; ledgers = N.ledgers; log = N.log; cells = N.cells } }
+    requires opening { opening ≡ N.opening }
+    requires limit { limit ≡ N.limit }
+{
+    let opened = open::<N, Scripted, R>(rt, alloc, parts, opening, chooser, limit)?;
+    Ok(take_by_two(&rt, opened, steps.0, steps.1))
+}
+
+fn take_by_two<N: Naming, R: Wait + Abort + Copy + Drop>(
+    rt: &R,
+    opened: Opened<N, Scripted, R>,
+    steps: &[Step],
+    others_steps: &[Step],
+) -> Journal
+    requires listening { (opened.1.0.0.number ≡ 0) × (opened.1.0.1.number ≡ 1) }
+    requires changing { (opened.1.1.0.number ≡ 2) × (opened.1.1.1.number ≡ 3) }
+{
+    let (node, callers, readers) = opened;
+    drop(readers);
+    let ((first, second), others) = callers;
+    let first = take_steps(rt, &node, first, steps);
+    let second = take_steps(rt, &node, second, others_steps);
+    let (journal, callers) = close(rt, node, ((first, second), others));
+    drop(callers);
+    journal
+}
+
+/// A call of the seat, made by the node's function for it.
+pub(crate) fn make<N: Naming, C: Chooser, R: Wait + Copy + Drop>(
+    rt: &R,
+    node: &Node<N, C, R>,
+    seat: &mut Seat<N>,
+    call: &Call,
+) -> Result<Receipt<N>, CallFault>
+    ensures { seat.new.number ≡ seat.old.number }
+{
+    match call {
+        Call::Tick => node.tick(rt, seat),
+        Call::Hear(message, source) => node.hear(rt, seat, &encode(message), *source),
+        Call::Join(id, peer) => node.join(rt, seat, *id, *peer),
+        Call::Remove(id) => node.remove(rt, seat, *id),
+    }
+}
