@@ -1,2 +1,3 @@
 pub mod Checked
+pub mod Details
 pub mod Given
