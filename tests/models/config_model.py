@@ -3,61 +3,23 @@ reader, and the rest by the rules of docs/FORMATS.md."""
 
 import re
 import tomllib
-from typing import NamedTuple
 
 MOST_BYTES = 65_536
 MOST_MEMBERS = 128
 LARGEST_ID = 2**32 - 1
 OCTET = "(0|[1-9][0-9]{0,2})"
 PEER = re.compile(rf"{OCTET}\.{OCTET}\.{OCTET}\.{OCTET}:([1-9][0-9]{{0,4}})")
-DAY_MS = 86_400_000
-# Where this ends what is expected on standard error, any lines may stand that begin with two spaces.
-BELOW = b"  ..\n"
-
-
-class Key(NamedTuple):
-    """What the table of keys says of one: its name where it stands, its kind, the range of a number, its default (None where it
-    has to be given), and what it is for."""
-
-    name: str
-    kind: str
-    range: tuple
-    default: object
-    about: str
-
-
-# The keys in the order in which their faults are told, and those of a member.
-TOP = [
-    Key("id", "integer", (1, LARGEST_ID), None, "this member"),
-    Key("listen", "peer", (), None, "where its datagrams come in"),
-    Key("control", "path", (), None, "the path of the control socket"),
-    Key("k", "integer", (0, LARGEST_ID), None, "how many relays are asked, at most 8"),
-    Key("rtt", "integer", (0, LARGEST_ID), None, "ticks for which a direct ack is waited for, at least 1"),
-    Key("period", "integer", (0, LARGEST_ID), None, "ticks of a period, from three times rtt to 65535"),
-    Key("tick_ms", "integer", (1, 60_000), None, "milliseconds of a tick"),
-    Key("seed", "seed", (), None, "what orders and places are drawn from"),
-    Key("journal", "integer", (1, 1_000_000), None, "the most entries of the journal"),
-    Key("last", "integer", (0, 2**63 - 1), 0, "the last period number that was used before"),
-    Key("member", "members", (), [], "the other members, at most 128"),
-]
-MEMBER = [
-    Key("id", "integer", (1, LARGEST_ID), None, "another member"),
-    Key("at", "peer", (), None, "where another member listens"),
-]
-BY_TEXT = {**{key.name: key for key in TOP}, **{f"member.{key.name}": key for key in MEMBER}}
-FORMS = {
-    "peer": "a string IP:PORT, as 10.0.0.1:7000",
-    "path": "a string of 1 to 100 characters of ASCII that print",
-    "seed": "a string of 64 hexadecimal digits",
-    "members": "an array of tables, each with id and at",
+TOP = ["id", "listen", "control", "k", "rtt", "period", "tick_ms", "seed", "journal", "last", "member"]
+RANGES = {
+    "id": (1, LARGEST_ID),
+    "k": (0, LARGEST_ID),
+    "rtt": (0, LARGEST_ID),
+    "period": (0, LARGEST_ID),
+    "tick_ms": (1, 60_000),
+    "journal": (1, 1_000_000),
+    "last": (0, 2**63 - 1),
 }
-RULES = [
-    "k of at most 8",
-    "rtt of at least 1, and period from three times rtt to 65535",
-    "at most 128 members",
-    "members with other ids than this one",
-    "each member once",
-]
+DEFAULTS = {"last": 0, "member": []}
 # What a document may have since TOML 1.1, which Python's reader doesn't know: lines and a last comma within an inline table,
 # two escapes, and times without seconds.
 NEWER = re.compile(r",[^\S\n]*(#[^\n]*)?\s*}|{[^}\n]*\n|\\[ex]|(?<![.\d])\d\d:\d\d(?!:)")
@@ -72,61 +34,11 @@ class OtherVersion(Exception):
 
 
 def checked(document):
-    """Standard output, standard error as far as it is known, and status."""
+    """Standard output, standard error and status."""
     try:
-        config = read_config(document)
+        return summary(read_config(document)).encode(), b"", 0
     except Fault as fault:
-        return b"", f"configuration {fault}\n{expected(str(fault))}".encode() + BELOW, 1
-    return summary(config).encode(), "".join(f"warning: {it}\n" for it in warnings(config)).encode(), 0
-
-
-def is_as(found, wanted):
-    """Whether a text is as expected."""
-    if not wanted.endswith(BELOW):
-        return found == wanted
-    front = wanted[: -len(BELOW)]
-    more = found[len(front) :].decode("latin-1")
-    lines = more.split("\n")
-    return found.startswith(front) and lines[-1] == "" and all(re.fullmatch("  [ -~]+", it) for it in lines[:-1])
-
-
-def misquoted(document, found):
-    """The lines below a fault that say they are a line of the document and aren't."""
-    lines = document.split(b"\n")
-    quotes = re.findall(rb"^  line ([0-9]+): (.*)$", found, re.MULTILINE)
-    return [(number, text) for number, text in quotes if shown(lines[int(number) - 1]) != text]
-
-
-def shown(line):
-    """A line as it is quoted, which has 160 bytes with its number."""
-    line = line[:-1] if line.endswith(b"\r") else line
-    return bytes(it if 0x20 <= it < 0x7F else ord("?") for it in line)
-
-
-def expected(fault):
-    """The line that says what was expected, below the line of a fault."""
-    number, _, key = fault.partition(" ")
-    if number == "3":
-        return ""
-    texts = {"1": "at most 65536 bytes", "2": "a TOML document, in UTF-8"}
-    if number == "9":
-        texts["9"] = RULES[int(key) - 1]
-    return f"  expected: {texts.get(number) or expected_of(BY_TEXT[key])}\n"
-
-
-def rows():
-    """The rows of the table of keys in docs/FORMATS.md."""
-    for text, key in BY_TEXT.items():
-        default = {None: "none", 0: "0"}[key.default] if key.default != [] else "none of them"
-        yield f"| `{text}` | {expected_form(key)} | {default} | {key.about} |"
-
-
-def expected_of(key):
-    return f"{expected_form(key)} ({key.about})"
-
-
-def expected_form(key):
-    return FORMS.get(key.kind) or "an integer from {} to {}".format(*key.range)
+        return b"", f"configuration {fault}\n".encode(), 1
 
 
 def read_config(document):
@@ -134,7 +46,9 @@ def read_config(document):
     if len(document) > MOST_BYTES:
         raise Fault("1")
     top = tables_of(document)
-    config = values(top, TOP, "")
+    if not set(top) <= set(TOP):
+        raise Fault("3")
+    config = {key: value(top, key, key) for key in TOP}
     if not isinstance(config["member"], list) or not all(isinstance(it, dict) for it in config["member"]):
         raise Fault("5 member")
     config["member"] = [member(it) for it in config["member"]]
@@ -173,31 +87,24 @@ def is_integer(it):
     return isinstance(it, int) and not isinstance(it, bool)
 
 
-def values(table, keys, before):
-    """The values of all keys of a table; faults call them by their names with that text before."""
-    if not set(table) <= {key.name for key in keys}:
-        raise Fault("3")
-    return {key.name: value(table, key, before + key.name) for key in keys}
-
-
 def value(table, key, name):
     """The value of a key, which a fault calls by that name."""
-    if key.name not in table:
-        if key.default is None:
+    if key not in table:
+        if name not in DEFAULTS:
             raise Fault(f"4 {name}")
-        return key.default
-    it = table[key.name]
-    if key.kind == "integer":
-        return in_range(it, key.range, name)
-    if key.kind == "members":
+        return DEFAULTS[name]
+    it = table[key]
+    if key in RANGES:
+        return in_range(it, RANGES[key], name)
+    if key == "member":
         return it
     if not isinstance(it, str):
         raise Fault(f"5 {name}")
-    if key.kind == "path" and not re.fullmatch(r"[ -~]{1,100}", it):
-        raise Fault(f"6 {name}")
-    if key.kind == "seed" and not re.fullmatch("[0-9a-fA-F]{64}", it):
-        raise Fault(f"8 {name}")
-    if key.kind == "peer" and not is_peer(it):
+    if key == "control" and not re.fullmatch(r"[ -~]{1,100}", it):
+        raise Fault("6 control")
+    if key == "seed" and not re.fullmatch("[0-9a-fA-F]{64}", it):
+        raise Fault("8 seed")
+    if key in ("listen", "at") and not is_peer(it):
         raise Fault(f"7 {name}")
     return it
 
@@ -216,8 +123,9 @@ def is_peer(text):
 
 
 def member(table):
-    made = values(table, MEMBER, "member.")
-    return made["id"], made["at"]
+    if not set(table) <= {"id", "at"}:
+        raise Fault("3")
+    return value(table, "id", "member.id"), value(table, "at", "member.at")
 
 
 def opening_fault(config):
@@ -238,23 +146,3 @@ def summary(config):
     lines = [f"{key} {config[key]}" for key in ("id", "listen", "control")]
     lines += [numbers, f"members {len(config['member'])}"]
     return "".join(f"{line}\n" for line in lines + [f"{id} {at}" for id, at in sorted(config["member"])])
-
-
-def warnings(config):
-    """What is allowed and can't work, in order."""
-    members, period, k = config["member"], config["period"], config["k"]
-    rounds = 3 * (len(members) * (period + 2) + 2 * len(members))
-    if config["journal"] < rounds:
-        yield f"journal {config['journal']} is shorter than three rounds, which take {rounds} entries"
-    for id, at in members:
-        if at == config["listen"]:
-            yield f"member {id} is at this member's own address, {at}"
-    for place, (id, at) in enumerate(members):
-        for other in [other for other, there in members[place + 1 :] if there == at][:1]:
-            yield f"members {id} and {other} are at one address, {at}"
-    if members and k > len(members) - 1:
-        yield f"k {k} is greater than the members that could relay, {len(members) - 1}"
-    if period * config["tick_ms"] > DAY_MS:
-        yield f"a period has {period * config['tick_ms']} milliseconds, which is beyond a day"
-    if len(set(bytes.fromhex(config["seed"]))) == 1:
-        yield "seed is one byte again and again, which anybody may guess"

@@ -31,9 +31,9 @@ fn main(rt: HostRuntime) -> ExitCode {
                 &mut writer,
                 &mut faults,
             ),
-            Err(_) => commands::tell(Outcome::Refused(ConfigFault::NoMemory), b"", &mut faults),
+            Err(_) => commands::tell(Outcome::Refused(ConfigFault::NoMemory), &mut faults),
         },
-        Err(outcome) => commands::tell(outcome, b"", &mut faults),
+        Err(outcome) => commands::tell(outcome, &mut faults),
     };
     ExitCode::from(status)
 }
