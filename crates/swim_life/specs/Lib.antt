@@ -3,4 +3,6 @@ pub mod Endings
 pub mod Ends
 pub mod Gates
 pub mod Lives
+pub mod Notices
 pub mod Pacing
+pub mod Places

@@ -1,3 +1,5 @@
+pub mod Answers
+pub mod Asking
 pub mod Checking
 pub mod Commands
 pub mod Daemon
