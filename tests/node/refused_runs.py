@@ -6,7 +6,7 @@ import re
 import subprocess
 
 from tests.generators.cut_scripts import answers
-from tests.support.daemons import PING, PORTS_TRIED, DaemonFault, Machine, PortTaken, datagram, fields, first_line_of, must, until
+from tests.support.daemons import PING, PORTS_TRIED, DaemonFault, Machine, PortTaken, datagram, fields, must, until
 from tests.generators.growing_scripts import joined
 from tests.node.refusing import REFUSED, Ran
 
@@ -137,7 +137,7 @@ def how_it_runs(refuser, program, number):
         until(lambda: daemon.child.poll() is not None or daemon.answers(), "it runs or ends")
         found = asked(daemon, machine.socket()) if daemon.child.poll() is None else None
         stdout, stderr = daemon.child.communicate(timeout=20)
-    ran = Ran(stdout, first_line_of(stderr.replace(REFUSED, b"", 1)), daemon.child.returncode)
+    ran = Ran(stdout, stderr.replace(REFUSED, b"", 1), daemon.child.returncode)
     if ran.stderr == b"bind listen\n":
         raise PortTaken(f"port {daemon.port} is taken")
     if not found:

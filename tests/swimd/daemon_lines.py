@@ -124,15 +124,14 @@ def asked(daemon, lines, **streams):
 
 def lines_by_ask(machine):
     daemon = quiet(machine)
-    must(asked(daemon, b"list\nlis") == (LISTED + b"fault 6\n", b"", 3), "another answer to `list` and half a line")
+    must(asked(daemon, b"list\nlis") == (LISTED + b"fault 6\n", b"", 0), "another answer to `list` and half a line")
     must(asked(daemon, b"") == (b"", b"", 0), "another answer to nothing")
     many = asked(daemon, b"list\n" * 150_000)
     must(many == (LISTED * 150_000, b"", 0), f"150,000 lines are answered {len(many[0])} bytes, {many[1:]}")
     must(asked(daemon, b"stop\nlist\n") == (b"stopping\n", b"", 0), "another answer to `stop`")
     must(daemon.ended() == (0, "stopped", 0, 0, 0, 0, 0), "it ended otherwise")
     gone = asked(daemon, b"list\n")
-    told = f"connect control\n  {daemon.control}: nobody serves this socket; remove it\n".encode()
-    must(gone == (b"", told, 5), f"a daemon that is gone: {gone}")
+    must(gone == (b"", b"connect control\n", 5), f"a daemon that is gone: {gone}")
 
 
 def a_dialogue_by_ask(machine):
@@ -145,7 +144,7 @@ def a_dialogue_by_ask(machine):
                 child.stdin.write(line)
                 must_be(come(child.stdout, len(wanted)), wanted, f"{line!r}")
             child.stdin.close()
-            must(child.wait(SECONDS) == 3 and child.stdout.read() == b"", "it ends otherwise")
+            must(child.wait(SECONDS) == 0 and child.stdout.read() == b"", "it ends otherwise")
         finally:
             child.kill()
     must(daemon.stop().status == 0, "the daemon ended otherwise")

@@ -1,3 +1,2 @@
-pub mod CauseLines
 pub mod Views
 pub mod Wholes

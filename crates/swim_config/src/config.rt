@@ -6,8 +6,7 @@ ghost use Rattle.toml.specs.View.{table_view};
 ghost use Rattle.swim_config.specs.Configuration.{config_of, config_in, config_with, document_of};
 ghost use Rattle.swim_config.specs.Reading.{OrNoMemory, table_read};
 
-use crate::config_fault::ConfigFault;
-use crate::keys::TOP_KEYS;
+use crate::config_fault::{ConfigFault, Key};
 use crate::members::take_members;
 use crate::settings::{Settings, take_settings};
 use crate::socket_path::SocketPath;
@@ -19,6 +18,21 @@ use toml::Table;
 
 /// The most bytes of a configuration.
 pub const CONFIG_BYTES: usize = 65_536;
+
+/// The keys of a configuration.
+const TOP_KEYS: [Key; 11] = [
+    Key::Id,
+    Key::Listen,
+    Key::Control,
+    Key::K,
+    Key::Rtt,
+    Key::Period,
+    Key::TickMs,
+    Key::Seed,
+    Key::Journal,
+    Key::Last,
+    Key::Member,
+];
 
 /// What a daemon is started with.
 #[derive(Debug, Drop)]

@@ -1,32 +1,19 @@
 //! Configurations of a daemon: what their bytes say, their faults and their summary.
 #![tactic(auto)]
 
-mod causes;
 mod config;
 mod config_fault;
-mod details;
-mod expected;
 mod fault_texts;
-mod found;
 mod inputs;
-mod keys;
 mod members;
-mod places;
 mod settings;
 mod socket_path;
-mod statements;
 mod summaries;
-mod unknown_keys;
 mod values;
-mod warnings;
 
-pub use causes::put_cause;
 pub use config::{CONFIG_BYTES, Config, read_config};
-pub use config_fault::ConfigFault;
-pub use details::{DETAIL_BYTES, DetailLine};
+pub use config_fault::{ConfigFault, Key};
 pub use fault_texts::put_fault;
 pub use inputs::{INPUT_BYTES, read_input};
-pub use keys::{Form, Key};
 pub use socket_path::{PATH_BYTES, SocketPath};
 pub use summaries::summary;
-pub use warnings::put_warnings;

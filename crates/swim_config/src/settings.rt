@@ -4,12 +4,17 @@ ghost use Rattle.std.specs.Prelude.{◌≡◌};
 ghost use Rattle.toml.specs.View.{table_view};
 ghost use Rattle.swim_config.specs.Configuration.{place_in, times_in, kept_in, settings_in};
 
-use crate::config_fault::ConfigFault;
-use crate::keys::Key;
+use crate::config_fault::{ConfigFault, Key};
 use crate::socket_path::SocketPath;
-use crate::values::{take_id, take_number, take_path, take_peer, take_seed, take_small};
+use crate::values::{take_id, take_last, take_number, take_path, take_peer, take_seed};
 use swim_wire::{Id, Peer};
 use toml::Table;
+
+/// The longest tick, in milliseconds.
+const LONGEST_TICK: u32 = 60_000;
+
+/// The most entries of a journal.
+const LARGEST_JOURNAL: u32 = 1_000_000;
 
 /// Who this member is, and where it listens.
 #[derive(Debug, Drop)]
@@ -73,10 +78,10 @@ fn take_place(table: &Table) -> Result<Place, ConfigFault>
 fn take_times(table: &Table) -> Result<Times, ConfigFault>
     ensures { result ≡ times_in (table_view table.now) }
 {
-    let k = take_small(table, Key::K)?;
-    let rtt = take_small(table, Key::Rtt)?;
-    let period = take_small(table, Key::Period)?;
-    let tick_ms = take_small(table, Key::TickMs)?;
+    let k = take_number(table, Key::K, 0, u32::MAX)?;
+    let rtt = take_number(table, Key::Rtt, 0, u32::MAX)?;
+    let period = take_number(table, Key::Period, 0, u32::MAX)?;
+    let tick_ms = take_number(table, Key::TickMs, 1, LONGEST_TICK)?;
     Ok(Times {
         k,
         rtt,
@@ -90,8 +95,8 @@ fn take_kept(table: &Table) -> Result<Kept, ConfigFault>
     ensures { result ≡ kept_in (table_view table.now) }
 {
     let seed = take_seed(table)?;
-    let journal = take_small(table, Key::Journal)?;
-    let last = take_number(table, Key::Last)?;
+    let journal = take_number(table, Key::Journal, 1, LARGEST_JOURNAL)?;
+    let last = take_last(table)?;
     Ok(Kept {
         seed,
         journal,

@@ -1,2 +1,1 @@
-mod causes;
 mod configurations;

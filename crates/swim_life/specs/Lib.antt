@@ -3,6 +3,4 @@ pub mod Endings
 pub mod Ends
 pub mod Gates
 pub mod Lives
-pub mod Notices
 pub mod Pacing
-pub mod Places

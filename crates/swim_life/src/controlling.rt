@@ -15,9 +15,6 @@ use swim_control::{Served, Stand};
 use swim_node::{Naming, Node, Viewer};
 use swim_targets::Seeded;
 
-/// How many rounds of turns there are for each time that the door and the clock are asked.
-const ROUNDS: u32 = 16;
-
 /// The controller: takes in who comes, and serves all connections side by side. No reply to a control line sends a
 /// datagram.
 pub(crate) fn control<N: Naming, H: Wait + Drop, R: Wait, D: Door + Drop>(
@@ -69,8 +66,7 @@ fn left<N: Naming, H: Wait + Drop>(
     }
 }
 
-/// Takes in who came, and gives each connection its turns; why the controller ends, if it does. Where nothing came it
-/// waits a moment.
+/// A turn of the controller; why it ends, if it does. Where nothing came it waits a moment.
 fn serve_next<N: Naming, H: Wait + Drop, R: Wait, D: Door + Drop>(
     rt: &R,
     alloc: Global,
@@ -82,7 +78,7 @@ fn serve_next<N: Naming, H: Wait + Drop, R: Wait, D: Door + Drop>(
         Ok(is_there) => is_there,
         Err(why) => return Some(why),
     };
-    match serve_rounds(rt, alloc, desk, hall) {
+    match serve_each(rt, alloc, desk, hall) {
         Ok(is_busy) => {
             if !is_busy && !is_there {
                 hall.door.wait(rt);
@@ -121,33 +117,15 @@ fn let_in<R: Wait, D: Door + Drop>(
     }
 }
 
-/// Turns of each connection, round after round while something comes of one: whether something came, or why the
-/// controller ends. Neither the door nor the clock is asked between rounds, so that many short lines don't wait for
-/// them.
-fn serve_rounds<N: Naming, H: Wait + Drop, R: Wait, D: Door + Drop>(
+/// A turn of each connection: whether something came of one, or why the controller ends. The others have their turns
+/// later then, maybe in the next life.
+fn serve_each<N: Naming, H: Wait + Drop, R: Wait, D: Door + Drop>(
     rt: &R,
     alloc: Global,
     desk: &mut NodeDesk<N, H, 2>,
     hall: &mut Hall<D>,
 ) -> Result<bool, Why> {
     let now = hall.door.now();
-    for round in 0..ROUNDS {
-        if !serve_each(rt, alloc, now, desk, hall)? {
-            return Ok(round > 0);
-        }
-    }
-    Ok(true)
-}
-
-/// A turn of each connection: whether something came of one, or why the controller ends. The others have their turns
-/// later then, maybe in the next life.
-fn serve_each<N: Naming, H: Wait + Drop, R: Wait, D: Door + Drop>(
-    rt: &R,
-    alloc: Global,
-    now: u64,
-    desk: &mut NodeDesk<N, H, 2>,
-    hall: &mut Hall<D>,
-) -> Result<bool, Why> {
     let mut is_busy = false;
     for _place in 0..hall.connections.len() {
         let stand = hall.connections.turn(rt, alloc, now, desk);

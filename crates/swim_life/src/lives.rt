@@ -4,11 +4,10 @@ ghost use Rattle.std.specs.Prelude.{◌≡◌, IfOk};
 ghost use Rattle.swim_targets.specs.Draws.{of_seed};
 ghost use Rattle.swim_life.specs.Endings.{TellsLife, TellsText, stopped_text};
 ghost use Rattle.swim_life.specs.Lives.{AreLived, IsLife, end_after, end_without};
-ghost use Rattle.swim_life.specs.Notices.{Notices};
 
 use crate::counts::Why;
 use crate::endings::{STOPPED, put_ended, put_life};
-use crate::gates::{Door, Herald, Line, Pace};
+use crate::gates::{Door, Line, Pace};
 use crate::halls::Hall;
 use crate::life::run_life;
 use std::alloc::Global;
@@ -64,16 +63,8 @@ pub enum LivesEnd {
 /// were used, but without an aim and without waiting requests. Life `i`, counted from 0, draws from stream `i` of the
 /// seed. How each life ended is written in a line; that a line can't be written changes nothing. Behind a life that
 /// was told to stop there is none: where its journal was full, the end is told as if the next life had been stopped at
-/// once. Before each life the herald, who has told of none yet, tells of it among the notices.
-pub fn run_lives<
-    R: Threads + Wait + Sync,
-    L: Line + Sync,
-    P: Pace + Send,
-    D: Door + Drop,
-    W: Sink,
-    H: Herald,
-    F: Sink,
->(
+/// once.
+pub fn run_lives<R: Threads + Wait + Sync, L: Line + Sync, P: Pace + Send, D: Door + Drop, W: Sink>(
     rt: &R,
     alloc: Global,
     opening: Opening,
@@ -82,19 +73,13 @@ pub fn run_lives<
     pace: &mut P,
     hall: &mut Hall<D>,
     writer: &mut W,
-    herald: &mut H,
-    notices: &mut F,
 ) -> LivesEnd
-    requires { H.begun herald.old ≡ 0 }
-    ensures lived { AreLived opening terms.limit (W.written writer.old, W.failures writer.old)
+    ensures { AreLived opening terms.limit (W.written writer.old, W.failures writer.old)
         (W.written writer.new, W.failures writer.new) result }
-    ensures notices { Notices (F.written notices.old, F.failures notices.old)
-        (F.written notices.new, F.failures notices.new) }
 {
     let mut opening = opening;
     let mut number: u64 = 0;
     for _life in rt.forever() {
-        herald.begins(number, notices);
         let chooser = chooser_of(terms, number);
         let past = match live(rt, alloc, opening, chooser, terms.limit, line, pace, hall) {
             Ok(past) => past,

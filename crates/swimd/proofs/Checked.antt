@@ -9,7 +9,6 @@ use Rattle.swim_config.specs.declared.config_fault.ConfigFault.TheVariants.{Size
 use Rattle.swimd.specs.declared.outcomes.Outcome.{Outcome}
 use Rattle.swimd.specs.declared.outcomes.Outcome.TheVariants.{Checked, Stopped, Asked, Usage, Unread, Refused, Unwritten}
 use Rattle.swimd.specs.declared.outcomes.Outcome.TheVariants.{NoListen, NoControl, NoMemory, Socket, NoPlace, NoDaemon}
-use Rattle.swimd.specs.declared.outcomes.Outcome.TheVariants.{AskRefused, AskTimeout, Unanswered, AskUnwritten, AskUnread, Helped}
 use Rattle.swimd.specs.Checking.{ChecksKnown, Shows}
 use Rattle.swim_config.specs.Configuration.{config_of}
 use Rattle.swim_config.specs.Inputs.{IsRead}
@@ -54,12 +53,6 @@ shown None old new items config NoMemory read is shows = absurd shows
 shown None old new items config Socket read is shows = absurd shows
 shown None old new items config NoPlace read is shows = absurd shows
 shown None old new items config NoDaemon read is shows = absurd shows
-shown None old new items config AskRefused read is shows = absurd shows
-shown None old new items config AskTimeout read is shows = absurd shows
-shown None old new items config Unanswered read is shows = absurd shows
-shown None old new items config AskUnwritten read is shows = absurd shows
-shown None old new items config AskUnread read is shows = absurd shows
-shown None old new items config Helped read is shows = absurd shows
 shown (Some text) old new items config Checked read is shows =
     record { config = config; is = known_shown text items config read is; shows = shows }
 shown (Some text) old new items config Unwritten read is shows =
@@ -75,12 +68,6 @@ shown (Some text) old new items config NoMemory read is shows = absurd shows
 shown (Some text) old new items config Socket read is shows = absurd shows
 shown (Some text) old new items config NoPlace read is shows = absurd shows
 shown (Some text) old new items config NoDaemon read is shows = absurd shows
-shown (Some text) old new items config AskRefused read is shows = absurd shows
-shown (Some text) old new items config AskTimeout read is shows = absurd shows
-shown (Some text) old new items config Unanswered read is shows = absurd shows
-shown (Some text) old new items config AskUnwritten read is shows = absurd shows
-shown (Some text) old new items config AskUnread read is shows = absurd shows
-shown (Some text) old new items config Helped read is shows = absurd shows
 
 -- a fault was told
 abbrev pub refusal : ConfigFault → Result Config ConfigFault

@@ -1,4 +1,4 @@
--- What a daemon does.
+-- What a daemon does, and what asking one does.
 use Rattle.std.specs.Prelude.{◌≡◌, ◌⊎◌, ℕ, List, Option, Ok, Err}
 use Rattle.swim_config.specs.declared.config.Config.{Config}
 use Rattle.swim_config.specs.declared.config_fault.ConfigFault.TheVariants as faults
@@ -6,7 +6,7 @@ use Rattle.swim_life.specs.declared.lives.LivesEnd.{LivesEnd}
 use Rattle.swim_life.specs.declared.lives.LivesEnd.TheVariants as ends
 use Rattle.swimd.specs.declared.outcomes.Outcome.{Outcome}
 use Rattle.swimd.specs.declared.outcomes.Outcome.TheVariants.{Unread, Refused, NoListen, NoControl, NoMemory, Stopped, Socket}
-use Rattle.swimd.specs.declared.outcomes.Outcome.TheVariants.{NoPlace}
+use Rattle.swimd.specs.declared.outcomes.Outcome.TheVariants.{NoPlace, NoDaemon, Asked}
 use Rattle.swim_config.specs.Configuration.{config_of}
 use Rattle.swim_life.specs.Endings.{Written}
 use Rattle.swim_life.specs.Lives.{AreLived}
@@ -35,10 +35,6 @@ pub record IsLivedBy (config : Config) (old new : Written) (outcome : Outcome) :
   pub lived : AreLived config.opening config.journal old new end
   pub is : outcome ≡ outcome_of end
 
--- why there is no control socket
-abbrev pub IsNoDoor : Outcome → Type 0
-IsNoDoor outcome = (outcome ≡ NoControl) ⊎ (outcome ≡ NoMemory)
-
 -- what a daemon of this configuration does: without its sockets nothing is written
 abbrev pub Starts : Config → Written → Written → Outcome → Type 0
 Starts config old new NoListen = new ≡ old
@@ -51,3 +47,9 @@ abbrev pub Runs : Written → Written → Outcome → Type 0
 Runs old new outcome =
     (IsNoConfiguration outcome × (new ≡ old))
     ⊎ ((config : Config) × IsConfiguration config × Starts config old new outcome)
+
+-- what asking a daemon does: where there is none nothing is read and nothing is written
+abbrev pub Asks : Option (List ℕ) → Option (List ℕ) → Option (List ℕ) → Option (List ℕ) → Outcome → Type 0
+Asks left_old left_new old new NoDaemon = (left_new ≡ left_old) × (new ≡ old)
+Asks left_old left_new old new Asked = Unit {0}
+Asks left_old left_new old new outcome = ⊥

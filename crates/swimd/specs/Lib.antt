@@ -1,5 +1,3 @@
-pub mod Answers
-pub mod Asking
 pub mod Checking
 pub mod Commands
 pub mod Daemon

@@ -1,24 +1,15 @@
 -- How a command of the program ends: its status, and what is told on standard error.
-use Rattle.std.specs.Prelude.{◌≡◌, ℕ, List, [], ◌∷◌, ◌++◌, false, codes}
-use Rattle.std.specs.List.{flat_map, list_any}
-use Rattle.swim_wire.specs.Lines.{has_feed}
+use Rattle.std.specs.Prelude.{ℕ, List, [], codes}
 use Rattle.swim_config.specs.declared.config_fault.ConfigFault.TheVariants as faults
 use Rattle.swimd.specs.declared.outcomes.Outcome.{Outcome}
 use Rattle.swimd.specs.declared.outcomes.Outcome.TheVariants.{Checked, Stopped, Asked, Usage, Unread, Refused}
 use Rattle.swimd.specs.declared.outcomes.Outcome.TheVariants.{Unwritten, NoListen, NoControl, NoMemory, Socket, NoPlace, NoDaemon}
-use Rattle.swimd.specs.declared.outcomes.Outcome.TheVariants.{AskRefused, AskTimeout, Unanswered, AskUnwritten, AskUnread, Helped}
 use Rattle.swim_config.specs.FaultTexts.{fault_text}
 
 abbrev pub status_of : Outcome → ℕ
 status_of Checked = 0
 status_of Stopped = 0
 status_of Asked = 0
-status_of AskRefused = 3
-status_of AskTimeout = 5
-status_of Unanswered = 5
-status_of AskUnwritten = 1
-status_of AskUnread = 1
-status_of Helped = 0
 status_of Usage = 2
 status_of Unread = 1
 status_of (Refused faults.NoMemory) = 4
@@ -35,12 +26,6 @@ abbrev pub outcome_text : Outcome → List ℕ
 outcome_text Checked = []
 outcome_text Stopped = []
 outcome_text Asked = []
-outcome_text AskRefused = []
-outcome_text AskTimeout = codes "ask timeout\n"
-outcome_text Unanswered = codes "ask unanswered\n"
-outcome_text AskUnwritten = codes "ask write\n"
-outcome_text AskUnread = codes "ask read\n"
-outcome_text Helped = []
 outcome_text Usage = codes "usage\n"
 outcome_text Unread = codes "configuration file\n"
 outcome_text (Refused fault) = fault_text fault
@@ -51,8 +36,3 @@ outcome_text NoMemory = codes "no memory\n"
 outcome_text Socket = []
 outcome_text NoPlace = codes "no place\n"
 outcome_text NoDaemon = codes "connect control\n"
-
--- whole lines, each of which begins with two spaces
-abbrev pub AreIndented : List ℕ → Type 0
-AreIndented text = (lines : List (List ℕ)) × (list_any has_feed lines ≡ false)
-    × (text ≡ flat_map (λ line. 32 ∷ 32 ∷ line ++ 10 ∷ []) lines)

@@ -1,9 +1,7 @@
 //! Gates that wait for each other.
 
-ghost use Rattle.std.specs.Prelude.{◌≡◌, [], None};
+ghost use Rattle.std.specs.Prelude.{[], None};
 ghost use Rattle.swim_life.specs.Gates.{FitsInto};
-ghost use Rattle.swim_life.specs.Notices.{Notices};
-ghost use Rattle.swim_wire.specs.Streams.{one_more};
 
 use crate::tests::at;
 use arrayvec::ArrayVec;
@@ -12,7 +10,7 @@ use std::sync::Wait;
 use std::sync::atomic::{AtomicBool, AtomicU32, Ordering};
 use std::thread;
 use std::time::Duration;
-use swim_life::{Beat, Door, Got, Herald, Knock, Line, Pace};
+use swim_life::{Beat, Door, Got, Knock, Line, Pace};
 use swim_wire::{Byte, Look, Page, Peer, Polled, Sink, Source, Text};
 
 /// How many turns a gate waits for another. After that it gives up, and the test's signals stay unset.
@@ -281,26 +279,5 @@ impl<'s> Sink for Answers<'s> {
             set(&self.signals.is_stopping);
         }
         true
-    }
-}
-
-/// A herald that counts lives, and tells nothing.
-#[derive(Drop)]
-pub struct Counter {
-    pub begun: u64,
-}
-
-impl Herald for Counter {
-    ghost begun = { λ c. c.begun };
-
-    #[tactic(auto, using(swim_life::specs::Notices::no_notices))]
-    fn begins<F: Sink>(&mut self, number: u64, notices: &mut F)
-        requires { number ≡ self.old.begun }
-        ensures counts { self.new.begun ≡ one_more self.old.begun }
-        ensures notices { Notices (F.written notices.old, F.failures notices.old)
-            (F.written notices.new, F.failures notices.new) }
-    {
-        let _no_notices = notices;
-        self.begun = number.saturating_add(1);
     }
 }

@@ -1,8 +1,6 @@
 ghost use Rattle.swim_life.specs.Gates.{FitsInto};
 
-use super::gates::{
-    Counter, NoDoor, OneDoor, PING, PingLine, Signals, StopPace, TURNS, is_set, pause, set,
-};
+use super::gates::{NoDoor, OneDoor, PING, PingLine, Signals, StopPace, TURNS, is_set, pause, set};
 use super::*;
 use std::sync::atomic::{AtomicBool, Ordering};
 use swim_life::{Beat, Got, Hall, LivesEnd, Terms, run_lives};
@@ -122,8 +120,6 @@ fn two_lives(rt: HostRuntime) -> Result<(), Fail> {
     let mut pace = pace(rt, &is_told, 5);
     let mut hall = Hall::new(rt.alloc(), NoDoor { clock: rt });
     let mut page = Page::new(rt.alloc());
-    let mut herald = Counter { begun: 0 };
-    let mut notices = Page::new(rt.alloc());
     let terms = Terms {
         seed: [0; 32],
         limit: 2,
@@ -137,11 +133,8 @@ fn two_lives(rt: HostRuntime) -> Result<(), Fail> {
         &mut pace,
         &mut hall,
         &mut page,
-        &mut herald,
-        &mut notices,
     );
     assert_eq!(rt; end, LivesEnd::Stopped);
-    assert_eq!(rt; herald.begun, 2);
     assert!(rt; page.text().starts_with(FIRST_LIFE));
     assert!(rt; page.text().ends_with(LAST_LIFE));
     assert_eq!(rt; page.text().len(), FIRST_LIFE.len() + LAST_LIFE.len());
@@ -225,8 +218,6 @@ fn a_stop_at_a_full_journal(rt: HostRuntime) -> Result<(), Fail> {
     };
     let mut hall = Hall::new(rt.alloc(), NoDoor { clock: rt });
     let mut page = Page::new(rt.alloc());
-    let mut herald = Counter { begun: 0 };
-    let mut notices = Page::new(rt.alloc());
     let terms = Terms {
         seed: [0; 32],
         limit: 2,
@@ -240,11 +231,8 @@ fn a_stop_at_a_full_journal(rt: HostRuntime) -> Result<(), Fail> {
         &mut pace,
         &mut hall,
         &mut page,
-        &mut herald,
-        &mut notices,
     );
     assert_eq!(rt; end, LivesEnd::Stopped);
-    assert_eq!(rt; herald.begun, 1);
     assert!(rt; is_set(&was_given));
     assert!(rt; page.text().starts_with(FIRST_LIFE));
     assert!(rt; page.text().ends_with(NO_LIFE));
