@@ -1,4 +1,5 @@
 pub mod Desk
+pub mod Draws
 pub mod Endings
 pub mod Ends
 pub mod Gates
