@@ -1,5 +1,4 @@
 pub mod Desk
-pub mod Draws
 pub mod Endings
 pub mod Ends
 pub mod Gates

@@ -1,9 +1,7 @@
 //! Lives: one node after another, each of which goes on from the journal of the one before.
 
 ghost use Rattle.std.specs.Prelude.{◌≡◌, IfOk};
-ghost use Rattle.swim_targets.specs.Draws.{DrawsOrder, DrawsPlace};
-ghost use Rattle.swim_node.specs.Draws.{DrawsAll};
-ghost use Rattle.swim_life.specs.Draws.{WasDrawn, life_chooser};
+ghost use Rattle.swim_targets.specs.Draws.{of_seed};
 ghost use Rattle.swim_life.specs.Endings.{TellsLife, TellsText, stopped_text};
 ghost use Rattle.swim_life.specs.Lives.{AreLived, IsLife, end_after, end_without};
 
@@ -76,7 +74,7 @@ pub fn run_lives<R: Threads + Wait + Sync, L: Line + Sync, P: Pace + Send, D: Do
     hall: &mut Hall<D>,
     writer: &mut W,
 ) -> LivesEnd
-    ensures { AreLived opening terms.limit terms.seed (W.written writer.old, W.failures writer.old)
+    ensures { AreLived opening terms.limit (W.written writer.old, W.failures writer.old)
         (W.written writer.new, W.failures writer.new) result }
 {
     let mut opening = opening;
@@ -103,7 +101,7 @@ pub fn run_lives<R: Threads + Wait + Sync, L: Line + Sync, P: Pace + Send, D: Do
 
 /// The chooser of the life of that number: each draws from a stream of its own.
 fn chooser_of(terms: Terms, number: u64) -> Seeded
-    ensures { result ≡ life_chooser terms.seed number }
+    ensures { result ≡ record (of_seed terms.seed) { stream = number } }
 {
     Seeded::life(terms.seed, number)
 }
@@ -152,8 +150,7 @@ fn end_without(fault: OpenFault) -> LivesEnd
 }
 
 /// Opens a node with a journal of at most `limit` entries, and runs its life over these gates. There is no life where
-/// the node gets no memory (`NoMemory`), or no reader of its member table (`NoPlace`). What its journal holds was drawn
-/// from the chooser.
+/// the node gets no memory (`NoMemory`), or no reader of its member table (`NoPlace`).
 pub fn live<R: Threads + Wait + Sync, L: Line + Sync, P: Pace + Send, D: Door + Drop>(
     rt: &R,
     alloc: Global,
@@ -164,8 +161,7 @@ pub fn live<R: Threads + Wait + Sync, L: Line + Sync, P: Pace + Send, D: Door + 
     pace: &mut P,
     hall: &mut Hall<D>,
 ) -> Result<Past, OpenFault>
-    ensures life { IfOk result (IsLife opening limit) }
-    ensures drawn { IfOk result (λ past. WasDrawn opening chooser past.journal.past) }
+    ensures { IfOk result (IsLife opening limit) }
 {
     let Ok(parts) = Parts::make(alloc, limit) else {
         return Err(OpenFault::NoMemory);
@@ -194,9 +190,7 @@ fn live_so<
     requires parts { parts ≡ record { limit = N.limit; ledgers = N.ledgers; log = N.log; cells = N.cells } }
     requires opening { opening ≡ N.opening }
     requires limit { limit ≡ N.limit }
-    requires drawn { DrawsAll DrawsOrder DrawsPlace N.opening chooser N.drawn }
-    ensures life { IfOk result (IsLife opening limit) }
-    ensures drawn { IfOk result (λ past. N.drawn past.journal.past) }
+    ensures { IfOk result (IsLife opening limit) }
 {
     match Node::<N, Seeded, &R>::open(alloc, rt, parts, opening, chooser, limit) {
         Ok(opened) => {

@@ -6,5 +6,3 @@ pub mod OneHistory
 pub mod Names
 pub mod ChangeLog
 pub mod Shown
-pub mod Following
-pub mod Draws

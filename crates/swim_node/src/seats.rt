@@ -76,7 +76,7 @@ impl<N: Naming> Seat<N> {
     {
         for index in 0..self.calls.len() {
             let (place, note) = self.noted(index);
-            if !compare_at::<N>(notes, place as usize, note) {
+            if !compare_at::<N>(notes, place, note) {
                 wait_for_good(rt);
             }
         }
@@ -96,7 +96,7 @@ impl<N: Naming> Seat<N> {
     }
 }
 
-pub(crate) fn wait_for_good<R: Wait>(rt: &R)
+fn wait_for_good<R: Wait>(rt: &R)
     ensures { ⊥ }
 {
     for _ in rt.forever() {}

@@ -29,11 +29,10 @@ outcome_of ends.Socket = Socket
 outcome_of ends.NoMemory = Refused faults.NoMemory
 outcome_of ends.NoPlace = NoPlace
 
--- lives were lived from the configuration's opening, with journals of at most as many entries as it says and draws of its
--- seed
+-- lives were lived from the configuration's opening, with journals of at most as many entries as it says
 pub record IsLivedBy (config : Config) (old new : Written) (outcome : Outcome) : Type 0 where
   pub end : LivesEnd
-  pub lived : AreLived config.opening config.journal config.seed old new end
+  pub lived : AreLived config.opening config.journal old new end
   pub is : outcome ≡ outcome_of end
 
 -- what a daemon of this configuration does: without its sockets nothing is written
