@@ -44,58 +44,30 @@ fn carry_out<N: Naming + Send + Sync, H: Wait + Drop + Send, R: Threads + Wait +
     seats: Four<Seat<N>>,
     viewers: Four<Viewer<N>>,
 ) -> u32 {
-    match task.mode {
-        Mode::Open | Mode::Record => 0,
-        Mode::Hear => hear_beside(rt, node, task, seats),
-        Mode::Tick => tick(rt, node, first_of(seats), task.calls),
-        Mode::Change => change_beside(rt, node, task, first_of(seats), viewers),
-        Mode::List => list_beside(rt, node, task, first_of(seats), first_of(viewers)),
-    }
-}
-
-/// Pings are heard, by as many threads as the task tells.
-fn hear_beside<N: Naming + Send + Sync, H: Wait + Drop + Send, R: Threads + Wait + Sync>(
-    rt: &R,
-    node: &Node<N, Scripted, H>,
-    task: Task,
-    seats: Four<Seat<N>>,
-) -> u32 {
-    match task.beside {
-        0 => hear(rt, node, first_of(seats), task.calls),
-        1 => hear_by_two(rt, node, pair_of(seats), task.calls / 2),
-        _ => hear_by_four(rt, node, seats, task.calls / 4),
-    }
-}
-
-/// The table is changed, and listed meanwhile where the task tells so.
-fn change_beside<N: Naming + Send + Sync, H: Wait + Drop + Send, R: Threads + Wait + Sync>(
-    rt: &R,
-    node: &Node<N, Scripted, H>,
-    task: Task,
-    seat: Seat<N>,
-    viewers: Four<Viewer<N>>,
-) -> u32 {
+    let Task {
+        mode,
+        calls,
+        beside,
+        limit: _,
+    } = task;
     let over = AtomicBool::new(false);
-    if task.beside == 0 {
-        change(rt, node, seat, task.calls, &over)
-    } else {
-        change_while_listed(rt, node, seat, viewers, task.calls, &over)
-    }
-}
-
-/// The table is listed, and changed meanwhile where the task tells so.
-fn list_beside<N: Naming + Send + Sync, H: Wait + Drop + Send, R: Threads + Wait + Sync>(
-    rt: &R,
-    node: &Node<N, Scripted, H>,
-    task: Task,
-    seat: Seat<N>,
-    viewer: Viewer<N>,
-) -> u32 {
-    let over = AtomicBool::new(false);
-    if task.beside == 0 {
-        list(viewer, task.calls, &over)
-    } else {
-        list_while_changed(rt, node, seat, viewer, task, &over)
+    match (mode, beside) {
+        (Mode::Open | Mode::Record, _) => 0,
+        (Mode::Hear, 0) => hear(rt, node, first_of(seats), calls),
+        (Mode::Hear, 1) => hear_by_two(rt, node, pair_of(seats), calls / 2),
+        (Mode::Hear, _) => hear_by_four(rt, node, seats, calls / 4),
+        (Mode::Tick, _) => tick(rt, node, first_of(seats), calls),
+        (Mode::Change, 0) => change(rt, node, first_of(seats), calls, &over),
+        (Mode::Change, _) => change_while_listed(rt, node, first_of(seats), viewers, calls, &over),
+        (Mode::List, 0) => list(first_of(viewers), calls, &over),
+        (Mode::List, _) => list_while_changed(
+            rt,
+            node,
+            first_of(seats),
+            first_of(viewers),
+            task,
+            &over,
+        ),
     }
 }
 
