@@ -2,8 +2,12 @@
 
 import os
 import re
+import shutil
 import subprocess
 import time
+from pathlib import Path
+
+from tests.support.crates import SOURCES
 
 # What the prover says where a proof names something that the edited body hasn't any more, and of what rests on that: it says little
 # of the contract.
@@ -41,8 +45,7 @@ class Check:
             return BAD_EDIT, f"it did not reach the prover: {next(iter(rejections), ' '.join(self.lines[:3]))}"
         if verdicts[-1].startswith("logic=proved"):
             return NOT_REFUSED, "the crate is still proved with this edit"
-        searched = [it for it in self.unproved if SEARCH.search(it)]
-        told = [it for it in self.errors if not ONLY_NAMES.search(it)] + searched
+        told = [it for it in self.errors if not ONLY_NAMES.search(it)] + [it for it in self.unproved if SEARCH.search(it)]
         if told:
             return REFUSED, told[0]
         if self.errors:
@@ -67,39 +70,29 @@ def prover_words(crates, name):
 
 
 class Room:
-    """A copy of a crate, in which it is checked with edits. What its checks prove is kept for the next ones."""
+    """A place in which a crate is checked with edits in it. What its checks prove is kept for the next ones."""
 
     def __init__(self, crates, name, folder):
-        self.name, self.folder, self.seconds = name, folder, []
+        self.name, self.folder, self.seconds = name, Path(folder), []
         self.words = [*prover_words(crates, name), "--incremental", f"{folder}/kept"]
-        os.makedirs(f"{folder}/kept")
         self.texts = texts_of(crates.folder(name))
-        self.write(self.texts)
+        Path(folder, "kept").mkdir(parents=True)
 
     def check(self, texts, *words):
-        """Checks the crate with these texts in place of its own, and puts those back."""
-        changed, began = {it: text for it, text in texts.items() if text != self.texts[it]}, time.monotonic()
-        try:
-            self.write(changed)
-            ran = subprocess.run([*self.words, *words], cwd=self.folder, stdin=subprocess.DEVNULL,
-                                 stdout=subprocess.PIPE, stderr=subprocess.STDOUT)
-        finally:
-            self.write({it: self.texts[it] for it in changed})
+        """Checks the crate with these texts for its own."""
+        began = time.monotonic()
+        for it in SOURCES:
+            shutil.rmtree(self.folder / it, ignore_errors=True)
+        for path, text in ((self.folder / it, text) for it, text in texts.items()):
+            path.parent.mkdir(parents=True, exist_ok=True)
+            path.write_text(text, encoding="utf-8")
+        how = {"stdin": subprocess.DEVNULL, "stdout": subprocess.PIPE, "stderr": subprocess.STDOUT, "errors": "replace"}
+        said = subprocess.run([*self.words, *words], cwd=self.folder, **how).stdout
         self.seconds.append(time.monotonic() - began)
-        return Check(ran.stdout.decode(errors="replace").split("\n"))
-
-    def write(self, texts):
-        for file, text in texts.items():
-            os.makedirs(os.path.dirname(f"{self.folder}/{file}"), exist_ok=True)
-            with open(f"{self.folder}/{file}", "w", encoding="utf-8") as to:
-                to.write(text)
+        return Check(said.split("\n"))
 
 
 def texts_of(folder):
     """The texts of a crate's src/, specs/ and proofs/, by their path below it."""
-    texts = {}
-    for at, _, files in (it for room in ("src", "specs", "proofs") for it in os.walk(f"{folder}/{room}")):
-        for path in (f"{at}/{it}" for it in files):
-            with open(path, encoding="utf-8") as file:
-                texts[os.path.relpath(path, folder)] = file.read()
-    return texts
+    files = (it for room in SOURCES for it in Path(folder, room).rglob("*") if it.is_file())
+    return {it.relative_to(folder).as_posix(): it.read_text(encoding="utf-8") for it in files}

@@ -4,9 +4,9 @@ An edit has lines `file: src/lib.rt`, `old: TEXT` and `new: TEXT`. Each old text
 what the earlier ones made.
 """
 
-import os
+from pathlib import Path
 
-from tests.edits.functions import function_around
+from tests.edits.functions import function_around, functions_in
 
 
 class BadEdit(Exception):
@@ -14,16 +14,17 @@ class BadEdit(Exception):
 
 
 class Edit:
-    """An edit of a crate: its name, its pairs (file, old, new), and the one function whose body alone it changes, if it is so."""
+    """An edit of a crate: its name, its pairs (file, old, new), the one function whose body alone it changes, if it is so, and what it
+    is near to: that function, or all in its files."""
 
     def __init__(self, path, texts):
         """Reads it, and plants it for once: one that can't be planted is a bad one."""
-        self.name = os.path.basename(path)
-        with open(path, encoding="utf-8") as file:
-            self.pairs = read_pairs(file.read())
+        self.name, self.pairs = Path(path).name, read_pairs(Path(path).read_text(encoding="utf-8"))
         self.planted(texts)
         paths = {function_around(old, file, texts) for file, old, _ in self.pairs}
         self.function = paths.pop() if len(paths) == 1 else None
+        files = sorted({file for file, _, _ in self.pairs})
+        self.near = [self.function] if self.function else [path for it in files for path, _, _ in functions_in(it, texts)]
 
     def planted(self, texts):
         """The texts of a crate's files, by their path, with this edit in them."""
@@ -57,5 +58,4 @@ def read_pairs(text):
 
 def edits_of(folder):
     """The paths of the edits in a folder, by name."""
-    names = os.listdir(folder) if os.path.isdir(folder) else []
-    return [f"{folder}/{it}" for it in sorted(names) if it.endswith(".edit")]
+    return sorted(str(it) for it in Path(folder).glob("*.edit"))

@@ -2,6 +2,9 @@
 
 It reads the layout that `rt fmt` gives: an item's head begins a line, and the brace that ends it stands alone at the head's
 indent. What isn't laid out so has no function here, and an edit of it is tried alone.
+
+The prover takes a function whose proof is a hole at the word of its contract, as it does at any call, whatever its body is. So a check
+with holes wherever no edit is proves what was edited and nothing else, and says the same of that as a check of the whole crate.
 """
 
 import os
@@ -13,8 +16,10 @@ TYPE = re.compile(r"^(?:pub(?:\([^)]*\))? )?(?:struct|enum) (\w+)", re.MULTILINE
 # The brace before a body ends the first line of the head or that of the last parameters, or it stands alone.
 FUNCTION = re.compile(
     r"""^(?P<indent>\ *)(?:pub(?:\([^)]*\))?\ )?(?:const\ |unsafe\ |extern\ "C"\ )*fn\ (?P<name>\w+)
-        (?:.*\ \{\n|.*\n(?:(?:(?P=indent)[\ )].*|\ *)\n)*?(?P=indent)(?:\).*\ )?\{\n)
+        (?:.*\ \{\n|.*\n(?:(?:(?P=indent)[\ )>].*|\ *)\n)*?(?P=indent)(?:\).*\ )?\{\n)
         (?P<body>(?:.*\n)*?)(?P=indent)\}$""", re.MULTILINE | re.VERBOSE)
+
+HOLE = "use {above}.{name}.Statement as stated\n\npub {name}_spec : {{M : Type 1}} → stated.statement M\n{name}_spec = ?\n"
 
 
 def module_of(file):
@@ -46,13 +51,32 @@ def owner_of(head, file, texts):
     return [*home_of(names[0], file, texts), "".join(names)]
 
 
-def function_around(part, file, texts):
-    """The path of the function in whose body a part of a file of src/ stands, or None."""
-    text = texts[file]
-    start = text.find(part) if file.startswith("src/") else -1
+def functions_in(file, texts):
+    """The functions of a file of src/: the path of each, and where its body begins and ends. None in another file."""
+    text = texts[file] if file.startswith("src/") else ""
     for found in FUNCTION.finditer(text):
-        if found.start("body") <= start and start + len(part) <= found.end("body"):
-            heads = [it[1] for it in IMPL.finditer(text, 0, found.start())]
-            is_inside = found["indent"] and heads and heads[-1]
-            return "::".join([*(owner_of(heads[-1], file, texts) if is_inside else module_of(file)), found["name"]])
-    return None
+        heads = [it[1] for it in IMPL.finditer(text, 0, found.start())]
+        is_inside = found["indent"] and heads and heads[-1]
+        above = owner_of(heads[-1], file, texts) if is_inside else module_of(file)
+        yield "::".join([*above, found["name"]]), found.start("body"), found.end("body")
+
+
+def function_around(part, file, texts):
+    """The path of the function in whose body a part of a file stands, or None."""
+    start = texts[file].find(part)
+    inside = (path for path, begin, end in functions_in(file, texts) if begin <= start and start + len(part) <= end)
+    return next(inside, None)
+
+
+def with_holes(crate, texts, kept):
+    """The texts of a crate with a hole for each function, but for those that are kept and those that call themselves."""
+    made = dict(texts)
+    for file in (it for it in texts if it.startswith("src/")):
+        for path, begin, end in reversed(list(functions_in(file, texts))):
+            *above, name = path.split("::")
+            home, cycle = ("/".join(["proofs", *above, it]) for it in (name, f"+{name}"))
+            if path not in kept and not any(os.path.dirname(it) == cycle for it in texts):
+                made[file] = f"{made[file][:begin]}unreachable!()\n{made[file][end:]}"
+                made = {it: text for it, text in made.items() if os.path.dirname(it) != home}
+                made[f"{home}/Proof.antt"] = HOLE.format(above=".".join(["Rattle", crate, "proofs", *above]), name=name)
+    return made

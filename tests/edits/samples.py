@@ -22,6 +22,4 @@ WANTED = {
 def told_otherwise(tried):
     """What isn't as wanted of a sample that was tried."""
     ending, words = WANTED[tried.name]
-    if tried.ending == ending and words in tried.why:
-        return []
-    return [f"{tried.ending}: {tried.why}, and not {ending}: .. {words} .."]
+    return [] if tried.ending == ending and words in tried.why else [f"{tried.ending}: {tried.why}, and not {ending}: .. {words} .."]
