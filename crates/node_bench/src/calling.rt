@@ -19,11 +19,20 @@ pub(crate) fn hear<N: Naming, H: Wait + Drop, R: Wait>(
     let ping = datagram();
     let mut answered = 0_u32;
     for _turn in 0..calls {
-        if node.hear(rt, &mut seat, &ping, SOMEWHERE).is_ok() {
+        if hears(rt, node, &mut seat, &ping) {
             answered = answered.saturating_add(1);
         }
     }
     answered
+}
+
+fn hears<N: Naming, H: Wait + Drop, R: Wait>(
+    rt: &R,
+    node: &Node<N, Scripted, H>,
+    seat: &mut Seat<N>,
+    ping: &[u8],
+) -> bool {
+    node.hear(rt, seat, ping, SOMEWHERE).is_ok()
 }
 
 /// So many pings are heard by each of two threads.
@@ -67,11 +76,19 @@ pub(crate) fn tick<N: Naming, H: Wait + Drop, R: Wait>(
     let mut seat = seat;
     let mut answered = 0_u32;
     for _turn in 0..calls {
-        if node.tick(rt, &mut seat).is_ok() {
+        if ticks(rt, node, &mut seat) {
             answered = answered.saturating_add(1);
         }
     }
     answered
+}
+
+fn ticks<N: Naming, H: Wait + Drop, R: Wait>(
+    rt: &R,
+    node: &Node<N, Scripted, H>,
+    seat: &mut Seat<N>,
+) -> bool {
+    node.tick(rt, seat).is_ok()
 }
 
 /// A member joins and leaves in turn, until it is over or so many calls were made.
@@ -88,14 +105,30 @@ pub(crate) fn change<N: Naming, H: Wait + Drop, R: Wait>(
         if over.load(Ordering::SeqCst) {
             break;
         }
-        let receipt = if turn % 2 == 0 {
-            node.join(rt, &mut seat, passer(), SOMEWHERE)
+        let is_answered = if turn % 2 == 0 {
+            joins(rt, node, &mut seat)
         } else {
-            node.remove(rt, &mut seat, passer())
+            leaves(rt, node, &mut seat)
         };
-        if receipt.is_ok() {
+        if is_answered {
             answered = answered.saturating_add(1);
         }
     }
     answered
+}
+
+fn joins<N: Naming, H: Wait + Drop, R: Wait>(
+    rt: &R,
+    node: &Node<N, Scripted, H>,
+    seat: &mut Seat<N>,
+) -> bool {
+    node.join(rt, seat, passer(), SOMEWHERE).is_ok()
+}
+
+fn leaves<N: Naming, H: Wait + Drop, R: Wait>(
+    rt: &R,
+    node: &Node<N, Scripted, H>,
+    seat: &mut Seat<N>,
+) -> bool {
+    node.remove(rt, seat, passer()).is_ok()
 }

@@ -1,6 +1,7 @@
 //! A task, carried out.
 
-ghost use Rattle.std.specs.Prelude.{◌≡◌};
+ghost use Rattle.std.specs.Prelude.{◌≡◌, List};
+ghost use Rattle.swim_history.specs.declared.entries.Entry.{Entry};
 
 use crate::calling::{change, hear, hear_by_four, hear_by_two, tick};
 use crate::looking::{list, list_by_four};
@@ -25,49 +26,79 @@ pub(crate) fn work<N: Naming + Send + Sync, R: Threads + Wait + Sync>(
     requires parts { parts ≡ record { limit = N.limit; ledgers = N.ledgers; log = N.log; cells = N.cells } }
     requires opening { opening ≡ N.opening }
     requires limit { task.limit ≡ N.limit }
+    requires drawn { (h : List Entry) → N.drawn h }
 {
     let chooser = no_script(alloc);
     match Node::<N, Scripted, &R>::open(alloc, rt, parts, opening, chooser, task.limit) {
         Ok(opened) => {
             let (node, seats, viewers) = opened;
-            Some(carry_out(rt, &node, task, two_by_two(seats), two_by_two(viewers)))
+            let hands = (two_by_two(seats), two_by_two(viewers));
+            Some(carry_out(rt, &node, task, hands))
         }
         Err(_) => None,
     }
 }
+
+/// What calls a node, and what looks at its table.
+type Hands<N> = (Four<Seat<N>>, Four<Viewer<N>>);
 
 /// Does what the task tells.
 fn carry_out<N: Naming + Send + Sync, H: Wait + Drop + Send, R: Threads + Wait + Sync>(
     rt: &R,
     node: &Node<N, Scripted, H>,
     task: Task,
-    seats: Four<Seat<N>>,
-    viewers: Four<Viewer<N>>,
+    hands: Hands<N>,
 ) -> u32 {
-    let Task {
-        mode,
-        calls,
-        beside,
-        limit: _,
-    } = task;
+    match task.mode {
+        Mode::Open | Mode::Record => 0,
+        Mode::Hear => hear_beside(rt, node, task, seats_of(hands)),
+        Mode::Tick => tick(rt, node, first_of(seats_of(hands)), task.calls),
+        Mode::Change => change_beside(rt, node, task, hands),
+        Mode::List => list_beside(rt, node, task, hands),
+    }
+}
+
+/// Pings are heard, by as many threads as the task tells.
+fn hear_beside<N: Naming + Send + Sync, H: Wait + Drop + Send, R: Threads + Wait + Sync>(
+    rt: &R,
+    node: &Node<N, Scripted, H>,
+    task: Task,
+    seats: Four<Seat<N>>,
+) -> u32 {
+    match task.beside {
+        0 => hear(rt, node, first_of(seats), task.calls),
+        1 => hear_by_two(rt, node, pair_of(seats), task.calls / 2),
+        _ => hear_by_four(rt, node, seats, task.calls / 4),
+    }
+}
+
+/// The table is changed, and listed meanwhile where the task tells so.
+fn change_beside<N: Naming + Send + Sync, H: Wait + Drop + Send, R: Threads + Wait + Sync>(
+    rt: &R,
+    node: &Node<N, Scripted, H>,
+    task: Task,
+    hands: Hands<N>,
+) -> u32 {
     let over = AtomicBool::new(false);
-    match (mode, beside) {
-        (Mode::Open | Mode::Record, _) => 0,
-        (Mode::Hear, 0) => hear(rt, node, first_of(seats), calls),
-        (Mode::Hear, 1) => hear_by_two(rt, node, pair_of(seats), calls / 2),
-        (Mode::Hear, _) => hear_by_four(rt, node, seats, calls / 4),
-        (Mode::Tick, _) => tick(rt, node, first_of(seats), calls),
-        (Mode::Change, 0) => change(rt, node, first_of(seats), calls, &over),
-        (Mode::Change, _) => change_while_listed(rt, node, first_of(seats), viewers, calls, &over),
-        (Mode::List, 0) => list(first_of(viewers), calls, &over),
-        (Mode::List, _) => list_while_changed(
-            rt,
-            node,
-            first_of(seats),
-            first_of(viewers),
-            task,
-            &over,
-        ),
+    if task.beside == 0 {
+        change(rt, node, first_of(seats_of(hands)), task.calls, &over)
+    } else {
+        change_while_listed(rt, node, hands, task.calls, &over)
+    }
+}
+
+/// The table is listed, and changed meanwhile where the task tells so.
+fn list_beside<N: Naming + Send + Sync, H: Wait + Drop + Send, R: Threads + Wait + Sync>(
+    rt: &R,
+    node: &Node<N, Scripted, H>,
+    task: Task,
+    hands: Hands<N>,
+) -> u32 {
+    let over = AtomicBool::new(false);
+    if task.beside == 0 {
+        list(first_of(viewers_of(hands)), task.calls, &over)
+    } else {
+        list_while_changed(rt, node, hands, task, &over)
     }
 }
 
@@ -91,15 +122,28 @@ fn first_of<T: Drop>(all: Four<T>) -> T {
     first
 }
 
+fn seats_of<N: Naming>(hands: Hands<N>) -> Four<Seat<N>> {
+    let (seats, viewers) = hands;
+    drop(viewers);
+    seats
+}
+
+fn viewers_of<N: Naming>(hands: Hands<N>) -> Four<Viewer<N>> {
+    let (seats, viewers) = hands;
+    drop(seats);
+    viewers
+}
+
 /// Changes the table, which four viewers list meanwhile.
 fn change_while_listed<N: Naming + Send + Sync, H: Wait + Drop + Send, R: Threads + Wait + Sync>(
     rt: &R,
     node: &Node<N, Scripted, H>,
-    seat: Seat<N>,
-    viewers: Four<Viewer<N>>,
+    hands: Hands<N>,
     calls: u32,
     over: &AtomicBool,
 ) -> u32 {
+    let (seats, viewers) = hands;
+    let seat = first_of(seats);
     let (answered, _) = join(
         rt,
         move || {
@@ -116,11 +160,12 @@ fn change_while_listed<N: Naming + Send + Sync, H: Wait + Drop + Send, R: Thread
 fn list_while_changed<N: Naming + Send + Sync, H: Wait + Drop + Send, R: Threads + Wait + Sync>(
     rt: &R,
     node: &Node<N, Scripted, H>,
-    seat: Seat<N>,
-    viewer: Viewer<N>,
+    hands: Hands<N>,
     task: Task,
     over: &AtomicBool,
 ) -> u32 {
+    let (seats, viewers) = hands;
+    let (seat, viewer) = (first_of(seats), first_of(viewers));
     let (seen, _) = join(
         rt,
         move || {

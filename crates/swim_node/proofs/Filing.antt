@@ -13,7 +13,7 @@ use Rattle.swim_node.specs.Answered.{kept}
 use Rattle.swim_node.specs.Cells.{Noted, noted, notes_of, ArePlaced, AreNumbered, AreNoted}
 
 -- what stands in a list with one more is the last, or stood there before
-last_or_before : {X : Type 0} (xs : List X) (x : X) (i : ℕ) (y : X) → slice_get (xs ++ x ∷ []) i ≡ Some y → (slice_get xs i ≡ Some y) ⊎ ((i ≡ length xs) × (x ≡ y))
+pub last_or_before : {X : Type 0} (xs : List X) (x : X) (i : ℕ) (y : X) → slice_get (xs ++ x ∷ []) i ≡ Some y → (slice_get xs i ≡ Some y) ⊎ ((i ≡ length xs) × (x ≡ y))
 last_or_before [] x zero y is = inr (refl, cc is)
 last_or_before [] x (suc i) y is = absurd (cc is)
 last_or_before (z ∷ xs) x zero y is = inl is
@@ -21,12 +21,12 @@ last_or_before (z ∷ xs) x (suc i) y is =
     elim (last_or_before xs x i y is) [ inl before ↦ inl before | inr last ↦ inr (omega (arith, last.0), last.1) ]
 
 -- and what stood there still does
-still_there : {X : Type 0} (xs : List X) (x : X) (i : ℕ) (y : X) → slice_get xs i ≡ Some y → slice_get (xs ++ x ∷ []) i ≡ Some y
+pub still_there : {X : Type 0} (xs : List X) (x : X) (i : ℕ) (y : X) → slice_get xs i ≡ Some y → slice_get (xs ++ x ∷ []) i ≡ Some y
 still_there [] x i y is = absurd (cc is)
 still_there (z ∷ xs) x zero y is = is
 still_there (z ∷ xs) x (suc i) y is = still_there xs x i y is
 
-last_there : {X : Type 0} (xs : List X) (x : X) → slice_get (xs ++ x ∷ []) (length xs) ≡ Some x
+pub last_there : {X : Type 0} (xs : List X) (x : X) → slice_get (xs ++ x ∷ []) (length xs) ≡ Some x
 last_there [] x = refl
 last_there (z ∷ xs) x = last_there xs x
 
@@ -80,7 +80,7 @@ hold_calls o cells h seat calls run count numbered known =
     same_lists calls (kept_of seat h) (count ∙ sym (length-kept_of seat h)) (λ i k is.
     ap (λ n. slice_get (kept_of seat h) n) (sym (numbered i k is)) ∙ filed_there o cells seat h run k.position k (known i k (slice_get_within calls i k is) is))
 
-notes_length : (cells : List ℕ) (h : List Entry) → length (notes_of cells h) ≡ length h
+pub notes_length : (cells : List ℕ) (h : List Entry) → length (notes_of cells h) ≡ length h
 notes_length cells [] = refl
 notes_length cells (e ∷ before) =
     omega (arith, notes_length cells before, length-append (notes_of cells before) (noted cells e.seat (kept (length before) e.number e.call e.reply) ∷ []))

@@ -6,3 +6,5 @@ pub mod OneHistory
 pub mod Names
 pub mod ChangeLog
 pub mod Shown
+pub mod Following
+pub mod Draws

@@ -174,16 +174,16 @@ impl CellNote {
 }
 
 /// Compares a note of the cell of a place with the one among all notes, and says whether there is one.
-pub(crate) fn compare_at<N: Naming>(notes: &mut Vec<CellNote>, place: u32, note: CellNote) -> bool
+pub(crate) fn compare_at<N: Naming>(notes: &mut Vec<CellNote>, place: usize, note: CellNote) -> bool
     requires placed { ArePlaced N.cells notes.old.items }
     requires cell { note.cell ≡ slice_index N.cells place }
     requires some { IsSome note.known }
     ensures same { notes.new.items ≡ notes.old.items }
     ensures agree { IsTrue result → slice_get notes.old.items place ≡ Some note }
 {
-    let is_there = (place as usize) < notes.len();
+    let is_there = place < notes.len();
     if is_there {
-        notes[place as usize].compare(note);
+        notes[place].compare(note);
     }
     is_there
 }

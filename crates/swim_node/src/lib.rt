@@ -5,6 +5,7 @@
 mod board;
 mod cells;
 mod change_log;
+mod following;
 mod ledgers;
 mod locked;
 mod naming;
@@ -18,6 +19,7 @@ mod shown;
 mod start;
 mod viewers;
 
+pub use following::{Followed, Follower};
 pub use naming::Naming;
 pub use news::News;
 pub use nodes::Node;

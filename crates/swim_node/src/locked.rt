@@ -1,6 +1,9 @@
 //! What lies under a node's lock.
 
-ghost use Rattle.std.specs.Prelude.{◌≡◌, ◌≤◌, ◌+◌, length, IfOk, IfErr, OnErr};
+ghost use Rattle.std.specs.Prelude.{◌≡◌, ◌≤◌, ◌+◌, length, IfOk, IfErr, OnErr, IfSome};
+ghost use mathlib.Core.List.{IsPrefix};
+ghost use Rattle.swim_node.specs.Following.{filings_of, note_in};
+ghost use Rattle.swim_node.specs.Draws.{DrawsAll};
 ghost use Rattle.swim_history.specs.Seats.{kept_of};
 ghost use Rattle.swim_node.specs.News.{SawNothing, EndsWithChange};
 ghost use Rattle.swim_node.specs.Seats.{Seated, AreNew, AreTheSeats};
@@ -11,6 +14,7 @@ ghost use Rattle.swim_node.specs.OneHistory.{HoldsCalls, IsOneHistory};
 
 use crate::board::Board;
 use crate::cells::{CellNote, Cells, Filed};
+use crate::following::{Followed, Follower, ReadCall};
 use crate::ledgers::{Books, Tally};
 use crate::naming::Naming;
 use crate::news::News;
@@ -22,7 +26,7 @@ use std::alloc::Global;
 use std::marker::Model;
 use std::sync::Wait;
 use swim_detector::{ApplyFault, Recorder};
-use swim_history::{Call, Gap, Journal, Kept, Opening};
+use swim_history::{Call, Entry, Gap, Journal, Kept, Opening};
 use swim_targets::Chooser;
 use swim_wire::Id;
 
@@ -54,6 +58,7 @@ impl<N: Naming, C: Chooser, H: Wait + Drop> Model for Locked<N, C, H> {
     ghost use Rattle.swim_history.specs.Changes.{changes};
     ghost use Rattle.swim_node.specs.Names.{AreCounts};
     ghost use Rattle.swim_node.specs.Cells.{notes_of};
+    ghost use Rattle.swim_node.specs.Draws.{IsDrawnSo};
 
     ghost Value = { Recording C };
 
@@ -62,7 +67,8 @@ impl<N: Naming, C: Chooser, H: Wait + Drop> Model for Locked<N, C, H> {
     ghost invariant = { λ l. (l.recorder.opening ≡ N.opening) × (l.recorder.limit ≡ N.limit)
         × AreCounts l.books l.recorder.past
         × (l.board ≡ changes N.opening l.recorder.past)
-        × (l.notes.items ≡ notes_of N.cells l.recorder.past) };
+        × (l.notes.items ≡ notes_of N.cells l.recorder.past)
+        × IsDrawnSo C.orders C.places N.opening N.drawn l.recorder.past l.recorder.chooser };
 }
 
 impl<N: Naming, C: Chooser, H: Wait + Drop> Locked<N, C, H> {
@@ -78,6 +84,7 @@ impl<N: Naming, C: Chooser, H: Wait + Drop> Locked<N, C, H> {
         requires parts { parts ≡ record { limit = N.limit; ledgers = N.ledgers; log = N.log; cells = N.cells } }
         requires opening { opening ≡ N.opening }
         requires limit { limit ≡ N.limit }
+        requires drawn { DrawsAll C.orders C.places N.opening chooser N.drawn }
         ensures seats { IfOk result (λ opened. AreNew opened.2) }
         ensures viewers { IfOk result (λ opened. SawNothing opened.3) }
     {
@@ -196,6 +203,8 @@ impl<N: Naming, C: Chooser, H: Wait + Drop> Locked<N, C, H> {
     ) -> (Journal, [Seat<N>; 4], News<N>)
         requires { AreTheSeats seats }
         ensures opening { result.0.opening ≡ N.opening }
+        ensures past { result.0.past ≡ self.past }
+        ensures drawn { N.drawn result.0.past }
         ensures within { length result.0.past ≤ N.limit }
         ensures seats { result.1 ≡ seats }
         ensures history { IsOneHistory N.opening result.0.past seats result.2 }
@@ -211,6 +220,69 @@ impl<N: Naming, C: Chooser, H: Wait + Drop> Locked<N, C, H> {
         let _run = recorder.journal().len();
         let news = board.news();
         (recorder.into_journal(), seats, news)
+    }
+
+    /// The call at a place of the journal, with the note of its cell. There is none beyond the journal's end.
+    pub(crate) fn read(&mut self, place: usize) -> Option<ReadCall>
+        ensures locked { self.new ≡ self.old }
+        ensures place { IfSome result (λ r. r.followed.kept.position ≡ place) }
+        ensures note { IfSome result (λ r. r.note ≡ note_in N.cells r.followed) }
+    {
+        let journal = self.recorder.journal();
+        if place >= journal.len() as usize {
+            return None;
+        }
+        let position = place as u32;
+        let Some(entry) = journal.entry(position) else {
+            return None;
+        };
+        let Entry {
+            seat,
+            number,
+            call,
+            choice: _,
+            reply,
+        } = entry;
+        let note = self.notes[place].again();
+        let kept = Kept {
+            position,
+            number,
+            call,
+            reply,
+        };
+        let followed = Followed { seat, kept };
+        Some(ReadCall { followed, note })
+    }
+
+    /// As `close`; and what the follower has read is a beginning of the journal, or all of it.
+    #[tactic(auto, using(crate::proofs::Reading::whole_read))]
+    pub(crate) fn close_followed<R: Wait>(
+        self,
+        rt: &R,
+        seats: [Seat<N>; 4],
+        follower: Follower<N>,
+    ) -> (Journal, [Seat<N>; 4], News<N>)
+        requires { AreTheSeats seats }
+        ensures opening { result.0.opening ≡ N.opening }
+        ensures within { length result.0.past ≤ N.limit }
+        ensures seats { result.1 ≡ seats }
+        ensures history { IsOneHistory N.opening result.0.past seats result.2 }
+        ensures followed { IsPrefix follower (filings_of result.0.past) }
+        ensures whole { length follower ≡ length result.0.past → follower ≡ filings_of result.0.past }
+        ensures drawn { N.drawn result.0.past }
+    {
+        let mut locked = self;
+        let mut follower = follower;
+        locked.compare_followed(rt, &mut follower);
+        locked.close(rt, seats)
+    }
+
+    // As `compare`, of what the follower has read.
+    fn compare_followed<R: Wait>(&mut self, rt: &R, follower: &mut Follower<N>)
+        ensures locked { self.new ≡ self.old }
+        ensures begins { IsPrefix follower.old (filings_of self.old.past) }
+    {
+        follower.compare(rt, &mut self.notes);
     }
 
     // As `compare`, of all seats.

@@ -9,6 +9,7 @@ pub trait Naming {
     ghost use Rattle.std.specs.Prelude.{ℕ, List};
     ghost use Rattle.logbook.specs.Pages.{Book};
     ghost use Rattle.swim_history.specs.Setting.{Setting};
+    ghost use Rattle.swim_history.specs.declared.entries.Entry.{Entry};
 
     /// What its detector starts from.
     ghost opening: { Setting };
@@ -24,6 +25,9 @@ pub trait Naming {
 
     /// Its cells, one for each entry.
     ghost cells: { List ℕ };
+
+    /// The histories that are drawn from the chooser that it is opened with.
+    ghost drawn: { List Entry → Type 0 };
 }
 
 impl Naming for Brand {
@@ -38,4 +42,6 @@ impl Naming for Brand {
     ghost log = { record { number = 0; log_name = 0; cells_name = 0 } };
 
     ghost cells = { [] };
+
+    ghost drawn = { λ h. Unit {0} };
 }

@@ -1,6 +1,9 @@
 //! The node: one detector for four callers.
 
-ghost use Rattle.std.specs.Prelude.{◌≡◌, ◌≤◌, Err, Some, IfOk, IfErr, OnErr, length};
+ghost use Rattle.std.specs.Prelude.{◌≡◌, ◌≤◌, ◌++◌, ◌∷◌, [], Err, Some, IfOk, IfErr, OnErr, IfSome, IfNone, length};
+ghost use mathlib.Core.List.{IsPrefix};
+ghost use Rattle.swim_node.specs.Following.{filings_of};
+ghost use Rattle.swim_node.specs.Draws.{DrawsAll};
 ghost use Rattle.swim_wire.specs.declared.codec.WireFault.{WireFault};
 ghost use Rattle.swim_wire.specs.declared.messages.Message.{Message};
 ghost use Rattle.swim_wire.specs.Layout.{IsTextOf, first_fault};
@@ -11,6 +14,7 @@ ghost use Rattle.swim_node.specs.Answered.{kept, IsAnswered, MayRefuse, MayRefus
 ghost use Rattle.swim_node.specs.OneHistory.{IsOneHistory};
 
 use crate::cells::{Cells, Filed};
+use crate::following::{Followed, Follower, ReadCall};
 use crate::locked::{Answered, Locked};
 use crate::naming::Naming;
 use crate::news::News;
@@ -52,6 +56,7 @@ impl<N: Naming, C: Chooser, H: Wait + Drop> Node<N, C, H> {
         requires parts { parts ≡ record { limit = N.limit; ledgers = N.ledgers; log = N.log; cells = N.cells } }
         requires opening { opening ≡ N.opening }
         requires limit { limit ≡ N.limit }
+        requires drawn { DrawsAll C.orders C.places N.opening chooser N.drawn }
         ensures seats { IfOk result (λ opened. AreNew opened.1) }
         ensures viewers { IfOk result (λ opened. SawNothing opened.2) }
     {
@@ -160,8 +165,58 @@ impl<N: Naming, C: Chooser, H: Wait + Drop> Node<N, C, H> {
         ensures within { length result.0.past ≤ N.limit }
         ensures seats { result.1 ≡ seats }
         ensures history { IsOneHistory N.opening result.0.past seats result.2 }
+        ensures drawn { N.drawn result.0.past }
     {
         self.locked.into_inner().close(rt, seats)
+    }
+
+    /// Someone who is to read its journal while it runs, and has read nothing yet. There may be several; what one of them
+    /// has read is compared where it is given to `close_followed`.
+    pub fn follower(&self, alloc: Global) -> Follower<N>
+        ensures { result ≡ [] }
+    {
+        Follower::new(alloc)
+    }
+
+    /// The next call of the journal that the follower hasn't read. There is none where it has read all that were made up
+    /// to now; asked again, it may be given one. It holds the lock while it copies the call, and its cost doesn't grow
+    /// with the journal. A note has no bytes; were room for it refused, there would be none, too.
+    pub fn follow<R: Wait>(&self, rt: &R, follower: &mut Follower<N>) -> Option<Followed>
+        ensures some { IfSome result (λ f. follower.new ≡ follower.old ++ f ∷ []) }
+        ensures place { IfSome result (λ f. f.kept.position ≡ length follower.old) }
+        ensures none { IfNone result (follower.new ≡ follower.old) }
+    {
+        let Ok(()) = follower.notes.reserve(1) else {
+            return None;
+        };
+        let place = follower.notes.len();
+        let Some(read) = self.locked.lock(rt).read(place) else {
+            return None;
+        };
+        // The lock is free again: what is left to do touches the follower alone.
+        let ReadCall { followed, note } = read;
+        follower.notes.push_reserved(note);
+        Some(followed)
+    }
+
+    /// As `close`; and what the follower has read is a beginning of the journal that is handed back, and all of it where
+    /// it has read as many calls as that has entries.
+    pub fn close_followed<R: Wait>(
+        self,
+        rt: &R,
+        seats: [Seat<N>; 4],
+        follower: Follower<N>,
+    ) -> (Journal, [Seat<N>; 4], News<N>)
+        requires { AreTheSeats seats }
+        ensures opening { result.0.opening ≡ N.opening }
+        ensures within { length result.0.past ≤ N.limit }
+        ensures seats { result.1 ≡ seats }
+        ensures history { IsOneHistory N.opening result.0.past seats result.2 }
+        ensures followed { IsPrefix follower (filings_of result.0.past) }
+        ensures whole { length follower ≡ length result.0.past → follower ≡ filings_of result.0.past }
+        ensures drawn { N.drawn result.0.past }
+    {
+        self.locked.into_inner().close_followed(rt, seats, follower)
     }
 
     fn call<R: Wait>(

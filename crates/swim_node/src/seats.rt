@@ -76,7 +76,7 @@ impl<N: Naming> Seat<N> {
     {
         for index in 0..self.calls.len() {
             let (place, note) = self.noted(index);
-            if !compare_at::<N>(notes, place, note) {
+            if !compare_at::<N>(notes, place as usize, note) {
                 wait_for_good(rt);
             }
         }
@@ -96,7 +96,7 @@ impl<N: Naming> Seat<N> {
     }
 }
 
-fn wait_for_good<R: Wait>(rt: &R)
+pub(crate) fn wait_for_good<R: Wait>(rt: &R)
     ensures { ⊥ }
 {
     for _ in rt.forever() {}

@@ -1,8 +1,10 @@
-ghost use Rattle.std.specs.Prelude.{◌≡◌, IfOk};
+ghost use Rattle.std.specs.Prelude.{◌≡◌, IfOk, List};
+ghost use Rattle.swim_history.specs.declared.entries.Entry.{Entry};
 ghost use Rattle.swim_node.specs.Seats.{AreTheSeats};
 
 mod at_once;
 mod draws;
+mod following;
 mod gaps;
 mod limits;
 mod refusals;
@@ -102,6 +104,7 @@ fn open<N: Naming, C: Chooser, R: Wait + Copy + Drop>(
     requires parts { parts ≡ record { limit = N.limit; ledgers = N.ledgers; log = N.log; cells = N.cells } }
     requires opening { opening ≡ N.opening }
     requires limit { limit ≡ N.limit }
+    requires drawn { (h : List Entry) → N.drawn h }
     ensures { IfOk result (λ o. (o.1.0.0.number ≡ 0) × (o.1.0.1.number ≡ 1)
         × (o.1.1.0.number ≡ 2) × (o.1.1.1.number ≡ 3)) }
 {
@@ -112,6 +115,17 @@ fn open<N: Naming, C: Chooser, R: Wait + Copy + Drop>(
         }
         Err(_) => Err(Fail::new("a node")),
     }
+}
+
+// The same without its viewers.
+fn unseen<N: Naming, C: Chooser, R: Wait + Copy + Drop>(
+    opened: Opened<N, C, R>,
+) -> (Node<N, C, R>, Four<Seat<N>>)
+    ensures { result.1 ≡ opened.1 }
+{
+    let (node, callers, viewers) = opened;
+    drop(viewers);
+    (node, callers)
 }
 
 // The journal of a node at its end, and its seats.

@@ -7,18 +7,11 @@ use swim_history::Gap;
 #[test]
 fn gaps_are_those_of_all_calls(rt: HostRuntime) -> Result<(), Fail> {
     let alloc = rt.alloc();
+    let opening = opening(0)?;
     let chooser = two_orders(alloc)?;
-    let (first, second) = (periods_and_gaps(), [gap_of_2(), gap_of_3(), no_gap()]);
     let parts = Parts::make(alloc, 1000)?;
-    take_and_close::<Brand, _>(
-        rt,
-        alloc,
-        parts,
-        opening(0)?,
-        chooser,
-        1000,
-        (&first, &second),
-    )?;
+    let (first, second) = (periods_and_gaps(), [gap_of_2(), gap_of_3(), no_gap()]);
+    take_and_close::<Brand, _>(rt, alloc, parts, opening, chooser, 1000, (&first, &second))?;
     Ok(())
 }
 

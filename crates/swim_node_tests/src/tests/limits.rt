@@ -5,15 +5,15 @@ use super::*;
 #[test]
 fn a_full_journal_refuses(rt: HostRuntime) -> Result<(), Fail> {
     let alloc = rt.alloc();
-    let steps = refused_after_two();
+    let opening = opening(1)?;
     let parts = Parts::make(alloc, 2)?;
-    let chooser = no_script(alloc);
+    let steps = refused_after_two();
     let journal = take_and_close::<Brand, _>(
         rt,
         alloc,
         parts,
-        opening(1)?,
-        chooser,
+        opening,
+        no_script(alloc),
         2,
         (&steps, &[]),
     )?;

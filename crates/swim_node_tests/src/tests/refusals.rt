@@ -1,7 +1,8 @@
 //! Calls that are refused memory. tests/node/refusals runs these with one request for memory refused, the first, the
 //! second and so on; else none is.
 
-ghost use Rattle.std.specs.Prelude.{◌≡◌, IfOk};
+ghost use Rattle.std.specs.Prelude.{◌≡◌, IfOk, List};
+ghost use Rattle.swim_history.specs.declared.entries.Entry.{Entry};
 
 use super::steps::make;
 use super::*;
@@ -38,6 +39,7 @@ fn called_again<N: Naming, R: Wait + Abort + Copy + Drop>(
     requires parts { parts ≡ record { limit = N.limit; ledgers = N.ledgers; log = N.log; cells = N.cells } }
     requires opening { opening ≡ N.opening }
     requires limit { N.limit ≡ 8 }
+    requires drawn { (h : List Entry) → N.drawn h }
 {
     match Node::<N, Scripted, R>::open(alloc, rt, parts, opening, no_script(alloc), 8) {
         Ok(opened) => {

@@ -1,6 +1,7 @@
 //! Four callers and four readers at once, and then the closing journal, replayed call by call.
 
-ghost use Rattle.std.specs.Prelude.{◌≡◌};
+ghost use Rattle.std.specs.Prelude.{◌≡◌, List};
+ghost use Rattle.swim_history.specs.declared.entries.Entry.{Entry};
 
 use super::at_once::{Asked, Work, four_at_once};
 use super::draws::Draws;
@@ -18,10 +19,11 @@ const TABLES: usize = 1_000;
 #[test]
 fn four_callers_and_four_readers(rt: HostRuntime) -> Result<(), Fail> {
     let alloc = rt.alloc();
+    let (start, again) = (opening(1)?, opening(1)?);
     let parts = Parts::make(alloc, 4 * CALLS)?;
-    let (journal, lists) = soaked::<Brand, _>(rt, alloc, parts, opening(1)?)?;
+    let (journal, lists) = soaked::<Brand, _>(rt, alloc, parts, start)?;
     assert_eq!(rt; journal.len(), 4 * CALLS);
-    assert_replays(&rt, alloc, opening(1)?, &journal, watched_of(alloc, lists)?)
+    assert_replays(&rt, alloc, again, &journal, watched_of(alloc, lists)?)
 }
 
 fn soaked<N: Naming + Send + Sync, R: Threads + Wait + Abort + Send + Sync + Copy + Drop>(
@@ -33,6 +35,7 @@ fn soaked<N: Naming + Send + Sync, R: Threads + Wait + Abort + Send + Sync + Cop
     requires parts { parts ≡ record { limit = N.limit; ledgers = N.ledgers; log = N.log; cells = N.cells } }
     requires opening { start ≡ N.opening }
     requires limit { N.limit ≡ 400000 }
+    requires drawn { (h : List Entry) → N.drawn h }
 {
     let opened = open::<N, Seeded, R>(rt, alloc, parts, start, Seeded::new([7; 32]), 4 * CALLS)?;
     Ok(call_and_close(&rt, alloc, opened))

@@ -1,6 +1,7 @@
 //! What a seat asks of a node, as data: a test that writes down steps is proved soon, and one loop takes them.
 
-ghost use Rattle.std.specs.Prelude.{◌≡◌};
+ghost use Rattle.std.specs.Prelude.{◌≡◌, List};
+ghost use Rattle.swim_history.specs.declared.entries.Entry.{Entry};
 
 use super::*;
 use swim_history::Gap;
@@ -94,6 +95,7 @@ pub(crate) fn take_and_close<N: Naming, R: Wait + Abort + Copy + Drop>(
     requires parts { parts ≡ record { limit = N.limit; ledgers = N.ledgers; log = N.log; cells = N.cells } }
     requires opening { opening ≡ N.opening }
     requires limit { limit ≡ N.limit }
+    requires drawn { (h : List Entry) → N.drawn h }
 {
     let opened = open::<N, Scripted, R>(rt, alloc, parts, opening, chooser, limit)?;
     Ok(take_by_two(&rt, opened, steps.0, steps.1))
@@ -108,8 +110,7 @@ fn take_by_two<N: Naming, R: Wait + Abort + Copy + Drop>(
     requires listening { (opened.1.0.0.number ≡ 0) × (opened.1.0.1.number ≡ 1) }
     requires changing { (opened.1.1.0.number ≡ 2) × (opened.1.1.1.number ≡ 3) }
 {
-    let (node, callers, readers) = opened;
-    drop(readers);
+    let (node, callers) = unseen(opened);
     let ((first, second), others) = callers;
     let first = take_steps(rt, &node, first, steps);
     let second = take_steps(rt, &node, second, others_steps);

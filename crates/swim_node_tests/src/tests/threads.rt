@@ -1,4 +1,5 @@
-ghost use Rattle.std.specs.Prelude.{◌≡◌};
+ghost use Rattle.std.specs.Prelude.{◌≡◌, List};
+ghost use Rattle.swim_history.specs.declared.entries.Entry.{Entry};
 
 use super::at_once::{Asked, Work, four_at_once, two_at_once};
 use super::*;
@@ -19,6 +20,7 @@ fn two_in_threads<N: Naming + Send + Sync, R: Threads + Wait + Abort + Send + Sy
     requires parts { parts ≡ record { limit = N.limit; ledgers = N.ledgers; log = N.log; cells = N.cells } }
     requires opening { opening ≡ N.opening }
     requires limit { N.limit ≡ 1000 }
+    requires drawn { (h : List Entry) → N.drawn h }
 {
     let opened = open::<N, Scripted, R>(rt, alloc, parts, opening, no_script(alloc), 1000)?;
     call_by_two(&rt, opened);
@@ -32,12 +34,11 @@ fn call_by_two<N: Naming + Send + Sync, R: Threads + Wait + Abort + Send + Sync 
     requires listening { (opened.1.0.0.number ≡ 0) × (opened.1.0.1.number ≡ 1) }
     requires changing { (opened.1.1.0.number ≡ 2) × (opened.1.1.1.number ≡ 3) }
 {
-    let (node, callers, readers) = opened;
-    drop(readers);
+    let (node, callers) = unseen(opened);
     let (listening, others) = callers;
     let listening = two_at_once(rt, &node, listening, (pings(), ticks()));
     let (journal, callers) = close(rt, node, (listening, others));
-    assert_two_called(rt, &callers);
+    assert_two_called(rt, callers);
     assert_judged(rt, &journal);
 }
 
@@ -57,8 +58,8 @@ fn removals() -> Work {
     Work::of(Asked::Same(Call::Remove(id(9))), 50)
 }
 
-fn assert_two_called<N: Naming, R: Abort>(rt: &R, callers: &Four<Seat<N>>) {
-    let ((first, second), _others) = callers;
+fn assert_two_called<N: Naming, R: Abort>(rt: &R, callers: Four<Seat<N>>) {
+    let ((first, second), _others) = &callers;
     assert_calls(rt, first, 0, 100);
     assert_calls(rt, second, 1, 90);
 }
@@ -66,7 +67,7 @@ fn assert_two_called<N: Naming, R: Abort>(rt: &R, callers: &Four<Seat<N>>) {
 fn assert_judged<R: Abort>(rt: &R, journal: &Journal) {
     assert_eq!(rt; journal.len(), 190);
     match journal.judgements() {
-        Ok(judgements) => assert_eq!(rt; judgements.as_slice(), judged().as_slice()),
+        Ok(judgements) => assert!(rt; judgements.as_slice() == judged().as_slice()),
         Err(_) => panic!(rt; "memory"),
     }
 }
@@ -112,6 +113,7 @@ fn four_in_threads<N: Naming + Send + Sync, R: Threads + Wait + Abort + Send + S
     requires parts { parts ≡ record { limit = N.limit; ledgers = N.ledgers; log = N.log; cells = N.cells } }
     requires opening { opening ≡ N.opening }
     requires limit { N.limit ≡ 1000 }
+    requires drawn { (h : List Entry) → N.drawn h }
 {
     let opened = open::<N, Scripted, R>(rt, alloc, parts, opening, no_script(alloc), 1000)?;
     call_by_four(&rt, opened);
@@ -125,17 +127,19 @@ fn call_by_four<N: Naming + Send + Sync, R: Threads + Wait + Abort + Send + Sync
     requires listening { (opened.1.0.0.number ≡ 0) × (opened.1.0.1.number ≡ 1) }
     requires changing { (opened.1.1.0.number ≡ 2) × (opened.1.1.1.number ≡ 3) }
 {
-    let (node, callers, readers) = opened;
-    drop(readers);
-    let works = ((pings(), ticks()), (joins(), removals()));
-    let callers = four_at_once(rt, &node, callers, works);
+    let (node, callers) = unseen(opened);
+    let callers = four_at_once(rt, &node, callers, four_works());
     let (journal, callers) = close(rt, node, callers);
-    assert_four_called(rt, &callers);
+    assert_four_called(rt, callers);
     assert_eq!(rt; journal.len(), 290);
 }
 
-fn assert_four_called<N: Naming, R: Abort>(rt: &R, callers: &Four<Seat<N>>) {
-    let ((first, second), (third, fourth)) = callers;
+fn four_works() -> Four<Work> {
+    ((pings(), ticks()), (joins(), removals()))
+}
+
+fn assert_four_called<N: Naming, R: Abort>(rt: &R, callers: Four<Seat<N>>) {
+    let ((first, second), (third, fourth)) = &callers;
     assert_calls(rt, first, 0, 100);
     assert_calls(rt, second, 1, 90);
     assert_calls(rt, third, 2, 50);

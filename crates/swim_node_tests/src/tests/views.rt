@@ -1,4 +1,5 @@
-ghost use Rattle.std.specs.Prelude.{◌≡◌};
+ghost use Rattle.std.specs.Prelude.{◌≡◌, List};
+ghost use Rattle.swim_history.specs.declared.entries.Entry.{Entry};
 
 use super::steps::{Step, make, take_steps};
 use super::*;
@@ -17,6 +18,7 @@ fn joined_then_listed<N: Naming, R: Wait + Abort + Copy + Drop>(
     requires parts { parts ≡ record { limit = N.limit; ledgers = N.ledgers; log = N.log; cells = N.cells } }
     requires opening { opening ≡ N.opening }
     requires limit { N.limit ≡ 1000 }
+    requires drawn { (h : List Entry) → N.drawn h }
 {
     let opened = open::<N, Scripted, R>(rt, alloc, parts, opening, no_script(alloc), 1000)?;
     join_and_close(&rt, opened);
@@ -116,6 +118,7 @@ fn listed_as_the_journal<N: Naming, R: Wait + Abort + Copy + Drop>(
     requires parts { parts ≡ record { limit = N.limit; ledgers = N.ledgers; log = N.log; cells = N.cells } }
     requires opening { opening ≡ N.opening }
     requires limit { N.limit ≡ 1000 }
+    requires drawn { (h : List Entry) → N.drawn h }
 {
     let opened = open::<N, Scripted, R>(rt, alloc, parts, opening, no_script(alloc), 1000)?;
     wait_and_close(&rt, opened);

@@ -1,0 +1,164 @@
+ghost use Rattle.std.specs.Prelude.{◌≡◌, List, true};
+ghost use mathlib.Core.List.{IsPrefix};
+ghost use Rattle.swim_history.specs.declared.entries.Entry.{Entry};
+ghost use Rattle.swim_node.specs.Following.{filings_of};
+
+use super::*;
+
+// What was read of a journal, and who read it.
+#[derive(Drop)]
+struct Reading<N: Naming> {
+    follower: Follower<N>,
+    read: Vec<Followed>,
+}
+
+// One thread ticks while another reads what was called, and what comes later is read later: all of it was read.
+#[test]
+fn reading_while_ticking(rt: HostRuntime) -> Result<(), Fail> {
+    read_in_threads::<Brand, _>(
+        rt,
+        rt.alloc(),
+        Parts::make(rt.alloc(), 1000)?,
+        opening(1)?,
+        0,
+    )
+}
+
+// Calls that nobody read are no loss: the journal is handed back all the same.
+#[test]
+fn a_call_that_is_not_read(rt: HostRuntime) -> Result<(), Fail> {
+    read_in_threads::<Brand, _>(
+        rt,
+        rt.alloc(),
+        Parts::make(rt.alloc(), 1000)?,
+        opening(1)?,
+        1,
+    )
+}
+
+fn read_in_threads<N: Naming + Send + Sync, R: Threads + Wait + Abort + Send + Sync + Copy + Drop>(
+    rt: R,
+    alloc: Global,
+    parts: Parts,
+    opening: Opening,
+    unread: u32,
+) -> Result<(), Fail>
+    requires parts { parts ≡ record { limit = N.limit; ledgers = N.ledgers; log = N.log; cells = N.cells } }
+    requires opening { opening ≡ N.opening }
+    requires limit { N.limit ≡ 1000 }
+    requires drawn { (h : List Entry) → N.drawn h }
+{
+    let opened = open::<N, Scripted, R>(rt, alloc, parts, opening, no_script(alloc), 1000)?;
+    let (journal, read, is_whole) = read_and_close(&rt, alloc, opened, unread);
+    assert_eq!(rt; read.len(), 90);
+    assert!(rt; is_whole == (unread == 0));
+    assert_eq!(rt; u64::from(journal.len()), 90 + u64::from(unread));
+    assert_read(&rt, &journal, read.as_slice());
+    Ok(())
+}
+
+fn read_and_close<N: Naming + Send + Sync, R: Threads + Wait + Send + Sync + Copy + Drop>(
+    rt: &R,
+    alloc: Global,
+    opened: Opened<N, Scripted, R>,
+    unread: u32,
+) -> (Journal, Vec<Followed>, bool)
+    requires listening { (opened.1.0.0.number ≡ 0) × (opened.1.0.1.number ≡ 1) }
+    requires changing { (opened.1.1.0.number ≡ 2) × (opened.1.1.1.number ≡ 3) }
+{
+    let (node, callers, readers) = opened;
+    drop(readers);
+    let reading = Reading {
+        follower: node.follower(alloc),
+        read: Vec::new(alloc),
+    };
+    let ((first, second), others) = callers;
+    let (first, reading) = tick_and_read(rt, &node, first, reading);
+    let reading = read_often(rt, &node, reading, 100);
+    let first = tick_often(rt, &node, first, unread);
+    close_read(rt, node, ((first, second), others), reading)
+}
+
+fn tick_and_read<N: Naming + Send + Sync, R: Threads + Wait + Send + Sync + Copy + Drop>(
+    rt: &R,
+    node: &Node<N, Scripted, R>,
+    first: Seat<N>,
+    reading: Reading<N>,
+) -> (Seat<N>, Reading<N>)
+    ensures { result.0.number ≡ first.number }
+{
+    join(
+        rt,
+        move || -> Seat<N>
+            ensures { result.number ≡ first.number }
+        { tick_often(rt, node, first, 90) },
+        move || -> Reading<N> { read_often(rt, node, reading, 200) },
+    )
+}
+
+fn tick_often<N: Naming, R: Wait + Copy + Drop>(
+    rt: &R,
+    node: &Node<N, Scripted, R>,
+    seat: Seat<N>,
+    times: u32,
+) -> Seat<N>
+    ensures { result.number ≡ seat.number }
+{
+    let mut seat = seat;
+    for _turn in 0..times {
+        let _ = node.tick(rt, &mut seat);
+    }
+    seat
+}
+
+fn read_often<N: Naming, R: Wait + Copy + Drop>(
+    rt: &R,
+    node: &Node<N, Scripted, R>,
+    reading: Reading<N>,
+    times: u32,
+) -> Reading<N> {
+    let mut reading = reading;
+    for _turn in 0..times {
+        if let Some(next) = node.follow(rt, &mut reading.follower) {
+            let _is_kept = reading.read.push(next);
+        }
+    }
+    reading
+}
+
+// The journal at its end, what was read before, and whether that is all of it.
+fn close_read<N: Naming, R: Wait + Copy + Drop>(
+    rt: &R,
+    node: Node<N, Scripted, R>,
+    callers: Four<Seat<N>>,
+    reading: Reading<N>,
+) -> (Journal, Vec<Followed>, bool)
+    requires listening { (callers.0.0.number ≡ 0) × (callers.0.1.number ≡ 1) }
+    requires changing { (callers.1.0.number ≡ 2) × (callers.1.1.number ≡ 3) }
+    ensures begins { IsPrefix reading.follower (filings_of result.0.past) }
+    ensures whole { result.2 ≡ true → reading.follower ≡ filings_of result.0.past }
+{
+    let Reading { follower, read } = reading;
+    let count = follower.len();
+    let (journal, _seats, _news) = node.close_followed(rt, seats_of(callers), follower);
+    let is_whole = journal.len() as usize == count;
+    (journal, read, is_whole)
+}
+
+// What was read are the journal's first entries.
+fn assert_read<R: Abort>(rt: &R, journal: &Journal, read: &[Followed]) {
+    for (place, followed) in read.iter().enumerate() {
+        assert_eq!(rt; followed.kept.position as usize, place);
+        match journal.entry(followed.kept.position) {
+            Some(entry) => assert_is(rt, followed, &entry),
+            None => panic!(rt; "no entry"),
+        }
+    }
+}
+
+fn assert_is<R: Abort>(rt: &R, followed: &Followed, entry: &swim_history::Entry) {
+    assert_eq!(rt; followed.seat, entry.seat);
+    assert_eq!(rt; followed.kept.number, entry.number);
+    assert!(rt; followed.kept.call == entry.call);
+    assert!(rt; followed.kept.reply == entry.reply);
+}
