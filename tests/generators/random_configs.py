@@ -148,7 +148,7 @@ def another(r, key):
         return text(r, path)
     if key == "seed":
         return text(r, r.choice([seed_text(r, 63), seed_text(r, 65), "", seed_text(r, 63) + "g", seed_text(r, 62) + "\u00e9"]))
-    return number(r, r.choice(NUMBERS))
+    return number(r, -1 if key == "last" and r.random() < 0.5 else r.choice(NUMBERS))
 
 
 def of_one_fault(r):
@@ -189,6 +189,25 @@ def of_an_opening(r):
     return config
 
 
+def doubtful(r):
+    """A configuration that is allowed and may not work."""
+    config = Config(r, count=r.choice([0, 1, 2, 3, 5, 9]))
+    at = next(it for key, it in config.top if key == "listen")
+    for member in config.members:
+        if r.random() < 0.2:
+            member[1][1] = r.choice([at, config.members[0][1][1]])
+    limits = {"k": [0, 1, 2, 3, 8], "journal": [1, 20, 100, 1_000, 10**6], "tick_ms": [1, 1_000, 10_000, 60_000]}
+    limits["period"] = [65_535, 8_640, 8_641, 1_440, 1_441]
+    for pair in config.top:
+        if pair[0] in limits and r.random() < 0.5:
+            pair[1] = number(r, r.choice(limits[pair[0]]))
+        if pair[0] == "rtt":
+            pair[1] = number(r, r.choice([1, 2, 100]))
+        if pair[0] == "seed" and r.random() < 0.5:
+            pair[1] = text(r, r.choice(["0" * 64, "a5" * 32, "aA" * 32, "1" * 63 + "2"]))
+    return config
+
+
 def no_toml(r):
     lines = fine(r).document().decode().split("\n")
     lines.insert(r.randint(0, len(lines)), r.choice(NO_TOML))
@@ -218,7 +237,7 @@ def about_as_large_as_may_be(r):
 
 
 KINDS = [fine, of_one_fault, broken, of_one_fault, of_one_fault, broken, of_one_fault, of_one_fault]
-KINDS += [of_other_members, of_an_opening, of_one_fault, of_an_opening, no_toml, noisy, noisy, about_as_large_as_may_be]
+KINDS += [of_other_members, of_an_opening, of_one_fault, of_an_opening, doubtful, of_one_fault, no_toml, noisy, noisy, about_as_large_as_may_be]
 
 
 def random_config(seed):

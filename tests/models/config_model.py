@@ -1,25 +1,22 @@
 """What `swimd check` has to write for a configuration, worked out apart from swimd: the text is read by Python's own TOML
 reader, and the rest by the rules of docs/FORMATS.md."""
 
+import math
 import re
 import tomllib
 
+from tests.models.config_keys import BY_TEXT, LARGEST_ID, MEMBER, RULES, TOP, expected_of
+from tests.swimd.worked_configs import BELOW
+
 MOST_BYTES = 65_536
 MOST_MEMBERS = 128
-LARGEST_ID = 2**32 - 1
 OCTET = "(0|[1-9][0-9]{0,2})"
 PEER = re.compile(rf"{OCTET}\.{OCTET}\.{OCTET}\.{OCTET}:([1-9][0-9]{{0,4}})")
-TOP = ["id", "listen", "control", "k", "rtt", "period", "tick_ms", "seed", "journal", "last", "member"]
-RANGES = {
-    "id": (1, LARGEST_ID),
-    "k": (0, LARGEST_ID),
-    "rtt": (0, LARGEST_ID),
-    "period": (0, LARGEST_ID),
-    "tick_ms": (1, 60_000),
-    "journal": (1, 1_000_000),
-    "last": (0, 2**63 - 1),
-}
-DEFAULTS = {"last": 0, "member": []}
+DAY_MS = 86_400_000
+# The most bytes of a line below a fault, without the spaces before it.
+LINE_BYTES = 160
+
+
 # What a document may have since TOML 1.1, which Python's reader doesn't know: lines and a last comma within an inline table,
 # two escapes, and times without seconds.
 NEWER = re.compile(r",[^\S\n]*(#[^\n]*)?\s*}|{[^}\n]*\n|\\[ex]|(?<![.\d])\d\d:\d\d(?!:)")
@@ -34,11 +31,37 @@ class OtherVersion(Exception):
 
 
 def checked(document):
-    """Standard output, standard error and status."""
+    """Standard output, standard error as far as it is known, and status."""
     try:
-        return summary(read_config(document)).encode(), b"", 0
+        config = read_config(document)
     except Fault as fault:
-        return b"", f"configuration {fault}\n".encode(), 1
+        return b"", f"configuration {fault}\n{expected(str(fault))}".encode() + BELOW, 1
+    return summary(config).encode(), "".join(f"warning: {it}\n" for it in warnings(config)).encode(), 0
+
+
+def misquoted(document, found):
+    """The lines below a fault that say they are a line of the document and aren't."""
+    lines = document.split(b"\n")
+    quotes = re.findall(rb"^  line ([0-9]+): (.*)$", found, re.MULTILINE)
+    return [(number, text) for number, text in quotes if quoted(number, lines[int(number) - 1]) != text]
+
+
+def quoted(number, line):
+    """A line of a document as it is quoted: as much of it as there is room for behind its number."""
+    line = line[:-1] if line.endswith(b"\r") else line
+    shown = bytes(it if 0x20 <= it < 0x7F else ord("?") for it in line)
+    return shown[: LINE_BYTES - len(b"line %s: " % number)]
+
+
+def expected(fault):
+    """The line that says what was expected, below the line of a fault."""
+    number, _, key = fault.partition(" ")
+    if number == "3":
+        return ""
+    texts = {"1": "at most 65536 bytes", "2": "a TOML document, in UTF-8"}
+    if number == "9":
+        texts["9"] = RULES[int(key) - 1]
+    return f"  expected: {texts.get(number) or expected_of(BY_TEXT[key])}\n"
 
 
 def read_config(document):
@@ -46,9 +69,7 @@ def read_config(document):
     if len(document) > MOST_BYTES:
         raise Fault("1")
     top = tables_of(document)
-    if not set(top) <= set(TOP):
-        raise Fault("3")
-    config = {key: value(top, key, key) for key in TOP}
+    config = values(top, TOP, "")
     if not isinstance(config["member"], list) or not all(isinstance(it, dict) for it in config["member"]):
         raise Fault("5 member")
     config["member"] = [member(it) for it in config["member"]]
@@ -64,7 +85,7 @@ def tables_of(document):
     except UnicodeDecodeError:
         raise Fault("2") from None
     try:
-        top = tomllib.loads(text)
+        top = tomllib.loads(text, parse_float=read_float)
     except tomllib.TOMLDecodeError:
         if NEWER.search(text):
             raise OtherVersion from None
@@ -72,6 +93,13 @@ def tables_of(document):
     if any(not -(2**63) <= it < 2**63 for it in integers(top)):
         raise Fault("2")
     return top
+
+
+def read_float(text):
+    """A float. For the reader of swimd a document with one that is out of range is none."""
+    if "inf" not in text and math.isinf(float(text)):
+        raise Fault("2")
+    return float(text)
 
 
 def integers(it):
@@ -87,24 +115,31 @@ def is_integer(it):
     return isinstance(it, int) and not isinstance(it, bool)
 
 
+def values(table, keys, before):
+    """The values of all keys of a table; faults call them by their names with that text before."""
+    if not set(table) <= {key.name for key in keys}:
+        raise Fault("3")
+    return {key.name: value(table, key, before + key.name) for key in keys}
+
+
 def value(table, key, name):
     """The value of a key, which a fault calls by that name."""
-    if key not in table:
-        if name not in DEFAULTS:
+    if key.name not in table:
+        if key.default is None:
             raise Fault(f"4 {name}")
-        return DEFAULTS[name]
-    it = table[key]
-    if key in RANGES:
-        return in_range(it, RANGES[key], name)
-    if key == "member":
+        return key.default
+    it = table[key.name]
+    if key.kind == "integer":
+        return in_range(it, key.range, name)
+    if key.kind == "members":
         return it
     if not isinstance(it, str):
         raise Fault(f"5 {name}")
-    if key == "control" and not re.fullmatch(r"[ -~]{1,100}", it):
-        raise Fault("6 control")
-    if key == "seed" and not re.fullmatch("[0-9a-fA-F]{64}", it):
-        raise Fault("8 seed")
-    if key in ("listen", "at") and not is_peer(it):
+    if key.kind == "path" and not re.fullmatch(r"[ -~]{1,100}", it):
+        raise Fault(f"6 {name}")
+    if key.kind == "seed" and not re.fullmatch("[0-9a-fA-F]{64}", it):
+        raise Fault(f"8 {name}")
+    if key.kind == "peer" and not is_peer(it):
         raise Fault(f"7 {name}")
     return it
 
@@ -123,9 +158,8 @@ def is_peer(text):
 
 
 def member(table):
-    if not set(table) <= {"id", "at"}:
-        raise Fault("3")
-    return value(table, "id", "member.id"), value(table, "at", "member.at")
+    made = values(table, MEMBER, "member.")
+    return made["id"], made["at"]
 
 
 def opening_fault(config):
@@ -146,3 +180,23 @@ def summary(config):
     lines = [f"{key} {config[key]}" for key in ("id", "listen", "control")]
     lines += [numbers, f"members {len(config['member'])}"]
     return "".join(f"{line}\n" for line in lines + [f"{id} {at}" for id, at in sorted(config["member"])])
+
+
+def warnings(config):
+    """What is allowed and can't work, in order."""
+    members, period, k = config["member"], config["period"], config["k"]
+    rounds = 3 * (len(members) * (period + 2) + 2 * len(members))
+    if config["journal"] < rounds:
+        yield f"journal {config['journal']} is shorter than three rounds, which take {rounds} entries"
+    for id, at in members:
+        if at == config["listen"]:
+            yield f"member {id} is at this member's own address, {at}"
+    for place, (id, at) in enumerate(members):
+        for other in [other for other, there in members[place + 1 :] if there == at][:1]:
+            yield f"members {id} and {other} are at one address, {at}"
+    if members and k > len(members) - 1:
+        yield f"k {k} is greater than the members that could relay, {len(members) - 1}"
+    if period * config["tick_ms"] > DAY_MS:
+        yield f"a period has {period * config['tick_ms']} milliseconds, which is beyond a day"
+    if len(set(bytes.fromhex(config["seed"]))) == 1:
+        yield "seed is one byte again and again, which anybody may guess"

@@ -1,9 +1,15 @@
 """Configurations of swimd, and what `swimd check` has to write, all worked out by hand from docs/FORMATS.md.
 
-`worked_configs()` gives (name, document, standard output, standard error, status).
+`worked_configs()` gives (name, document, standard output, standard error, status). Where standard error ends with BELOW, any
+lines may stand there that begin with two spaces; those of worked_causes.py are known.
 """
 
+import re
+
+# Where this ends what is expected on standard error, any lines may stand that begin with two spaces.
+BELOW = b"  ..\n"
 ZEROS = "0" * 64
+SEED = "00112233445566778899aabbccddeeff" * 2
 FULL = f"""\
 id = 1
 listen = "10.0.0.1:7000"
@@ -12,7 +18,7 @@ k = 1
 rtt = 1
 period = 3
 tick_ms = 1000
-seed = "{ZEROS}"
+seed = "{SEED}"
 journal = 1000
 
 [[member]]
@@ -37,13 +43,23 @@ SUMMARY_ALONE = SUMMARY.split("members", 1)[0] + "members 0\n"
 LINES = {line.split(" = ")[0]: line for line in ALONE.splitlines()}
 
 
+def is_as(found, wanted):
+    """Whether what stands on standard error is as expected."""
+    if not wanted.endswith(BELOW):
+        return found == wanted
+    front = wanted[: -len(BELOW)]
+    more = found[len(front) :].decode("latin-1")
+    lines = more.split("\n")
+    return found.startswith(front) and lines[-1] == "" and all(re.fullmatch("  [ -~]+", it) for it in lines[:-1])
+
+
 def good(name, document, stdout):
     return name, document.encode(), stdout.encode(), b"", 0
 
 
 def bad(name, document, fault):
     text = document if isinstance(document, bytes) else document.encode()
-    return name, text, b"", f"configuration {fault}\n".encode(), 1
+    return name, text, b"", f"configuration {fault}\n".encode() + BELOW, 1
 
 
 def replaced(line, other, document=FULL):
@@ -94,7 +110,8 @@ def accepted():
     signs = "".join(chr(it) for it in range(0x20, 0x7F) if not chr(it).isalnum())
     yield good("all signs", with_value("control", f"'''{signs}'''"), with_summary("/tmp/swimd.sock", signs))
     rows = "".join(f"{id} 10.0.0.2:{id}\n" for id in range(2, 130))
-    yield good("128 members", ALONE + numbered_members(2, 128), SUMMARY_ALONE.replace("members 0", "members 128") + rows)
+    stdout = SUMMARY_ALONE.replace("journal 1000\nmembers 0", "journal 10000\nmembers 128") + rows
+    yield good("128 members", with_value("journal", "10000", ALONE) + numbered_members(2, 128), stdout)
     padding = "#" * (65_536 - len(FULL))
     yield good("as long as may be", FULL + padding, SUMMARY)
 

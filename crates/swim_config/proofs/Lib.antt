@@ -1,2 +1,3 @@
+pub mod CauseLines
 pub mod Views
 pub mod Wholes

@@ -11,7 +11,7 @@ use Rattle.toml.specs.declared.value.Value.{Value}
 use Rattle.swim_wire.specs.Address.{Address}
 use Rattle.swim_wire.specs.Arguments.{◌>>=◌}
 use Rattle.swim_config.specs.declared.config_fault.ConfigFault.{ConfigFault}
-use Rattle.swim_config.specs.declared.config_fault.Key.{Key}
+use Rattle.swim_config.specs.declared.keys.Key.{Key}
 use Rattle.swim_config.specs.Configuration.{is_name, has_only, are_tables, member_of, members_of}
 
 pub has_only_view : (known : List Key) (es : List Entry) →

@@ -7,8 +7,9 @@ use Rattle.toml.specs.Data.{Members}
 use Rattle.swim_config.specs.declared.config.Config.{Config}
 use Rattle.swim_config.specs.declared.config_fault.ConfigFault.{ConfigFault}
 use Rattle.swim_config.specs.declared.config_fault.ConfigFault.TheVariants.{NoMemory}
-use Rattle.swim_config.specs.declared.settings.Settings.{Settings}
-use Rattle.swim_config.specs.Configuration.{config_in, config_with, members_at, only_keys, settings_in, top_keys}
+use Rattle.swim_config.specs.declared.config.Settings.{Settings}
+use Rattle.swim_config.specs.Configuration.{config_in, config_with, members_at, only_keys, settings_in}
+use Rattle.swim_config.specs.Keys.{top_keys}
 use Rattle.swim_config.specs.Reading.{OrNoMemory, Reads}
 
 -- an unknown key, or a fault of the settings, is the first fault

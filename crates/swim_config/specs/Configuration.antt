@@ -1,6 +1,6 @@
 -- What a configuration says: the values of its document's keys, or its first fault.
 use Rattle.std.specs.Prelude.{ℕ, ℤ, pos, negsuc, Bool, true, ◌&&◌, nat_lt, nat_le, List, [], ◌∷◌, length}
-use Rattle.std.specs.Prelude.{Option, Some, None, is_some, Result, Ok, Err, if◌then◌else◌, codes}
+use Rattle.std.specs.Prelude.{Option, Some, None, is_some, Result, Ok, Err, if◌then◌else◌}
 use Rattle.std.specs.List.{list_all, list_any}
 use Rattle.std.specs.Option.{ok_or}
 use Rattle.std.specs.Result.{result_ok}
@@ -17,39 +17,17 @@ use Rattle.swim_history.specs.declared.openings.OpeningFault.{OpeningFault}
 use Rattle.swim_config.specs.declared.config.Config.{Config}
 use Rattle.swim_config.specs.declared.config_fault.ConfigFault.{ConfigFault}
 use Rattle.swim_config.specs.declared.config_fault.ConfigFault.TheVariants as faults
-use Rattle.swim_config.specs.declared.config_fault.Key.{Key}
-use Rattle.swim_config.specs.declared.config_fault.Key.TheVariants as keys
-use Rattle.swim_config.specs.declared.settings.Place.{Place}
-use Rattle.swim_config.specs.declared.settings.Times.{Times}
-use Rattle.swim_config.specs.declared.settings.Kept.{Kept}
-use Rattle.swim_config.specs.declared.settings.Settings.{Settings}
+use Rattle.swim_config.specs.declared.keys.Form.{Form}
+use Rattle.swim_config.specs.declared.keys.Form.TheVariants.{Number}
+use Rattle.swim_config.specs.declared.keys.Key.{Key}
+use Rattle.swim_config.specs.declared.keys.Key.TheVariants as keys
+use Rattle.swim_config.specs.declared.config.Place.{Place}
+use Rattle.swim_config.specs.declared.config.Times.{Times}
+use Rattle.swim_config.specs.declared.config.Kept.{Kept}
+use Rattle.swim_config.specs.declared.config.Settings.{Settings}
+use Rattle.swim_config.specs.Keys.{name_of, form_of, default_of, top_keys, member_keys}
 
 -- ---- keys
-
--- the name of a key in its table
-abbrev pub name_of : Key → List ℕ
-name_of keys.Id = codes "id"
-name_of keys.Listen = codes "listen"
-name_of keys.Control = codes "control"
-name_of keys.K = codes "k"
-name_of keys.Rtt = codes "rtt"
-name_of keys.Period = codes "period"
-name_of keys.TickMs = codes "tick_ms"
-name_of keys.Seed = codes "seed"
-name_of keys.Journal = codes "journal"
-name_of keys.Last = codes "last"
-name_of keys.Member = codes "member"
-name_of keys.MemberId = codes "id"
-name_of keys.MemberAt = codes "at"
-
--- the keys of a configuration, and those of a member
-abbrev pub top_keys : List Key
-top_keys =
-    keys.Id ∷ keys.Listen ∷ keys.Control ∷ keys.K ∷ keys.Rtt ∷ keys.Period ∷ keys.TickMs ∷ keys.Seed ∷ keys.Journal ∷
-    keys.Last ∷ keys.Member ∷ []
-
-abbrev pub member_keys : List Key
-member_keys = keys.MemberId ∷ keys.MemberAt ∷ []
 
 -- it is the name of one of the keys
 abbrev pub is_name : List Key → List ℕ → Bool
@@ -74,16 +52,20 @@ abbrev pub within : ℕ → ℕ → ℤ → Option ℕ
 within least most (pos n) = if nat_le least n && nat_le n most then Some n else None
 within least most (negsuc n) = None
 
--- a value as a number within these limits
-abbrev pub number_in : Key → ℕ → ℕ → Data → Result ℕ ConfigFault
-number_in key least most value = do
+-- a value as a number of this form
+abbrev pub number_as : Form → Key → Data → Result ℕ ConfigFault
+number_as (Number least most) key value = do
   integer ← ok_or (as_integer value) (faults.Kind key)
   ok_or (within least most integer) (faults.Range key)
+number_as form key value = Err (faults.Kind key)
 
-abbrev pub number_at : Key → ℕ → ℕ → Members → Result ℕ ConfigFault
-number_at key least most table = do
-  value ← value_at key table
-  number_in key least most value
+-- the number of a key, its default where it is left out
+abbrev pub number_in : Key → Option Data → Result ℕ ConfigFault
+number_in key None = ok_or (default_of key) (faults.Missing key)
+number_in key (Some value) = number_as (form_of key) key value
+
+abbrev pub number_at : Key → Members → Result ℕ ConfigFault
+number_at key table = number_in key (get_member (name_of key) table)
 
 -- the value of a key as a text, and what the text says
 abbrev pub text_at : Key → Members → Result (List ℕ) ConfigFault
@@ -118,14 +100,6 @@ seed_at table = do
   text ← text_at keys.Seed table
   ok_or (result_ok (decode_sized text 32)) faults.Seed
 
--- the last period number, 0 where none is given
-abbrev pub last_in : Option Data → Result ℕ ConfigFault
-last_in None = Ok 0
-last_in (Some value) = number_in keys.Last 0 9223372036854775807 value
-
-abbrev pub last_at : Members → Result ℕ ConfigFault
-last_at table = last_in (get_member (name_of keys.Last) table)
-
 -- ---- members
 
 -- a member: its id and its address, and no more
@@ -133,7 +107,7 @@ unfoldable pub member_of : Data → Result (ℕ × Address) ConfigFault
 member_of value = do
   table ← ok_or (as_table value) (faults.Kind keys.Member)
   only ← only_keys member_keys table
-  id ← number_at keys.MemberId 1 4294967295 table
+  id ← number_at keys.MemberId table
   at ← peer_at keys.MemberAt table
   Ok (id, at)
 
@@ -170,7 +144,7 @@ members_at table = members_in (get_member (name_of keys.Member) table)
 -- where it listens
 unfoldable pub place_in : Members → Result Place ConfigFault
 place_in table = do
-  id ← number_at keys.Id 1 4294967295 table
+  id ← number_at keys.Id table
   listen ← peer_at keys.Listen table
   control ← path_at table
   Ok (record { id = id; listen = listen; control = control })
@@ -178,18 +152,18 @@ place_in table = do
 -- how many relays are asked, and how long things last
 unfoldable pub times_in : Members → Result Times ConfigFault
 times_in table = do
-  k ← number_at keys.K 0 4294967295 table
-  rtt ← number_at keys.Rtt 0 4294967295 table
-  period ← number_at keys.Period 0 4294967295 table
-  tick_ms ← number_at keys.TickMs 1 60000 table
+  k ← number_at keys.K table
+  rtt ← number_at keys.Rtt table
+  period ← number_at keys.Period table
+  tick_ms ← number_at keys.TickMs table
   Ok (record { k = k; rtt = rtt; period = period; tick_ms = tick_ms })
 
 -- what it draws from and writes down
 unfoldable pub kept_in : Members → Result Kept ConfigFault
 kept_in table = do
   seed ← seed_at table
-  journal ← number_at keys.Journal 1 1000000 table
-  last ← last_at table
+  journal ← number_at keys.Journal table
+  last ← number_at keys.Last table
   Ok (record { seed = seed; journal = journal; last = last })
 
 -- all of it, but for the members
@@ -227,6 +201,16 @@ config_in table = do
   settings ← settings_in table
   members ← members_at table
   config_with settings members
+
+-- the number that a summary tells of a key; none where it tells none, as of a key that is left out
+abbrev pub number_of : Key → Config → Option ℕ
+number_of keys.K config = Some config.opening.k
+number_of keys.Rtt config = Some config.opening.rtt
+number_of keys.Period config = Some config.opening.period
+number_of keys.TickMs config = Some config.tick_ms
+number_of keys.Last config = Some config.opening.last
+number_of keys.Journal config = Some config.journal
+number_of key config = None
 
 -- the table that the bytes are as a TOML document
 abbrev pub document_of : List ℕ → Option Members

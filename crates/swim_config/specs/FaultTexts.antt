@@ -5,15 +5,7 @@ use Rattle.swim_history.specs.Texts.{feed}
 use Rattle.swim_config.specs.declared.config_fault.ConfigFault.{ConfigFault}
 use Rattle.swim_config.specs.declared.config_fault.ConfigFault.TheVariants.{Size, Document, UnknownKey, Missing, Kind}
 use Rattle.swim_config.specs.declared.config_fault.ConfigFault.TheVariants.{Range, Peer, Seed, Opening, NoMemory}
-use Rattle.swim_config.specs.declared.config_fault.Key.{Key}
-use Rattle.swim_config.specs.declared.config_fault.Key.TheVariants as keys
-use Rattle.swim_config.specs.Configuration.{name_of}
-
--- a key, as faults name it
-abbrev pub key_text : Key → List ℕ
-key_text keys.MemberId = codes "member.id"
-key_text keys.MemberAt = codes "member.at"
-key_text key = name_of key
+use Rattle.swim_config.specs.Keys.{key_text}
 
 -- the line of a fault: a number, and for most a key
 abbrev pub fault_text : ConfigFault → List ℕ

@@ -1,5 +1,9 @@
+pub mod Causes
 pub mod Configuration
 pub mod FaultTexts
+pub mod Indented
 pub mod Inputs
+pub mod Keys
 pub mod Reading
 pub mod Summary
+pub mod Warnings

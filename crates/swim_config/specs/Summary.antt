@@ -1,32 +1,32 @@
 -- The summary of a configuration.
-use Rattle.std.specs.Prelude.{ℕ, List, [], ◌∷◌, ◌++◌, length, codes, decimal}
+use Rattle.std.specs.Prelude.{ℕ, List, [], ◌∷◌, ◌++◌, length, Option, Some, None, if◌then◌else◌, codes, decimal}
 use Rattle.swim_wire.specs.Address.{address_text}
 use Rattle.swim_history.specs.Changes.{ascending}
-use Rattle.swim_history.specs.Setting.{Setting}
 use Rattle.swim_history.specs.declared.rows.Row.{Row}
 use Rattle.swim_config.specs.declared.config.Config.{Config}
+use Rattle.swim_config.specs.declared.keys.Key.{Key}
+use Rattle.swim_config.specs.Configuration.{number_of}
+use Rattle.swim_config.specs.Keys.{begins_line, name_of, number_keys}
 
--- how many members there are, and what follows
-abbrev pub count_text : Setting → List ℕ
-count_text o = codes "\nmembers " ++ (decimal (length o.rows) ++ codes "\n")
+-- ---- numbers
 
--- the numbers of a configuration, and what follows
-abbrev pub numbers_text : Config → List ℕ
-numbers_text config =
-    let o = config.opening in
-    codes "\nk " ++ (decimal o.k
-    ++ (codes " rtt " ++ (decimal o.rtt
-    ++ (codes " period " ++ (decimal o.period
-    ++ (codes " tick_ms " ++ (decimal config.tick_ms
-    ++ (codes " last " ++ (decimal o.last
-    ++ (codes " journal " ++ (decimal config.journal ++ count_text o)))))))))))
+-- what stands before a key: it begins a line, or goes on with the one before
+abbrev pub mark_of : Key → List ℕ
+mark_of key = if begins_line key then codes "\n" else codes " "
 
--- all lines but those of the members
-abbrev pub head_text : Config → List ℕ
-head_text config =
-    codes "id " ++ (decimal config.opening.me
-    ++ (codes "\nlisten " ++ (address_text config.listen
-    ++ (codes "\ncontrol " ++ (config.control ++ numbers_text config)))))
+-- a key and its number, if it has one
+abbrev pub number_text : Key → Option ℕ → List ℕ
+number_text key None = []
+number_text key (Some number) = mark_of key ++ (name_of key ++ (codes " " ++ decimal number))
+
+abbrev pub told_text : Config → Key → List ℕ
+told_text config key = number_text key (number_of key config)
+
+abbrev pub numbers_text : Config → List Key → List ℕ
+numbers_text config [] = []
+numbers_text config (key ∷ others) = told_text config key ++ numbers_text config others
+
+-- ---- members
 
 -- the line of a member
 abbrev pub member_text : Row → List ℕ
@@ -36,6 +36,26 @@ abbrev pub members_text : List Row → List ℕ
 members_text [] = []
 members_text (row ∷ rows) = member_text row ++ members_text rows
 
--- the whole: the members stand ascending by id
+-- how many members there are
+abbrev pub count_text : ℕ → List ℕ
+count_text count = codes "\nmembers " ++ (decimal count ++ codes "\n")
+
+-- the members, ascending by id
+abbrev pub all_members_text : List Row → List ℕ
+all_members_text rows = count_text (length rows) ++ members_text (ascending rows)
+
+-- ---- the whole
+
+-- who this member is, and where it listens
+abbrev pub place_text : Config → List ℕ
+place_text config =
+    codes "id " ++ (decimal config.opening.me
+    ++ (codes "\nlisten " ++ (address_text config.listen
+    ++ (codes "\ncontrol " ++ config.control))))
+
+-- the numbers, and what follows
+abbrev pub numbers_and_members_text : Config → List ℕ
+numbers_and_members_text config = numbers_text config number_keys ++ all_members_text config.opening.rows
+
 abbrev pub summary_text : Config → List ℕ
-summary_text config = head_text config ++ members_text (ascending config.opening.rows)
+summary_text config = place_text config ++ numbers_and_members_text config

@@ -1,38 +1,16 @@
-//! The configuration of a daemon.
+//! The configuration of a daemon, and where the values of its keys go.
 
-ghost use Rattle.std.specs.Prelude.{◌≡◌, ◌<◌, Ok, Err, MatchResult, ◌⊎◌, length};
-ghost use Rattle.std.specs.Option.{ok_or};
+ghost use Rattle.std.specs.Prelude.{◌≡◌};
 ghost use Rattle.toml.specs.View.{table_view};
-ghost use Rattle.swim_config.specs.Configuration.{config_of, config_in, config_with, document_of};
-ghost use Rattle.swim_config.specs.Reading.{OrNoMemory, table_read};
+ghost use Rattle.swim_config.specs.Configuration.{config_with, kept_in, number_of, place_in, settings_in, times_in};
 
-use crate::config_fault::{ConfigFault, Key};
-use crate::members::take_members;
-use crate::settings::{Settings, take_settings};
+use crate::config_fault::ConfigFault;
+use crate::keys::Key;
 use crate::socket_path::SocketPath;
-use crate::values::only_keys;
-use std::alloc::Global;
+use crate::values::{take_id, take_number, take_path, take_peer, take_seed, take_small};
 use swim_history::Opening;
 use swim_wire::{Id, Peer};
 use toml::Table;
-
-/// The most bytes of a configuration.
-pub const CONFIG_BYTES: usize = 65_536;
-
-/// The keys of a configuration.
-const TOP_KEYS: [Key; 11] = [
-    Key::Id,
-    Key::Listen,
-    Key::Control,
-    Key::K,
-    Key::Rtt,
-    Key::Period,
-    Key::TickMs,
-    Key::Seed,
-    Key::Journal,
-    Key::Last,
-    Key::Member,
-];
 
 /// What a daemon is started with.
 #[derive(Debug, Drop)]
@@ -51,45 +29,114 @@ pub struct Config {
     pub opening: Opening,
 }
 
-/// The configuration that the bytes are as a TOML document, or its first fault; or `NoMemory`, but for bytes that are
-/// too many.
-pub fn read_config(alloc: Global, bytes: &[u8]) -> Result<Config, ConfigFault>
-    ensures value { OrNoMemory result (config_of bytes.now) }
-    ensures size { 65536 < length bytes.now → result ≡ Err ConfigFault.Size }
-{
-    if bytes.len() > CONFIG_BYTES {
-        return Err(ConfigFault::Size);
-    }
-    let table = read_document(alloc, bytes)?;
-    read_table(alloc, &table)
+/// Who this member is, and where it listens.
+#[derive(Debug, Drop)]
+pub struct Place {
+    pub id: Id,
+    pub listen: Peer,
+    pub control: SocketPath,
 }
 
-/// The table that the bytes are as a TOML document.
-fn read_document(alloc: Global, bytes: &[u8]) -> Result<Table, ConfigFault>
-    ensures { OrNoMemory (table_read result) (ok_or (document_of bytes.now) ConfigFault.Document) }
-{
-    match toml::table_from_slice(alloc, bytes) {
-        Ok(table) => Ok(table),
-        Err(fault) => Err(if fault.is_memory() {
-            ConfigFault::NoMemory
-        } else {
-            ConfigFault::Document
-        }),
+/// How many relays are asked, and how long things last.
+#[derive(Clone, Copy, Debug, PartialEq, Eq)]
+pub struct Times {
+    pub k: u32,
+    pub rtt: u32,
+    pub period: u32,
+    pub tick_ms: u32,
+}
+
+/// What is drawn from and written down.
+#[derive(Clone, Copy, Debug, PartialEq, Eq)]
+pub struct Kept {
+    pub seed: [u8; 32],
+    pub journal: u32,
+    pub last: u64,
+}
+
+/// All of it, but for the members.
+#[derive(Debug, Drop)]
+pub struct Settings {
+    pub place: Place,
+    pub times: Times,
+    pub kept: Kept,
+}
+
+impl Config {
+    /// The number that a summary tells of a key. `None` where it tells none, as of a key that is left out.
+    pub fn number(&self, key: Key) -> Option<u64>
+        ensures { result ≡ number_of key self.now }
+    {
+        let opening = &self.opening;
+        match key {
+            Key::K => Some(u64::from(opening.k())),
+            Key::Rtt => Some(u64::from(opening.rtt())),
+            Key::Period => Some(u64::from(opening.period())),
+            Key::TickMs => Some(u64::from(self.tick_ms)),
+            Key::Last => Some(opening.last()),
+            Key::Journal => Some(u64::from(self.journal)),
+            _ => None,
+        }
     }
 }
 
-/// The configuration that a table says.
-fn read_table(alloc: Global, table: &Table) -> Result<Config, ConfigFault>
-    ensures { OrNoMemory result (config_in (table_view table.now)) }
+/// The settings of a table, or their first fault.
+#[tactic(auto, unfolding(crate::specs::Configuration::settings_in))]
+pub fn take_settings(table: &Table) -> Result<Settings, ConfigFault>
+    ensures { result ≡ settings_in (table_view table.now) }
 {
-    only_keys(table, &TOP_KEYS)?;
-    let settings = take_settings(table)?;
-    let members = take_members(alloc, table)?;
-    config_with(settings, members.as_slice())
+    let place = take_place(table)?;
+    let times = take_times(table)?;
+    let kept = take_kept(table)?;
+    Ok(Settings { place, times, kept })
+}
+
+#[tactic(auto, unfolding(crate::specs::Configuration::place_in))]
+fn take_place(table: &Table) -> Result<Place, ConfigFault>
+    ensures { result ≡ place_in (table_view table.now) }
+{
+    let id = take_id(table, Key::Id)?;
+    let listen = take_peer(table, Key::Listen)?;
+    let control = take_path(table)?;
+    Ok(Place {
+        id,
+        listen,
+        control,
+    })
+}
+
+#[tactic(auto, unfolding(crate::specs::Configuration::times_in))]
+fn take_times(table: &Table) -> Result<Times, ConfigFault>
+    ensures { result ≡ times_in (table_view table.now) }
+{
+    let k = take_small(table, Key::K)?;
+    let rtt = take_small(table, Key::Rtt)?;
+    let period = take_small(table, Key::Period)?;
+    let tick_ms = take_small(table, Key::TickMs)?;
+    Ok(Times {
+        k,
+        rtt,
+        period,
+        tick_ms,
+    })
+}
+
+#[tactic(auto, unfolding(crate::specs::Configuration::kept_in))]
+fn take_kept(table: &Table) -> Result<Kept, ConfigFault>
+    ensures { result ≡ kept_in (table_view table.now) }
+{
+    let seed = take_seed(table)?;
+    let journal = take_small(table, Key::Journal)?;
+    let last = take_number(table, Key::Last)?;
+    Ok(Kept {
+        seed,
+        journal,
+        last,
+    })
 }
 
 /// The configuration of these settings and members, if the detector can start so.
-fn config_with(settings: Settings, members: &[(Id, Peer)]) -> Result<Config, ConfigFault>
+pub fn config_with(settings: Settings, members: &[(Id, Peer)]) -> Result<Config, ConfigFault>
     ensures { result ≡ config_with settings members.now }
 {
     let Settings { place, times, kept } = settings;

@@ -1,75 +1,7 @@
-//! The keys of a configuration, and what is wrong with one.
+//! What is wrong with a configuration.
 
+use crate::keys::Key;
 use swim_history::OpeningFault;
-
-/// A key of a configuration, or of one of its members.
-#[derive(Clone, Copy, Debug, PartialEq, Eq)]
-pub enum Key {
-    /// This member.
-    Id,
-    /// Where its datagrams come in.
-    Listen,
-    /// The path of its control socket.
-    Control,
-    /// How many relays are asked.
-    K,
-    /// For how many ticks a direct ack is waited for.
-    Rtt,
-    /// How many ticks a period has.
-    Period,
-    /// How many milliseconds a tick has.
-    TickMs,
-    /// What is drawn from.
-    Seed,
-    /// How many entries the journal may have.
-    Journal,
-    /// The last period number that was used before.
-    Last,
-    /// The other members.
-    Member,
-    /// Another member's id.
-    MemberId,
-    /// Another member's address.
-    MemberAt,
-}
-
-impl Key {
-    ghost use Rattle.std.specs.Prelude.{◌≡◌};
-    ghost use Rattle.swim_config.specs.Configuration.{name_of};
-    ghost use Rattle.swim_config.specs.FaultTexts.{key_text};
-
-    /// Its name in the table where it stands.
-    pub fn name(self) -> &'static str
-        ensures { result.now ≡ name_of self }
-    {
-        match self {
-            Key::Id => "id",
-            Key::Listen => "listen",
-            Key::Control => "control",
-            Key::K => "k",
-            Key::Rtt => "rtt",
-            Key::Period => "period",
-            Key::TickMs => "tick_ms",
-            Key::Seed => "seed",
-            Key::Journal => "journal",
-            Key::Last => "last",
-            Key::Member => "member",
-            Key::MemberId => "id",
-            Key::MemberAt => "at",
-        }
-    }
-
-    /// Its name where a fault tells it.
-    pub fn text(self) -> &'static str
-        ensures { result.now ≡ key_text self }
-    {
-        match self {
-            Key::MemberId => "member.id",
-            Key::MemberAt => "member.at",
-            key => key.name(),
-        }
-    }
-}
 
 /// Why there is no configuration. The first that applies is told.
 #[derive(Clone, Copy, Debug, PartialEq, Eq)]

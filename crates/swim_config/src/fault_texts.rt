@@ -3,9 +3,11 @@
 ghost use Rattle.std.specs.Prelude.{◌≡◌, ◌++◌};
 ghost use Rattle.swim_wire.specs.Streams.{Puts, failures_if};
 ghost use Rattle.swim_history.specs.Texts.{feed};
-ghost use Rattle.swim_config.specs.FaultTexts.{key_text, fault_text};
+ghost use Rattle.swim_config.specs.FaultTexts.{fault_text};
+ghost use Rattle.swim_config.specs.Keys.{key_text};
 
-use crate::config_fault::{ConfigFault, Key};
+use crate::config_fault::ConfigFault;
+use crate::keys::Key;
 use swim_history::OpeningFault;
 use swim_wire::{Piece, Sink, put_pieces};
 

@@ -4,7 +4,7 @@ ghost use Rattle.std.specs.Prelude.{◌≡◌, []};
 ghost use Rattle.swim_wire.specs.Streams.{failures_if};
 ghost use Rattle.swim_config.specs.Inputs.{IsRead};
 
-use crate::config::CONFIG_BYTES;
+use crate::reading::CONFIG_BYTES;
 use arrayvec::ArrayVec;
 use swim_wire::{Byte, Source};
 

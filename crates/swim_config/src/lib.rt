@@ -1,19 +1,33 @@
 //! Configurations of a daemon: what their bytes say, their faults and their summary.
 #![tactic(auto)]
 
+mod causes;
 mod config;
 mod config_fault;
+mod details;
+mod expected;
 mod fault_texts;
+mod found;
 mod inputs;
+mod keys;
 mod members;
-mod settings;
+mod places;
+mod reading;
 mod socket_path;
+mod statements;
 mod summaries;
+mod unknown_keys;
 mod values;
+mod warnings;
 
-pub use config::{CONFIG_BYTES, Config, read_config};
-pub use config_fault::{ConfigFault, Key};
+pub use causes::put_cause;
+pub use config::Config;
+pub use config_fault::ConfigFault;
+pub use details::{DETAIL_BYTES, DetailLine};
 pub use fault_texts::put_fault;
 pub use inputs::{INPUT_BYTES, read_input};
+pub use keys::{Form, Key};
+pub use reading::{CONFIG_BYTES, read_config};
 pub use socket_path::{PATH_BYTES, SocketPath};
 pub use summaries::summary;
+pub use warnings::put_warnings;

@@ -7,15 +7,13 @@ ghost use Rattle.toml.specs.View.{view, array_view, table_view};
 ghost use Rattle.swim_config.specs.Configuration.{member_of, members_of, members_at, array_of};
 ghost use Rattle.swim_config.specs.Reading.{Reads};
 
-use crate::config_fault::{ConfigFault, Key};
+use crate::config_fault::ConfigFault;
+use crate::keys::{Key, MEMBER_KEYS};
 use crate::values::{find, only_keys, take_id, take_peer};
 use std::alloc::Global;
 use swim_wire::{Id, Peer};
 use toml::value::Array;
 use toml::{Table, Value};
-
-/// The keys of a member.
-const MEMBER_KEYS: [Key; 2] = [Key::MemberId, Key::MemberAt];
 
 /// The members that a configuration names, in the order written.
 pub fn take_members(alloc: Global, table: &Table) -> Result<Vec<(Id, Peer)>, ConfigFault>
@@ -64,7 +62,7 @@ fn read_members(alloc: Global, values: &Array) -> Result<Vec<(Id, Peer)>, Config
 
 /// A member: its id and its address.
 #[tactic(auto, unfolding(crate::specs::Configuration::member_of))]
-fn read_member(value: &Value) -> Result<(Id, Peer), ConfigFault>
+pub fn read_member(value: &Value) -> Result<(Id, Peer), ConfigFault>
     ensures { result ≡ member_of (view value.now) }
 {
     let table = value.as_table().ok_or(ConfigFault::Kind(Key::Member))?;

@@ -1,11 +1,13 @@
 //! The summary of a configuration.
 
-ghost use Rattle.std.specs.Prelude.{◌≡◌, ◌++◌};
+ghost use Rattle.std.specs.Prelude.{◌≡◌, length};
 ghost use Rattle.swim_wire.specs.Streams.{Puts, failures_if};
-ghost use Rattle.swim_config.specs.Summary.{head_text, member_text, members_text, summary_text};
+ghost use Rattle.swim_config.specs.Summary.{all_members_text, count_text, mark_of, member_text, members_text, number_text};
+ghost use Rattle.swim_config.specs.Summary.{numbers_and_members_text, numbers_text, place_text, summary_text, told_text};
 
 use crate::config::Config;
-use swim_history::{Row, table_of};
+use crate::keys::{Key, NUMBER_KEYS};
+use swim_history::{Opening, Row, table_of};
 use swim_wire::{Piece, Sink, put_pieces};
 
 /// Writes what a configuration says, its members ascending by id, and answers whether the sink took it.
@@ -13,40 +15,105 @@ pub fn summary<W: Sink>(config: &Config, writer: &mut W) -> bool
     ensures bytes { Puts (W.written writer.old) (W.written writer.new) (summary_text config.now) result }
     ensures failures { W.failures writer.new ≡ failures_if (W.failures writer.old) result }
 {
-    if !put_head(writer, config) {
+    if !put_place(writer, config) {
         return false;
     }
-    let members = table_of(config.opening.rows());
-    put_members(writer, members.as_slice())
+    put_numbers_and_members(writer, config)
 }
 
-/// All lines but those of the members.
-fn put_head<W: Sink>(writer: &mut W, config: &Config) -> bool
-    ensures bytes { Puts (W.written writer.old) (W.written writer.new) (head_text config.now) result }
+/// Who this member is, and where it listens.
+fn put_place<W: Sink>(writer: &mut W, config: &Config) -> bool
+    ensures bytes { Puts (W.written writer.old) (W.written writer.new) (place_text config.now) result }
     ensures failures { W.failures writer.new ≡ failures_if (W.failures writer.old) result }
 {
-    let opening = &config.opening;
     let pieces = [
         Piece::Text(b"id "),
-        Piece::Number(u64::from(opening.me().get())),
+        Piece::Number(u64::from(config.opening.me().get())),
         Piece::Text(b"\nlisten "),
         Piece::Address(config.listen),
         Piece::Text(b"\ncontrol "),
         Piece::Text(config.control.as_str().as_bytes()),
-        Piece::Text(b"\nk "),
-        Piece::Number(u64::from(opening.k())),
-        Piece::Text(b" rtt "),
-        Piece::Number(u64::from(opening.rtt())),
-        Piece::Text(b" period "),
-        Piece::Number(u64::from(opening.period())),
-        Piece::Text(b" tick_ms "),
-        Piece::Number(u64::from(config.tick_ms)),
-        Piece::Text(b" last "),
-        Piece::Number(opening.last()),
-        Piece::Text(b" journal "),
-        Piece::Number(u64::from(config.journal)),
+    ];
+    put_pieces(writer, &pieces)
+}
+
+/// The numbers of the keys that have some, and what follows.
+fn put_numbers_and_members<W: Sink>(writer: &mut W, config: &Config) -> bool
+    ensures bytes { Puts (W.written writer.old) (W.written writer.new) (numbers_and_members_text config.now) result }
+    ensures failures { W.failures writer.new ≡ failures_if (W.failures writer.old) result }
+{
+    if !put_numbers(writer, config, &NUMBER_KEYS) {
+        return false;
+    }
+    put_all_members(writer, &config.opening)
+}
+
+/// The numbers of these keys, as far as they have some.
+fn put_numbers<W: Sink>(writer: &mut W, config: &Config, keys: &[Key]) -> bool
+    ensures bytes { Puts (W.written writer.old) (W.written writer.new) (numbers_text config.now keys.now) result }
+    ensures failures { W.failures writer.new ≡ failures_if (W.failures writer.old) result }
+{
+    let [key, others @ ..] = keys else {
+        return writer.put(b"");
+    };
+    if !put_key(writer, config, key) {
+        return false;
+    }
+    put_numbers(writer, config, others)
+}
+
+/// A key and its number, if it has one.
+fn put_key<W: Sink>(writer: &mut W, config: &Config, key: &Key) -> bool
+    ensures bytes { Puts (W.written writer.old) (W.written writer.new) (told_text config.now key.now) result }
+    ensures failures { W.failures writer.new ≡ failures_if (W.failures writer.old) result }
+{
+    put_number(writer, *key, config.number(*key))
+}
+
+fn put_number<W: Sink>(writer: &mut W, key: Key, number: Option<u64>) -> bool
+    ensures bytes { Puts (W.written writer.old) (W.written writer.new) (number_text key number) result }
+    ensures failures { W.failures writer.new ≡ failures_if (W.failures writer.old) result }
+{
+    let Some(number) = number else {
+        return writer.put(b"");
+    };
+    let pieces = [
+        Piece::Text(mark_of(key)),
+        Piece::Text(key.name().as_bytes()),
+        Piece::Text(b" "),
+        Piece::Number(number),
+    ];
+    put_pieces(writer, &pieces)
+}
+
+/// What stands before a key.
+fn mark_of(key: Key) -> &'static [u8]
+    ensures { result.now ≡ mark_of key }
+{
+    if key.begins_line() { b"\n" } else { b" " }
+}
+
+/// How many members there are, and a line for each, ascending by id.
+fn put_all_members<W: Sink>(writer: &mut W, opening: &Opening) -> bool
+    ensures bytes { Puts (W.written writer.old) (W.written writer.new) (all_members_text opening.now.rows) result }
+    ensures failures { W.failures writer.new ≡ failures_if (W.failures writer.old) result }
+{
+    let members = opening.rows();
+    if !put_count(writer, members) {
+        return false;
+    }
+    let sorted = table_of(members);
+    put_members(writer, sorted.as_slice())
+}
+
+/// How many members there are.
+fn put_count<W: Sink>(writer: &mut W, members: &[Row]) -> bool
+    ensures bytes { Puts (W.written writer.old) (W.written writer.new) (count_text (length members.now)) result }
+    ensures failures { W.failures writer.new ≡ failures_if (W.failures writer.old) result }
+{
+    let pieces = [
         Piece::Text(b"\nmembers "),
-        Piece::Number(opening.rows().len() as u64),
+        Piece::Number(members.len() as u64),
         Piece::Text(b"\n"),
     ];
     put_pieces(writer, &pieces)

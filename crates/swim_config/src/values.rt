@@ -1,15 +1,18 @@
 //! The values of keys.
 
-ghost use Rattle.std.specs.Prelude.{◌≡◌, ◌≤◌, Some, IfOk, IfSome, option_map, string_bytes};
+ghost use Rattle.std.specs.Prelude.{◌≡◌, ◌≤◌, Some, None, IfOk, IfSome, option_map, string_bytes};
 ghost use Rattle.std.specs.BTreeMap.{keys};
 ghost use Rattle.std.specs.List.{list_all};
 ghost use Rattle.std.specs.Result.{result_map_both};
 ghost use Rattle.toml.specs.Data.{get_member};
 ghost use Rattle.toml.specs.View.{view, table_view};
-ghost use Rattle.swim_config.specs.Configuration.{name_of, is_name, only_keys, value_at, within, number_in, number_at};
-ghost use Rattle.swim_config.specs.Configuration.{text_at, peer_at, path_at, seed_at, last_at};
+ghost use Rattle.swim_config.specs.Configuration.{is_name, only_keys, value_at, within, number_as, number_at};
+ghost use Rattle.swim_config.specs.Configuration.{text_at, peer_at, path_at, seed_at};
+ghost use Rattle.swim_config.specs.Keys.{name_of, form_of, default_of};
+ghost use Rattle.swim_config.specs.Reading.{IsWithin, IsSmall};
 
-use crate::config_fault::{ConfigFault, Key};
+use crate::config_fault::ConfigFault;
+use crate::keys::{Form, Key};
 use crate::socket_path::SocketPath;
 use hex::FromHex;
 use swim_wire::{Id, Peer};
@@ -55,15 +58,6 @@ fn take(table: &Table, key: Key) -> Result<&Value, ConfigFault>
     find(table, key).ok_or(ConfigFault::Missing(key))
 }
 
-/// A value as a number from `least` to `most`.
-fn number_in(value: &Value, key: Key, least: u64, most: u64) -> Result<u64, ConfigFault>
-    ensures value { result ≡ number_in key least most (view value.now) }
-    ensures within { IfOk result (λ number. (least ≤ number) × (number ≤ most)) }
-{
-    let integer = value.as_integer().ok_or(ConfigFault::Kind(key))?;
-    within(integer, least, most).ok_or(ConfigFault::Range(key))
-}
-
 /// The number that an integer is, if it is one from `least` to `most`.
 fn within(integer: i64, least: u64, most: u64) -> Option<u64>
     ensures value { result ≡ within least most integer }
@@ -77,21 +71,46 @@ fn within(integer: i64, least: u64, most: u64) -> Option<u64>
     }
 }
 
-/// The value of a key as a number from `least` to `most`.
-pub fn take_number(table: &Table, key: Key, least: u32, most: u32) -> Result<u32, ConfigFault>
-    ensures value { result ≡ number_at key least most (table_view table.now) }
-    ensures within { IfOk result (λ number. (least ≤ number) × (number ≤ most)) }
+/// A value as the number that a key has to have.
+fn number_as(value: &Value, key: Key) -> Result<u64, ConfigFault>
+    ensures value { result ≡ number_as (form_of key) key (view value.now) }
+    ensures within { IfOk result (IsWithin (form_of key)) }
 {
-    let value = take(table, key)?;
-    let number = number_in(value, key, u64::from(least), u64::from(most))?;
+    let Form::Number(least, most) = key.form() else {
+        return Err(ConfigFault::Kind(key));
+    };
+    let integer = value.as_integer().ok_or(ConfigFault::Kind(key))?;
+    within(integer, least, most).ok_or(ConfigFault::Range(key))
+}
+
+/// The number of a key, its default where it is left out.
+pub fn take_number(table: &Table, key: Key) -> Result<u64, ConfigFault>
+    ensures { result ≡ number_at key (table_view table.now) }
+{
+    match find(table, key) {
+        None => key.default().ok_or(ConfigFault::Missing(key)),
+        Some(value) => number_as(value, key),
+    }
+}
+
+/// The number of a key whose numbers fit 32 bits and that has no default.
+pub fn take_small(table: &Table, key: Key) -> Result<u32, ConfigFault>
+    requires small { IsSmall (form_of key) }
+    requires given { default_of key ≡ None }
+    ensures value { result ≡ number_at key (table_view table.now) }
+    ensures within { IfOk result (IsWithin (form_of key)) }
+{
+    let number = number_as(take(table, key)?, key)?;
     Ok(number as u32)
 }
 
 /// The value of a key as an id.
 pub fn take_id(table: &Table, key: Key) -> Result<Id, ConfigFault>
-    ensures { result ≡ number_at key 1 4294967295 (table_view table.now) }
+    requires range { form_of key ≡ Form.Number 1 4294967295 }
+    requires given { default_of key ≡ None }
+    ensures { result ≡ number_at key (table_view table.now) }
 {
-    let number = take_number(table, key, 1, u32::MAX)?;
+    let number = take_small(table, key)?;
     Id::new(number).ok_or(ConfigFault::Range(key))
 }
 
@@ -126,14 +145,4 @@ pub fn take_seed(table: &Table) -> Result<[u8; 32], ConfigFault>
     let text = take_text(table, Key::Seed)?;
     let seed = <[u8; 32]>::from_hex(text.as_bytes()).ok();
     seed.ok_or(ConfigFault::Seed)
-}
-
-/// The last period number that was used before, 0 where none is given.
-pub fn take_last(table: &Table) -> Result<u64, ConfigFault>
-    ensures { result ≡ last_at (table_view table.now) }
-{
-    match find(table, Key::Last) {
-        None => Ok(0),
-        Some(value) => number_in(value, Key::Last, 0, i64::MAX as u64),
-    }
 }

@@ -1,1 +1,2 @@
+mod causes;
 mod configurations;

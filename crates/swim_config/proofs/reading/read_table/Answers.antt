@@ -1,8 +1,9 @@
 use Rattle.std.proofs.Common.{◌≡◌, Ok, Err, sym, ◌∙◌, inr, rules}
 use Rattle.toml.specs.View.{table_view}
-use Rattle.swim_config.specs.Configuration.{members_at, only_keys, settings_in, top_keys}
+use Rattle.swim_config.specs.Configuration.{members_at, only_keys, settings_in}
+use Rattle.swim_config.specs.Keys.{top_keys}
 use Rattle.swim_config.proofs.Wholes.{fault_of_keys, fault_of_settings, by_members, fault_of_members, whole_of_members}
-use Rattle.swim_config.proofs.config.read_table.Goals as goal
+use Rattle.swim_config.proofs.reading.read_table.Goals as goal
 
 pub returns-in_err-only_keys : goal.returns-in_err-only_keys
 returns-in_err-only_keys c =

@@ -4,8 +4,8 @@ use Rattle.std.proofs.lemmas.Bool.{cases_Bool, false≢true}
 use Rattle.std.proofs.lemmas.Str.{is_utf8-from_IsUtf8, IsUtf8-from_is_utf8}
 use Rattle.toml.specs.Parse.{parse_document}
 use Rattle.swim_config.specs.Configuration.{document_of}
-use Rattle.swim_config.proofs.config.read_document.Goals as goal
-use Rattle.swim_config.proofs.config.read_document.Goals.{then-is_memory, else-is_memory}
+use Rattle.swim_config.proofs.reading.read_document.Goals as goal
+use Rattle.swim_config.proofs.reading.read_document.Goals.{then-is_memory, else-is_memory}
 
 -- bytes that are UTF-8 at the most where they are no document
 no_document : (bytes : List ℕ) → (IsUtf8 bytes → parse_document bytes ≡ None) → document_of bytes ≡ None

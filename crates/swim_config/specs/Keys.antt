@@ -1,0 +1,88 @@
+-- The keys of a configuration, as one table.
+use Rattle.std.specs.Prelude.{ℕ, Bool, true, false, List, [], ◌∷◌, Option, Some, None, codes}
+use Rattle.swim_config.specs.declared.keys.Form.{Form}
+use Rattle.swim_config.specs.declared.keys.Form.TheVariants.{Number, Peer, Path, Seed, Members}
+use Rattle.swim_config.specs.declared.keys.Key.{Key}
+use Rattle.swim_config.specs.declared.keys.Key.TheVariants as keys
+
+-- what the table says of a key: its name where it stands, what its value has to be, the number that it has where it is left
+-- out, what it is for, and whether its number begins a line of the summary
+pub record KeyEntry : Type 0 where
+  pub name : List ℕ
+  pub form : Form
+  pub default : Option ℕ
+  pub about : List ℕ
+  pub begins_line : Bool
+
+-- an entry without a default, whose number begins no line
+abbrev pub required : List ℕ → Form → List ℕ → KeyEntry
+required name form about =
+    record { name = name; form = form; default = None; about = about; begins_line = false }
+
+-- the table
+abbrev pub entry_of : Key → KeyEntry
+entry_of keys.Id = required (codes "id") (Number 1 4294967295) (codes "this member")
+entry_of keys.Listen = required (codes "listen") Peer (codes "where its datagrams come in")
+entry_of keys.Control = required (codes "control") Path (codes "the path of the control socket")
+entry_of keys.K =
+    record {
+      name = codes "k";
+      form = Number 0 4294967295;
+      default = None;
+      about = codes "how many relays are asked, at most 8";
+      begins_line = true;
+    }
+entry_of keys.Rtt =
+    required (codes "rtt") (Number 0 4294967295) (codes "ticks for which a direct ack is waited for, at least 1")
+entry_of keys.Period =
+    required (codes "period") (Number 0 4294967295) (codes "ticks of a period, from three times rtt to 65535")
+entry_of keys.TickMs = required (codes "tick_ms") (Number 1 60000) (codes "milliseconds of a tick")
+entry_of keys.Seed = required (codes "seed") Seed (codes "what orders and places are drawn from")
+entry_of keys.Journal = required (codes "journal") (Number 1 1000000) (codes "the most entries of the journal")
+entry_of keys.Last =
+    record {
+      name = codes "last";
+      form = Number 0 9223372036854775807;
+      default = Some 0;
+      about = codes "the last period number that was used before";
+      begins_line = false;
+    }
+entry_of keys.Member = required (codes "member") Members (codes "the other members, at most 128")
+entry_of keys.MemberId = required (codes "id") (Number 1 4294967295) (codes "another member")
+entry_of keys.MemberAt = required (codes "at") Peer (codes "where another member listens")
+
+-- the keys of a configuration, and those of a member, in the order in which their faults are told
+abbrev pub top_keys : List Key
+top_keys =
+    keys.Id ∷ keys.Listen ∷ keys.Control ∷ keys.K ∷ keys.Rtt ∷ keys.Period ∷ keys.TickMs ∷ keys.Seed ∷ keys.Journal ∷
+    keys.Last ∷ keys.Member ∷ []
+
+abbrev pub member_keys : List Key
+member_keys = keys.MemberId ∷ keys.MemberAt ∷ []
+
+-- those whose numbers a summary tells behind its first three lines, in this order
+abbrev pub number_keys : List Key
+number_keys = keys.K ∷ keys.Rtt ∷ keys.Period ∷ keys.TickMs ∷ keys.Last ∷ keys.Journal ∷ []
+
+-- ---- what follows of a key
+
+abbrev pub name_of : Key → List ℕ
+name_of key = (entry_of key).name
+
+abbrev pub form_of : Key → Form
+form_of key = (entry_of key).form
+
+abbrev pub default_of : Key → Option ℕ
+default_of key = (entry_of key).default
+
+abbrev pub about_of : Key → List ℕ
+about_of key = (entry_of key).about
+
+abbrev pub begins_line : Key → Bool
+begins_line key = (entry_of key).begins_line
+
+-- a key, as faults name it
+abbrev pub key_text : Key → List ℕ
+key_text keys.MemberId = codes "member.id"
+key_text keys.MemberAt = codes "member.at"
+key_text key = name_of key

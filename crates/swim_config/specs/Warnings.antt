@@ -1,0 +1,118 @@
+-- What a configuration allows and can't work, as it is warned of.
+use Rattle.std.specs.Prelude.{ℕ, ◌+◌, ◌*◌, ◌-◌, Bool, ◌&&◌, ◌==◌, nat_lt, nat_le, List, [], ◌∷◌, ◌++◌, length, slice_index}
+use Rattle.std.specs.Prelude.{if◌then◌else◌, codes, decimal}
+use Rattle.std.specs.List.{list_all}
+use Rattle.std.specs.Str.{bytes_eq}
+use Rattle.swim_wire.specs.Address.{Address, address_text}
+use Rattle.swim_history.specs.Setting.{Setting}
+use Rattle.swim_history.specs.declared.rows.Row.{Row}
+use Rattle.swim_config.specs.declared.config.Config.{Config}
+
+-- the text where it applies
+abbrev pub text_if : Bool → List ℕ → List ℕ
+text_if applies text = if applies then text else []
+
+-- ---- the journal
+
+-- the entries of three rounds: a round has as many periods as members are listed, each of them its ticks and two entries more,
+-- and it has two entries for each other member
+abbrev pub three_rounds : Setting → ℕ
+three_rounds o = 3 * (length o.rows * (o.period + 2) + 2 * length o.rows)
+
+abbrev pub journal_text : ℕ → ℕ → List ℕ
+journal_text journal wanted =
+    codes "warning: journal " ++ (decimal journal
+    ++ (codes " is shorter than three rounds, which take " ++ (decimal wanted ++ codes " entries\n")))
+
+abbrev pub short_journal_text : ℕ → ℕ → List ℕ
+short_journal_text journal wanted = text_if (nat_lt journal wanted) (journal_text journal wanted)
+
+-- ---- addresses
+
+abbrev pub is_same_address : Address → Address → Bool
+is_same_address a b = bytes_eq a.ip b.ip && a.port == b.port
+
+-- a member is where this member listens
+abbrev pub own_line : ℕ → Address → List ℕ
+own_line id listen =
+    codes "warning: member " ++ (decimal id
+    ++ (codes " is at this member's own address, " ++ (address_text listen ++ codes "\n")))
+
+abbrev pub own_address_text : Address → Row → List ℕ
+own_address_text listen row = text_if (is_same_address row.peer listen) (own_line row.id listen)
+
+abbrev pub own_addresses_text : Address → List Row → List ℕ
+own_addresses_text listen [] = []
+own_addresses_text listen (row ∷ rows) = own_address_text listen row ++ own_addresses_text listen rows
+
+-- a member, and the next one at its address
+abbrev pub shared_line : ℕ → ℕ → Address → List ℕ
+shared_line first second at =
+    codes "warning: members " ++ (decimal first
+    ++ (codes " and " ++ (decimal second
+    ++ (codes " are at one address, " ++ (address_text at ++ codes "\n")))))
+
+abbrev pub shared_address_text : Row → List Row → List ℕ
+shared_address_text row [] = []
+shared_address_text row (other ∷ others) =
+    if is_same_address row.peer other.peer then shared_line row.id other.id row.peer else shared_address_text row others
+
+abbrev pub shared_addresses_text : List Row → List ℕ
+shared_addresses_text [] = []
+shared_addresses_text (row ∷ rows) = shared_address_text row rows ++ shared_addresses_text rows
+
+-- ---- relays, periods and the seed
+
+-- so many are asked, and fewer of the members that are listed could relay a ping: all but the one that is probed
+abbrev pub has_few_relays : ℕ → ℕ → Bool
+has_few_relays relays members = nat_lt 0 members && nat_le members relays
+
+abbrev pub relays_text : ℕ → ℕ → List ℕ
+relays_text relays could_relay =
+    codes "warning: k " ++ (decimal relays
+    ++ (codes " is greater than the members that could relay, " ++ (decimal could_relay ++ codes "\n")))
+
+abbrev pub few_relays_text : ℕ → ℕ → List ℕ
+few_relays_text relays members = text_if (has_few_relays relays members) (relays_text relays (members - 1))
+
+abbrev pub period_ms : Config → ℕ
+period_ms config = config.opening.period * config.tick_ms
+
+abbrev pub period_text : ℕ → List ℕ
+period_text milliseconds =
+    codes "warning: a period has " ++ (decimal milliseconds ++ codes " milliseconds, which is beyond a day\n")
+
+-- it is one byte again and again
+abbrev pub is_plain : List ℕ → Bool
+is_plain bytes = list_all (λ byte. byte == slice_index bytes 0) bytes
+
+-- ---- all of them
+
+abbrev pub long_period_text : ℕ → List ℕ
+long_period_text milliseconds = text_if (nat_lt 86400000 milliseconds) (period_text milliseconds)
+
+abbrev pub plain_seed_text : List ℕ → List ℕ
+plain_seed_text seed =
+    text_if (is_plain seed) (codes "warning: seed is one byte again and again, which anybody may guess\n")
+
+-- of the period and the seed
+abbrev pub times_text : Config → List ℕ
+times_text config = long_period_text (period_ms config) ++ plain_seed_text config.seed
+
+-- of the relays, and what follows
+abbrev pub relays_and_times_text : Config → List ℕ
+relays_and_times_text config = few_relays_text config.opening.k (length config.opening.rows) ++ times_text config
+
+-- of members at one address, and what follows
+abbrev pub shared_and_more_text : Config → List ℕ
+shared_and_more_text config = shared_addresses_text config.opening.rows ++ relays_and_times_text config
+
+-- of members at this member's own address, and what follows
+abbrev pub addresses_and_more_text : Config → List ℕ
+addresses_and_more_text config =
+    own_addresses_text config.listen config.opening.rows ++ shared_and_more_text config
+
+-- the whole, each where it applies, in this order
+abbrev pub warnings_text : Config → List ℕ
+warnings_text config =
+    short_journal_text config.journal (three_rounds config.opening) ++ addresses_and_more_text config

@@ -1,0 +1,86 @@
+//! Causes below the lines of faults, and warnings.
+
+use std::alloc::Global;
+use swim_config::{ConfigFault, put_cause, put_warnings, read_config};
+use swim_wire::Page;
+
+/// A configuration that can't work in any of the ways that are warned of.
+const DOUBTFUL: &str = "id = 1
+listen = \"10.0.0.1:7000\"
+control = \"/tmp/swimd.sock\"
+k = 3
+rtt = 1
+period = 1500
+tick_ms = 60000
+seed = \"4242424242424242424242424242424242424242424242424242424242424242\"
+journal = 13535
+[[member]]
+id = 4
+at = \"10.0.0.4:7000\"
+[[member]]
+id = 2
+at = \"10.0.0.1:7000\"
+[[member]]
+id = 3
+at = \"10.0.0.4:7000\"
+";
+
+/// Its warnings. A round has 3 periods of 1502 entries, and 2 entries for each of 3 members: three have 13536.
+const WARNINGS: &str =
+    "warning: journal 13535 is shorter than three rounds, which take 13536 entries
+warning: member 2 is at this member's own address, 10.0.0.1:7000
+warning: members 4 and 3 are at one address, 10.0.0.4:7000
+warning: k 3 is greater than the members that could relay, 2
+warning: a period has 90000000 milliseconds, which is beyond a day
+warning: seed is one byte again and again, which anybody may guess
+";
+
+/// Writes the cause of a document's fault.
+fn put_cause_of(alloc: Global, document: &str, page: &mut Page) -> Option<ConfigFault> {
+    match read_config(alloc, document.as_bytes()) {
+        Ok(_) => None,
+        Err(fault) => {
+            let _is_put = put_cause(alloc, page, document.as_bytes(), fault);
+            Some(fault)
+        }
+    }
+}
+
+#[test]
+fn tells_what_was_expected_and_what_stood_there(rt: HostRuntime) {
+    let mut page = Page::new(rt.alloc());
+    let document = "# of a test\n\nid = 1 # this\nlisten = \"10.0.0.1\"\r\n";
+    assert!(rt; put_cause_of(rt.alloc(), document, &mut page).is_some());
+    let wanted = "  expected: a string IP:PORT, as 10.0.0.1:7000 (where its datagrams come in)
+  line 4: listen = \"10.0.0.1\"
+";
+    assert_eq!(rt; page.text(), wanted.as_bytes());
+}
+
+#[test]
+fn finds_no_key_in_a_text(rt: HostRuntime) {
+    let mut page = Page::new(rt.alloc());
+    let document = "id = 1\ncontrol = '''\nlisten = 2\n'''\nlisten = 3\n";
+    assert!(rt; put_cause_of(rt.alloc(), document, &mut page).is_some());
+    let wanted = "  expected: a string IP:PORT, as 10.0.0.1:7000 (where its datagrams come in)
+  line 5: listen = 3
+";
+    assert_eq!(rt; page.text(), wanted.as_bytes());
+}
+
+#[test]
+fn tells_nothing_of_refused_memory(rt: HostRuntime) {
+    let mut page = Page::new(rt.alloc());
+    assert!(rt; put_cause(rt.alloc(), &mut page, b"", ConfigFault::NoMemory));
+    assert_eq!(rt; page.text(), b"".as_slice());
+}
+
+#[test]
+fn warns_of_all(rt: HostRuntime) {
+    let mut page = Page::new(rt.alloc());
+    match read_config(rt.alloc(), DOUBTFUL.as_bytes()) {
+        Ok(config) => assert!(rt; put_warnings(&mut page, &config)),
+        Err(fault) => assert_eq!(rt; fault, ConfigFault::Size),
+    }
+    assert_eq!(rt; page.text(), WARNINGS.as_bytes());
+}

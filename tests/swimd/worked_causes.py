@@ -1,0 +1,124 @@
+"""What `swimd check` has to write on standard error of configurations, whole: below the line of a fault what was expected and what
+stood there, and the warnings of what can't work. All is worked out by hand from docs/FORMATS.md.
+
+`worked_causes()` gives (name, document, standard output, standard error, status), as `worked_configs()` does.
+"""
+
+from tests.swimd.worked_configs import ALONE, FULL, SUMMARY, SUMMARY_ALONE, numbered_members, replaced, with_member, with_value
+from tests.swimd.worked_configs import LINES
+
+
+def caused(name, document, fault, *lines):
+    text = document if isinstance(document, bytes) else document.encode()
+    return name, text, b"", "".join(f"{it}\n" for it in [f"configuration {fault}", *(f"  {it}" for it in lines)]).encode(), 1
+
+
+def warned(name, document, stdout, *lines):
+    return name, document.encode(), stdout.encode(), "".join(f"warning: {it}\n" for it in lines).encode(), 0
+
+
+def texts():
+    yield caused("a byte too many", FULL + "#" * (65_537 - len(FULL)), "1", "expected: at most 65536 bytes")
+    toml = "expected: a TOML document, in UTF-8"
+    why = "line 4, column 5: invalid value, expected a string, number, boolean, date-time, array or inline table"
+    yield caused("no value", replaced("k = 1", "k = tru"), "2", toml, why, "line 4: k = tru")
+    latin = FULL.encode().replace(b"/tmp", b"/\xff\x1b")
+    yield caused("no UTF-8", latin, "2", toml, "line 3, column 13: invalid UTF-8", 'line 3: control = "/??/swimd.sock"')
+
+
+def keys():
+    unknown = replaced(LINES["tick_ms"], "tick-ms = 1000")
+    yield caused("an unknown key", unknown, "3", "found: tick-ms; the nearest known key: tick_ms", "line 7: tick-ms = 1000")
+    table = FULL + "\n[[jurnal]]\nsize = 3\n"
+    yield caused("an unknown table", table, "3", "found: jurnal; the nearest known key: journal", "line 19: [[jurnal]]")
+    quoted = replaced(LINES["k"], '"k\\u001b" = 1')
+    yield caused("an unknown key with a sign", quoted, "3", "found: k?; the nearest known key: k", 'line 4: "k\\u001b" = 1')
+    more = with_member('id = 2\nat = "10.0.0.2:7000"\nadress = 3')
+    yield caused("an unknown key of a member", more, "3", "found: adress; the nearest known key: id", "line 14: adress = 3")
+
+
+def values():
+    port = "expected: a string IP:PORT, as 10.0.0.1:7000 (where its datagrams come in)"
+    yield caused("no `listen`", replaced(LINES["listen"], ""), "4 listen", port, "found: no such key")
+    yield caused("a name", with_value("listen", '"localhost:7000"'), "7 listen", port, 'line 2: listen = "localhost:7000"')
+    tick = "expected: an integer from 1 to 60000 (milliseconds of a tick)"
+    yield caused("no tick", with_value("tick_ms", "0 # none"), "6 tick_ms", tick, "line 7: tick_ms = 0 # none")
+    yield caused("a tick in quotes", with_value("tick_ms", '"1000"'), "5 tick_ms", tick, 'line 7: tick_ms = "1000"')
+    path = "expected: a string of 1 to 100 characters of ASCII that print (the path of the control socket)"
+    yield caused("no path", with_value("control", '""'), "6 control", path, 'line 3: control = ""')
+    seed = "expected: a string of 64 hexadecimal digits (what orders and places are drawn from)"
+    yield caused("a short seed", with_value("seed", '"12"'), "8 seed", seed, 'line 8: seed = "12"')
+    relays = "expected: an integer from 0 to 4294967295 (how many relays are asked, at most 8)"
+    yield caused("fewer than no relays", with_value("k", "-1"), "6 k", relays, "line 4: k = -1")
+    rtt = "expected: an integer from 0 to 4294967295 (ticks for which a direct ack is waited for, at least 1)"
+    yield caused("no integer", with_value("rtt", "1.5"), "5 rtt", rtt, "line 5: rtt = 1.5")
+    period = "expected: an integer from 0 to 4294967295 (ticks of a period, from three times rtt to 65535)"
+    yield caused("no `period`", replaced(LINES["period"], ""), "4 period", period, "found: no such key")
+    me = "expected: an integer from 1 to 4294967295 (this member)"
+    yield caused("member 0", with_value("id", "0"), "6 id", me, "line 1: id = 0")
+    journal = "expected: an integer from 1 to 1000000 (the most entries of the journal)"
+    yield caused("a long journal", with_value("journal", "1_000_001"), "6 journal", journal, "line 9: journal = 1_000_001")
+    last = "expected: an integer from 0 to 9223372036854775807 (the last period number that was used before)"
+    yield caused("`last` below 0", "\n last= -1\n" + FULL, "6 last", last, "line 2:  last= -1")
+    text = with_value("control", '"""\\\nlisten = 1"""', replaced(LINES["listen"], "")) + ""
+    hidden = text.replace("k = 1\n", "listen = 2 # \u00e9\nk = 1\n")
+    yield caused("a key within a text", hidden, "5 listen", port, "line 4: listen = 2 # ??")
+
+
+def members():
+    all_of_them = "expected: an array of tables, each with id and at (the other members, at most 128)"
+    yield caused("`member` is a number", ALONE + "member = 1\n", "5 member", all_of_them, "line 10: member = 1")
+    table = ALONE + '\n[member]\nid = 2\nat = "10.0.0.2:7000"\n'
+    yield caused("`member` is a table", table, "5 member", all_of_them, "line 11: [member]")
+    at = "expected: a string IP:PORT, as 10.0.0.1:7000 (where another member listens)"
+    second = FULL.replace('at = "10.0.0.2:7000"\n', "")
+    yield caused("the second has no address", second, "4 member.at", at, "found: no such key", "line 15: [[member]]")
+    other = FULL.replace('"10.0.0.2:7000"', '"10.0.0.2"')
+    yield caused("the second's address", other, "7 member.at", at, 'line 17: at = "10.0.0.2"')
+    id = "expected: an integer from 1 to 4294967295 (another member)"
+    yield caused("the first's id", FULL.replace("id = 3", "id = 0"), "6 member.id", id, "line 12: id = 0")
+    inline = ALONE + 'member = [{id = 0, at = "10.0.0.2:7000"}]\n'
+    yield caused("members in one line", inline, "6 member.id", id, 'line 10: member = [{id = 0, at = "10.0.0.2:7000"}]')
+
+
+def openings():
+    yield caused("too many relays", with_value("k", "9"), "9 1", "expected: k of at most 8", "line 4: k = 9")
+    times = "expected: rtt of at least 1, and period from three times rtt to 65535"
+    yield caused("a short period", with_value("period", "2"), "9 2", times, "line 5: rtt = 1", "line 6: period = 2")
+    many = ALONE + numbered_members(2, 129)
+    yield caused("129 members", many, "9 3", "expected: at most 128 members", "line 523: [[member]]")
+    own = with_member('id = 1\nat = "10.0.0.2:7000"')
+    same = "expected: members with other ids than this one"
+    yield caused("this member", own, "9 4", same, "line 1: id = 1", "line 12: id = 1")
+    twice = ALONE + numbered_members(2, 3) + numbered_members(3, 1)
+    yield caused("a member twice", twice, "9 5", "expected: each member once", "line 16: id = 3", "line 24: id = 3")
+
+
+def warnings():
+    # a round of two members: 2 periods of 3 + 2 entries, and 2 entries for each
+    short = "journal 41 is shorter than three rounds, which take 42 entries"
+    yield warned("a short journal", with_value("journal", "41"), SUMMARY.replace("journal 1000", "journal 41"), short)
+    yield warned("a journal of three rounds", with_value("journal", "42"), SUMMARY.replace("journal 1000", "journal 42"))
+    own = FULL.replace("10.0.0.3:7000", "10.0.0.1:7000")
+    wanted = SUMMARY.replace("10.0.0.3:7000", "10.0.0.1:7000")
+    yield warned("its own address", own, wanted, "member 3 is at this member's own address, 10.0.0.1:7000")
+    one = FULL.replace("10.0.0.3:7000", "10.0.0.2:7000")
+    wanted = SUMMARY.replace("10.0.0.3:7000", "10.0.0.2:7000")
+    yield warned("one address", one, wanted, "members 3 and 2 are at one address, 10.0.0.2:7000")
+    other_port = FULL.replace("10.0.0.3:7000", "10.0.0.2:7001")
+    yield warned("one IP, and two ports", other_port, SUMMARY.replace("10.0.0.3:7000", "10.0.0.2:7001"))
+    few = "k 2 is greater than the members that could relay, 1"
+    yield warned("few relays", with_value("k", "2"), SUMMARY.replace("k 1 ", "k 2 "), few)
+    yield warned("nobody is listed", with_value("k", "8", ALONE), SUMMARY_ALONE.replace("k 1 ", "k 8 "))
+    long = with_value("period", "1441", with_value("tick_ms", "60000", with_value("journal", "100000")))
+    wanted = SUMMARY.replace("period 3 tick_ms 1000 last 0 journal 1000", "period 1441 tick_ms 60000 last 0 journal 100000")
+    yield warned("more than a day", long, wanted, "a period has 86460000 milliseconds, which is beyond a day")
+    yield warned("a day", long.replace("1441", "1440"), wanted.replace("1441", "1440"))
+    plain = with_value("seed", '"' + "a5" * 32 + '"')
+    yield warned("one byte", plain, SUMMARY, "seed is one byte again and again, which anybody may guess")
+    yield warned("one digit but the last", with_value("seed", '"' + "1" * 63 + '2"'), SUMMARY)
+
+
+def worked_causes():
+    for part in (texts, keys, values, members, openings, warnings):
+        yield from part()
