@@ -1,6 +1,9 @@
 pub mod Desk
+pub mod Draws
 pub mod Endings
 pub mod Ends
 pub mod Gates
 pub mod Lives
+pub mod Notices
 pub mod Pacing
+pub mod Places

@@ -8,11 +8,13 @@ use Rattle.swim_node.specs.declared.receipts.OpenFault.{OpenFault}
 use Rattle.swim_node.specs.declared.receipts.OpenFault.TheVariants as faults
 use Rattle.swim_node.specs.OneHistory.{IsOneHistory}
 use Rattle.swim_node.specs.Seats.{Seated}
+use Rattle.swim_targets.specs.Draws.{DrawsOrder, DrawsPlace, of_seed}
 use Rattle.swim_life.specs.declared.counts.Why.{Why}
 use Rattle.swim_life.specs.declared.counts.Why.TheVariants as whys
 use Rattle.swim_life.specs.declared.lives.LivesEnd.{LivesEnd}
 use Rattle.swim_life.specs.declared.lives.LivesEnd.TheVariants.{Stopped, Socket, NoMemory, NoPlace}
 use Rattle.swim_life.specs.declared.lives.Past.{Past}
+use Rattle.swim_life.specs.Draws.{WasDrawn}
 use Rattle.swim_life.specs.Endings.{TellsLife, TellsText, Written, stopped_text}
 
 -- a life from this opening: its journal is one history, with the calls of some four seats, and has at most so many
@@ -28,13 +30,6 @@ abbrev pub opening_after : Setting → List Past → Setting
 opening_after first [] = first
 opening_after first (past ∷ before) = setting_after past.journal.opening past.journal.past
 
--- the first of these lives began with this opening, and each other one went on from the one before; no journal has more
--- entries than this limit
-abbrev pub AreLives : Setting → ℕ → List Past → Type 0
-AreLives first limit [] = Unit {0}
-AreLives first limit (past ∷ before) =
-    IsLife (opening_after first before) limit past × AreLives first limit before
-
 -- all of them were ended by a full journal, and none was told to stop
 abbrev pub AreFull : List Past → Type 0
 AreFull lives = AllByRecursion (λ past. (past.why ≡ whys.JournalFull) × (past.is_stopped ≡ false)) lives
@@ -42,6 +37,19 @@ AreFull lives = AllByRecursion (λ past. (past.why ≡ whys.JournalFull) × (pas
 -- the number of the life after these; it stops at 2^64-1
 abbrev pub number_after : List Past → ℕ
 number_after lives = min (length lives) (2 ^ 64 - 1)
+
+-- a life from this opening, whose choices were drawn from this stream of the seed
+abbrev pub IsDrawnLife : Setting → ℕ → List ℕ → ℕ → Past → Type 0
+IsDrawnLife first limit seed number past =
+    IsLife first limit past
+    × WasDrawn DrawsOrder DrawsPlace first (record (of_seed seed) { stream = number }) past.journal.past
+
+-- the first of these lives began with this opening, and each other one went on from the one before; no journal has more
+-- entries than this limit; and each life drew from the stream of its own number
+abbrev pub AreLives : Setting → ℕ → List ℕ → List Past → Type 0
+AreLives first limit seed [] = Unit {0}
+AreLives first limit seed (past ∷ before) =
+    IsDrawnLife (opening_after first before) limit seed (number_after before) past × AreLives first limit seed before
 
 -- each life was told by its line, as far as that was taken, and nothing else was written
 abbrev pub AreTold : Written → Written → List Past → Type 0
@@ -81,10 +89,11 @@ AreEnded lives old new end =
     ((new ≡ old) × IsEndedByLife lives end)
     ⊎ ((new ≡ old) × AreFull lives × ((fault : OpenFault) × (end ≡ end_without fault))) ⊎ IsStopped lives old new end
 
--- lives were lived from this opening, with journals of at most so many entries, and told; and they ended so
-pub record AreLived (opening : Setting) (limit : ℕ) (old new : Written) (end : LivesEnd) : Type 0 where
+-- lives were lived from this opening, with journals of at most so many entries and draws of this seed, and told; and
+-- they ended so
+pub record AreLived (opening : Setting) (limit : ℕ) (seed : List ℕ) (old new : Written) (end : LivesEnd) : Type 0 where
   pub lives : List Past
-  pub lived : AreLives opening limit lives
+  pub lived : AreLives opening limit seed lives
   pub after_lives : Written
   pub told : AreTold old after_lives lives
   pub ended : AreEnded lives after_lives new end

@@ -1,6 +1,7 @@
 //! The controller, the third of a life's workers: it serves the connections of a hall, each in its turn.
 
-ghost use Rattle.std.specs.Prelude.{◌≡◌};
+ghost use Rattle.std.specs.Prelude.{◌≡◌, ◌⊎◌, ◌↔◌, ◌+◌, ◌-◌, ◌^◌, ◌<◌, ◌≤◌, min, true, false, Some, Ok, Err};
+ghost use Rattle.std.specs.Option.{unwrap_or};
 ghost use Rattle.swim_life.specs.Ends.{why_at};
 
 use crate::counts::{Counts, Faults, Why};
@@ -15,6 +16,9 @@ use swim_control::{Served, Stand};
 use swim_node::{Naming, Node, Viewer};
 use swim_targets::Seeded;
 
+/// How many rounds of turns there are for each time that the door and the clock are asked.
+const ROUNDS: u32 = 16;
+
 /// The controller: takes in who comes, and serves all connections side by side. No reply to a control line sends a
 /// datagram.
 pub(crate) fn control<N: Naming, H: Wait + Drop, R: Wait, D: Door + Drop>(
@@ -27,32 +31,36 @@ pub(crate) fn control<N: Naming, H: Wait + Drop, R: Wait, D: Door + Drop>(
     hall: &mut Hall<D>,
 ) -> Ended<N, 2> {
     let mut desk = NodeDesk::new(node, held, viewer);
-    let mut faults = Faults::none();
-    let mut why = Why::Stopped;
-    let mut is_stopped = false;
-    for _turn in rt.forever() {
-        if over.load(Ordering::SeqCst) {
-            break;
-        }
-        let end = serve_next(rt, alloc, &mut desk, &mut faults, hall);
-        if let Some(end) = end {
-            why = end;
-            is_stopped = end == Why::Stopped;
-            break;
-        }
-    }
+    let end = serve_on(rt, alloc, over, &mut desk, hall);
     over.store(true, Ordering::SeqCst);
-    left(desk, why, is_stopped)
+    left(desk, end)
 }
 
-/// What the controller hands back: what its desk refused for want of memory is all that it counts.
-fn left<N: Naming, H: Wait + Drop>(
-    desk: NodeDesk<N, H, 2>,
-    why: Why,
-    is_stopped: bool,
-) -> Ended<N, 2>
-    ensures why { result.why ≡ why }
-    ensures stopped { result.is_stopped ≡ is_stopped }
+/// Serves until the life is over (`None`), or until the controller ends it, and why.
+fn serve_on<N: Naming, H: Wait + Drop, R: Wait, D: Door + Drop>(
+    rt: &R,
+    alloc: Global,
+    over: &AtomicBool,
+    desk: &mut NodeDesk<N, H, 2>,
+    hall: &mut Hall<D>,
+) -> Option<Why> {
+    let mut faults = Faults::none();
+    for _turn in rt.forever() {
+        if over.load(Ordering::SeqCst) {
+            return None;
+        }
+        if let Some(end) = serve_next(rt, alloc, desk, &mut faults, hall) {
+            return Some(end);
+        }
+    }
+    unreachable!()
+}
+
+/// What the controller hands back that ended so, or whose life was over: it was told to stop where that is why it ended.
+/// What its desk refused for want of memory is all that it counts.
+fn left<N: Naming, H: Wait + Drop>(desk: NodeDesk<N, H, 2>, end: Option<Why>) -> Ended<N, 2>
+    ensures why { result.why ≡ unwrap_or end Why.Stopped }
+    ensures stopped { (result.is_stopped ≡ true) ↔ (end ≡ Some Why.Stopped) }
     ensures counts { result.counts ≡ record { unsent = 0; wire = 0; refused = desk.entry.refused } }
 {
     let (held, refused) = desk.leave();
@@ -60,13 +68,14 @@ fn left<N: Naming, H: Wait + Drop>(
     counts.refused = refused;
     Ended {
         held,
-        why,
-        is_stopped,
+        why: end.unwrap_or(Why::Stopped),
+        is_stopped: end == Some(Why::Stopped),
         counts,
     }
 }
 
-/// A turn of the controller; why it ends, if it does. Where nothing came it waits a moment.
+/// Takes in who came, and gives each connection its turns; why the controller ends, if it does. Where nothing came it
+/// waits a moment.
 fn serve_next<N: Naming, H: Wait + Drop, R: Wait, D: Door + Drop>(
     rt: &R,
     alloc: Global,
@@ -78,7 +87,7 @@ fn serve_next<N: Naming, H: Wait + Drop, R: Wait, D: Door + Drop>(
         Ok(is_there) => is_there,
         Err(why) => return Some(why),
     };
-    match serve_each(rt, alloc, desk, hall) {
+    match serve_rounds(rt, alloc, desk, hall) {
         Ok(is_busy) => {
             if !is_busy && !is_there {
                 hall.door.wait(rt);
@@ -110,11 +119,43 @@ fn let_in<R: Wait, D: Door + Drop>(
             faults.clear();
             Ok(false)
         }
-        Knock::Fault => match faults.more() {
-            Some(why) => Err(why),
-            None => Ok(false),
-        },
+        Knock::Fault => shut_out(faults, hall.connections.len()),
     }
+}
+
+/// What comes of a fault of the door while so many connections are open. Each of them has descriptors of the system, so
+/// while there are some it may be that no other is left: the fault doesn't count then, and the door is asked again.
+fn shut_out(faults: &mut Faults, connections: usize) -> Result<bool, Why>
+    ensures some { 0 < connections → (result ≡ Ok false) × (faults.new ≡ faults.old) }
+    ensures none { connections ≡ 0 → ((result ≡ Ok false) ⊎ (result ≡ Err Why.Socket))
+        × ((result ≡ Err Why.Socket) ↔ (16 ≤ faults.new.in_a_row)) }
+    ensures count { connections ≡ 0 → faults.new.in_a_row ≡ min (faults.old.in_a_row + 1) (2 ^ 32 - 1) }
+{
+    if connections > 0 {
+        return Ok(false);
+    }
+    match faults.more() {
+        Some(why) => Err(why),
+        None => Ok(false),
+    }
+}
+
+/// Turns of each connection, round after round while something comes of one: whether something came, or why the
+/// controller ends. Neither the door nor the clock is asked between rounds, so that many short lines don't wait for
+/// them.
+fn serve_rounds<N: Naming, H: Wait + Drop, R: Wait, D: Door + Drop>(
+    rt: &R,
+    alloc: Global,
+    desk: &mut NodeDesk<N, H, 2>,
+    hall: &mut Hall<D>,
+) -> Result<bool, Why> {
+    let now = hall.door.now();
+    for round in 0..ROUNDS {
+        if !serve_each(rt, alloc, now, desk, hall)? {
+            return Ok(round > 0);
+        }
+    }
+    Ok(true)
 }
 
 /// A turn of each connection: whether something came of one, or why the controller ends. The others have their turns
@@ -122,10 +163,10 @@ fn let_in<R: Wait, D: Door + Drop>(
 fn serve_each<N: Naming, H: Wait + Drop, R: Wait, D: Door + Drop>(
     rt: &R,
     alloc: Global,
+    now: u64,
     desk: &mut NodeDesk<N, H, 2>,
     hall: &mut Hall<D>,
 ) -> Result<bool, Why> {
-    let now = hall.door.now();
     let mut is_busy = false;
     for _place in 0..hall.connections.len() {
         let stand = hall.connections.turn(rt, alloc, now, desk);

@@ -1,8 +1,11 @@
 //! The gates of a life: where its datagrams, its ticks and its operators' connections come from. A worker asks its gate
 //! once a turn, so a gate that has nothing waits a moment, but not long, before it answers that it is idle; a door is told
-//! when to wait.
+//! when to wait. A herald tells people that a life begins.
 
+ghost use Rattle.std.specs.Prelude.{◌≡◌, ℕ};
 ghost use Rattle.swim_life.specs.Gates.{FitsInto};
+ghost use Rattle.swim_life.specs.Notices.{Notices};
+ghost use Rattle.swim_wire.specs.Streams.{one_more};
 
 use std::sync::Wait;
 use swim_wire::{Peer, Polled, Sink};
@@ -72,4 +75,18 @@ pub trait Door {
 
     /// The time now, in milliseconds since some moment.
     fn now(&mut self) -> u64;
+}
+
+/// Who tells people that a life begins, or doesn't.
+pub trait Herald {
+    // how many lives began; it stops at 2^64-1
+    ghost begun: { Self → ℕ };
+
+    /// Tells that the life of this number begins, counted from 0: as the next one in each call. It writes whole lines,
+    /// and waits for nobody.
+    fn begins<F: Sink>(&mut self, number: u64, notices: &mut F)
+        requires { number ≡ begun self.old }
+        ensures counts { begun self.new ≡ one_more (begun self.old) }
+        ensures notices { Notices (F.written notices.old, F.failures notices.old)
+            (F.written notices.new, F.failures notices.new) };
 }

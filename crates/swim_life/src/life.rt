@@ -67,6 +67,7 @@ pub fn run_life<
     ensures seats { AreTheSeats result.seats }
     ensures history { IsOneHistory N.opening result.journal.past result.seats
         (changes N.opening result.journal.past) }
+    ensures drawn { N.drawn result.journal.past }
 {
     let (viewer, _others) = apart(viewers);
     let (workers, fourth) = held(seats);
@@ -156,6 +157,7 @@ fn closed<N: Naming, H: Wait + Drop, R: Wait>(
     ensures seats { AreTheSeats result.seats }
     ensures history { IsOneHistory N.opening result.journal.past result.seats
         (changes N.opening result.journal.past) }
+    ensures drawn { N.drawn result.journal.past }
     ensures why { result.why ≡ why_of ended.first.why ended.second.why ended.third.why ended.all_began }
     ensures stopped { result.is_stopped ≡ (ended.first.is_stopped || ended.second.is_stopped || ended.third.is_stopped) }
     ensures counts { together (together ended.first.counts ended.second.counts) ended.third.counts

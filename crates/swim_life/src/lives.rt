@@ -1,13 +1,16 @@
 //! Lives: one node after another, each of which goes on from the journal of the one before.
 
 ghost use Rattle.std.specs.Prelude.{◌≡◌, IfOk};
-ghost use Rattle.swim_targets.specs.Draws.{of_seed};
+ghost use Rattle.swim_targets.specs.Draws.{DrawsOrder, DrawsPlace, of_seed};
+ghost use Rattle.swim_node.specs.Draws.{DrawsAll};
+ghost use Rattle.swim_life.specs.Draws.{WasDrawn};
 ghost use Rattle.swim_life.specs.Endings.{TellsLife, TellsText, stopped_text};
 ghost use Rattle.swim_life.specs.Lives.{AreLived, IsLife, end_after, end_without};
+ghost use Rattle.swim_life.specs.Notices.{Notices};
 
 use crate::counts::Why;
 use crate::endings::{STOPPED, put_ended, put_life};
-use crate::gates::{Door, Line, Pace};
+use crate::gates::{Door, Herald, Line, Pace};
 use crate::halls::Hall;
 use crate::life::run_life;
 use std::alloc::Global;
@@ -63,8 +66,16 @@ pub enum LivesEnd {
 /// were used, but without an aim and without waiting requests. Life `i`, counted from 0, draws from stream `i` of the
 /// seed. How each life ended is written in a line; that a line can't be written changes nothing. Behind a life that
 /// was told to stop there is none: where its journal was full, the end is told as if the next life had been stopped at
-/// once.
-pub fn run_lives<R: Threads + Wait + Sync, L: Line + Sync, P: Pace + Send, D: Door + Drop, W: Sink>(
+/// once. Before each life the herald, who has told of none yet, tells of it among the notices.
+pub fn run_lives<
+    R: Threads + Wait + Sync,
+    L: Line + Sync,
+    P: Pace + Send,
+    D: Door + Drop,
+    W: Sink,
+    H: Herald,
+    F: Sink,
+>(
     rt: &R,
     alloc: Global,
     opening: Opening,
@@ -73,13 +84,19 @@ pub fn run_lives<R: Threads + Wait + Sync, L: Line + Sync, P: Pace + Send, D: Do
     pace: &mut P,
     hall: &mut Hall<D>,
     writer: &mut W,
+    herald: &mut H,
+    notices: &mut F,
 ) -> LivesEnd
-    ensures { AreLived opening terms.limit (W.written writer.old, W.failures writer.old)
+    requires { H.begun herald.old ≡ 0 }
+    ensures lived { AreLived opening terms.limit terms.seed (W.written writer.old, W.failures writer.old)
         (W.written writer.new, W.failures writer.new) result }
+    ensures notices { Notices (F.written notices.old, F.failures notices.old)
+        (F.written notices.new, F.failures notices.new) }
 {
     let mut opening = opening;
     let mut number: u64 = 0;
     for _life in rt.forever() {
+        herald.begins(number, notices);
         let chooser = chooser_of(terms, number);
         let past = match live(rt, alloc, opening, chooser, terms.limit, line, pace, hall) {
             Ok(past) => past,
@@ -150,7 +167,8 @@ fn end_without(fault: OpenFault) -> LivesEnd
 }
 
 /// Opens a node with a journal of at most `limit` entries, and runs its life over these gates. There is no life where
-/// the node gets no memory (`NoMemory`), or no reader of its member table (`NoPlace`).
+/// the node gets no memory (`NoMemory`), or no reader of its member table (`NoPlace`). What its journal holds was drawn
+/// from the chooser.
 pub fn live<R: Threads + Wait + Sync, L: Line + Sync, P: Pace + Send, D: Door + Drop>(
     rt: &R,
     alloc: Global,
@@ -161,7 +179,8 @@ pub fn live<R: Threads + Wait + Sync, L: Line + Sync, P: Pace + Send, D: Door + 
     pace: &mut P,
     hall: &mut Hall<D>,
 ) -> Result<Past, OpenFault>
-    ensures { IfOk result (IsLife opening limit) }
+    ensures life { IfOk result (IsLife opening limit) }
+    ensures drawn { IfOk result (λ past. WasDrawn DrawsOrder DrawsPlace opening chooser past.journal.past) }
 {
     let Ok(parts) = Parts::make(alloc, limit) else {
         return Err(OpenFault::NoMemory);
@@ -190,7 +209,9 @@ fn live_so<
     requires parts { parts ≡ record { limit = N.limit; ledgers = N.ledgers; log = N.log; cells = N.cells } }
     requires opening { opening ≡ N.opening }
     requires limit { limit ≡ N.limit }
-    ensures { IfOk result (IsLife opening limit) }
+    requires drawn { DrawsAll DrawsOrder DrawsPlace N.opening chooser N.drawn }
+    ensures life { IfOk result (IsLife opening limit) }
+    ensures drawn { IfOk result (λ past. N.drawn past.journal.past) }
 {
     match Node::<N, Seeded, &R>::open(alloc, rt, parts, opening, chooser, limit) {
         Ok(opened) => {

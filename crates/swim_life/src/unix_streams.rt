@@ -7,6 +7,7 @@ ghost use Rattle.swim_wire.specs.Polled.{Looks};
 
 use arrayvec::ArrayVec;
 use std::io::{ErrorKind, Read, Write};
+use std::net::Shutdown;
 use std::os::unix::net::UnixStream;
 use swim_wire::{Byte, Look, Polled, Sink, Source};
 
@@ -127,7 +128,7 @@ impl StreamSink {
         }
     }
 
-    /// Hands on what the stream takes now, and answers whether that was all.
+    /// Hands on what the stream takes now, and answers whether nothing is left to be handed on.
     fn hand_on(&mut self) -> bool
         ensures { self.new.failures ≡ self.old.failures }
     {
@@ -140,11 +141,27 @@ impl StreamSink {
             }
             match self.stream.write(left) {
                 Ok(count) => self.sent = self.sent.saturating_add(count),
-                Err(fault) if fault.kind() == ErrorKind::Interrupted => {}
-                Err(_) => return false,
+                Err(fault) => match fault.kind() {
+                    ErrorKind::Interrupted => {}
+                    ErrorKind::WouldBlock => return false,
+                    _ => {
+                        self.give_up();
+                        return true;
+                    }
+                },
             }
         }
         false
+    }
+
+    /// Lets go of what is held, for nobody takes it any more. The lines of the other end are over then too, so that the
+    /// connection is closed with its next turn and not only once an answer has waited too long.
+    fn give_up(&mut self)
+        ensures { self.new.failures ≡ self.old.failures }
+    {
+        self.held.clear();
+        self.sent = 0;
+        let _is_shut = self.stream.shutdown(Shutdown::Both);
     }
 }
 

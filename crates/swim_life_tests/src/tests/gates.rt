@@ -1,7 +1,9 @@
 //! Gates that wait for each other.
 
-ghost use Rattle.std.specs.Prelude.{[], None};
+ghost use Rattle.std.specs.Prelude.{◌≡◌, [], None};
 ghost use Rattle.swim_life.specs.Gates.{FitsInto};
+ghost use Rattle.swim_life.specs.Notices.{Notices};
+ghost use Rattle.swim_wire.specs.Streams.{one_more};
 
 use crate::tests::at;
 use arrayvec::ArrayVec;
@@ -10,7 +12,7 @@ use std::sync::Wait;
 use std::sync::atomic::{AtomicBool, AtomicU32, Ordering};
 use std::thread;
 use std::time::Duration;
-use swim_life::{Beat, Door, Got, Knock, Line, Pace};
+use swim_life::{Beat, Door, Got, Herald, Knock, Line, Pace};
 use swim_wire::{Byte, Look, Page, Peer, Polled, Sink, Source, Text};
 
 /// How many turns a gate waits for another. After that it gives up, and the test's signals stay unset.
@@ -155,12 +157,13 @@ impl<K: Clock + Drop> Door for NoDoor<K> {
     }
 }
 
-/// A door to which one operator comes.
+/// A door to which one operator comes. Behind them it has so many faults, of which it tells the last.
 #[derive(Drop)]
 pub struct OneDoor<'s, K: Clock + Copy + Drop> {
     pub clock: K,
     pub signals: &'s Signals,
     pub was_open: bool,
+    pub faults: u32,
 }
 
 impl<'s, K: Clock + Copy + Drop> Door for OneDoor<'s, K> {
@@ -169,8 +172,15 @@ impl<'s, K: Clock + Copy + Drop> Door for OneDoor<'s, K> {
     type Writer = Answers<'s>;
 
     fn next<R: Wait>(&mut self, _rt: &R) -> Knock<TwoLines<'s>, Answers<'s>> {
-        if self.was_open {
+        if self.was_open && self.faults == 0 {
             return Knock::Idle;
+        }
+        if self.was_open {
+            self.faults -= 1;
+            if self.faults == 0 {
+                set(&self.signals.is_failing);
+            }
+            return Knock::Fault;
         }
         self.was_open = true;
         let lines = TwoLines {
@@ -279,5 +289,26 @@ impl<'s> Sink for Answers<'s> {
             set(&self.signals.is_stopping);
         }
         true
+    }
+}
+
+/// A herald that counts lives, and tells nothing.
+#[derive(Drop)]
+pub struct Counter {
+    pub begun: u64,
+}
+
+impl Herald for Counter {
+    ghost begun = { λ c. c.begun };
+
+    #[tactic(auto, using(swim_life::specs::Notices::no_notices))]
+    fn begins<F: Sink>(&mut self, number: u64, notices: &mut F)
+        requires { number ≡ self.old.begun }
+        ensures counts { self.new.begun ≡ one_more self.old.begun }
+        ensures notices { Notices (F.written notices.old, F.failures notices.old)
+            (F.written notices.new, F.failures notices.new) }
+    {
+        let _no_notices = notices;
+        self.begun = number.saturating_add(1);
     }
 }

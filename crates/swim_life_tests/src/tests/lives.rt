@@ -1,6 +1,8 @@
 ghost use Rattle.swim_life.specs.Gates.{FitsInto};
 
-use super::gates::{NoDoor, OneDoor, PING, PingLine, Signals, StopPace, TURNS, is_set, pause, set};
+use super::gates::{
+    Counter, NoDoor, OneDoor, PING, PingLine, Signals, StopPace, TURNS, is_set, pause, set,
+};
 use super::*;
 use std::sync::atomic::{AtomicBool, Ordering};
 use swim_life::{Beat, Got, Hall, LivesEnd, Terms, run_lives};
@@ -37,6 +39,7 @@ fn workers_at_once(rt: HostRuntime) -> Result<(), Fail> {
         clock: rt,
         signals: &signals,
         was_open: false,
+        faults: 0,
     };
     let mut hall = Hall::new(rt.alloc(), door);
     let past = live(
@@ -120,6 +123,8 @@ fn two_lives(rt: HostRuntime) -> Result<(), Fail> {
     let mut pace = pace(rt, &is_told, 5);
     let mut hall = Hall::new(rt.alloc(), NoDoor { clock: rt });
     let mut page = Page::new(rt.alloc());
+    let mut herald = Counter { begun: 0 };
+    let mut notices = Page::new(rt.alloc());
     let terms = Terms {
         seed: [0; 32],
         limit: 2,
@@ -133,11 +138,66 @@ fn two_lives(rt: HostRuntime) -> Result<(), Fail> {
         &mut pace,
         &mut hall,
         &mut page,
+        &mut herald,
+        &mut notices,
     );
     assert_eq!(rt; end, LivesEnd::Stopped);
+    assert_eq!(rt; herald.begun, 2);
     assert!(rt; page.text().starts_with(FIRST_LIFE));
     assert!(rt; page.text().ends_with(LAST_LIFE));
     assert_eq!(rt; page.text().len(), FIRST_LIFE.len() + LAST_LIFE.len());
+    Ok(())
+}
+
+// Forty faults of the door, with an operator at work there or with nobody.
+fn live_with_faults<R: Threads + Wait + Clock + Send + Sync + Copy + Drop>(
+    rt: &R,
+    alloc: Global,
+    opening: Opening,
+    signals: &Signals,
+    is_alone: bool,
+) -> Option<Past> {
+    let mut line = line(*rt, signals, 0);
+    line.was_given = AtomicBool::new(true);
+    let mut pace = pace(*rt, &signals.is_failing, 0);
+    let door = OneDoor {
+        clock: *rt,
+        signals,
+        was_open: is_alone,
+        faults: 40,
+    };
+    let mut hall = Hall::new(alloc, door);
+    live(
+        rt,
+        alloc,
+        opening,
+        chooser(),
+        1000,
+        &line,
+        &mut pace,
+        &mut hall,
+    )
+    .ok()
+}
+
+// Faults of the door beside an open connection end no life: it goes on until it is stopped.
+#[test]
+fn faults_beside_a_connection(rt: HostRuntime) -> Result<(), Fail> {
+    let signals = Signals::new(false);
+    let past = live_with_faults(&rt, rt.alloc(), opening()?, &signals, false);
+    assert_ended(&rt, past, Why::Stopped, 0, 0);
+    assert!(rt; is_set(&signals.is_failing));
+    assert!(rt; is_set(&signals.is_listed));
+    Ok(())
+}
+
+// The sixteenth of a door with nobody at it ends the life.
+#[test]
+fn faults_of_an_empty_door(rt: HostRuntime) -> Result<(), Fail> {
+    let signals = Signals::new(false);
+    let past = live_with_faults(&rt, rt.alloc(), opening()?, &signals, true);
+    assert_ended(&rt, past, Why::Socket, 0, 0);
+    assert!(rt; !is_set(&signals.is_failing));
     Ok(())
 }
 
@@ -218,6 +278,8 @@ fn a_stop_at_a_full_journal(rt: HostRuntime) -> Result<(), Fail> {
     };
     let mut hall = Hall::new(rt.alloc(), NoDoor { clock: rt });
     let mut page = Page::new(rt.alloc());
+    let mut herald = Counter { begun: 0 };
+    let mut notices = Page::new(rt.alloc());
     let terms = Terms {
         seed: [0; 32],
         limit: 2,
@@ -231,8 +293,11 @@ fn a_stop_at_a_full_journal(rt: HostRuntime) -> Result<(), Fail> {
         &mut pace,
         &mut hall,
         &mut page,
+        &mut herald,
+        &mut notices,
     );
     assert_eq!(rt; end, LivesEnd::Stopped);
+    assert_eq!(rt; herald.begun, 1);
     assert!(rt; is_set(&was_given));
     assert!(rt; page.text().starts_with(FIRST_LIFE));
     assert!(rt; page.text().ends_with(NO_LIFE));

@@ -1,0 +1,188 @@
+//! The place of a control socket: what stands at its path, and whether that may be removed.
+
+ghost use Rattle.std.specs.Prelude.{◌≡◌, ◌↔◌, true};
+ghost use Rattle.swim_life.specs.Places.{sight_of};
+
+use mio::net::UnixStream;
+use std::fs::{File, TryLockError};
+use std::io::ErrorKind;
+use std::marker::Model;
+use std::net::Net;
+use std::os::unix::fs::FileTypeExt;
+use std::rt::{Clock, Files};
+use std::time::Duration;
+use std::{fs, thread};
+
+/// How often the lock of a folder is asked for, and how long is waited between two of these, in milliseconds.
+const TRIES: u32 = 100;
+
+const PAUSE_MS: u64 = 10;
+
+/// What stands at a path. No link is followed.
+#[derive(Clone, Copy, Debug, PartialEq, Eq)]
+pub enum Found {
+    /// Nothing.
+    Nothing,
+    /// A socket.
+    Socket,
+    /// Something else: a file, a folder, a link.
+    Other,
+    /// The system doesn't tell.
+    Unknown,
+}
+
+/// Whom a connection to a path met.
+#[derive(Clone, Copy, Debug, PartialEq, Eq)]
+pub enum Met {
+    /// Somebody who listens there, also where too many wait already.
+    Somebody,
+    /// Nobody: the system refused the connection.
+    Nobody,
+    /// It can't be told: the connection failed otherwise.
+    Unknown,
+}
+
+/// What is known of a path.
+#[derive(Clone, Copy, Debug, PartialEq, Eq)]
+pub enum Sight {
+    /// Nothing stands there.
+    Free,
+    /// A socket stands there, and nobody answers.
+    Stale,
+    /// A socket stands there, and somebody answers.
+    Served,
+    /// What stands there is no socket.
+    NoSocket,
+    /// It can't be told.
+    Unclear,
+}
+
+/// A path at which a socket is to be bound, as it was found. While this is held, no other daemon of this machine
+/// removes what stands in the same folder.
+#[derive(Drop)]
+pub struct Place {
+    sight: Sight,
+    is_cleared: bool,
+    lock: Option<File>,
+}
+
+impl Model for Place {
+    ghost use Rattle.std.specs.Prelude.{is_some};
+    ghost use Rattle.swim_life.specs.Places.{Seen};
+
+    ghost Value = { Seen };
+
+    ghost view = { λ p. record { sight = p.sight; is_locked = is_some p.lock; is_cleared = p.is_cleared } };
+}
+
+impl Place {
+    /// Takes a path, and removes what stands there if it is a stale socket. That is done under a lock of its folder,
+    /// so that no other daemon binds a socket there between the look and the removal. Without the lock, as where the folder
+    /// can't be read or somebody else has it for a second, nothing is removed.
+    pub fn take<R: Files<File = File> + Net + Clock>(rt: &R, path: &str) -> Place
+        ensures { result.is_cleared ≡ true → (result.sight ≡ Sight.Stale) × (result.is_locked ≡ true) }
+    {
+        let lock = lock_of(rt, folder_of(path));
+        let sight = look(rt, path);
+        let is_cleared = lock.is_some() && sight == Sight::Stale && remove(rt, path, sight);
+        Place {
+            sight,
+            is_cleared,
+            lock,
+        }
+    }
+
+    /// What was found there.
+    pub fn sight(&self) -> Sight
+        ensures { result ≡ self.now.sight }
+    {
+        self.sight
+    }
+
+    /// Whether a stale socket was removed.
+    pub fn is_cleared(&self) -> bool
+        ensures { result ≡ self.now.is_cleared }
+    {
+        self.is_cleared
+    }
+}
+
+/// The folder of a path.
+fn folder_of(path: &str) -> &str {
+    match path.rsplit_once('/') {
+        None => ".",
+        Some(("", _name)) => "/",
+        Some((folder, _name)) => folder,
+    }
+}
+
+/// The lock of a folder, which is given back where it is dropped. `None` where it isn't to be had.
+fn lock_of<R: Files<File = File> + Clock>(rt: &R, folder: &str) -> Option<File> {
+    let folder = fs::open(rt, folder).ok()?;
+    for _try in 0..TRIES {
+        match folder.try_lock() {
+            Ok(()) => return Some(folder),
+            Err(TryLockError::WouldBlock) => thread::sleep(rt, Duration::from_millis(PAUSE_MS)),
+            Err(TryLockError::Error(_)) => return None,
+        }
+    }
+    None
+}
+
+/// What is known of a path. Where a socket stands there, it is connected to.
+fn look<R: Files + Net>(rt: &R, path: &str) -> Sight {
+    match found_at(rt, path) {
+        Found::Socket => sight_of(Found::Socket, met_at(rt, path)),
+        found => sight_of(found, Met::Unknown),
+    }
+}
+
+fn found_at<R: Files>(rt: &R, path: &str) -> Found {
+    match fs::symlink_metadata(rt, path) {
+        Ok(metadata) if metadata.file_type().is_socket() => Found::Socket,
+        Ok(_) => Found::Other,
+        Err(fault) if fault.kind() == ErrorKind::NotFound => Found::Nothing,
+        Err(_) => Found::Unknown,
+    }
+}
+
+fn met_at<R: Net>(rt: &R, path: &str) -> Met {
+    match UnixStream::connect(rt, path) {
+        Ok(_) => Met::Somebody,
+        Err(fault) => met_by(fault.kind()),
+    }
+}
+
+/// Whom a connection met that failed so.
+fn met_by(kind: ErrorKind) -> Met
+    ensures { (result ≡ Met.Nobody) ↔ (kind ≡ ErrorKind.ConnectionRefused) }
+{
+    match kind {
+        ErrorKind::ConnectionRefused => Met::Nobody,
+        ErrorKind::WouldBlock => Met::Somebody,
+        _ => Met::Unknown,
+    }
+}
+
+/// What is known of a path at which that was found, and whose socket, if it is one, was connected to so.
+pub fn sight_of(found: Found, met: Met) -> Sight
+    ensures exact { result ≡ sight_of found met }
+    ensures stale { (result ≡ Sight.Stale) ↔ ((found ≡ Found.Socket) × (met ≡ Met.Nobody)) }
+{
+    match (found, met) {
+        (Found::Nothing, _) => Sight::Free,
+        (Found::Other, _) => Sight::NoSocket,
+        (Found::Unknown, _) => Sight::Unclear,
+        (Found::Socket, Met::Somebody) => Sight::Served,
+        (Found::Socket, Met::Nobody) => Sight::Stale,
+        (Found::Socket, Met::Unknown) => Sight::Unclear,
+    }
+}
+
+/// Removes a stale socket. Whether that was done.
+fn remove<R: Files>(rt: &R, path: &str, sight: Sight) -> bool
+    requires { sight ≡ Sight.Stale }
+{
+    prove!(sight == Sight::Stale);
+    fs::remove_file(rt, path).is_ok()
+}
