@@ -22,6 +22,9 @@ COUNTS = rb"entries (\d+) judged (\d+) unsent (\d+) wire (\d+) refused (\d+)\n"
 LIFE = re.compile(rb"life (\d+) " + COUNTS)
 LIVES_AND_CLOSING = re.compile(rb"((?:life [^\n]*\n)*)ended (no memory|socket|stopped) " + COUNTS)
 ROW = re.compile(rb"(\d+) ([\d.]+:\d+) (up|failed \d+)")
+# What a daemon tells people: warnings before it begins, and while it runs lines with the time.
+TIME = rb"\d{4}-\d\d-\d\dT\d\d:\d\d:\d\d\.\d{3}Z"
+NOTICE = re.compile(rb"warning: [^\n]*\n|" + TIME + rb" (?:swimd [\d.]+ listens [^\n]*|life \d+ begins|removed [^\n]*)\n")
 
 
 class DaemonFault(Exception):
@@ -79,6 +82,17 @@ def until(question, what, seconds=SECONDS):
             return answer
         must(time.monotonic() < end, f"{what}: not within {seconds} seconds")
         time.sleep(0.005)
+
+
+def but_for_notices(text):
+    """What stands on standard error beside what a daemon tells people before it begins and while it runs."""
+    return NOTICE.sub(b"", text)
+
+
+def first_line_of(text):
+    """The line that tells an outcome, without the lines below it that say more, and notices before it."""
+    lines = but_for_notices(text).splitlines(keepends=True)
+    return b"".join(it for it in lines if not it.startswith(b"  "))
 
 
 def free_ports(count):
@@ -170,7 +184,7 @@ class Daemon:
 
     def __init__(self, program, folder, id, port, members=(), **values):
         self.program, self.id, self.port, self.child = program, id, port, None
-        self.read, self.lives = b"", []
+        self.read, self.lives, self.told = b"", [], b""
         self.control = f"{folder}/{id}.sock"
         self.file = f"{folder}/{id}.toml"
         usual = {"k": 1, "rtt": 3, "period": 12, "tick_ms": 20, "seed": f"{id:064x}", "journal": 1_000_000}
@@ -183,13 +197,13 @@ class Daemon:
         with open(self.file, "w", encoding="utf-8") as file:
             file.write(configuration(members=self.members, **self.values))
 
-    def launch(self, **how):
-        """Starts it, and doesn't wait."""
-        if os.path.exists(self.control):
+    def launch(self, words=(), is_clean=True, **how):
+        """Starts it, also with more words, and doesn't wait. Where it is clean its control path is removed before."""
+        if is_clean and os.path.exists(self.control):
             os.remove(self.control)
-        self.read, words = b"", [self.program, "run", "--config", self.file]
-        streams = {"stdin": subprocess.DEVNULL, "stdout": subprocess.PIPE, "stderr": subprocess.PIPE}
-        self.child = subprocess.Popen(words, **streams, **how, bufsize=0)
+        self.read, words = b"", [self.program, "run", "--config", self.file, *words]
+        streams = {"stdin": subprocess.DEVNULL, "stdout": subprocess.PIPE, "stderr": subprocess.PIPE, **how}
+        self.child = subprocess.Popen(words, **streams, bufsize=0)
 
     def start(self, **how):
         """Starts it, and waits until it can be asked."""
@@ -201,7 +215,7 @@ class Daemon:
         until(lambda: self.child.poll() is not None or self.answers(), f"member {self.id} starts")
         if self.child.poll() is not None:
             said = self.child.communicate()[1]
-            raise (PortTaken if said == b"bind listen\n" else DaemonFault)(f"member {self.id} ended at once: {said!r}")
+            raise (PortTaken if first_line_of(said) == b"bind listen\n" else DaemonFault)(f"member {self.id} ended at once: {said!r}")
         return self
 
     def answers(self):
@@ -259,7 +273,8 @@ class Daemon:
             raise DaemonFault(f"member {self.id} has not ended after {seconds} seconds") from None
         found = LIVES_AND_CLOSING.fullmatch(self.read + stdout)
         must(found, f"the closing line of member {self.id} is {stdout[-1_000:]!r}")
-        must(stderr == b"", f"member {self.id} writes {stderr!r} on standard error")
+        self.told = stderr
+        must(but_for_notices(stderr) == b"", f"member {self.id} writes {stderr!r} on standard error")
         self.lives = [Life(*map(int, it)) for it in LIFE.findall(found[1])]
         must(len(self.lives) == found[1].count(b"\n"), f"lines of lives that are none: {found[1][:1_000]!r}")
         numbers = [it.number for it in self.lives]

@@ -9,10 +9,12 @@ use Rattle.swim_config.specs.declared.config_fault.ConfigFault.TheVariants.{Size
 use Rattle.swimd.specs.declared.outcomes.Outcome.{Outcome}
 use Rattle.swimd.specs.declared.outcomes.Outcome.TheVariants.{Checked, Stopped, Asked, Usage, Unread, Refused, Unwritten}
 use Rattle.swimd.specs.declared.outcomes.Outcome.TheVariants.{NoListen, NoControl, NoMemory, Socket, NoPlace, NoDaemon}
+use Rattle.swimd.specs.declared.outcomes.Outcome.TheVariants.{AskRefused, AskTimeout, Unanswered, AskUnwritten, AskUnread, Helped}
 use Rattle.swimd.specs.Checking.{ChecksKnown, Shows}
 use Rattle.swim_config.specs.Configuration.{config_of}
 use Rattle.swim_config.specs.Inputs.{IsRead}
 use Rattle.swim_config.specs.Reading.{OrNoMemory}
+use Rattle.swim_life.specs.Endings.{Written}
 
 -- of a text that is too large, the first bytes tell as much
 pub config_of_first : (text : List ℕ) → config_of (take 65537 text) ≡ config_of text
@@ -37,49 +39,62 @@ known_shown text items config read is = elim is [
   | inr same ↦ sym (same ∙ (ap config_of read ∙ config_of_first text))
 ]
 
-pub shown : (left old new : Option (List ℕ)) (items : List ℕ) (config : Config) (outcome : Outcome) →
-    IsRead left items true → OrNoMemory (Ok config) (config_of items) → Shows config old new outcome →
-    ChecksKnown left old new outcome
-shown None old new items config Checked read is shows = tt
-shown None old new items config Unwritten read is shows = tt
-shown None old new items config Usage read is shows = absurd shows
-shown None old new items config Unread read is shows = absurd shows
-shown None old new items config (Refused fault) read is shows = absurd shows
-shown None old new items config Stopped read is shows = absurd shows
-shown None old new items config Asked read is shows = absurd shows
-shown None old new items config NoListen read is shows = absurd shows
-shown None old new items config NoControl read is shows = absurd shows
-shown None old new items config NoMemory read is shows = absurd shows
-shown None old new items config Socket read is shows = absurd shows
-shown None old new items config NoPlace read is shows = absurd shows
-shown None old new items config NoDaemon read is shows = absurd shows
-shown (Some text) old new items config Checked read is shows =
+pub shown : (left old new : Option (List ℕ)) (faults then : Written) (items : List ℕ) (config : Config) (outcome : Outcome) →
+    IsRead left items true → OrNoMemory (Ok config) (config_of items) → Shows config old new faults then outcome →
+    ChecksKnown left old new faults then outcome
+shown None old new faults then items config Checked read is shows = tt
+shown None old new faults then items config Unwritten read is shows = tt
+shown None old new faults then items config Usage read is shows = absurd shows
+shown None old new faults then items config Unread read is shows = absurd shows
+shown None old new faults then items config (Refused fault) read is shows = absurd shows
+shown None old new faults then items config Stopped read is shows = absurd shows
+shown None old new faults then items config Asked read is shows = absurd shows
+shown None old new faults then items config NoListen read is shows = absurd shows
+shown None old new faults then items config NoControl read is shows = absurd shows
+shown None old new faults then items config NoMemory read is shows = absurd shows
+shown None old new faults then items config Socket read is shows = absurd shows
+shown None old new faults then items config NoPlace read is shows = absurd shows
+shown None old new faults then items config NoDaemon read is shows = absurd shows
+shown None old new faults then items config AskRefused read is shows = absurd shows
+shown None old new faults then items config AskTimeout read is shows = absurd shows
+shown None old new faults then items config Unanswered read is shows = absurd shows
+shown None old new faults then items config AskUnwritten read is shows = absurd shows
+shown None old new faults then items config AskUnread read is shows = absurd shows
+shown None old new faults then items config Helped read is shows = absurd shows
+shown (Some text) old new faults then items config Checked read is shows =
     record { config = config; is = known_shown text items config read is; shows = shows }
-shown (Some text) old new items config Unwritten read is shows =
+shown (Some text) old new faults then items config Unwritten read is shows =
     record { config = config; is = known_shown text items config read is; shows = shows }
-shown (Some text) old new items config Usage read is shows = absurd shows
-shown (Some text) old new items config Unread read is shows = absurd shows
-shown (Some text) old new items config (Refused fault) read is shows = absurd shows
-shown (Some text) old new items config Stopped read is shows = absurd shows
-shown (Some text) old new items config Asked read is shows = absurd shows
-shown (Some text) old new items config NoListen read is shows = absurd shows
-shown (Some text) old new items config NoControl read is shows = absurd shows
-shown (Some text) old new items config NoMemory read is shows = absurd shows
-shown (Some text) old new items config Socket read is shows = absurd shows
-shown (Some text) old new items config NoPlace read is shows = absurd shows
-shown (Some text) old new items config NoDaemon read is shows = absurd shows
+shown (Some text) old new faults then items config Usage read is shows = absurd shows
+shown (Some text) old new faults then items config Unread read is shows = absurd shows
+shown (Some text) old new faults then items config (Refused fault) read is shows = absurd shows
+shown (Some text) old new faults then items config Stopped read is shows = absurd shows
+shown (Some text) old new faults then items config Asked read is shows = absurd shows
+shown (Some text) old new faults then items config NoListen read is shows = absurd shows
+shown (Some text) old new faults then items config NoControl read is shows = absurd shows
+shown (Some text) old new faults then items config NoMemory read is shows = absurd shows
+shown (Some text) old new faults then items config Socket read is shows = absurd shows
+shown (Some text) old new faults then items config NoPlace read is shows = absurd shows
+shown (Some text) old new faults then items config NoDaemon read is shows = absurd shows
+shown (Some text) old new faults then items config AskRefused read is shows = absurd shows
+shown (Some text) old new faults then items config AskTimeout read is shows = absurd shows
+shown (Some text) old new faults then items config Unanswered read is shows = absurd shows
+shown (Some text) old new faults then items config AskUnwritten read is shows = absurd shows
+shown (Some text) old new faults then items config AskUnread read is shows = absurd shows
+shown (Some text) old new faults then items config Helped read is shows = absurd shows
 
 -- a fault was told
 abbrev pub refusal : ConfigFault → Result Config ConfigFault
 refusal fault = Err fault
 
-pub told : (left written : Option (List ℕ)) (items : List ℕ) (fault : ConfigFault) → IsRead left items true →
-    OrNoMemory (refusal fault) (config_of items) → (65536 < length items → refusal fault ≡ refusal Size) → ChecksKnown left written written (Refused fault)
-told None written items fault read is size = tt
-told (Some text) written items fault read is size =
+pub told : (left written : Option (List ℕ)) (faults : Written) (items : List ℕ) (fault : ConfigFault) →
+    IsRead left items true → OrNoMemory (refusal fault) (config_of items) →
+    (65536 < length items → refusal fault ≡ refusal Size) → ChecksKnown left written written faults faults (Refused fault)
+told None written faults items fault read is size = tt
+told (Some text) written faults items fault read is size =
     let same : config_of items ≡ config_of text = ap config_of read ∙ config_of_first text in
     record {
-      kept = refl;
+      kept = (refl, refl);
       is = rw (← same) is;
       size = λ (large : 65536 < length text). let e = size (rw read (large_read text large)) in cc;
     }

@@ -1,17 +1,20 @@
 -- What `clap` found, and the rows that stand for it.
 use Rattle.std.proofs.Common.{◌≡◌, List, Option, Some, None, Box, Global, option_map, refl}
 use Rattle.std.specs.Box.{box_value}
-use Rattle.clap.specs.Matches.{first_value, found_of, subcommand_name_of}
+use Rattle.clap.specs.Matches.{first_value, found_of, matched_of, raw_values, subcommand_name_of}
 use Rattle.clap.specs.Simple.{subcommand_rows, subcommand_rows_of}
-use Rattle.clap.specs.Walk.{Row, Text, first_of, rows_of}
+use Rattle.clap.specs.Walk.{Row, Text, all_of, first_of, rows_of}
 use Rattle.clap.specs.declared.parser.matches.ArgMatches.{ArgMatches}
 use Rattle.clap.specs.declared.parser.matches.ArgMatches.TheViews.{out-ArgMatches, out-SubCommand}
 use Rattle.clap.specs.declared.parser.matches.Found.{Found}
 use Rattle.clap.specs.declared.parser.matches.SubCommand.{SubCommand}
-use Rattle.clap.proofs.WalkLemmas.{first_value-rows}
+use Rattle.clap.proofs.WalkLemmas.{first_value-rows, raw_values-rows}
 
 pub first_given : (f : Found) (id : Text) → first_value f id ≡ first_of id (rows_of f)
 first_given f id = first_value-rows f id
+
+pub all_given : (f : Found) (id : Text) → option_map raw_values (matched_of f id) ≡ all_of id (rows_of f)
+all_given f id = raw_values-rows f id
 
 -- a command of that name was met, with these rows
 met_at : (s : Option (Box SubCommand Global)) (name : Text) (rows : List Row) →

@@ -1,2 +1,9 @@
+pub mod Asked
 pub mod Checked
+pub mod ControlLines
+pub mod Done
+pub mod Explained
 pub mod Given
+pub mod Indented
+pub mod Lines
+pub mod Noticed

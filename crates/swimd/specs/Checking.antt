@@ -2,6 +2,7 @@
 use Rattle.std.specs.Prelude.{◌≡◌, ℕ, ◌<◌, Bool, true, false, List, length, Option, Some, None, Ok, Err}
 use Rattle.std.specs.Io.KnownBytes.{Appends}
 use Rattle.swim_wire.specs.Streams.{PutsFront}
+use Rattle.swim_life.specs.Endings.{TellsText, Written}
 use Rattle.swim_config.specs.declared.config.Config.{Config}
 use Rattle.swim_config.specs.declared.config_fault.ConfigFault.{ConfigFault}
 use Rattle.swim_config.specs.declared.config_fault.ConfigFault.TheVariants.{Size}
@@ -10,31 +11,40 @@ use Rattle.swimd.specs.declared.outcomes.Outcome.TheVariants.{Checked, Unread, R
 use Rattle.swim_config.specs.Configuration.{config_of}
 use Rattle.swim_config.specs.Reading.{OrNoMemory}
 use Rattle.swim_config.specs.Summary.{summary_text}
+use Rattle.swim_config.specs.Warnings.{warnings_text}
 
--- the summary was written, or a front of it, and nothing else
-abbrev pub Shows : Config → Option (List ℕ) → Option (List ℕ) → Outcome → Type 0
-Shows config old new Checked = Appends old new (summary_text config)
-Shows config old new Unwritten = PutsFront old new (summary_text config)
-Shows config old new outcome = ⊥
+-- the warnings of a configuration were written on standard error, as far as it took them
+abbrev pub Warned : Config → Written → Written → Type 0
+Warned config old new = TellsText (warnings_text config) old new
+
+-- the summary was written, and then the warnings; or a front of the summary, and nothing else
+abbrev pub Shows : Config → Option (List ℕ) → Option (List ℕ) → Written → Written → Outcome → Type 0
+Shows config old new faults_old faults_new Checked =
+    Appends old new (summary_text config) × Warned config faults_old faults_new
+Shows config old new faults_old faults_new Unwritten =
+    PutsFront old new (summary_text config) × (faults_new ≡ faults_old)
+Shows config old new faults_old faults_new outcome = ⊥
 
 -- the configuration that the text is was shown
-pub record IsShown (text : List ℕ) (old new : Option (List ℕ)) (outcome : Outcome) : Type 0 where
+pub record IsShown (text : List ℕ) (old new : Option (List ℕ)) (faults_old faults_new : Written) (outcome : Outcome)
+    : Type 0 where
   pub config : Config
   pub is : config_of text ≡ Ok config
-  pub shows : Shows config old new outcome
+  pub shows : Shows config old new faults_old faults_new outcome
 
 -- nothing was written; the fault is the text's, or memory was refused, but for a text that is too large
-pub record IsRefused (text : List ℕ) (old new : Option (List ℕ)) (fault : ConfigFault) : Type 0 where
-  pub kept : new ≡ old
+pub record IsRefused (text : List ℕ) (old new : Option (List ℕ)) (faults_old faults_new : Written) (fault : ConfigFault)
+    : Type 0 where
+  pub kept : (new ≡ old) × (faults_new ≡ faults_old)
   pub is : OrNoMemory {A = Config} (Err fault) (config_of text)
   pub size : 65536 < length text → fault ≡ Size
 
-abbrev pub Checks : List ℕ → Option (List ℕ) → Option (List ℕ) → Outcome → Type 0
-Checks text old new Checked = IsShown text old new Checked
-Checks text old new Unwritten = IsShown text old new Unwritten
-Checks text old new (Refused fault) = IsRefused text old new fault
-Checks text old new Unread = new ≡ old
-Checks text old new outcome = ⊥
+abbrev pub Checks : List ℕ → Option (List ℕ) → Option (List ℕ) → Written → Written → Outcome → Type 0
+Checks text old new faults_old faults_new Checked = IsShown text old new faults_old faults_new Checked
+Checks text old new faults_old faults_new Unwritten = IsShown text old new faults_old faults_new Unwritten
+Checks text old new faults_old faults_new (Refused fault) = IsRefused text old new faults_old faults_new fault
+Checks text old new faults_old faults_new Unread = (new ≡ old) × (faults_new ≡ faults_old)
+Checks text old new faults_old faults_new outcome = ⊥
 
 -- a check may end so
 abbrev pub IsEndOfCheck : Outcome → Type 0
@@ -45,9 +55,9 @@ IsEndOfCheck Unwritten = Unit {0}
 IsEndOfCheck outcome = ⊥
 
 -- the same of a reader whose bytes are known
-abbrev pub ChecksKnown : Option (List ℕ) → Option (List ℕ) → Option (List ℕ) → Outcome → Type 0
-ChecksKnown (Some text) old new outcome = Checks text old new outcome
-ChecksKnown None old new outcome = IsEndOfCheck outcome
+abbrev pub ChecksKnown : Option (List ℕ) → Option (List ℕ) → Option (List ℕ) → Written → Written → Outcome → Type 0
+ChecksKnown (Some text) old new faults_old faults_new outcome = Checks text old new faults_old faults_new outcome
+ChecksKnown None old new faults_old faults_new outcome = IsEndOfCheck outcome
 
 abbrev pub is_unread : Outcome → Bool
 is_unread Unread = true

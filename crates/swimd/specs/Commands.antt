@@ -1,39 +1,84 @@
 -- What a command of the program does.
-use Rattle.std.specs.Prelude.{◌≡◌, ◌⊎◌, ℕ, Bool, not, List, Option, Some, None}
-use Rattle.swim_wire.specs.Streams.{Puts, failures_if}
+use Rattle.std.specs.Prelude.{◌≡◌, ◌⊎◌, ℕ, Bool, not, List, ◌++◌, Option, Some, None, codes}
+use Rattle.std.specs.Io.KnownBytes.{Appends}
+use Rattle.swim_wire.specs.Streams.{Puts, PutsFront, failures_if}
 use Rattle.swim_life.specs.Endings.{Written}
 use Rattle.swim_config.specs.declared.config_fault.ConfigFault.TheVariants.{NoMemory}
 use Rattle.swimd.specs.declared.outcomes.Outcome.{Outcome}
-use Rattle.swimd.specs.declared.outcomes.Outcome.TheVariants.{Usage, Refused}
+use Rattle.swimd.specs.declared.outcomes.Outcome.TheVariants.{Usage, Refused, Helped, Unwritten}
+use Rattle.swimd.specs.Asking.{Asks}
 use Rattle.swimd.specs.Checking.{ChecksKnown, is_unwritten}
-use Rattle.swimd.specs.Daemon.{Runs, Asks}
+use Rattle.swimd.specs.Daemon.{Runs}
+use Rattle.swim_config.specs.Causes.{AreIndented}
+use Rattle.swimd.specs.Details.{Explains}
 use Rattle.swimd.specs.Outcomes.{outcome_text, status_of}
-use Rattle.swimd.specs.Words.{Wanted, Check, Run, Ask}
+use Rattle.swimd.specs.Words.{Wanted, Check, Run, Ask, Help, Version}
 
--- an outcome was told on standard error, as far as it took the text, and by the status; a failed write and a failed
--- flush were counted
+-- an outcome was told on standard error, with details below it, as far as it took the text, and by the status; failed writes
+-- and a failed flush were counted. The details are lines that begin with two spaces, and of a refused configuration its cause
 pub record Told (outcome : Outcome) (old new : Option (List ℕ)) (failed_old failed_new : ℕ) (status : ℕ) : Type 0 where
+  pub details : List ℕ
+  pub indented : AreIndented details
+  pub explains : Explains outcome details
   pub done : Bool
-  pub put : Puts old new (outcome_text outcome) done
+  pub put : Puts old new (outcome_text outcome ++ details) done
   pub sent : Bool
   pub failed : failed_new ≡ failures_if (failures_if failed_old done) sent
   pub is : status ≡ status_of outcome
 
--- what is done where the words ask this, to standard input and to standard output, and how it ends
-abbrev pub Does : Option Wanted → Option (List ℕ) → Option (List ℕ) → Written → Written → Outcome → Type 0
-Does None left_old left_new old new outcome = (outcome ≡ Usage) × (new ≡ old)
-Does (Some Check) left_old left_new old new outcome =
-    ChecksKnown left_old old.0 new.0 outcome × (new.1 ≡ failures_if old.1 (not (is_unwritten outcome)))
-Does (Some (Run file)) left_old left_new old new outcome = (left_new ≡ left_old) × Runs old new outcome
-Does (Some (Ask path)) left_old left_new old new outcome = Asks left_old left_new old.0 new.0 outcome
+-- the daemon at a path was asked: the line that the words make, and standard input was let be, or the lines of that
+abbrev pub AsksWanted : Option (List ℕ) → Option (List ℕ) → Option (List ℕ) → Option (List ℕ) → Option (List ℕ) → Outcome →
+    Type 0
+AsksWanted None left_old left_new old new outcome = Asks left_old left_new old new outcome
+AsksWanted (Some line) left_old left_new old new outcome =
+    (left_new ≡ left_old) × ((rest : Option (List ℕ)) × Asks (Some line) rest old new outcome)
+
+-- a text was written on standard output, or a front of it
+abbrev pub Helps : List ℕ → Option (List ℕ) → Option (List ℕ) → Outcome → Type 0
+Helps text old new Helped = Appends old new text
+Helps text old new Unwritten = PutsFront old new text
+Helps text old new outcome = ⊥
+
+-- what a command found of the streams and what it left: of standard input, on standard output and on standard error
+pub record Streams : Type 0 where
+  pub left : Option (List ℕ)
+  pub written : Written
+  pub faults : Written
+
+-- what is done where the words ask this, and how it ends
+abbrev pub DoesWanted : Option Wanted → Streams → Streams → Outcome → Type 0
+DoesWanted None old new outcome = (outcome ≡ Usage) × (new ≡ old)
+DoesWanted (Some Check) old new outcome =
+    ChecksKnown old.left old.written.0 new.written.0 old.faults new.faults outcome
+    × (new.written.1 ≡ failures_if old.written.1 (not (is_unwritten outcome)))
+DoesWanted (Some (Run file is_quiet)) old new outcome =
+    (new.left ≡ old.left) × Runs old.written new.written old.faults new.faults outcome
+DoesWanted (Some (Ask path line seconds)) old new outcome =
+    AsksWanted line old.left new.left old.written.0 new.written.0 outcome × (new.faults ≡ old.faults)
+DoesWanted (Some Help) old new outcome =
+    ((text : List ℕ) × Helps text old.written.0 new.written.0 outcome) × (new.left ≡ old.left) × (new.faults ≡ old.faults)
+DoesWanted (Some Version) old new outcome =
+    Helps (codes "swimd 1.0\n") old.written.0 new.written.0 outcome × (new.left ≡ old.left) × (new.faults ≡ old.faults)
+
+-- what the words ask was done
+pub record Does (asks : Option Wanted → Type 0) (old new : Streams) (outcome : Outcome) : Type 0 where
+  pub wanted : Option Wanted
+  pub asked : asks wanted
+  pub done : DoesWanted wanted old new outcome
 
 -- memory may be refused before anything is done
-abbrev pub IsShort : Written → Written → Outcome → Type 0
+abbrev pub IsShort : Streams → Streams → Outcome → Type 0
 IsShort old new outcome = (outcome ≡ Refused NoMemory) × (new ≡ old)
 
--- what the words ask was done, and how it ended was told
-pub record Commanded (asked : Option Wanted) (left_old left_new : Option (List ℕ)) (old new : Written)
-    (faults_old faults_new : Option (List ℕ)) (failed_old failed_new : ℕ) (status : ℕ) : Type 0 where
+-- what the words ask was done, but for that
+abbrev pub Carried : (Option Wanted → Type 0) → Streams → Streams → Outcome → Type 0
+Carried asks old new outcome = Does asks old new outcome ⊎ IsShort old new outcome
+
+-- what the words ask was done; and behind what stood on standard error then was told how it ended
+pub record Commanded (asks : Option Wanted → Type 0) (old new : Streams) (status : ℕ) : Type 0 where
   pub outcome : Outcome
-  pub done : Does asked left_old left_new old new outcome ⊎ IsShort old new outcome
-  pub told : Told outcome faults_old faults_new failed_old failed_new status
+  pub then : Streams
+  pub done : Carried asks old then outcome
+  pub left : new.left ≡ then.left
+  pub written : new.written ≡ then.written
+  pub told : Told outcome then.faults.0 new.faults.0 then.faults.1 new.faults.1 status

@@ -1,4 +1,4 @@
--- What a daemon does, and what asking one does.
+-- What a daemon does.
 use Rattle.std.specs.Prelude.{◌≡◌, ◌⊎◌, ℕ, List, Option, Ok, Err}
 use Rattle.swim_config.specs.declared.config.Config.{Config}
 use Rattle.swim_config.specs.declared.config_fault.ConfigFault.TheVariants as faults
@@ -6,11 +6,13 @@ use Rattle.swim_life.specs.declared.lives.LivesEnd.{LivesEnd}
 use Rattle.swim_life.specs.declared.lives.LivesEnd.TheVariants as ends
 use Rattle.swimd.specs.declared.outcomes.Outcome.{Outcome}
 use Rattle.swimd.specs.declared.outcomes.Outcome.TheVariants.{Unread, Refused, NoListen, NoControl, NoMemory, Stopped, Socket}
-use Rattle.swimd.specs.declared.outcomes.Outcome.TheVariants.{NoPlace, NoDaemon, Asked}
+use Rattle.swimd.specs.declared.outcomes.Outcome.TheVariants.{NoPlace}
 use Rattle.swim_config.specs.Configuration.{config_of}
 use Rattle.swim_life.specs.Endings.{Written}
 use Rattle.swim_life.specs.Lives.{AreLived}
+use Rattle.swim_life.specs.Notices.{Notices}
 use Rattle.swim_config.specs.Reading.{OrNoMemory}
+use Rattle.swimd.specs.Checking.{Warned}
 
 -- a configuration that was read of some text
 abbrev pub IsConfiguration : Config → Type 0
@@ -29,11 +31,16 @@ outcome_of ends.Socket = Socket
 outcome_of ends.NoMemory = Refused faults.NoMemory
 outcome_of ends.NoPlace = NoPlace
 
--- lives were lived from the configuration's opening, with journals of at most as many entries as it says
+-- lives were lived from the configuration's opening, with journals of at most as many entries as it says and draws of its
+-- seed
 pub record IsLivedBy (config : Config) (old new : Written) (outcome : Outcome) : Type 0 where
   pub end : LivesEnd
-  pub lived : AreLived config.opening config.journal old new end
+  pub lived : AreLived config.opening config.journal config.seed old new end
   pub is : outcome ≡ outcome_of end
+
+-- why there is no control socket
+abbrev pub IsNoDoor : Outcome → Type 0
+IsNoDoor outcome = (outcome ≡ NoControl) ⊎ (outcome ≡ NoMemory)
 
 -- what a daemon of this configuration does: without its sockets nothing is written
 abbrev pub Starts : Config → Written → Written → Outcome → Type 0
@@ -42,14 +49,20 @@ Starts config old new NoControl = new ≡ old
 Starts config old new NoMemory = new ≡ old
 Starts config old new outcome = IsLivedBy config old new outcome
 
--- what a daemon of some configuration file does: without a configuration nothing is written
-abbrev pub Runs : Written → Written → Outcome → Type 0
-Runs old new outcome =
-    (IsNoConfiguration outcome × (new ≡ old))
-    ⊎ ((config : Config) × IsConfiguration config × Starts config old new outcome)
+-- the warnings of a configuration were written, or nothing where standard error would not take them at once
+abbrev pub MayWarn : Config → Written → Written → Type 0
+MayWarn config old new = Warned config old new ⊎ (new ≡ old)
 
--- what asking a daemon does: where there is none nothing is read and nothing is written
-abbrev pub Asks : Option (List ℕ) → Option (List ℕ) → Option (List ℕ) → Option (List ℕ) → Outcome → Type 0
-Asks left_old left_new old new NoDaemon = (left_new ≡ left_old) × (new ≡ old)
-Asks left_old left_new old new Asked = Unit {0}
-Asks left_old left_new old new outcome = ⊥
+-- what a daemon of this configuration does, and tells on standard error: what it warns of, and notices behind that
+pub record RunsBy (config : Config) (old new faults_old faults_new : Written) (outcome : Outcome) : Type 0 where
+  pub is : IsConfiguration config
+  pub starts : Starts config old new outcome
+  pub between : Written
+  pub warned : MayWarn config faults_old between
+  pub noticed : Notices between faults_new
+
+-- what a daemon of some configuration file does: without a configuration nothing is written
+abbrev pub Runs : Written → Written → Written → Written → Outcome → Type 0
+Runs old new faults_old faults_new outcome =
+    (IsNoConfiguration outcome × (new ≡ old) × (faults_new ≡ faults_old))
+    ⊎ ((config : Config) × RunsBy config old new faults_old faults_new outcome)

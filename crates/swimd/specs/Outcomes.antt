@@ -4,12 +4,19 @@ use Rattle.swim_config.specs.declared.config_fault.ConfigFault.TheVariants as fa
 use Rattle.swimd.specs.declared.outcomes.Outcome.{Outcome}
 use Rattle.swimd.specs.declared.outcomes.Outcome.TheVariants.{Checked, Stopped, Asked, Usage, Unread, Refused}
 use Rattle.swimd.specs.declared.outcomes.Outcome.TheVariants.{Unwritten, NoListen, NoControl, NoMemory, Socket, NoPlace, NoDaemon}
+use Rattle.swimd.specs.declared.outcomes.Outcome.TheVariants.{AskRefused, AskTimeout, Unanswered, AskUnwritten, AskUnread, Helped}
 use Rattle.swim_config.specs.FaultTexts.{fault_text}
 
 abbrev pub status_of : Outcome → ℕ
 status_of Checked = 0
 status_of Stopped = 0
 status_of Asked = 0
+status_of AskRefused = 3
+status_of AskTimeout = 5
+status_of Unanswered = 5
+status_of AskUnwritten = 1
+status_of AskUnread = 1
+status_of Helped = 0
 status_of Usage = 2
 status_of Unread = 1
 status_of (Refused faults.NoMemory) = 4
@@ -26,6 +33,12 @@ abbrev pub outcome_text : Outcome → List ℕ
 outcome_text Checked = []
 outcome_text Stopped = []
 outcome_text Asked = []
+outcome_text AskRefused = []
+outcome_text AskTimeout = codes "ask timeout\n"
+outcome_text Unanswered = codes "ask unanswered\n"
+outcome_text AskUnwritten = codes "ask write\n"
+outcome_text AskUnread = codes "ask read\n"
+outcome_text Helped = []
 outcome_text Usage = codes "usage\n"
 outcome_text Unread = codes "configuration file\n"
 outcome_text (Refused fault) = fault_text fault

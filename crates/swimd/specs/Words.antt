@@ -1,66 +1,137 @@
 -- What the words after the program's name ask, as `clap` takes them.
-use Rattle.std.specs.Prelude.{ℕ, true, List, [], ◌∷◌, Option, Some, None, option_map, if◌then◌else◌, codes}
+use Rattle.std.specs.Prelude.{◌≡◌, ◌==◌, ℕ, Bool, true, false, List, [], ◌∷◌, ◌++◌, take, Option, Some, None, codes}
+use Rattle.std.specs.Prelude.{option_map, option_and_then, if◌then◌else◌}
+use Rattle.std.specs.List.{list_any}
+use Rattle.std.specs.Option.{option_map_or}
 use Rattle.std.specs.Str.{bytes_eq}
 use Rattle.clap.specs.Faults.{fault_of}
-use Rattle.clap.specs.Kinds.{Kinds}
-use Rattle.clap.specs.Simple.{App, new_app, new_rule, new_shape, subcommand_of, with_rule, with_subcommand}
-use Rattle.clap.specs.Walk.{Row, Rule, Text, first_of}
-use Rattle.clap.specs.declared.builder.action.ArgAction.TheVariants.{Set}
+use Rattle.clap.specs.Kinds.{IsAmong, Kinds}
+use Rattle.clap.specs.Simple.{App, Shape, new_app, new_rule, new_shape, on_top, subcommand_of, with_rule, with_subcommand}
+use Rattle.clap.specs.Walk.{Row, Rule, Text, all_of, first_of}
+use Rattle.clap.specs.declared.builder.action.ArgAction.TheVariants.{Append, Set, SetTrue}
 use Rattle.clap.specs.declared.error.kind.ErrorKind.{ErrorKind}
-use Rattle.clap.specs.declared.error.kind.ErrorKind.TheVariants.{OutOfMemory}
+use Rattle.clap.specs.declared.error.kind.ErrorKind.TheVariants.{DisplayHelp, DisplayVersion, OutOfMemory}
+use Rattle.swim_wire.specs.Lines.{has_feed}
+use Rattle.swim_wire.specs.Numbers.{number_of}
+use Rattle.swimd.specs.Asking.{joined}
 use Rattle.swimd.specs.declared.words.Asked.{Asked}
 use Rattle.swimd.specs.declared.words.Asked.TheVariants as asked
+use Rattle.swimd.specs.declared.words.Request.{Request}
 use Rattle.swimd.specs.declared.words.Unasked.{Unasked}
 use Rattle.swimd.specs.declared.words.Unasked.TheVariants.{Usage, NoMemory}
 
--- a check, a daemon with the configuration of a file, or lines for the daemon at a path
+-- a check; a daemon with the configuration of a file, and whether it tells no starts; the daemon at a path is asked a
+-- line, or those on standard input, and each answer may take so many seconds; help; the version
 pub data Wanted : Type 0 where
   Check : Wanted
-  Run : (file : List ℕ) → Wanted
-  Ask : (path : List ℕ) → Wanted
+  Run : (file : List ℕ) → (is_quiet : Bool) → Wanted
+  Ask : (path : List ℕ) → (line : Option (List ℕ)) → (seconds : ℕ) → Wanted
+  Help : Wanted
+  Version : Wanted
 
 abbrev pub wanted : Asked → Wanted
 wanted asked.Check = Check
-wanted (asked.Run file) = Run file.now
-wanted (asked.Ask path) = Ask path.now
+wanted (asked.Run file is_quiet) = Run file.now is_quiet
+wanted (asked.Ask request) = Ask request.path.now (option_map (λ line. line.items) request.line) request.seconds
+wanted (asked.Help text) = Help
+wanted asked.Version = Version
 
--- a command with an option of that name, which has to be given
-abbrev pub path_rule : Text → Rule
-path_rule option = record (new_rule option) { long = Some option; action = Some Set; required = true }
+-- ---- the program as clap knows it
 
-abbrev pub path_app : Text → Text → App
-path_app name option = with_rule (new_app name) (path_rule option)
+-- an option that takes one value
+abbrev pub option_rule : Text → Rule
+option_rule name = record (new_rule name) { long = Some name; value_names = 1; action = Some Set }
 
--- the program: the words are those after its name
+-- an option that has to be given
+abbrev pub needed_rule : Text → Rule
+needed_rule name = record (option_rule name) { required = true }
+
+-- an option that takes no value
+abbrev pub flag_rule : Text → Rule
+flag_rule name = record (new_rule name) { long = Some name; action = Some SetTrue }
+
+-- words that are no options, as many as there are
+abbrev pub words_rule : Text → Rule
+words_rule name = record (new_rule name) { action = Some Append }
+
+abbrev pub run_app : App
+run_app = with_rule (with_rule (new_app (codes "run")) (needed_rule (codes "config"))) (flag_rule (codes "quiet"))
+
+abbrev pub ask_app : App
+ask_app = with_rule (with_rule (with_rule (new_app (codes "ask")) (needed_rule (codes "control")))
+    (option_rule (codes "timeout"))) (words_rule (codes "WORDS"))
+
+-- the program: the words are those after its name, and each command has a version
 abbrev pub program_alone : App
-program_alone = record { top = record (new_shape (codes "swimd")) { no_binary_name = true }; subs = [] }
+program_alone = record {
+  top = record (new_shape (codes "swimd")) {
+    no_binary_name = true;
+    has_version = true;
+    propagate_version = true;
+    disable_help_subcommand = true;
+  };
+  subs = [];
+}
 
 abbrev pub program : App
 program =
     with_subcommand
     (with_subcommand
     (with_subcommand program_alone (new_shape (codes "check")))
-    (path_app (codes "run") (codes "config")).top)
-    (path_app (codes "ask") (codes "control")).top
+    run_app.top)
+    ask_app.top
+
+-- ---- what is asked
+
+-- whether a word was given, as clap writes it
+abbrev pub flag_of : Text → List Row → Bool
+flag_of name rows = option_map_or (λ text. bytes_eq text (codes "true")) (first_of name rows) false
+
+-- the line that words make, as much of it as is sent; a word with a line feed would make several
+abbrev pub line_of : List Text → Option (Option (List ℕ))
+line_of words =
+    if list_any has_feed words then None else Some (Some (take 129 (joined words) ++ 10 ∷ []))
+
+abbrev pub line_in : List Row → Option (Option (List ℕ))
+line_in rows = option_map_or line_of (all_of (codes "WORDS") rows) (Some None)
+
+abbrev pub nonzero : ℕ → Option ℕ
+nonzero n = if n == 0 then None else Some n
+
+-- 1 to 86400 seconds, and 5 where no word says how many
+abbrev pub seconds_in : List Row → Option ℕ
+seconds_in rows =
+    option_map_or (λ text. option_and_then nonzero (number_of 86400 text)) (first_of (codes "timeout") rows) (Some 5)
+
+abbrev pub asking_in : List Row → Option Wanted
+asking_in rows = option_and_then (λ path. option_and_then (λ line. option_map (Ask path line) (seconds_in rows))
+    (line_in rows)) (first_of (codes "control") rows)
 
 -- what is asked by the command that was met, and its arguments
 abbrev pub asked_in : Option (Text × List Row) → Option Wanted
 asked_in None = Some Check
 asked_in (Some met) =
-    if bytes_eq met.0 (codes "run") then option_map Run (first_of (codes "config") met.1)
-    else if bytes_eq met.0 (codes "ask") then option_map Ask (first_of (codes "control") met.1)
+    if bytes_eq met.0 (codes "run")
+    then option_map (λ file. Run file (flag_of (codes "quiet") met.1)) (first_of (codes "config") met.1)
+    else if bytes_eq met.0 (codes "ask") then asking_in met.1
     else Some Check
 
--- what is asked where these faults are found
-abbrev pub asked_by : Kinds → Option (Text × List Row) → Option Wanted
-asked_by [] met = asked_in met
-asked_by (kind ∷ kinds) met = None
+-- what is asked where clap answers by an error of this kind
+abbrev pub answer_to : ErrorKind → Option Wanted
+answer_to DisplayHelp = Some Help
+answer_to DisplayVersion = Some Version
+answer_to kind = None
 
--- what the words ask, nothing where they are refused
-abbrev pub asked_of : List (List ℕ) → Option Wanted
-asked_of words = asked_by (fault_of program words) (subcommand_of program words)
-
--- why words that are refused ask nothing
+-- why words for which clap has an error of this kind ask nothing
 abbrev pub unasked_by : ErrorKind → Unasked
 unasked_by OutOfMemory = NoMemory
 unasked_by kind = Usage
+
+-- what is asked where these faults are found: of several kinds, of which one is told, any
+abbrev pub IsAskedBy : Kinds → Option (Text × List Row) → Option Wanted → Type 0
+IsAskedBy [] met asked = asked ≡ asked_in met
+IsAskedBy (first ∷ kinds) met asked = (kind : ErrorKind) × IsAmong kind (first ∷ kinds) × (asked ≡ answer_to kind)
+
+-- what the words ask, nothing where they are refused
+abbrev pub IsAsked : List (List ℕ) → Option Wanted → Type 0
+IsAsked words asked = IsAskedBy (fault_of program words) (subcommand_of program words) asked

@@ -1,33 +1,54 @@
 -- Worked words: the definitions, evaluated on words that were written down by hand.
-use Rattle.std.specs.Prelude.{◌≡◌, [], ◌∷◌, Some, None, codes, refl}
+use Rattle.std.specs.Prelude.{[], ◌∷◌, true, false, Some, None, codes, refl}
+use Rattle.std.proofs.Common.{inl}
 use Rattle.clap.proofs.OnLiterals.{clap_on_literals}
-use Rattle.swimd.specs.Words.{Check, Run, Ask, asked_of}
+use Rattle.clap.specs.declared.error.kind.ErrorKind.TheVariants.{DisplayHelp, DisplayVersion, MissingRequiredArgument}
+use Rattle.clap.specs.declared.error.kind.ErrorKind.TheVariants.{UnknownArgument}
+use Rattle.swimd.specs.Words.{Check, Run, Ask, Help, Version, IsAsked}
 
-no_words_check : asked_of [] ≡ Some Check
+no_words_check : IsAsked [] (Some Check)
 unfolding clap_on_literals
 no_words_check = refl
 
-check_checks : asked_of (codes "check" ∷ []) ≡ Some Check
+check_checks : IsAsked (codes "check" ∷ []) (Some Check)
 unfolding clap_on_literals
 check_checks = refl
 
-run_takes_a_file : asked_of (codes "run" ∷ codes "--config" ∷ codes "swimd.toml" ∷ []) ≡ Some (Run (codes "swimd.toml"))
+run_takes_a_file : IsAsked (codes "run" ∷ codes "--config" ∷ codes "swimd.toml" ∷ []) (Some (Run (codes "swimd.toml") false))
 unfolding clap_on_literals
 run_takes_a_file = refl
 
-ask_takes_a_path : asked_of (codes "ask" ∷ codes "--control" ∷ codes "/run/swimd" ∷ []) ≡
-    Some (Ask (codes "/run/swimd"))
+run_may_be_quiet : IsAsked (codes "run" ∷ codes "--quiet" ∷ codes "--config" ∷ codes "swimd.toml" ∷ [])
+    (Some (Run (codes "swimd.toml") true))
+unfolding clap_on_literals
+run_may_be_quiet = refl
+
+ask_takes_a_path : IsAsked (codes "ask" ∷ codes "--control" ∷ codes "/run/swimd" ∷ [])
+    (Some (Ask (codes "/run/swimd") None 5))
 unfolding clap_on_literals
 ask_takes_a_path = refl
 
-run_wants_a_file : asked_of (codes "run" ∷ []) ≡ None
+ask_takes_words : IsAsked (codes "ask" ∷ codes "--control" ∷ codes "/run/swimd" ∷ codes "gap" ∷ codes "2" ∷ [])
+    (Some (Ask (codes "/run/swimd") (Some (codes "gap 2\n")) 5))
 unfolding clap_on_literals
-run_wants_a_file = refl
+ask_takes_words = refl
 
-check_takes_no_more : asked_of (codes "check" ∷ codes "more" ∷ []) ≡ None
+ask_takes_one_line : IsAsked (codes "ask" ∷ codes "--control" ∷ codes "/run/swimd" ∷ codes "gap 2\nstop" ∷ []) None
 unfolding clap_on_literals
-check_takes_no_more = refl
+ask_takes_one_line = refl
 
-helps_nobody : asked_of (codes "--help" ∷ []) ≡ None
+run_wants_a_file : IsAsked (codes "run" ∷ []) None
 unfolding clap_on_literals
-helps_nobody = refl
+run_wants_a_file = (MissingRequiredArgument, inl refl, refl)
+
+check_takes_no_more : IsAsked (codes "check" ∷ codes "more" ∷ []) None
+unfolding clap_on_literals
+check_takes_no_more = (UnknownArgument, inl refl, refl)
+
+helps_who_asks : IsAsked (codes "--help" ∷ []) (Some Help)
+unfolding clap_on_literals
+helps_who_asks = (DisplayHelp, inl refl, refl)
+
+tells_the_version : IsAsked (codes "run" ∷ codes "--version" ∷ []) (Some Version)
+unfolding clap_on_literals
+tells_the_version = (DisplayVersion, inl refl, refl)

@@ -1,96 +1,114 @@
 //! Asking a daemon that runs.
 
-ghost use Rattle.swimd.specs.Daemon.{Asks};
+ghost use Rattle.std.specs.Prelude.{◌≡◌, ◌||◌};
+ghost use Rattle.swimd.specs.Asking.{Asking, Asks, Passes, asked_so, stopped_so};
 
+use crate::answers::{Answer, is_refusal, is_stopping};
+use crate::askers::{Asker, Came};
+use crate::control_lines::{ControlLine, Met, read_line};
+use crate::details::{Details, words_of};
 use crate::outcomes::Outcome;
-use std::net::{Net, Shutdown};
-use std::os::unix::net::UnixStream;
-use swim_wire::{Byte, ReadSource, Sink, Source, WriteSink};
+use crate::sockets::ControlSocket;
+use std::io::ErrorKind;
+use std::net::Net;
+use std::rt::Clock;
+use swim_wire::{Sink, Source};
 
-/// Sends the control lines of a reader to the daemon at a path, and writes its answers.
-pub fn ask<R: Net, S: Source, W: Sink>(
+/// Asks the daemon at a path the lines of an input, and writes its answers, each of which may take so many seconds.
+pub fn ask<R: Net + Clock, S: Source, W: Sink>(
     rt: &R,
     path: &str,
+    seconds: u64,
     reader: &mut S,
     writer: &mut W,
+    details: &mut Details,
 ) -> Outcome
     ensures { Asks (S.left reader.old) (S.left reader.new) (W.written writer.old) (W.written writer.new) result }
 {
-    let Some((stream, from, to)) = connect(rt, path) else {
-        return Outcome::NoDaemon;
-    };
-    let mut from = from;
-    let mut to = to;
-    let is_open = send_lines(reader, &mut to, &mut from, writer);
-    if is_open {
-        let _ = stream.shutdown(Shutdown::Write);
-        pass_rest(&mut from, writer);
+    match ControlSocket::open(rt, path, seconds) {
+        Ok(mut socket) => ask_lines(reader, &mut socket, writer),
+        Err(fault) if fault.kind() == ErrorKind::TimedOut => Outcome::AskTimeout,
+        Err(fault) => {
+            details.add_of(path, words_of(fault.kind()));
+            Outcome::NoDaemon
+        }
     }
-    let _ = writer.flush();
-    Outcome::Asked
 }
 
-type Connection = (UnixStream, ReadSource<UnixStream>, WriteSink<UnixStream>);
-
-fn connect<R: Net>(rt: &R, path: &str) -> Option<Connection> {
-    let stream = UnixStream::connect(rt, path).ok()?;
-    let from = stream.try_clone().ok()?;
-    let to = stream.try_clone().ok()?;
-    Some((stream, ReadSource::new(from), WriteSink::new(to)))
+/// Asks line after line, and passes on the answer to each before the next is read, up to the end of the input, to an
+/// answer that doesn't come, or to the end of who is asked.
+#[tactic(auto, using(crate::proofs::Asked::none_asked, crate::proofs::Asked::one_more_asked, crate::proofs::Asked::goes_on, crate::proofs::Asked::ends_asked, crate::proofs::Asked::ends_unread, crate::proofs::Asked::ends_spent, crate::proofs::Asked::ends_broken, crate::proofs::Asked::ends_stopped))]
+fn ask_lines<S: Source, A: Asker, W: Sink>(reader: &mut S, asker: &mut A, writer: &mut W) -> Outcome
+    ensures { Asking
+        (record { left = S.left reader.old; written = W.written writer.old; asked = A.asked asker.old })
+        (record { left = S.left reader.new; written = W.written writer.new; asked = A.asked asker.new }) result }
+{
+    let mut line = ControlLine::new();
+    let mut answer = Answer::new();
+    let mut is_refused = false;
+    for _turn in 0..u64::MAX {
+        match read_line(reader, &mut line) {
+            Met::Line => {}
+            Met::Over => return asked(is_refused),
+            Met::Fault => return Outcome::AskUnread,
+        }
+        if let Err(outcome) = pass(line.as_slice(), asker, &mut answer, writer) {
+            return outcome;
+        }
+        is_refused = is_either(is_refused, is_refusal(answer.as_slice()));
+        if is_stopping(answer.as_slice()) {
+            return stopped(asker.leave(), is_refused);
+        }
+    }
+    Outcome::AskUnread
 }
 
-/// Sends line after line, and passes on the answer to each. Whether the daemon still listens.
-fn send_lines<S: Source, T: Sink, A: Source, W: Sink>(
-    reader: &mut S,
-    to: &mut T,
-    from: &mut A,
+/// Asks a line, and passes its answer on.
+fn pass<A: Asker, W: Sink>(
+    line: &[u8],
+    asker: &mut A,
+    answer: &mut Answer,
     writer: &mut W,
-) -> bool {
-    for _turn in 0..u64::MAX {
-        let Byte::One(byte) = reader.byte() else {
-            return to.flush();
-        };
-        if !to.put(&[byte]) {
-            return true;
-        }
-        if byte == b'\n' && !(to.flush() && pass_answer(from, writer)) {
-            return false;
-        }
+) -> Result<(), Outcome>
+    ensures { Passes line.now result answer.new.items (W.written writer.old) (W.written writer.new)
+        (A.asked asker.old) (A.asked asker.new) }
+{
+    match asker.ask(line, answer) {
+        Came::Answer => {}
+        Came::Late => return Err(Outcome::AskTimeout),
+        Came::Nothing => return Err(Outcome::Unanswered),
     }
-    true
+    if writer.put(answer.as_slice()) && writer.flush() {
+        Ok(())
+    } else {
+        Err(Outcome::AskUnwritten)
+    }
 }
 
-/// Passes on an answer: lines that begin with a digit, which are rows of a table, and the first other line. Whether it
-/// was whole.
-fn pass_answer<A: Source, W: Sink>(from: &mut A, writer: &mut W) -> bool {
-    let mut is_first = true;
-    let mut is_row = false;
-    for _turn in 0..u64::MAX {
-        let Byte::One(byte) = from.byte() else {
-            return false;
-        };
-        if is_first {
-            is_row = byte.is_ascii_digit();
-        }
-        if !writer.put(&[byte]) {
-            return false;
-        }
-        is_first = byte == b'\n';
-        if is_first && !is_row {
-            return writer.flush();
-        }
-    }
-    false
+/// Whether one of two things is so.
+fn is_either(first: bool, second: bool) -> bool
+    ensures { result ≡ (first || second) }
+{
+    first || second
 }
 
-/// Passes on what is left.
-fn pass_rest<A: Source, W: Sink>(from: &mut A, writer: &mut W) {
-    for _turn in 0..u64::MAX {
-        let Byte::One(byte) = from.byte() else {
-            break;
-        };
-        if !writer.put(&[byte]) {
-            break;
-        }
+/// How asking ended where who was asked stops.
+fn stopped(came: Came, is_refused: bool) -> Outcome
+    ensures { result ≡ stopped_so came is_refused }
+{
+    match came {
+        Came::Late => Outcome::AskTimeout,
+        Came::Answer | Came::Nothing => asked(is_refused),
+    }
+}
+
+/// How asking ended where each line was answered.
+fn asked(is_refused: bool) -> Outcome
+    ensures { result ≡ asked_so is_refused }
+{
+    if is_refused {
+        Outcome::AskRefused
+    } else {
+        Outcome::Asked
     }
 }

@@ -1,34 +1,50 @@
 //! The command that checks a configuration.
 
-ghost use Rattle.std.specs.Prelude.{◌≡◌, not};
+ghost use Rattle.std.specs.Prelude.{◌≡◌, not, []};
 ghost use Rattle.swim_wire.specs.Streams.{failures_if};
-ghost use Rattle.swimd.specs.Checking.{ChecksKnown, Shows, is_unread, is_unwritten};
+ghost use Rattle.swimd.specs.Checking.{ChecksKnown, Shows, Warned, is_unread, is_unwritten};
+ghost use Rattle.swimd.specs.Details.{Explains};
 
+use crate::details::Details;
 use crate::outcomes::Outcome;
 use arrayvec::ArrayVec;
 use std::alloc::Global;
-use swim_config::{Config, INPUT_BYTES, read_config, read_input, summary};
+use swim_config::{Config, INPUT_BYTES, put_warnings, read_config, read_input, summary};
 use swim_wire::{Sink, Source};
 
-/// Reads a configuration, and writes its summary.
-pub fn check<S: Source, W: Sink>(alloc: Global, reader: &mut S, writer: &mut W) -> Outcome
-    ensures checked { ChecksKnown (S.left reader.old) (W.written writer.old) (W.written writer.new) result }
+/// Reads a configuration, and writes its summary, and then what it warns of. What stands below the line of a fault is told in
+/// the details.
+pub fn check<S: Source, W: Sink, F: Sink>(
+    alloc: Global,
+    reader: &mut S,
+    writer: &mut W,
+    faults: &mut F,
+    details: &mut Details,
+) -> Outcome
+    requires { details.old ≡ [] }
+    ensures checked { ChecksKnown (S.left reader.old) (W.written writer.old) (W.written writer.new)
+        (F.written faults.old, F.failures faults.old) (F.written faults.new, F.failures faults.new) result }
     ensures reads { S.failures reader.new ≡ failures_if (S.failures reader.old) (not (is_unread result)) }
     ensures writes { W.failures writer.new ≡ failures_if (W.failures writer.old) (not (is_unwritten result)) }
+    ensures explains { Explains result details.new }
 {
     let mut text = ArrayVec::<u8, INPUT_BYTES>::new();
     if !read_input(reader, &mut text) {
         return Outcome::Unread;
     }
     match read_config(alloc, text.as_slice()) {
-        Ok(config) => show(&config, writer),
-        Err(fault) => Outcome::Refused(fault),
+        Ok(config) => show(&config, writer, faults),
+        Err(fault) => {
+            details.explain(alloc, text.as_slice(), fault);
+            Outcome::Refused(fault)
+        }
     }
 }
 
-/// Writes the summary of a configuration, and hands it on.
-fn show<W: Sink>(config: &Config, writer: &mut W) -> Outcome
-    ensures shows { Shows config.now (W.written writer.old) (W.written writer.new) result }
+/// Writes the summary of a configuration, and hands it on; and then what it warns of.
+fn show<W: Sink, F: Sink>(config: &Config, writer: &mut W, faults: &mut F) -> Outcome
+    ensures shows { Shows config.now (W.written writer.old) (W.written writer.new)
+        (F.written faults.old, F.failures faults.old) (F.written faults.new, F.failures faults.new) result }
     ensures writes { W.failures writer.new ≡ failures_if (W.failures writer.old) (not (is_unwritten result)) }
 {
     if !summary(config, writer) {
@@ -37,5 +53,15 @@ fn show<W: Sink>(config: &Config, writer: &mut W) -> Outcome
     if !writer.flush() {
         return Outcome::Unwritten;
     }
+    warn(config, faults);
     Outcome::Checked
+}
+
+/// Writes what a configuration allows and can't work, and hands it on.
+pub fn warn<F: Sink>(config: &Config, faults: &mut F)
+    ensures { Warned config.now (F.written faults.old, F.failures faults.old)
+        (F.written faults.new, F.failures faults.new) }
+{
+    let _is_put = put_warnings(faults, config);
+    let _is_sent = faults.flush();
 }

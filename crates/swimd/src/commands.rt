@@ -1,66 +1,157 @@
 //! The commands of the program, with its standard streams handed in.
 
-ghost use Rattle.std.specs.Prelude.{◌⊎◌, map};
-ghost use Rattle.swimd.specs.Commands.{Commanded, Does, IsShort, Told};
-ghost use Rattle.swimd.specs.Words.{asked_of};
+ghost use Rattle.std.specs.Prelude.{◌≡◌, ◌++◌, [], codes, map, option_map};
+ghost use Rattle.swim_wire.specs.Streams.{Puts, failures_if};
+ghost use Rattle.swimd.specs.Commands.{AsksWanted, Carried, Commanded, Helps, Told};
+ghost use Rattle.swimd.specs.Details.{Explains};
+ghost use Rattle.swimd.specs.Outcomes.{outcome_text};
+ghost use Rattle.swimd.specs.Words.{IsAsked};
 
 use crate::ask::ask;
 use crate::checking::check;
 use crate::daemon;
+use crate::details::Details;
 use crate::outcomes::{Outcome, put_outcome};
-use crate::words::{Asked, Unasked, read_words};
+use crate::words::{Asked, Request, Unasked, VERSION_LINE, read_words};
 use std::alloc::Global;
+use std::fs::File;
 use std::net::Net;
 use std::rt::{Clock, Files};
 use std::sync::Wait;
 use std::thread::Threads;
 use swim_config::ConfigFault;
-use swim_wire::{Sink, Source};
+use swim_wire::{ReadSource, Sink, Source};
 
 /// Does what the words after the program's name ask, and answers the status with which the program ends.
-pub fn command<R: Files + Net + Clock + Threads + Wait + Sync, S: Source, W: Sink, F: Sink>(
+pub fn command<
+    R: Files<File = File> + Net + Clock + Threads + Wait + Sync,
+    S: Source,
+    W: Sink,
+    F: Sink,
+>(rt: &R, alloc: Global, words: &[&str], reader: &mut S, writer: &mut W, faults: &mut F) -> u8
+    ensures { Commanded (IsAsked (map (λ word. word.now) words.now))
+        (record {
+          left = S.left reader.old;
+          written = (W.written writer.old, W.failures writer.old);
+          faults = (F.written faults.old, F.failures faults.old);
+        })
+        (record {
+          left = S.left reader.new;
+          written = (W.written writer.new, W.failures writer.new);
+          faults = (F.written faults.new, F.failures faults.new);
+        }) result }
+{
+    let mut details = Details::new();
+    let outcome = carry_out(rt, alloc, words, reader, writer, faults, &mut details);
+    tell(outcome, &details, faults)
+}
+
+/// Does what the words ask, and answers how it ended.
+#[tactic(auto, using(crate::proofs::Done::wanted_done, crate::proofs::Explained::asked_explains, crate::proofs::Explained::helped_explains))]
+fn carry_out<
+    R: Files<File = File> + Net + Clock + Threads + Wait + Sync,
+    S: Source,
+    W: Sink,
+    F: Sink,
+>(
     rt: &R,
     alloc: Global,
     words: &[&str],
     reader: &mut S,
     writer: &mut W,
     faults: &mut F,
-) -> u8
-    ensures { Commanded (asked_of (map (λ word. word.now) words.now)) (S.left reader.old) (S.left reader.new)
-        (W.written writer.old, W.failures writer.old) (W.written writer.new, W.failures writer.new)
-        (F.written faults.old) (F.written faults.new) (F.failures faults.old) (F.failures faults.new) result }
-{
-    let outcome = carry_out(rt, alloc, words, reader, writer);
-    tell(outcome, faults)
-}
-
-/// Does what the words ask, and answers how it ended.
-fn carry_out<R: Files + Net + Clock + Threads + Wait + Sync, S: Source, W: Sink>(
-    rt: &R,
-    alloc: Global,
-    words: &[&str],
-    reader: &mut S,
-    writer: &mut W,
+    details: &mut Details,
 ) -> Outcome
-    ensures { Does (asked_of (map (λ word. word.now) words.now)) (S.left reader.old) (S.left reader.new)
-        (W.written writer.old, W.failures writer.old) (W.written writer.new, W.failures writer.new) result
-        ⊎ IsShort (W.written writer.old, W.failures writer.old) (W.written writer.new, W.failures writer.new) result }
+    requires { details.old ≡ [] }
+    ensures done { Carried (IsAsked (map (λ word. word.now) words.now))
+        (record {
+          left = S.left reader.old;
+          written = (W.written writer.old, W.failures writer.old);
+          faults = (F.written faults.old, F.failures faults.old);
+        })
+        (record {
+          left = S.left reader.new;
+          written = (W.written writer.new, W.failures writer.new);
+          faults = (F.written faults.new, F.failures faults.new);
+        }) result }
+    ensures explains { Explains result details.new }
 {
     match read_words(alloc, words) {
-        Ok(Asked::Check) => check(alloc, reader, writer),
-        Ok(Asked::Run(file)) => daemon::run(rt, alloc, file, writer),
-        Ok(Asked::Ask(path)) => ask(rt, path, reader, writer),
+        Ok(Asked::Check) => check(alloc, reader, writer, faults, details),
+        Ok(Asked::Run(file, is_quiet)) => daemon::run(
+            rt, alloc, file, is_quiet, writer, faults, details,
+        ),
+        Ok(Asked::Ask(request)) => ask_for(rt, &request, reader, writer, details),
+        Ok(Asked::Help(text)) => help(text.as_bytes(), writer),
+        Ok(Asked::Version) => version(writer),
         Err(Unasked::Usage) => Outcome::Usage,
         Err(Unasked::NoMemory) => Outcome::Refused(ConfigFault::NoMemory),
     }
 }
 
-/// Tells an outcome, and answers its status.
-pub fn tell<F: Sink>(outcome: Outcome, faults: &mut F) -> u8
+/// Asks a daemon its line, or those of a reader.
+fn ask_for<R: Net + Clock, S: Source, W: Sink>(
+    rt: &R,
+    request: &Request<'_>,
+    reader: &mut S,
+    writer: &mut W,
+    details: &mut Details,
+) -> Outcome
+    ensures { AsksWanted (option_map (λ line. line.items) request.now.line) (S.left reader.old) (S.left reader.new)
+        (W.written writer.old) (W.written writer.new) result }
+{
+    let Request {
+        path,
+        line,
+        seconds,
+    } = request;
+    match line {
+        None => ask(rt, path, *seconds, reader, writer, details),
+        Some(line) => {
+            let mut line = ReadSource::new(line.as_slice());
+            ask(rt, path, *seconds, &mut line, writer, details)
+        }
+    }
+}
+
+/// Writes help.
+fn help<W: Sink>(text: &[u8], writer: &mut W) -> Outcome
+    ensures { Helps text.now (W.written writer.old) (W.written writer.new) result }
+{
+    if writer.put(text) && writer.flush() {
+        Outcome::Helped
+    } else {
+        Outcome::Unwritten
+    }
+}
+
+/// Writes the version.
+fn version<W: Sink>(writer: &mut W) -> Outcome
+    ensures { Helps (codes "swimd 1.0\n") (W.written writer.old) (W.written writer.new) result }
+{
+    help(VERSION_LINE, writer)
+}
+
+/// Tells an outcome, with what a person needs below it, and answers its status.
+pub fn tell<F: Sink>(outcome: Outcome, details: &Details, faults: &mut F) -> u8
+    requires { Explains outcome details.now }
     ensures { Told outcome (F.written faults.old) (F.written faults.new) (F.failures faults.old)
         (F.failures faults.new) result }
 {
-    let _is_put = put_outcome(faults, outcome);
+    let lines = details.as_slice();
+    let _is_put = put_told(faults, outcome, lines);
     let _is_sent = faults.flush();
     outcome.status()
+}
+
+/// Writes the line of an outcome, and then those below it, and answers whether the sink took all of them.
+#[tactic(auto, using(swim_wire::specs::Streams::puts_then, swim_wire::specs::Streams::puts_less))]
+fn put_told<F: Sink>(faults: &mut F, outcome: Outcome, lines: &[u8]) -> bool
+    ensures bytes { Puts (F.written faults.old) (F.written faults.new) (outcome_text outcome ++ lines.now) result }
+    ensures failures { F.failures faults.new ≡ failures_if (F.failures faults.old) result }
+{
+    if !put_outcome(faults, outcome) {
+        return false;
+    }
+    faults.put(lines)
 }

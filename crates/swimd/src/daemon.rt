@@ -1,79 +1,213 @@
 //! A daemon: the lives of a configuration over real devices.
 
-ghost use Rattle.std.specs.Prelude.{◌≡◌, MatchResult};
-ghost use Rattle.swimd.specs.Daemon.{IsConfiguration, IsNoConfiguration, Runs, Starts, outcome_of};
+ghost use Rattle.std.specs.Prelude.{◌≡◌, [], IfErr, IfOk, MatchResult};
+ghost use Rattle.swim_life.specs.Notices.{Notices};
+ghost use Rattle.swimd.specs.Daemon.{IsConfiguration, IsNoConfiguration, IsNoDoor, MayWarn, Runs, Starts, outcome_of};
+ghost use Rattle.swimd.specs.Details.{Explains};
 
+use crate::checking::warn;
+use crate::details::{Details, words_of};
+use crate::notices::{Announcer, Notice, is_taken_at_once};
 use crate::outcomes::Outcome;
 use arrayvec::ArrayVec;
 use std::alloc::Global;
 use std::fs;
+use std::fs::File;
 use std::io::ErrorKind;
 use std::net::Net;
 use std::rt::{Clock, Files};
 use std::sync::Wait;
 use std::thread::Threads;
 use swim_config::{Config, ConfigFault, INPUT_BYTES, read_config, read_input};
-use swim_life::{Hall, LivesEnd, SleepingPace, Terms, UdpLine, UnixDoor, run_lives};
-use swim_wire::{ReadSource, Sink};
+use swim_life::{Hall, LivesEnd, Place, Sight, SleepingPace, Terms, UdpLine, UnixDoor, run_lives};
+use swim_wire::{Peer, ReadSource, Sink};
 
-/// Runs the daemon of a configuration file, and writes how its lives ended.
-pub fn run<R: Files + Net + Clock + Threads + Wait + Sync, W: Sink>(
+/// Runs the daemon of a configuration file, and writes how its lives ended. What stands in the way of a start is told in
+/// the details. Among the faults stands what the configuration is warned of, and then, while it runs, notices; where it is
+/// quiet, only that a stale socket was removed.
+pub fn run<R: Files<File = File> + Net + Clock + Threads + Wait + Sync, W: Sink, F: Sink>(
     rt: &R,
     alloc: Global,
     path: &str,
+    is_quiet: bool,
     writer: &mut W,
+    faults: &mut F,
+    details: &mut Details,
 ) -> Outcome
-    ensures { Runs (W.written writer.old, W.failures writer.old) (W.written writer.new, W.failures writer.new) result }
+    requires { details.old ≡ [] }
+    ensures runs { Runs (W.written writer.old, W.failures writer.old) (W.written writer.new, W.failures writer.new)
+        (F.written faults.old, F.failures faults.old) (F.written faults.new, F.failures faults.new) result }
+    ensures explains { Explains result details.new }
 {
-    match configuration(rt, alloc, path) {
-        Ok(config) => start(rt, alloc, config, writer),
+    match configuration(rt, alloc, path, details) {
+        Ok(config) => {
+            warn_at_once(rt, alloc, &config, faults);
+            start(rt, alloc, config, is_quiet, writer, faults, details)
+        }
         Err(outcome) => outcome,
     }
 }
 
 /// The configuration in the file of that path.
-fn configuration<R: Files>(rt: &R, alloc: Global, path: &str) -> Result<Config, Outcome>
-    ensures { MatchResult result IsConfiguration IsNoConfiguration }
+fn configuration<R: Files>(
+    rt: &R,
+    alloc: Global,
+    path: &str,
+    details: &mut Details,
+) -> Result<Config, Outcome>
+    requires { details.old ≡ [] }
+    ensures read { MatchResult result IsConfiguration IsNoConfiguration }
+    ensures details { MatchResult result (λ config. details.new ≡ []) (λ outcome. Explains outcome details.new) }
 {
-    let Ok(file) = fs::open(rt, path) else {
-        return Err(Outcome::Unread);
+    let file = match fs::open(rt, path) {
+        Ok(file) => file,
+        Err(fault) => {
+            details.add_of(path, words_of(fault.kind()));
+            return Err(Outcome::Unread);
+        }
     };
     let mut text = ArrayVec::<u8, INPUT_BYTES>::new();
     if !read_input(&mut ReadSource::new(file), &mut text) {
+        details.add_of(path, words_why_unread(rt, path));
         return Err(Outcome::Unread);
     }
     match read_config(alloc, text.as_slice()) {
         Ok(config) => Ok(config),
-        Err(fault) => Err(Outcome::Refused(fault)),
+        Err(fault) => {
+            details.explain(alloc, text.as_slice(), fault);
+            Err(Outcome::Refused(fault))
+        }
+    }
+}
+
+/// Why what was opened at a path can't be read.
+fn words_why_unread<R: Files>(rt: &R, path: &str) -> &'static str {
+    match fs::metadata(rt, path) {
+        Ok(metadata) if metadata.is_dir() => words_of(ErrorKind::IsADirectory),
+        _ => "it can't be read",
+    }
+}
+
+/// Writes what a configuration allows and can't work, where standard error takes it at once: no start waits for a reader.
+fn warn_at_once<R: Net, F: Sink>(rt: &R, alloc: Global, config: &Config, faults: &mut F)
+    ensures { MayWarn config.now (F.written faults.old, F.failures faults.old)
+        (F.written faults.new, F.failures faults.new) }
+{
+    if is_taken_at_once(rt, alloc) {
+        warn(config, faults);
     }
 }
 
 /// Opens the gates of a configuration, and lives over them.
-fn start<R: Files + Net + Clock + Threads + Wait + Sync, W: Sink>(
+#[tactic(auto, using(swim_life::specs::Notices::no_notices, crate::proofs::Noticed::three_noticed, crate::proofs::Noticed::no_door, crate::proofs::Explained::nothing_explains))]
+fn start<R: Files<File = File> + Net + Clock + Threads + Wait + Sync, W: Sink, F: Sink>(
     rt: &R,
     alloc: Global,
     config: Config,
+    is_quiet: bool,
     writer: &mut W,
+    faults: &mut F,
+    details: &mut Details,
 ) -> Outcome
-    ensures { Starts config (W.written writer.old, W.failures writer.old)
+    requires { details.old ≡ [] }
+    ensures starts { Starts config (W.written writer.old, W.failures writer.old)
         (W.written writer.new, W.failures writer.new) result }
+    ensures notices { Notices (F.written faults.old, F.failures faults.old)
+        (F.written faults.new, F.failures faults.new) }
+    ensures explains { Explains result details.new }
 {
-    let Ok(line) = UdpLine::bind(rt, config.listen) else {
-        return Outcome::NoListen;
+    let line = match UdpLine::bind(rt, config.listen) {
+        Ok(line) => line,
+        Err(fault) => {
+            tell_listen(config.listen, fault.kind(), details);
+            return Outcome::NoListen;
+        }
     };
-    let door = match UnixDoor::bind(rt, alloc, rt, config.control.as_str()) {
+    let door = match open_door(rt, alloc, config.control.as_str(), faults, details) {
         Ok(door) => door,
-        Err(fault) if fault.kind() == ErrorKind::OutOfMemory => return Outcome::NoMemory,
-        Err(_) => return Outcome::NoControl,
+        Err(outcome) => return outcome,
     };
+    announce(rt, alloc, &config, is_quiet, faults);
     let mut hall = Hall::new(alloc, door);
     let mut pace = SleepingPace::new(rt, config.tick_ms);
+    let mut herald = Announcer::new(rt, alloc, is_quiet);
     let terms = terms_of(&config);
     let opening = config.opening;
     let end = run_lives(
-        rt, alloc, opening, terms, &line, &mut pace, &mut hall, writer,
+        rt,
+        alloc,
+        opening,
+        terms,
+        &line,
+        &mut pace,
+        &mut hall,
+        writer,
+        &mut herald,
+        faults,
     );
     outcome_of(end)
+}
+
+/// Tells that a daemon of this configuration listens, unless it is to be quiet.
+#[tactic(auto, using(swim_life::specs::Notices::no_notices))]
+fn announce<R: Net + Clock, F: Sink>(
+    rt: &R,
+    alloc: Global,
+    config: &Config,
+    is_quiet: bool,
+    faults: &mut F,
+)
+    ensures { Notices (F.written faults.old, F.failures faults.old)
+        (F.written faults.new, F.failures faults.new) }
+{
+    if !is_quiet {
+        Notice::listens(rt, config).tell(rt, alloc, faults);
+    }
+}
+
+/// The door at the path of the control socket, from which a stale socket is removed, or why there is none.
+#[tactic(auto, using(swim_life::specs::Notices::no_notices))]
+fn open_door<'r, R: Files<File = File> + Net + Clock, F: Sink>(
+    rt: &'r R,
+    alloc: Global,
+    path: &str,
+    faults: &mut F,
+    details: &mut Details,
+) -> Result<UnixDoor<&'r R>, Outcome>
+    ensures refused { IfErr result IsNoDoor }
+    ensures details { IfOk result (λ door. details.new ≡ details.old) }
+    ensures notices { Notices (F.written faults.old, F.failures faults.old)
+        (F.written faults.new, F.failures faults.new) }
+{
+    let place = Place::take(rt, path);
+    if place.is_cleared() {
+        Notice::removed(rt, path).tell(rt, alloc, faults);
+    }
+    match UnixDoor::bind(rt, alloc, rt, path) {
+        Ok(door) => Ok(door),
+        Err(fault) if fault.kind() == ErrorKind::OutOfMemory => Err(Outcome::NoMemory),
+        Err(fault) => {
+            tell_control(path, fault.kind(), place.sight(), details);
+            Err(Outcome::NoControl)
+        }
+    }
+}
+
+/// Tells why the address can't be listened on.
+fn tell_listen(listen: Peer, kind: ErrorKind, details: &mut Details) {
+    let address = listen.write();
+    details.add_of(address.as_str(), words_of(kind));
+}
+
+/// Tells why the control socket can't be bound, and what stands at its path.
+fn tell_control(path: &str, kind: ErrorKind, sight: Sight, details: &mut Details) {
+    details.add_of(path, words_of(kind));
+    match sight {
+        Sight::NoSocket => details.add("what stands there is no socket; it is kept"),
+        Sight::Served => details.add("somebody serves this socket; it is kept"),
+        Sight::Stale => details.add("nobody serves this socket; remove it"),
+        Sight::Free | Sight::Unclear => {}
+    }
 }
 
 /// What stays the same from life to life under a configuration.

@@ -1,13 +1,20 @@
 //! The failure detector of one group member as a daemon, and a test of its configuration.
 #![tactic(auto)]
 
+mod answers;
 mod ask;
+mod askers;
 mod checking;
 mod commands;
+mod control_lines;
 mod daemon;
+mod details;
+mod notices;
 mod outcomes;
+mod sockets;
 mod words;
 
+use details::Details;
 use outcomes::Outcome;
 use std::alloc::{AllocError, Global};
 use std::env;
@@ -31,9 +38,13 @@ fn main(rt: HostRuntime) -> ExitCode {
                 &mut writer,
                 &mut faults,
             ),
-            Err(_) => commands::tell(Outcome::Refused(ConfigFault::NoMemory), &mut faults),
+            Err(_) => commands::tell(
+                Outcome::Refused(ConfigFault::NoMemory),
+                &Details::new(),
+                &mut faults,
+            ),
         },
-        Err(outcome) => commands::tell(outcome, &mut faults),
+        Err(outcome) => commands::tell(outcome, &Details::new(), &mut faults),
     };
     ExitCode::from(status)
 }

@@ -14,8 +14,20 @@ pub enum Outcome {
     Checked,
     /// The daemon ran until it was told to stop.
     Stopped,
-    /// The lines were sent to a daemon, as far as it took them, and its answers passed on.
+    /// A daemon was asked, and each of its answers says that what was asked was done.
     Asked,
+    /// A daemon was asked, and an answer says that what was asked was not done.
+    AskRefused,
+    /// An answer of a daemon did not come in time.
+    AskTimeout,
+    /// A line was not answered, and won't be.
+    Unanswered,
+    /// The answers of a daemon can't be written.
+    AskUnwritten,
+    /// The lines to be asked can't be read.
+    AskUnread,
+    /// Help or the version was written.
+    Helped,
     /// There is no such command.
     Usage,
     /// The configuration can't be read.
@@ -44,11 +56,14 @@ impl Outcome {
         ensures { result ≡ status_of self }
     {
         match self {
-            Outcome::Checked | Outcome::Stopped | Outcome::Asked => 0,
+            Outcome::Checked | Outcome::Stopped | Outcome::Asked | Outcome::Helped => 0,
+            Outcome::AskUnwritten | Outcome::AskUnread => 1,
             Outcome::Usage => 2,
+            Outcome::AskRefused => 3,
             Outcome::Refused(ConfigFault::NoMemory) | Outcome::NoMemory | Outcome::NoPlace => 4,
             Outcome::Refused(_) | Outcome::Unread | Outcome::Unwritten => 1,
             Outcome::NoListen | Outcome::NoControl | Outcome::Socket | Outcome::NoDaemon => 5,
+            Outcome::AskTimeout | Outcome::Unanswered => 5,
         }
     }
 }
@@ -67,9 +82,15 @@ pub fn put_outcome<W: Sink>(writer: &mut W, outcome: Outcome) -> bool
         Outcome::NoMemory => writer.put(b"no memory\n"),
         Outcome::NoPlace => writer.put(b"no place\n"),
         Outcome::NoDaemon => writer.put(b"connect control\n"),
+        Outcome::AskTimeout => writer.put(b"ask timeout\n"),
+        Outcome::Unanswered => writer.put(b"ask unanswered\n"),
+        Outcome::AskUnwritten => writer.put(b"ask write\n"),
+        Outcome::AskUnread => writer.put(b"ask read\n"),
         Outcome::Checked
         | Outcome::Stopped
         | Outcome::Asked
+        | Outcome::AskRefused
+        | Outcome::Helped
         | Outcome::Unwritten
         | Outcome::Socket => writer.put(b""),
     }

@@ -1,48 +1,83 @@
 //! The words after the program's name.
 
-ghost use Rattle.std.specs.Prelude.{◌≡◌, ◌⊎◌, Some, None, false, map, option_map, IfOk, MatchResult};
+ghost use Rattle.std.specs.Prelude.{◌≡◌, ◌⊎◌, Some, None, codes, false, map, option_map, IfOk, MatchResult};
+ghost use Rattle.std.specs.List.{list_any};
 ghost use Rattle.clap.specs.Matches.{found_of};
-ghost use Rattle.clap.specs.Simple.{app_of, subcommand_rows_of};
-ghost use Rattle.clap.specs.Walk.{rows_of};
+ghost use Rattle.clap.specs.Simple.{app_of, new_app, subcommand_rows_of};
+ghost use Rattle.clap.specs.Values.{kind_of};
+ghost use Rattle.clap.specs.Walk.{rows_of, rule_of};
 ghost use Rattle.clap.specs.declared.builder.command.Command.TheViews.{out-Command};
-ghost use Rattle.swimd.specs.Words.{program, path_app, asked_in, asked_of, unasked_by, wanted};
+ghost use Rattle.swim_wire.specs.Lines.{has_feed};
+ghost use Rattle.swimd.specs.Words.{IsAsked, answer_to, ask_app, asked_in, flag_of, flag_rule, line_in, line_of, needed_rule};
+ghost use Rattle.swimd.specs.Words.{option_rule, program, program_alone, run_app, seconds_in, unasked_by, wanted, words_rule};
 
+use crate::control_lines::{ControlLine, line_of};
 use clap::error::ErrorKind;
-use clap::{Arg, ArgAction, ArgMatches, Command};
+use clap::{Arg, ArgAction, ArgMatches, Command, Error};
 use std::alloc::{AllocError, Global};
+use swim_wire::read_number;
+
+/// The version of the program.
+pub const VERSION: &str = "1.0";
+
+/// The line that tells it.
+pub const VERSION_LINE: &[u8] = b"swimd 1.0\n";
+
+/// How many seconds an answer may take where no word says so.
+const USUAL_SECONDS: u64 = 5;
+
+/// How many seconds an answer may take at most.
+const MOST_SECONDS: u64 = 86_400;
 
 /// What the words ask.
-#[derive(Clone, Copy, Debug)]
+#[derive(Debug, Drop)]
 pub enum Asked<'a> {
     /// That the configuration on standard input is checked.
     Check,
-    /// That a daemon runs, with the configuration in the file of this path.
-    Run(&'a str),
-    /// That the lines on standard input are sent to the daemon whose control socket has this path.
-    Ask(&'a str),
+    /// That a daemon runs, with the configuration in the file of this path, and whether it tells no starts.
+    Run(&'a str, bool),
+    /// That a daemon is asked.
+    Ask(Request<'a>),
+    /// Help: its text.
+    Help(String),
+    /// The version.
+    Version,
+}
+
+/// What a daemon is asked.
+#[derive(Debug, Drop)]
+pub struct Request<'a> {
+    /// The path of its control socket.
+    pub path: &'a str,
+    /// The one line that it is asked; `None` for those on standard input.
+    pub line: Option<ControlLine>,
+    /// How many seconds an answer may take, 1 to 86400.
+    pub seconds: u64,
 }
 
 /// Why the words ask nothing.
 #[derive(Clone, Copy, Debug, PartialEq, Eq)]
 pub enum Unasked {
-    /// There is no such command, or help is asked for.
+    /// There is no such command.
     Usage,
     /// Memory was refused.
     NoMemory,
 }
 
-/// What the words ask: `check`, or no words, a check; `run --config FILE`; `ask --control PATH`.
+/// What the words ask: `check`, or no words, a check; `run --config FILE`, with `--quiet` or without;
+/// `ask --control PATH`, with `--timeout SECONDS` or without, and the words of a line or none; `--help` and `--version`,
+/// alone or behind a command.
 pub fn read_words<'a>(alloc: Global, words: &'a [&'a str]) -> Result<Asked<'a>, Unasked>
     ensures { MatchResult result
-        (λ asked. asked_of (map (λ word. word.now) words.now) ≡ Some (wanted asked))
-        (λ unasked. (unasked ≡ Unasked.NoMemory) ⊎ (asked_of (map (λ word. word.now) words.now) ≡ None)) }
+        (λ asked. IsAsked (map (λ word. word.now) words.now) (Some (wanted asked)))
+        (λ unasked. (unasked ≡ Unasked.NoMemory) ⊎ IsAsked (map (λ word. word.now) words.now) None) }
 {
     let Ok(program) = program(alloc) else {
         return Err(Unasked::NoMemory);
     };
     match program.try_get_matches_from(words) {
         Ok(matches) => asked_in(&matches).ok_or(Unasked::Usage),
-        Err(error) => Err(refusal(error.kind())),
+        Err(error) => answered(alloc, &error),
     }
 }
 
@@ -50,23 +85,103 @@ pub fn read_words<'a>(alloc: Global, words: &'a [&'a str]) -> Result<Asked<'a>, 
 fn program<'a>(alloc: Global) -> Result<Command<'a>, AllocError>
     ensures { IfOk result (λ made. app_of made ≡ program) }
 {
-    let check = Command::new(alloc, "check");
-    let run = with_path(alloc, "run", "config")?;
-    let ask = with_path(alloc, "ask", "control")?;
-    let program = Command::new(alloc, "swimd").no_binary_name(true);
-    program.subcommand(check)?.subcommand(run)?.subcommand(ask)
+    let check = check_command(alloc);
+    let run = run_command(alloc)?;
+    let ask = ask_command(alloc)?;
+    let alone = program_alone(alloc)?;
+    alone.subcommand(check)?.subcommand(run)?.subcommand(ask)
 }
 
-/// A command with an option that has to be given.
-fn with_path<'a>(alloc: Global, name: &'a str, option: &'a str) -> Result<Command<'a>, AllocError>
-    ensures app { IfOk result (λ made. app_of made ≡ path_app name.entry.now option.entry.now) }
+/// The program without its commands.
+fn program_alone<'a>(alloc: Global) -> Result<Command<'a>, AllocError>
+    ensures { IfOk result (λ made. app_of made ≡ program_alone) }
+{
+    Command::new(alloc, "swimd")
+        .about("The SWIM failure detector of one group member; without a command a check")
+        .version(VERSION)
+        .propagate_version(true)
+        .no_binary_name(true)
+        .disable_help_subcommand(true)
+        .bin_name("swimd")
+}
+
+/// The command that checks a configuration.
+fn check_command<'a>(alloc: Global) -> Command<'a>
+    ensures app { app_of result ≡ new_app (codes "check") }
+    ensures local { (out-Command result).has_globals ≡ false }
+{
+    Command::new(alloc, "check").about(
+        "Checks the configuration on standard input, and writes what it says",
+    )
+}
+
+/// The command that runs a daemon.
+fn run_command<'a>(alloc: Global) -> Result<Command<'a>, AllocError>
+    ensures app { IfOk result (λ made. app_of made ≡ run_app) }
     ensures local { IfOk result (λ made. (out-Command made).has_globals ≡ false) }
 {
-    let path = Arg::new(alloc, option)
-        .long(option)
+    Command::new(alloc, "run")
+        .about("Runs the daemon of a configuration until it is told to stop")
+        .arg(needed(alloc, "config", "FILE", "The file of its configuration"))?
+        .arg(quiet(alloc))
+}
+
+/// The command that asks a daemon.
+fn ask_command<'a>(alloc: Global) -> Result<Command<'a>, AllocError>
+    ensures app { IfOk result (λ made. app_of made ≡ ask_app) }
+    ensures local { IfOk result (λ made. (out-Command made).has_globals ≡ false) }
+{
+    Command::new(alloc, "ask")
+        .about("Asks a daemon that runs, and writes its answers")
+        .arg(needed(alloc, "control", "PATH", "The path of its control socket"))?
+        .arg(timeout(alloc))?
+        .arg(line_words(alloc))
+}
+
+/// An option that has to be given.
+fn needed<'a>(alloc: Global, name: &'a str, value: &'a str, help: &'a str) -> Arg<'a>
+    ensures rule { rule_of result ≡ needed_rule name.entry.now }
+    ensures local { result.global ≡ false }
+{
+    Arg::new(alloc, name)
+        .long(name)
+        .value_name(value)
+        .action(ArgAction::Set)
         .required(true)
-        .action(ArgAction::Set);
-    Command::new(alloc, name).arg(path)
+        .help(help)
+}
+
+/// How long an answer may take.
+fn timeout<'a>(alloc: Global) -> Arg<'a>
+    ensures rule { rule_of result ≡ option_rule (codes "timeout") }
+    ensures local { result.global ≡ false }
+{
+    Arg::new(alloc, "timeout")
+        .long("timeout")
+        .value_name("SECONDS")
+        .action(ArgAction::Set)
+        .help("How long an answer may take, 1 to 86400; 5 where it is left out")
+}
+
+/// Whether a daemon tells no starts.
+fn quiet<'a>(alloc: Global) -> Arg<'a>
+    ensures rule { rule_of result ≡ flag_rule (codes "quiet") }
+    ensures local { result.global ≡ false }
+{
+    Arg::new(alloc, "quiet")
+        .long("quiet")
+        .action(ArgAction::SetTrue)
+        .help("Tells no starts on standard error")
+}
+
+/// The words of a line.
+fn line_words<'a>(alloc: Global) -> Arg<'a>
+    ensures rule { rule_of result ≡ words_rule (codes "WORDS") }
+    ensures local { result.global ≡ false }
+{
+    Arg::new(alloc, "WORDS").action(ArgAction::Append).help(
+        "The words of one line, as list; without them the lines of standard input are asked",
+    )
 }
 
 /// What is asked by words that were accepted.
@@ -87,21 +202,101 @@ fn asked_by<'a>(name: &str, given: &ArgMatches<'a>) -> Option<Asked<'a>>
 {
     if name == "run" {
         let file = given.get_str("config")?;
-        Some(Asked::Run(file))
+        Some(Asked::Run(file, is_set(given, "quiet")))
     } else if name == "ask" {
         let path = given.get_str("control")?;
-        Some(Asked::Ask(path))
+        let line = line_in(given)?;
+        let seconds = seconds_in(given)?;
+        Some(Asked::Ask(Request {
+            path,
+            line,
+            seconds,
+        }))
     } else {
         Some(Asked::Check)
     }
 }
 
-/// Why words of that kind of error ask nothing.
-fn refusal(kind: ErrorKind) -> Unasked
-    ensures { result ≡ unasked_by kind }
+/// Whether a word of that name was given.
+#[tactic(auto, using(crate::proofs::Given::first_given))]
+fn is_set(given: &ArgMatches<'_>, name: &str) -> bool
+    ensures { result ≡ flag_of name.now (rows_of (found_of given.now)) }
 {
-    match kind {
-        ErrorKind::OutOfMemory => Unasked::NoMemory,
-        _ => Unasked::Usage,
+    match given.get_str(name) {
+        Some(text) => text == "true",
+        None => false,
+    }
+}
+
+/// The line that the words make, `Some(None)` where there are none. Of words with a line feed no line is made, since they
+/// would be several.
+#[tactic(auto, using(crate::proofs::Given::all_given))]
+fn line_in(given: &ArgMatches<'_>) -> Option<Option<ControlLine>>
+    ensures { option_map (option_map (λ line. line.items)) result ≡ line_in (rows_of (found_of given.now)) }
+{
+    match given.get_raw("WORDS") {
+        None => Some(None),
+        Some(words) => line_made_of(words),
+    }
+}
+
+/// The line that these words make, if they make one.
+fn line_made_of(words: &[&str]) -> Option<Option<ControlLine>>
+    ensures { option_map (option_map (λ line. line.items)) result ≡ line_of (map (λ word. word.now) words.now) }
+{
+    if have_feed(words) {
+        return None;
+    }
+    Some(Some(line_of(words)))
+}
+
+/// Whether one of these words has a line feed.
+fn have_feed(words: &[&str]) -> bool
+    ensures { result ≡ list_any has_feed (map (λ word. word.now) words.now) }
+{
+    for word in words {
+        if has_feed(word.as_bytes()) {
+            return true;
+        }
+    }
+    false
+}
+
+/// How many seconds an answer may take.
+#[tactic(auto, using(crate::proofs::Given::first_given))]
+fn seconds_in(given: &ArgMatches<'_>) -> Option<u64>
+    ensures { result ≡ seconds_in (rows_of (found_of given.now)) }
+{
+    match given.get_str("timeout") {
+        None => Some(USUAL_SECONDS),
+        Some(text) => match read_number(text.as_bytes(), MOST_SECONDS) {
+            Some(0) => None,
+            seconds => seconds,
+        },
+    }
+}
+
+/// Whether a word has a line feed.
+fn has_feed(word: &[u8]) -> bool
+    ensures { result ≡ has_feed word.now }
+{
+    word.contains(&b'\n')
+}
+
+/// What is asked by words for which `clap` has an error in the place of matches.
+fn answered<'a>(alloc: Global, error: &Error) -> Result<Asked<'a>, Unasked>
+    ensures { MatchResult result
+        (λ asked. answer_to (kind_of error.now) ≡ Some (wanted asked))
+        (λ unasked. (unasked ≡ Unasked.NoMemory)
+        ⊎ ((unasked ≡ unasked_by (kind_of error.now)) × (answer_to (kind_of error.now) ≡ None))) }
+{
+    match error.kind() {
+        ErrorKind::DisplayHelp => match format!(in alloc; "{error}") {
+            Ok(text) => Ok(Asked::Help(text)),
+            Err(_) => Err(Unasked::NoMemory),
+        },
+        ErrorKind::DisplayVersion => Ok(Asked::Version),
+        ErrorKind::OutOfMemory => Err(Unasked::NoMemory),
+        _ => Err(Unasked::Usage),
     }
 }

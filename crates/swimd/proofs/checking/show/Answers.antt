@@ -1,4 +1,4 @@
-use Rattle.std.proofs.Common.{ℕ, List, [], Option, sym, append-nil}
+use Rattle.std.proofs.Common.{ℕ, List, [], Option, refl, sym, append-nil}
 use Rattle.std.specs.Io.KnownBytes.{Keeps, Appends}
 use Rattle.swim_wire.specs.Streams.{PutsFront, appends_kept}
 use Rattle.swim_config.specs.Summary.{summary_text}
@@ -14,6 +14,8 @@ unsent o m n text put kept = record {
 }
 
 pub returns-then-not-flush-clause-shows : goal.returns-then-not-flush-clause-shows
-returns-then-not-flush-clause-shows g c =
-    unsent (g.W.Sink.written c.args.writer.now) (g.W.Sink.written c.summary.new.writer) (g.W.Sink.written c.flush.new.self) (summary_text c.args.config.now)
-    c.if-not-summary.ensures.bytes c.flush.ensures.bytes
+returns-then-not-flush-clause-shows g c = (
+  unsent (g.W.Sink.written c.args.writer.now) (g.W.Sink.written c.summary.new.writer) (g.W.Sink.written c.flush.new.self) (summary_text c.args.config.now)
+      c.if-not-summary.ensures.bytes c.flush.ensures.bytes,
+  refl,
+)

@@ -1,21 +1,20 @@
-use Rattle.std.proofs.Common.{◌≡◌, ap, ap₂, ◌∙◌, codes, rules}
+use Rattle.std.proofs.Common.{◌≡◌, ap, ap₂, ◌∙◌, codes}
 use Rattle.std.proofs.lemmas.Result.{IfOk-weaker}
 use Rattle.clap.specs.Simple.{App, app_of, new_shape, shape_of, with_subcommand}
-use Rattle.swimd.specs.Words.{program_alone, path_app}
+use Rattle.swimd.specs.Words.{ask_app, program_alone, run_app}
 use Rattle.swimd.proofs.words.program.Goals as goal
 
 abbrev with_check : App
 with_check = with_subcommand program_alone (new_shape (codes "check"))
 
 abbrev with_run : App
-with_run = with_subcommand with_check (path_app (codes "run") (codes "config")).top
+with_run = with_subcommand with_check run_app.top
 
 pub returns : goal.returns
 returns c =
-    let alone_is : app_of c.no_binary_name-program.result ≡ program_alone = search rules in
-    let check_is : shape_of c.new-check.result ≡ new_shape (codes "check") = ap (λ (a : App). a.top) c.new-check.ensures.app in
-    let run_is : shape_of c.in_ok-run.run' ≡ (path_app (codes "run") (codes "config")).top = ap (λ (a : App). a.top) c.in_ok-run.ensures.app in
-    let ask_is : shape_of c.in_ok-ask.ask ≡ (path_app (codes "ask") (codes "control")).top = ap (λ (a : App). a.top) c.in_ok-ask.ensures.app in
-    let first_is : app_of c.in_ok-subcommand.field-0 ≡ with_check = c.in_ok-subcommand.ensures.shape c.new-check.ensures.local ∙ ap₂ with_subcommand alone_is check_is in
+    let check_is : shape_of c.check_command-check.result ≡ new_shape (codes "check") = ap (λ (a : App). a.top) c.check_command-check.ensures.app in
+    let run_is : shape_of c.in_ok-run.run' ≡ run_app.top = ap (λ (a : App). a.top) c.in_ok-run.ensures.app in
+    let ask_is : shape_of c.in_ok-ask.ask ≡ ask_app.top = ap (λ (a : App). a.top) c.in_ok-ask.ensures.app in
+    let first_is : app_of c.in_ok-subcommand.field-0 ≡ with_check = c.in_ok-subcommand.ensures.shape c.check_command-check.ensures.local ∙ ap₂ with_subcommand c.in_ok-alone.ensures check_is in
     let second_is : app_of c.in_ok-subcommand-2.field-0 ≡ with_run = c.in_ok-subcommand-2.ensures.shape c.in_ok-run.ensures.local ∙ ap₂ with_subcommand first_is run_is in
     IfOk-weaker c.subcommand-3.result _ _ (λ r h. h.shape c.in_ok-ask.ensures.local ∙ ap₂ with_subcommand second_is ask_is) c.subcommand-3.ensures

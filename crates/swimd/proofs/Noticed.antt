@@ -1,0 +1,23 @@
+-- What is told while a daemon starts.
+use Rattle.std.proofs.Common.{◌≡◌, ℕ, false, List, [], ◌∷◌, refl, sym, subst, inl, inr}
+use Rattle.swim_wire.specs.Lines.{has_feed}
+use Rattle.swim_config.specs.declared.config.Config.{Config}
+use Rattle.swim_life.specs.Endings.{TellsText, Written}
+use Rattle.swim_life.specs.Notices.{Notices, line_text, notices_both}
+use Rattle.swimd.specs.declared.outcomes.Outcome.{Outcome}
+use Rattle.swimd.specs.Daemon.{IsNoDoor, Starts}
+
+pub one_noticed : (old new : Written) (line : List ℕ) → has_feed line ≡ false → TellsText (line_text line) old new →
+    Notices old new
+one_noticed old new line one told = (line ∷ [], (old, refl, one, told))
+
+pub three_noticed : (old first then new : Written) → Notices old first → Notices first then → Notices then new →
+    Notices old new
+three_noticed old first then new a b c = notices_both old first new a (notices_both first then new b c)
+
+-- without a door nothing was written
+pub no_door : (config : Config) (old : Written) (outcome : Outcome) → IsNoDoor outcome → Starts config old old outcome
+no_door config old outcome is = elim is [
+  | inl listens ↦ subst (λ o. Starts config old old o) (sym listens) refl
+  | inr memory ↦ subst (λ o. Starts config old old o) (sym memory) refl
+]

@@ -1,0 +1,36 @@
+-- What a daemon answers to a control line, as far as whoever asks has to know.
+use Rattle.std.specs.Prelude.{◌==◌, ◌&&◌, ◌||◌, ℕ, Bool, true, false, List, [], ◌∷◌, codes, if◌then◌else◌, nat_le}
+use Rattle.std.specs.List.{starts_with}
+use Rattle.std.specs.Str.{bytes_eq}
+use Rattle.swim_wire.specs.Words.{words_by}
+
+-- a row of a table begins with a digit
+abbrev pub is_row : List ℕ → Bool
+is_row [] = false
+is_row (first ∷ rest) = nat_le 48 first && nat_le first 57
+
+-- nothing follows the line feed
+abbrev pub is_over : List (List ℕ) → Bool
+is_over ([] ∷ []) = true
+is_over lines = false
+
+-- rows of a table, and then one other line, the last
+abbrev pub is_rows_and_line : List (List ℕ) → Bool
+is_rows_and_line [] = false
+is_rows_and_line (line ∷ rest) = if is_row line then is_rows_and_line rest else is_over rest
+
+-- the text is a whole answer
+abbrev pub is_answer : List ℕ → Bool
+is_answer text = is_rows_and_line (words_by 10 text)
+
+-- the answer says that what was asked was not done
+abbrev pub is_refusal : List ℕ → Bool
+is_refusal answer =
+    starts_with (λ a b. a == b) answer (codes "refused ")
+    || starts_with (λ a b. a == b) answer (codes "fault ")
+    || bytes_eq answer (codes "journal full\n")
+    || bytes_eq answer (codes "no memory\n")
+
+-- the answer says that the daemon stops
+abbrev pub is_stopping : List ℕ → Bool
+is_stopping answer = bytes_eq answer (codes "stopping\n")

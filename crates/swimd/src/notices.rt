@@ -1,0 +1,195 @@
+//! What a daemon tells people while it runs: lines on standard error, each with the time in UTC.
+
+ghost use Rattle.std.specs.Prelude.{◌≡◌, ℕ, false};
+ghost use Rattle.swim_wire.specs.Lines.{has_feed};
+ghost use Rattle.swim_wire.specs.Streams.{one_more};
+ghost use Rattle.swim_life.specs.Endings.{TellsText};
+ghost use Rattle.swim_life.specs.Notices.{Notices, line_text};
+
+use crate::details::{TEXT_BYTES, add_printed};
+use crate::words::VERSION;
+use arrayvec::ArrayVec;
+use jiff::Timestamp;
+use mio::unix::SourceFd;
+use mio::{Events, Interest, Poll, Token};
+use std::alloc::Global;
+use std::fmt::Write;
+use std::io::ErrorKind;
+use std::marker::Model;
+use std::net::Net;
+use std::os::fd::RawFd;
+use std::rt::Clock;
+use std::time::Duration;
+use std::{fmt, io};
+use swim_config::Config;
+use swim_life::Herald;
+use swim_wire::{Piece, Sink, put_pieces};
+
+/// The descriptor of standard error.
+const STANDARD_ERROR: RawFd = 2;
+
+/// A line for people, of characters of ASCII that print. A contract sees its bytes, without the line feed behind them.
+#[derive(Drop)]
+pub struct Notice {
+    text: ArrayVec<u8, TEXT_BYTES>,
+}
+
+impl Model for Notice {
+    ghost use Rattle.std.specs.Prelude.{List, ℕ, ◌≡◌, true};
+    ghost use Rattle.std.specs.List.{list_all};
+    ghost use Rattle.swim_config.specs.Configuration.{is_printing};
+
+    ghost Value = { List ℕ };
+
+    ghost view = { λ n. n.text.items };
+
+    ghost invariant = { λ n. list_all is_printing n.text.items ≡ true };
+}
+
+impl fmt::Write for Notice {
+    fn write_str(&mut self, text: &str) -> fmt::Result {
+        add_printed(&mut self.text, text.as_bytes());
+        Ok(())
+    }
+}
+
+impl Notice {
+    /// A line that begins with the time, as RFC 3339 has it, if that is to be had.
+    fn begun<K: Clock>(clock: &K) -> Notice {
+        let mut notice = Notice {
+            text: ArrayVec::new(),
+        };
+        if let Ok(time) = Timestamp::now(clock) {
+            let _is_added = write!(notice, "{time:.3} ");
+        }
+        notice
+    }
+
+    /// The line, without its line feed.
+    #[tactic(auto, using(crate::proofs::Indented::printing_free))]
+    fn as_slice(&self) -> &[u8]
+        ensures line { result.now ≡ self.now }
+        ensures one { has_feed result.now ≡ false }
+    {
+        self.text.as_slice()
+    }
+
+    /// That a stale socket was removed from this path.
+    pub fn removed<K: Clock>(clock: &K, path: &str) -> Notice {
+        let mut notice = Notice::begun(clock);
+        let _is_added = write!(notice, "removed {path}: a socket that nobody served");
+        notice
+    }
+
+    /// That a daemon of this configuration listens: what it is, and the period in milliseconds.
+    pub fn listens<K: Clock>(clock: &K, config: &Config) -> Notice {
+        let opening = &config.opening;
+        let address = config.listen.write();
+        let period_ms = u64::from(opening.period()).saturating_mul(u64::from(config.tick_ms));
+        let mut notice = Notice::begun(clock);
+        let _is_added = write!(
+            notice,
+            "swimd {} listens id {} address {} control {} members {} period_ms {}",
+            VERSION,
+            opening.me().get(),
+            address.as_str(),
+            config.control.as_str(),
+            opening.rows().len(),
+            period_ms
+        );
+        notice
+    }
+
+    /// That a life begins.
+    fn begins<K: Clock>(clock: &K, number: u64) -> Notice {
+        let mut notice = Notice::begun(clock);
+        let _is_added = write!(notice, "life {number} begins");
+        notice
+    }
+
+    /// Writes it, where standard error takes it at once. Where it can't be written nothing else changes.
+    #[tactic(auto, using(swim_life::specs::Notices::no_notices))]
+    pub fn tell<R: Net, F: Sink>(&self, rt: &R, alloc: Global, faults: &mut F)
+        ensures { Notices (F.written faults.old, F.failures faults.old)
+            (F.written faults.new, F.failures faults.new) }
+    {
+        if is_taken_at_once(rt, alloc) {
+            put_notice(self, faults);
+        }
+    }
+}
+
+/// Writes a line for people.
+fn put_notice<F: Sink>(notice: &Notice, faults: &mut F)
+    ensures { Notices (F.written faults.old, F.failures faults.old)
+        (F.written faults.new, F.failures faults.new) }
+{
+    put_line(notice.as_slice(), faults);
+}
+
+/// Writes a line, and hands it on.
+fn put_line<F: Sink>(line: &[u8], faults: &mut F)
+    ensures { TellsText (line_text line.now) (F.written faults.old, F.failures faults.old)
+        (F.written faults.new, F.failures faults.new) }
+{
+    let pieces = [Piece::Text(line), Piece::Text(b"\n")];
+    let _is_put = put_pieces(faults, &pieces);
+    let _is_sent = faults.flush();
+}
+
+/// Whether standard error takes a line without a wait. A pipe does that has room, as long as nobody else writes into
+/// it; what the system can't say it of, as a file, always does.
+pub fn is_taken_at_once<R: Net>(rt: &R, alloc: Global) -> bool {
+    match has_room(rt, alloc) {
+        Ok(has_room) => has_room,
+        Err(fault) => fault.kind() == ErrorKind::PermissionDenied,
+    }
+}
+
+fn has_room<R: Net>(rt: &R, alloc: Global) -> io::Result<bool> {
+    let mut poll = Poll::new(rt)?;
+    let mut events = Events::with_capacity(alloc, 1)?;
+    poll.registry().register(&mut SourceFd(&STANDARD_ERROR), Token(0), Interest::WRITABLE)?;
+    poll.poll(&mut events, Some(Duration::ZERO))?;
+    Ok(!events.is_empty())
+}
+
+/// Who tells that a life begins, unless it is to be quiet.
+#[derive(Drop)]
+pub struct Announcer<'r, R> {
+    rt: &'r R,
+    alloc: Global,
+    is_quiet: bool,
+    begun: u64,
+}
+
+impl<'r, R> Announcer<'r, R> {
+    /// One who told of no life yet.
+    pub fn new(rt: &'r R, alloc: Global, is_quiet: bool) -> Announcer<'r, R>
+        ensures { result.begun ≡ 0 }
+    {
+        Announcer {
+            rt,
+            alloc,
+            is_quiet,
+            begun: 0,
+        }
+    }
+}
+
+impl<'r, R: Net + Clock> Herald for Announcer<'r, R> {
+    ghost begun = { λ a. a.begun };
+
+    #[tactic(auto, using(swim_life::specs::Notices::no_notices))]
+    fn begins<F: Sink>(&mut self, number: u64, notices: &mut F)
+        requires { number ≡ self.old.begun }
+        ensures counts { self.new.begun ≡ one_more self.old.begun }
+        ensures notices { Notices (F.written notices.old, F.failures notices.old)
+            (F.written notices.new, F.failures notices.new) }
+    {
+        self.begun = number.saturating_add(1);
+        if !self.is_quiet {
+            Notice::begins(self.rt, number).tell(self.rt, self.alloc, notices);
+        }
+    }
+}
