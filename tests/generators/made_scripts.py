@@ -54,6 +54,16 @@ def scripts_about_as_large_as_may_be():
     yield bad("no line but comments, and a byte too many", empty, f"line {empty.count(10)}: size")
 
 
+def journal_files_that_are_large():
+    head = b"journal 1\n" + OPEN + b"tick\n= 0 started judged - probe -\n"
+    large = filled(head, SCRIPT_BYTES + 1_000_000) + b"tick\n= 1 quiet\n"
+    yield good("a journal file with more bytes than a script", large, ALONE + b"quiet\n")
+    behind = filled(b"\njournal 1\n" + OPEN, SCRIPT_BYTES + 1)
+    yield bad("a script whose second line is that of a journal file", behind, "line 2: word")
+    other = filled(b"# journal 1\n" + OPEN, SCRIPT_BYTES + 1)
+    yield bad("a script with a comment first", other, f"line {other.count(10)}: size")
+
+
 def lines_that_are_long_and_scripts_that_are_large():
     yield bad("one line of 16,777,216 bytes", comment(SCRIPT_BYTES), "line 1: long")
     yield bad("one line of 16,777,217 bytes", comment(SCRIPT_BYTES + 1), "line 1: size")
@@ -162,8 +172,8 @@ def long_orders():
 class Round:
     """Who was probed in a round and who is to be, with the choices of a seed."""
 
-    def __init__(self, seed, ids):
-        self.draws, self.probed, self.rest = Draws(seed), list(ids), []
+    def __init__(self, seed, ids, life=0):
+        self.draws, self.probed, self.rest = Draws(seed, life), list(ids), []
 
     def next(self):
         if not self.rest:
@@ -181,10 +191,11 @@ class Round:
         return place
 
 
-def drawn_rounds(name, seed):
-    """Nine members and two joiners; each period asks relays and is acked behind that."""
-    script = ["open 1 3 1 3 0 1000", f"seed {seed.hex()}", *(f"row {id} {peer(id)}" for id in range(2, 11))]
-    members, answers = Round(seed, range(2, 11)), []
+def drawn_rounds(name, seed, life=None):
+    """Nine members and two joiners; each period asks relays and is acked behind that. With a life it is a journal file."""
+    first, told = ([], "") if life is None else (["journal 1"], f" {life}")
+    script = [*first, "open 1 3 1 3 0 1000", f"seed {seed.hex()}{told}", *(f"row {id} {peer(id)}" for id in range(2, 11))]
+    members, answers = Round(seed, range(2, 11), life or 0), []
     for number in range(1, 31):
         aim = members.next()
         relays = members.relays(aim, 3)
@@ -203,6 +214,8 @@ def drawn_scripts():
     yield drawn_rounds("a seed of zeros", bytes(32))
     yield drawn_rounds("a seed of ones", bytes([255] * 32))
     yield drawn_rounds("a seed of rising bytes", bytes(range(32)))
+    for life in (0, 1, 7, 2**32 - 1, 2**32 + 5, 2**64 - 1):
+        yield drawn_rounds(f"a seed of rising bytes in life {life}", bytes(range(32)), life)
 
 
 def long_runs():
@@ -216,6 +229,7 @@ def long_runs():
 
 def made_scripts():
     yield from scripts_about_as_large_as_may_be()
+    yield from journal_files_that_are_large()
     yield from lines_that_are_long_and_scripts_that_are_large()
     yield from lines_about_as_long_as_may_be()
     yield from many_rows()

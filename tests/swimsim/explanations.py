@@ -177,6 +177,52 @@ RUNS = [
      "line 4: this order is none of the members that were to be put in order\n"),
 ]
 
+# journal files
+JOURNAL = b"journal 1\n" + OPEN
+SEEDED = b"seed " + b"0" * 64
+NEWEST = "= 0 started judged - probe 2 1"
+MORE = "tick, hear, join, remove, table, gap or ="
+LIFE = "LIFE, the stream of the seed: 0 to 18446744073709551615"
+
+
+def differs(line, mark, cause=None, wanted=NEWEST):
+    """Of a line that tells the first tick's answer: the marks below it."""
+    return JOURNAL + ROW + b"tick\n" + line.encode(), told("line 5: differs", [line.replace("\r", "\\r"), mark], wanted, cause, ONE)
+
+
+JOURNALS = [
+    differs("= 0 started judged - probe 2 2", " " * 29 + "^"),
+    differs("= 1 started judged - probe 2 1", "  ^"),
+    differs("= 0 started judged 3 probe 2 1", " " * 19 + "^"),
+    differs("= 0 Started judged - probe 2 1", "    ^"),
+    differs("= 0 started judged - probe 2 1 ", " " * 30 + "^"),
+    differs("= 0 started judged - probe 2 10", " " * 30 + "^"),
+    differs("= 0 started judged - probe 2", " " * 28 + "^", "the line ends before it"),
+    differs("= ", "  ^", "the line ends before it"),
+    differs("= 0 started judged - probe 2 1\r", " " * 30 + "^^",
+            "the line ends with a carriage return, as lines of another system do: a line feed alone ends a line"),
+    (JOURNAL + b"gap 2\n= 0 quiet\n", told("line 4: differs", ["= 0 quiet", "^"], "a call before it: tick, hear, join or remove")),
+    # other faults, and words that stand in journal files alone
+    (JOURNAL + ROW + b"tick\n=\n", told("line 5: word", ["=", "^"], MORE, None, ONE)),
+    (JOURNAL + b"tick\n" + ROW, told("line 4: word", ["row 2 10.0.0.2:7000", "^^^"], MORE,
+     "line 3 is an event line: header lines stand before the first", ONE)),
+    (JOURNAL + OPEN, told("line 3: word", ["open 1 0 1 3 0 100", "^^^^"], ANY, "the opening stands once, as the first line")),
+    (JOURNAL + b"= 0 quiet\n", told("line 3: word", ["= 0 quiet", "^"], ANY)),
+    (b"journal 1\ntick\n", told("line 2: word", ["tick", "^^^^"], FIRST)),
+    (JOURNAL + SEEDED + b" x\n", told("line 3: number", ["seed " + "0" * 64 + " x", " " * 70 + "^"], LIFE)),
+    (JOURNAL + SEEDED + b" 01\n", told("line 3: number", ["seed " + "0" * 64 + " 01", " " * 70 + "^^"], LIFE,
+     "a number has no sign and no zero in front")),
+    (JOURNAL + SEEDED + b" 1 2\n", told("line 3: extra", ["seed " + "0" * 64 + " 1 2", " " * 72 + "^"], "the end of the line")),
+    (JOURNAL + b"seed 00 x\n", told("line 3: hex", ["seed 00 x", "     ^^"], SEED, "it has 2 digits")),
+    (JOURNAL + SEEDED + b" 1\nplace 0\n", told("line 4: seed", ["place 0", "^^^^^"], CHOOSER,
+     "line 3 is a seed, from which orders and places are drawn")),
+    (JOURNAL + ROW + b"tick\n" + NEWEST.encode() + b"\n", ONE),
+    # the same in any other script
+    (OPEN + ROW + b"tick\n" + NEWEST.encode() + b"\n", told("line 4: word", [NEWEST, "^"], EVENT, None, ONE)),
+    (OPEN + SEEDED + b" 1\n", told("line 2: extra", ["seed " + "0" * 64 + " 1", " " * 70 + "^"], "the end of the line")),
+    (b"#\n" + JOURNAL, told("line 2: word", ["journal 1", "^^^^^^^"], FIRST)),
+]
+
 # OPENED of cases.py has six lines: its answer is handed on before the seventh is waited for
 READ_FAILED = told("line 1: read", [], "input that can be read")
 WRITE_FAILED = told("line 7: write", [], "output that can be written", end=ONE)

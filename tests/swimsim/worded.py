@@ -11,7 +11,7 @@ from typing import NamedTuple
 from tests.generators.made_scripts import known_members, waiting_requests
 from tests.swimsim.cases import EVENTS, OPENED, SCRIPTS, SECONDS, STARTED, Case
 from tests.swimsim.cases import content, difference, kept_scripts, short_scripts
-from tests.swimsim.explanations import CAUSES, FAULTS, OPENINGS, READ_FAILED, RUNS, WRITE_FAILED
+from tests.swimsim.explanations import CAUSES, FAULTS, JOURNALS, OPENINGS, READ_FAILED, RUNS, WRITE_FAILED
 
 
 class Called(NamedTuple):
@@ -122,7 +122,7 @@ def with_names(program):
 def with_explain(program):
     """Faults and runs are explained as explanations.py says."""
     said = []
-    for script, wanted in (*CAUSES, *FAULTS, *OPENINGS, *RUNS):
+    for script, wanted in (*CAUSES, *FAULTS, *OPENINGS, *RUNS, *JOURNALS):
         ran = subprocess.run([program, "--explain"], input=script, capture_output=True, timeout=SECONDS)
         found = difference("standard error", wanted.encode(), ran.stderr)
         said += [f"{script[:200]!r}: {it}" for it in found]

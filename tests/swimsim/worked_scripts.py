@@ -2,8 +2,10 @@
 
 tests/swimsim/run gives them to swimsim. They are also the ground on which the reference stands: tests/swimsim/compare gives them
 to both programs first. Each is (name, script,
-standard output, standard error, status), as in made_scripts.py.
+standard output, standard error, status), as in made_scripts.py. Those of worked_journals.py are among them.
 """
+
+from tests.swimsim.worked_journals import worked_journals
 
 ROWS = "row 2 10.0.0.2:7000\nrow 3 10.0.0.3:7000\n"
 TWO = "open 1 1 1 3 0 1000\n" + ROWS
@@ -304,3 +306,4 @@ def worked_scripts():
         yield from part()
     for part in (as_many_as_may_be_known, pings, requests, full_tables_of_requests, small_journals, bad_scripts):
         yield from part()
+    yield from worked_journals()

@@ -3,7 +3,6 @@ use Rattle.std.proofs.Common.{◌≡◌, ℕ, ◌+◌, ◌≤◌, cond, Bool, tr
 use Rattle.std.proofs.lemmas.Bool.{lt-ltb, le-ltb, eq-eqb}
 use Rattle.std.proofs.lemmas.List.{length-map}
 use Rattle.std.proofs.lemmas.Option.{same_Some}
-use Rattle.swim_wire.specs.Lines.{bare}
 use Rattle.swim_history.specs.declared.calls.Call.{Call}
 use Rattle.swim_history.specs.declared.entries.Entry.{Entry}
 use Rattle.swim_history.specs.Drawn.{DrawsEntry}
@@ -13,12 +12,12 @@ use Rattle.swim_detector.specs.Recording.{Recording, IsKept, Records}
 use Rattle.swim_script.specs.declared.arguments.Opened.{Opened}
 use Rattle.swim_script.specs.declared.choosers.Drawer.{Drawer}
 use Rattle.swim_script.specs.declared.commands.Command.{Command}
+use Rattle.swim_script.specs.declared.commands.Command.TheVariants as commands
 use Rattle.swim_script.specs.declared.faults.ScriptFault.{ScriptFault}
 use Rattle.swim_script.specs.Choosers.{ChoosesOrder, ChoosesPlace}
-use Rattle.swim_script.specs.Commands.{line_read}
-use Rattle.swim_script.specs.Headers.{Told, is_event, Head, stage_of, head_then, head_of, setting_in, limit_in, chooser_in}
+use Rattle.swim_script.specs.Headers.{said, Told, is_event, Head, read_after, head_then, head_of, setting_in, limit_in, chooser_in}
 use Rattle.swim_script.specs.Texts.{answer_text, full_text, no_memory_text}
-use Rattle.swim_script.specs.Script.{Turn, lines_of, asked_by, asked_in, is_full, calls_in, output_of, IsRunOf, fault_of_opening, fault_of_command, fault_with, fault_of_header}
+use Rattle.swim_script.specs.Script.{Turn, lines_of, asked_by, asked_in, is_full, calls_in, output_of, IsConfirmed, AreConfirmed, IsRunOf, fault_of_opening, fault_of_command, fault_with, fault_of_header}
 use Rattle.swim_script.specs.Script.Asked.{Calls}
 use Rattle.swim_script.specs.Holds.{Played, IsRecorded, Plays, Holds, Starts, IsPlayed, IsShown, TurnDone}
 use Rattle.swim_script.proofs.KeptRows.{all_kept}
@@ -72,6 +71,7 @@ ready_by turns run text header None a p started =
         opening = started.2 ∙ ap setting_in all;
         limit = started.3 ∙ ap limit_in all;
         made = no_entry told (calls_in turns) run a.chooser (p.silent 0).0 p.none (started.4 ∙ ap chooser_in all);
+        confirmed = subst (λ (r : List Entry). AreConfirmed turns r) (sym p.none) (p.silent 0).2;
         text_is = p.nothing ∙ sym ((p.silent 0).1 (setting_in told)) ∙ ap (output_of (setting_in told) turns) (sym p.none);
       };
       none = λ command. no_fault_at_event (head_of (lines_of turns)) command p.begun (ap fault_of_header (sym all) ∙ started.0);
@@ -101,9 +101,9 @@ room_now turns run text a r room =
 
 -- the recorder is as before, and the line has an answer
 still_recorded : (turns : List Turn) (turn : Turn) (run : List Entry) (text more : List ℕ) (a b : Recording Drawer) → head_of (lines_of (turn ∷ turns)) ≡ after_event (head_of (lines_of turns)) →
-    IsRecorded turns run text a → IsKept a b → calls_in (turn ∷ turns) ≡ calls_in turns →
+    IsRecorded turns run text a → IsKept a b → calls_in (turn ∷ turns) ≡ calls_in turns → AreConfirmed (turn ∷ turns) run →
     output_of (setting_in (head_of (lines_of turns)).told) (turn ∷ turns) run ≡ output_of (setting_in (head_of (lines_of turns)).told) turns run ++ more → IsRecorded (turn ∷ turns) run (text ++ more) b
-still_recorded turns turn run text more a b head r same calls output =
+still_recorded turns turn run text more a b head r same calls confirmed output =
     let told : (head_of (lines_of (turn ∷ turns))).told ≡ (head_of (lines_of turns)).told = ap (λ (x : Head). x.told) head in
     record {
       past = same.1 ∙ r.past;
@@ -112,6 +112,7 @@ still_recorded turns turn run text more a b head r same calls output =
       made = subst (λ (t : Told). IsRunOf t (calls_in (turn ∷ turns)) run b.chooser) (sym told)
           (subst (λ (made : List Call). IsRunOf (head_of (lines_of turns)).told made run b.chooser) (sym calls)
           (subst (λ (c : Drawer). IsRunOf (head_of (lines_of turns)).told (calls_in turns) run c) (sym same.3) r.made));
+      confirmed = confirmed;
       text_is = ap (λ t. t ++ more) r.text_is ∙ sym output ∙ ap (λ (t : Told). output_of (setting_in t) (turn ∷ turns) run) (sym told);
     }
 
@@ -132,9 +133,9 @@ entry_made told made run a b e call past opening m seat called adds = record {
 
 -- an entry was added
 entry_recorded : (turns : List Turn) (turn : Turn) (run : List Entry) (text : List ℕ) (a b : Recording Drawer) (e : Entry) (call : Call) → head_of (lines_of (turn ∷ turns)) ≡ after_event (head_of (lines_of turns)) →
-    IsRecorded turns run text a → e.seat ≡ 0 → e.call ≡ call → Records ChoosesOrder ChoosesPlace a b e → calls_in (turn ∷ turns) ≡ call ∷ calls_in turns →
+    IsRecorded turns run text a → e.seat ≡ 0 → e.call ≡ call → Records ChoosesOrder ChoosesPlace a b e → calls_in (turn ∷ turns) ≡ call ∷ calls_in turns → AreConfirmed (turn ∷ turns) (e ∷ run) →
     ((o : Setting) → output_of o (turn ∷ turns) (e ∷ run) ≡ output_of o turns run ++ answer_text o e.reply) → IsRecorded (turn ∷ turns) (e ∷ run) (text ++ answer_text a.opening e.reply) b
-entry_recorded turns turn run text a b e call head r seat called adds calls output =
+entry_recorded turns turn run text a b e call head r seat called adds calls confirmed output =
     let before = (head_of (lines_of turns)).told in
     let told : (head_of (lines_of (turn ∷ turns))).told ≡ before = ap (λ (x : Head). x.told) head in
     record {
@@ -143,15 +144,31 @@ entry_recorded turns turn run text a b e call head r seat called adds calls outp
       limit = adds.4 ∙ r.limit ∙ ap limit_in (sym told);
       made = subst (λ (t : Told). IsRunOf t (calls_in (turn ∷ turns)) (e ∷ run) b.chooser) (sym told)
           (subst (λ (made : List Call). IsRunOf before made (e ∷ run) b.chooser) (sym calls) (entry_made before (calls_in turns) run a b e call r.past r.opening r.made seat called adds));
+      confirmed = confirmed;
       text_is = ap (λ (o : Setting). text ++ answer_text o e.reply) r.opening ∙ ap (λ t. t ++ answer_text (setting_in before) e.reply) r.text_is
           ∙ sym (output (setting_in before)) ∙ ap (λ (t : Told). output_of (setting_in t) (turn ∷ turns) (e ∷ run)) (sym told);
     }
+
+-- a line that makes a call tells of no answer
+calm_call : (command : Command) (call : Call) (run : List Entry) → asked_by (Some command) ≡ Calls call → IsConfirmed (Some command) run
+calm_call (commands.Open arguments) call run asks = tt
+calm_call (commands.Row id peer) call run asks = tt
+calm_call (commands.Order order) call run asks = tt
+calm_call (commands.Place place) call run asks = tt
+calm_call (commands.Seed key life) call run asks = tt
+calm_call commands.Tick call run asks = tt
+calm_call (commands.Hear peer datagram) call run asks = tt
+calm_call (commands.Join id peer) call run asks = tt
+calm_call (commands.Remove id) call run asks = tt
+calm_call commands.Table call run asks = tt
+calm_call (commands.Gap id) call run asks = tt
+calm_call (commands.Answer text) call run asks = absurd cc
 
 -- ---- the lines
 
 -- a line that makes a call
 pub played : (turns : List Turn) (run : List Entry) (text piece : List ℕ) (s new : Played) (command : Command) (call : Call) (before after : Option (List ℕ)) →
-    line_read (stage_of (head_of (lines_of turns))) (bare piece) ≡ Ok (Some command) → asked_by (Some command) ≡ Calls call →
+    read_after (lines_of turns) piece ≡ Ok (Some command) → asked_by (Some command) ≡ Calls call →
     head_then (length (lines_of turns) + 1) (Some command) (head_of (lines_of turns)) ≡ after_event (head_of (lines_of turns)) →
     Holds turns run text s → IsPlayed s new call before after true → TurnDone turns text piece new before after
 played turns run text piece s new command call before after read asks heads h done =
@@ -161,6 +178,8 @@ played turns run text piece s new command call before after read asks heads h do
     let r = is_ready.recorded in
     let head : (refused : Bool) → head_of (piece ∷ lines_of turns) ≡ after_event (head_of (lines_of turns)) =
     λ refused. head_after turns (record { line = piece; refused = refused }) (Some command) read ∙ heads in
+    let said_is : said (lines_of turns) piece ≡ Some command = rw read refl in
+    let calm : (r : List Entry) → IsConfirmed (Some command) r = λ r. calm_call command call r asks in
     let asked : (refused : Bool) → asked_in (lines_of turns) piece ≡ Calls call =
     λ refused. asked_after turns (record { line = piece; refused = refused }) (Some command) read ∙ asks in
     elim done.4 [
@@ -173,7 +192,7 @@ played turns run text piece s new command call before after read asks heads h do
             run = run;
             more = full_text;
             holds = next_holds turns turn run run text (text ++ full_text) s new b (head false) h done.3 done.5
-                (still_recorded turns turn run text full_text a b (head false) r full.1 (rw (asked false, is) refl) (rw (asked false, is) refl));
+                (still_recorded turns turn run text full_text a b (head false) r full.1 (rw (asked false, is) refl) (rw (said_is, asks, is) (calm run, r.confirmed)) (rw (asked false, is) refl));
             written = full.2;
           }
       | inr (inl short) ↦
@@ -185,7 +204,7 @@ played turns run text piece s new command call before after read asks heads h do
             run = run;
             more = no_memory_text;
             holds = next_holds turns turn run run text (text ++ no_memory_text) s new b (head true) h done.3 done.5
-                (still_recorded turns turn run text no_memory_text a b (head true) r short.1 (rw (asked true, is) refl) (rw (asked true, is) refl));
+                (still_recorded turns turn run text no_memory_text a b (head true) r short.1 (rw (asked true, is) refl) (rw (said_is, asks, is) (calm run, r.confirmed)) (rw (asked true, is) refl));
             written = short.2;
           }
       | inr (inr made) ↦
@@ -198,19 +217,20 @@ played turns run text piece s new command call before after read asks heads h do
             run = e ∷ run;
             more = answer_text a.opening e.reply;
             holds = next_holds turns turn run (e ∷ run) text (text ++ answer_text a.opening e.reply) s new b (head false) h done.3 done.5
-                (entry_recorded turns turn run text a b e call (head false) r made.1 made.2 made.4 (rw (asked false, is) refl) (λ o. rw (asked false, is) refl));
+                (entry_recorded turns turn run text a b e call (head false) r made.1 made.2 made.4 (rw (asked false, is) refl) (rw (said_is, asks, is) (calm (e ∷ run), r.confirmed)) (λ o. rw (asked false, is) refl));
             written = made.5;
           }
     ]
 
 -- a line that is answered by what was recorded so far, and makes no call
 pub shown : (turns : List Turn) (run : List Entry) (text piece : List ℕ) (s new : Played) (command : Command) (shows : Recording Drawer → List ℕ) (before after : Option (List ℕ)) →
-    line_read (stage_of (head_of (lines_of turns))) (bare piece) ≡ Ok (Some command) →
+    read_after (lines_of turns) piece ≡ Ok (Some command) →
     head_then (length (lines_of turns) + 1) (Some command) (head_of (lines_of turns)) ≡ after_event (head_of (lines_of turns)) →
     ((turn : Turn) → asked_in (lines_of turns) turn.line ≡ asked_by (Some command) → calls_in (turn ∷ turns) ≡ calls_in turns) →
     ((turn : Turn) (o : Setting) (a : Recording Drawer) → asked_in (lines_of turns) turn.line ≡ asked_by (Some command) → a.opening ≡ o → a.past ≡ run → output_of o (turn ∷ turns) run ≡ output_of o turns run ++ shows a) →
+    ((turn : Turn) → said (lines_of turns) turn.line ≡ Some command → AreConfirmed turns run → AreConfirmed (turn ∷ turns) run) →
     Holds turns run text s → IsShown s new shows before after true → TurnDone turns text piece new before after
-shown turns run text piece s new command shows before after read heads calls output h done =
+shown turns run text piece s new command shows before after read heads calls output confirms h done =
     let a = done.0 in
     let turn : Turn = record { line = piece; refused = false } in
     let is_ready = ready_by turns run text s.header s.recorded a h.plays done.1 in
@@ -223,6 +243,6 @@ shown turns run text piece s new command shows before after read heads calls out
       run = run;
       more = shows a;
       holds = next_holds turns turn run run text (text ++ shows a) s new a head h done.2 done.4
-          (still_recorded turns turn run text (shows a) a a head r (refl, refl, refl, refl) (calls turn asked) (output turn (setting_in (head_of (lines_of turns)).told) a asked r.opening r.past));
+          (still_recorded turns turn run text (shows a) a a head r (refl, refl, refl, refl) (calls turn asked) (confirms turn (rw read refl) r.confirmed) (output turn (setting_in (head_of (lines_of turns)).told) a asked r.opening r.past));
       written = done.3;
     }

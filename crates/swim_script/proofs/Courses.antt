@@ -18,11 +18,13 @@ use Rattle.swim_script.specs.declared.commands.Command.{Command}
 use Rattle.swim_script.specs.declared.commands.LineFault.{LineFault}
 use Rattle.swim_script.specs.declared.commands.LineFault.TheVariants.{Word}
 use Rattle.swim_script.specs.declared.faults.FaultKind.{FaultKind}
-use Rattle.swim_script.specs.declared.faults.FaultKind.TheVariants.{Size, Long, Words, Opening, Memory, Read, Write}
+use Rattle.swim_script.specs.declared.faults.FaultKind.TheVariants.{Size, Long, Words, Opening, Memory, Differs, Read, Write}
 use Rattle.swim_script.specs.declared.faults.ScriptFault.{ScriptFault}
-use Rattle.swim_script.specs.Commands.{line_read}
-use Rattle.swim_script.specs.Headers.{Told, nothing_told, is_event, stage_of, said, head_of, setting_in, chooser_in}
-use Rattle.swim_script.specs.Script.{Turn, lines_of, at_line, opening_at, fault_of_setting, fault_of_opening, fault_of_read, bytes_of, fault_at, fault_with, fault_of_header, fault_at_end, first_of, fault_from, fault_of, IsTold, lines_before, takes_memory, WantsMemory, WaitsFor, is_answered, IsAnswering, RunsTo}
+use Rattle.swim_script.specs.declared.forms.Form.{Form}
+use Rattle.swim_script.specs.declared.forms.Form.TheVariants.{Script}
+use Rattle.swim_script.specs.Forms.{form_after, form_of, most_bytes}
+use Rattle.swim_script.specs.Headers.{Told, nothing_told, is_event, read_after, said, head_of, setting_in, chooser_in}
+use Rattle.swim_script.specs.Script.{Turn, lines_of, at_line, opening_at, fault_of_setting, fault_of_opening, fault_of_read, bytes_of, fault_at, fault_with, fault_of_header, fault_at_end, first_of, fault_from, fault_of, IsTold, lines_before, takes_memory, IsContrary, IsDifferent, WantsMemory, WaitsFor, is_answered, IsAnswering, RunsTo}
 use Rattle.swim_script.specs.Holds.{Played, kept, IsSilent, line_of, IsWaiting, Plays, Holds, ending, ending_with, TurnDone, TurnFails, Course}
 use Rattle.swim_script.specs.Ends.{IsEndOf}
 use Rattle.swim_script.proofs.KeptRows.{fault_of_kept}
@@ -60,6 +62,7 @@ silent_told turns silent k = record {
   run = [];
   after = chooser_in (head_of (lines_of (drop k turns))).told;
   made = record { legal = tt; drawn = refl; calls = sym (silent k).0; one_seat = refl };
+  confirmed = (silent k).2;
   text_is = sym ((silent k).1 (setting_in (head_of (lines_of (drop k turns))).told));
 }
 
@@ -71,6 +74,7 @@ told_by turns run text header (Some a) p = record {
   run = run;
   after = a.chooser;
   made = p.1.made;
+  confirmed = p.1.confirmed;
   text_is = p.1.text_is;
 }
 
@@ -90,15 +94,15 @@ told_earlier n script turns run text more header earlier cut p =
 -- ---- faults
 
 -- a line within the limits has the fault of what it says
-fault_within : (before : List (List ℕ)) (piece : List ℕ) → length piece + bytes_of before ≤ 16777216 → length (bare piece) ≤ 2048 →
-    fault_at before piece ≡ fault_of_read (length before + 1) (head_of before) (line_read (stage_of (head_of before)) (bare piece))
-fault_within before piece size fits = rw (le-ltb 16777216 (length piece + bytes_of before) size, le-ltb 2048 (length (bare piece)) fits) refl
+fault_within : (before : List (List ℕ)) (piece : List ℕ) → length piece + bytes_of before ≤ most_bytes (form_of before) → length (bare piece) ≤ 2048 →
+    fault_at before piece ≡ fault_of_read (length before + 1) (head_of before) (read_after before piece)
+fault_within before piece size fits = rw (le-ltb (most_bytes (form_of before)) (length piece + bytes_of before) size, le-ltb 2048 (length (bare piece)) fits) refl
 
-fault_long : (before : List (List ℕ)) (piece : List ℕ) → length piece + bytes_of before ≤ 16777216 → 2048 < length (bare piece) → fault_at before piece ≡ Some (at_line (length before + 1) Long)
-fault_long before piece size long = rw (le-ltb 16777216 (length piece + bytes_of before) size, lt-ltb 2048 (length (bare piece)) long) refl
+fault_long : (before : List (List ℕ)) (piece : List ℕ) → length piece + bytes_of before ≤ most_bytes (form_of before) → 2048 < length (bare piece) → fault_at before piece ≡ Some (at_line (length before + 1) Long)
+fault_long before piece size long = rw (le-ltb (most_bytes (form_of before)) (length piece + bytes_of before) size, lt-ltb 2048 (length (bare piece)) long) refl
 
-fault_size : (before : List (List ℕ)) (piece : List ℕ) → 16777216 < length piece + bytes_of before → fault_at before piece ≡ Some (at_line (length before + 1) Size)
-fault_size before piece over = rw (lt-ltb 16777216 (length piece + bytes_of before) over) refl
+fault_size : (before : List (List ℕ)) (piece : List ℕ) → most_bytes (form_of before) < length piece + bytes_of before → fault_at before piece ≡ Some (at_line (length before + 1) Size)
+fault_size before piece over = rw (lt-ltb (most_bytes (form_of before)) (length piece + bytes_of before) over) refl
 
 -- the first fault is that of the next line
 first_fault_is : (script rest piece : List ℕ) (more : List (List ℕ)) (before : List (List ℕ)) (fault : ScriptFault) → fault_of script ≡ fault_from before (pieces rest) → pieces rest ≡ piece ∷ more →
@@ -108,11 +112,17 @@ first_fault_is script rest piece more before fault from first is =
 
 -- ---- one more line
 
-pub next : (script rest left line : List ℕ) (old mid mid' new : Option (List ℕ)) (budget after : ℕ) (s s' : Played) (c : Course script rest old mid budget s) (i : IsLine rest left line 2048 budget after) →
-    Keeps mid mid' → TurnDone c.turns c.text i.piece s' mid' new → Course script left old new after s'
-next script rest left line old mid mid' new budget after s s' c i kept d =
+-- the form with it
+pub form_next : (script rest left line : List ℕ) (old mid : Option (List ℕ)) (form told : Form) (budget after : ℕ) (s : Played) (c : Course script rest old mid form budget s) (i : IsLine rest left line 2048 budget after) →
+    told ≡ form_after s.lines line form → told ≡ form_of (i.piece ∷ lines_of c.turns)
+form_next script rest left line old mid form told budget after s c i is =
+    is ∙ (ap (λ n. form_after n line form) c.holds.count ∙ (ap (λ (l : List ℕ). form_after (length (lines_of c.turns)) l form) (sym i.bytes) ∙ ap (form_after (length (lines_of c.turns)) (bare i.piece)) c.form_is))
+
+pub next : (script rest left line : List ℕ) (old mid mid' new : Option (List ℕ)) (form told : Form) (budget after after' : ℕ) (s s' : Played) (c : Course script rest old mid form budget s) (i : IsLine rest left line 2048 budget after) →
+    Keeps mid mid' → told ≡ form_after s.lines line form → after' + most_bytes form ≡ after + most_bytes told → TurnDone c.turns c.text i.piece s' mid' new → Course script left old new told after' s'
+next script rest left line old mid mid' new form told budget after after' s s' c i kept is grows d =
     let before = lines_of c.turns in
-    let within = fault_within before i.piece (omega (arith, c.spent, i.spent)) (rw (i.bytes) i.fits) in
+    let within = fault_within before i.piece (omega (arith, c.spent, i.spent, ap most_bytes c.form_is)) (rw (i.bytes) i.fits) in
     record {
       turns = record { line = i.piece; refused = d.refused } ∷ c.turns;
       run = d.run;
@@ -120,7 +130,8 @@ next script rest left line old mid mid' new budget after s s' c i kept d =
       holds = d.holds;
       cut = c.cut ∙ (ap (λ (lines : List (List ℕ)). reverse before ++ lines) i.first ∙ cut_more before i.piece (pieces left));
       fault = c.fault ∙ (ap (fault_from before) i.first ∙ ap (λ f. first_of f (fault_from (i.piece ∷ before) (pieces left))) (within ∙ d.none));
-      spent = omega (arith, c.spent, i.spent);
+      form_is = form_next script rest left line old mid form told budget after s c i is;
+      spent = omega (arith, c.spent, i.spent, grows);
       written = appends_both old mid new c.text d.more c.written (kept_appends mid mid' new d.more kept d.written);
     }
 
@@ -128,7 +139,7 @@ next script rest left line old mid mid' new budget after s s' c i kept d =
 
 -- a fault that the format names by the script alone
 abbrev pub IsNamed : FaultKind → Type 0
-IsNamed kind = (kind ≢ Read) × (kind ≢ Write) × (kind ≢ Memory)
+IsNamed kind = (kind ≢ Read) × (kind ≢ Write) × (kind ≢ Memory) × (kind ≢ Differs)
 
 -- any fault but the reader's, the writer's and the want of memory
 ends_with : (script left : List ℕ) (old new : Option (List ℕ)) (fault : ScriptFault) (kind : FaultKind) → IsNamed kind →
@@ -140,16 +151,17 @@ ends_with script left old new fault (Opening opening) named p = p
 ends_with script left old new fault Read named p = absurd (named.0 refl)
 ends_with script left old new fault Write named p = absurd (named.1 refl)
 ends_with script left old new fault Memory named p = absurd (named.2 refl)
+ends_with script left old new fault Differs named p = absurd (named.3 refl)
 
 -- the lines before such a fault's line were answered
 abbrev pub Stands : List ℕ → List ℕ → ScriptFault → Type 0
 Stands script text fault = IsTold (lines_before fault.line script) text × IsNamed fault.kind
 
 named_words : (wrong : LineFault) → IsNamed (Words wrong)
-named_words wrong = ((λ e. absurd (cc e)), (λ e. absurd (cc e)), (λ e. absurd (cc e)))
+named_words wrong = ((λ e. absurd (cc e)), (λ e. absurd (cc e)), (λ e. absurd (cc e)), (λ e. absurd (cc e)))
 
 named_opening : (refused : OpeningFault) → IsNamed (Opening refused)
-named_opening refused = ((λ e. absurd (cc e)), (λ e. absurd (cc e)), (λ e. absurd (cc e)))
+named_opening refused = ((λ e. absurd (cc e)), (λ e. absurd (cc e)), (λ e. absurd (cc e)), (λ e. absurd (cc e)))
 
 -- the fault of an opening stands in its `open` line
 refused_at : (n : ℕ) (refused : Option OpeningFault) (fault : ScriptFault) → opening_at n refused ≡ Some fault → (fault.line ≡ n) × IsNamed fault.kind
@@ -188,7 +200,7 @@ read_stands script turns run text more s (Ok (Some command)) fault cut h found =
     event_stands script turns run text more s.header s.recorded fault cut h.plays refused.0 refused.1
 
 -- a line for which there was no memory
-wants_memory : (script : List ℕ) (before : List (List ℕ)) (piece : List ℕ) (more : List (List ℕ)) → pieces script ≡ reverse before ++ piece ∷ more → takes_memory (said (head_of before) piece) ≡ true →
+wants_memory : (script : List ℕ) (before : List (List ℕ)) (piece : List ℕ) (more : List (List ℕ)) → pieces script ≡ reverse before ++ piece ∷ more → takes_memory (said before piece) ≡ true →
     WantsMemory script (length before + 1)
 wants_memory script before piece more cut takes =
     let same : lines_before (length before + 1) script ≡ before = before_next (length before + 1) script before (piece ∷ more) (omega arith) cut in
@@ -196,11 +208,11 @@ wants_memory script before piece more cut takes =
       piece = piece;
       more = more;
       cut = cut ∙ ap (λ (lines : List (List ℕ)). reverse lines ++ piece ∷ more) (sym same);
-      takes = ap (λ (lines : List (List ℕ)). takes_memory (said (head_of lines) piece)) same ∙ takes;
+      takes = ap (λ (lines : List (List ℕ)). takes_memory (said lines piece)) same ∙ takes;
     }
 
 -- a line whose answer was not written
-answering : (script left : List ℕ) (before : List (List ℕ)) (piece : List ℕ) → pieces script ≡ reverse before ++ piece ∷ pieces left → is_answered (said (head_of before) piece) ≡ true →
+answering : (script left : List ℕ) (before : List (List ℕ)) (piece : List ℕ) → pieces script ≡ reverse before ++ piece ∷ pieces left → is_answered (said before piece) ≡ true →
     IsAnswering script left (length before + 1)
 answering script left before piece cut event =
     let same : lines_before (length before + 1) script ≡ before = before_next (length before + 1) script before (piece ∷ pieces left) (omega arith) cut in
@@ -208,7 +220,7 @@ answering script left before piece cut event =
       number = ap (λ (lines : List (List ℕ)). length lines + 1) (sym same);
       piece = piece;
       cut = cut ∙ ap (λ (lines : List (List ℕ)). reverse lines ++ piece ∷ pieces left) (sym same);
-      event = ap (λ (lines : List (List ℕ)). is_answered (said (head_of lines) piece)) same ∙ event;
+      event = ap (λ (lines : List (List ℕ)). is_answered (said lines piece)) same ∙ event;
     }
 
 -- a line that was not taken to its end
@@ -223,15 +235,33 @@ waits_for n script rest left before budget after count cut i =
       unended = i.within;
     }
 
+-- a line that tells an answer otherwise than it was
+differs_at : (script : List ℕ) (turns : List Turn) (run : List Entry) (text piece : List ℕ) (more : List (List ℕ)) (header : Told) (recorded : Option (Recording Drawer)) → Plays turns run text header recorded →
+    (head_of (lines_of turns)).begun ≡ true → pieces script ≡ reverse (lines_of turns) ++ piece ∷ more → IsContrary (said (lines_of turns) piece) run → IsDifferent script (length (lines_of turns) + 1) text
+differs_at script turns run text piece more header None p begun cut contrary = absurd (cc (p.begun, begun))
+differs_at script turns run text piece more header (Some a) p begun cut contrary = record {
+  turns = turns;
+  piece = piece;
+  more = more;
+  cut = cut;
+  number = refl;
+  run = run;
+  after = a.chooser;
+  made = p.1.made;
+  confirmed = p.1.confirmed;
+  text_is = p.1.text_is;
+  contrary = contrary;
+}
+
 -- a run that ends at a line's words, for want of memory, or where the writer fails
-pub ends_in_line : (script rest left line : List ℕ) (old mid mid' new : Option (List ℕ)) (budget after : ℕ) (s : Played) (fault : ScriptFault) (c : Course script rest old mid budget s) (i : IsLine rest left line 2048 budget after) →
-    Keeps mid mid' → TurnFails c.turns i.piece fault mid' new → RunsTo script left old new fault fault.kind
-ends_in_line script rest left line old mid mid' new budget after s fault c i kept fails =
+pub ends_in_line : (script rest left line : List ℕ) (old mid mid' new : Option (List ℕ)) (form : Form) (budget after : ℕ) (s : Played) (fault : ScriptFault) (c : Course script rest old mid form budget s) (i : IsLine rest left line 2048 budget after) →
+    Keeps mid mid' → TurnFails c.turns c.run i.piece fault mid' new → RunsTo script left old new fault fault.kind
+ends_in_line script rest left line old mid mid' new form budget after s fault c i kept fails =
     let before = lines_of c.turns in
     elim fails [
       | inl found ↦
-          let within = fault_within before i.piece (omega (arith, c.spent, i.spent)) (rw (i.bytes) i.fits) in
-          let stands = read_stands script c.turns c.run c.text (pieces rest) s (line_read (stage_of (head_of before)) (bare i.piece)) fault c.cut c.holds found.0 in
+          let within = fault_within before i.piece (omega (arith, c.spent, i.spent, ap most_bytes c.form_is)) (rw (i.bytes) i.fits) in
+          let stands = read_stands script c.turns c.run c.text (pieces rest) s (read_after before i.piece) fault c.cut c.holds found.0 in
           ends_with script left old new fault fault.kind stands.1
           (first_fault_is script rest i.piece (pieces left) before fault c.fault i.first (within ∙ found.0), c.text, stands.0, appends_kept old mid' new c.text (appends_kept old mid mid' c.text c.written kept) found.1)
       | inr (inl short) ↦
@@ -241,7 +271,13 @@ ends_in_line script rest left line old mid mid' new budget after s fault c i kep
             told_so_far (length before + 1) script c.turns c.run c.text (pieces rest) s refl c.cut c.holds,
             appends_kept old mid' new c.text (appends_kept old mid mid' c.text c.written kept) short.2,
           )
-      | inr (inr failed) ↦
+      | inr (inr (inr different)) ↦
+          subst (λ (f : ScriptFault). RunsTo script left old new f f.kind) (sym different.0) (
+            c.text,
+            differs_at script c.turns c.run c.text i.piece (pieces left) s.header s.recorded c.holds.plays different.1 (c.cut ∙ ap (λ (lines : List (List ℕ)). reverse before ++ lines) i.first) different.2,
+            appends_kept old mid' new c.text (appends_kept old mid mid' c.text c.written kept) different.3,
+          )
+      | inr (inr (inl failed)) ↦
           subst (λ (f : ScriptFault). RunsTo script left old new f f.kind) (sym failed.0) (
             inr (answering script left before i.piece (c.cut ∙ ap (λ (lines : List (List ℕ)). reverse before ++ lines) i.first) failed.1),
             c.text,
@@ -252,38 +288,38 @@ ends_in_line script rest left line old mid mid' new budget after s fault c i kep
     ]
 
 -- a run that ends at a line that is too long
-pub ends_long : (script rest left : List ℕ) (old mid new : Option (List ℕ)) (budget after : ℕ) (s : Played) (c : Course script rest old mid budget s) → IsLong rest left 2048 budget after → Keeps mid new →
+pub ends_long : (script rest left : List ℕ) (old mid new : Option (List ℕ)) (form : Form) (budget after : ℕ) (s : Played) (c : Course script rest old mid form budget s) → IsLong rest left 2048 budget after → Keeps mid new →
     RunsTo script left old new (at_line (s.lines + 1) Long) Long
-ends_long script rest left old mid new budget after s c i kept =
+ends_long script rest left old mid new form budget after s c i kept =
     let before = lines_of c.turns in
     subst (λ n. RunsTo script left old new (at_line (n + 1) Long) Long) (sym c.holds.count) (
-      first_fault_is script rest i.piece (pieces left) before (at_line (length before + 1) Long) c.fault i.first (fault_long before i.piece (omega (arith, c.spent, i.spent)) i.long),
+      first_fault_is script rest i.piece (pieces left) before (at_line (length before + 1) Long) c.fault i.first (fault_long before i.piece (omega (arith, c.spent, i.spent, ap most_bytes c.form_is)) i.long),
       c.text,
       told_so_far (length before + 1) script c.turns c.run c.text (pieces rest) s refl c.cut c.holds,
       appends_kept old mid new c.text c.written kept,
     )
 
 -- at one that goes past the size of a script
-pub ends_oversize : (script rest left : List ℕ) (old mid new : Option (List ℕ)) (budget : ℕ) (s : Played) (c : Course script rest old mid budget s) → IsOversize rest budget → Keeps mid new →
+pub ends_oversize : (script rest left : List ℕ) (old mid new : Option (List ℕ)) (form : Form) (budget : ℕ) (s : Played) (c : Course script rest old mid form budget s) → IsOversize rest budget → Keeps mid new →
     RunsTo script left old new (at_line (s.lines + 1) Size) Size
-ends_oversize script rest left old mid new budget s c i kept =
+ends_oversize script rest left old mid new form budget s c i kept =
     let before = lines_of c.turns in
     subst (λ n. RunsTo script left old new (at_line (n + 1) Size) Size) (sym c.holds.count) (
-      first_fault_is script rest i.piece i.more before (at_line (length before + 1) Size) c.fault i.first (fault_size before i.piece (omega (arith, c.spent, i.over))),
+      first_fault_is script rest i.piece i.more before (at_line (length before + 1) Size) c.fault i.first (fault_size before i.piece (omega (arith, c.spent, i.over, ap most_bytes c.form_is))),
       c.text,
       told_so_far (length before + 1) script c.turns c.run c.text (pieces rest) s refl c.cut c.holds,
       appends_kept old mid new c.text c.written kept,
     )
 
 -- where the reader fails
-pub ends_unread : (script rest left : List ℕ) (old mid new : Option (List ℕ)) (budget after : ℕ) (s : Played) (c : Course script rest old mid budget s) → IsCutShort rest left budget after → Keeps mid new → RunsTo script left old new (at_line (s.lines + 1) Read) Read
-ends_unread script rest left old mid new budget after s c i kept =
+pub ends_unread : (script rest left : List ℕ) (old mid new : Option (List ℕ)) (form : Form) (budget after : ℕ) (s : Played) (c : Course script rest old mid form budget s) → IsCutShort rest left budget after → Keeps mid new → RunsTo script left old new (at_line (s.lines + 1) Read) Read
+ends_unread script rest left old mid new form budget after s c i kept =
     let count : s.lines + 1 ≡ length (lines_of c.turns) + 1 = ap (λ n. n + 1) c.holds.count in
     (waits_for (s.lines + 1) script rest left (lines_of c.turns) budget after count c.cut i, c.text, told_so_far (s.lines + 1) script c.turns c.run c.text (pieces rest) s count c.cut c.holds, appends_kept old mid new c.text c.written kept)
 
 -- where the writer fails between answers
-pub ends_unsent : (script rest left : List ℕ) (old mid new : Option (List ℕ)) (budget after : ℕ) (s : Played) (c : Course script rest old mid budget s) → IsCutShort rest left budget after → Keeps mid new → RunsTo script left old new (at_line (s.lines + 1) Write) Write
-ends_unsent script rest left old mid new budget after s c i kept =
+pub ends_unsent : (script rest left : List ℕ) (old mid new : Option (List ℕ)) (form : Form) (budget after : ℕ) (s : Played) (c : Course script rest old mid form budget s) → IsCutShort rest left budget after → Keeps mid new → RunsTo script left old new (at_line (s.lines + 1) Write) Write
+ends_unsent script rest left old mid new form budget after s c i kept =
     let count : s.lines + 1 ≡ length (lines_of c.turns) + 1 = ap (λ n. n + 1) c.holds.count in
     (inl (waits_for (s.lines + 1) script rest left (lines_of c.turns) budget after count c.cut i), c.text, [], told_so_far (s.lines + 1) script c.turns c.run c.text (pieces rest) s count c.cut c.holds, rw append-nil (appends_kept old mid new c.text c.written kept))
 
@@ -296,8 +332,8 @@ end_is turns run text header None p =
     let before : fault_at_end (head_of (lines_of turns)) ≡ fault_of_header (head_of (lines_of turns)).told = rw p.begun refl in
     before ∙ (sym (fault_of_kept (head_of (lines_of turns)).told) ∙ ap fault_of_header (sym p.told))
 
-fault_of_whole : (script rest : List ℕ) (old mid : Option (List ℕ)) (budget : ℕ) (s : Played) (c : Course script rest old mid budget s) → rest ≡ [] → fault_of script ≡ ending s
-fault_of_whole script rest old mid budget s c over =
+fault_of_whole : (script rest : List ℕ) (old mid : Option (List ℕ)) (form : Form) (budget : ℕ) (s : Played) (c : Course script rest old mid form budget s) → rest ≡ [] → fault_of script ≡ ending s
+fault_of_whole script rest old mid form budget s c over =
     c.fault ∙ (ap (λ (text : List ℕ). fault_from (lines_of c.turns) (pieces text)) over ∙ end_is c.turns c.run c.text s.header s.recorded c.holds.plays)
 
 -- such a fault is the opening's, or that there is none
@@ -318,8 +354,8 @@ whole_lines script rest lines cut over =
     ap reverse (cut ∙ ap (λ (text : List ℕ). reverse lines ++ pieces text) over ∙ append-nil (reverse lines)) ∙ reverse-reverse lines
 
 -- it leaves the session where its lines lead
-pub ends_there : (script rest : List ℕ) (old mid new : Option (List ℕ)) (budget : ℕ) (s : Played) (c : Course script rest old mid budget s) → rest ≡ [] → Keeps mid new → IsEndOf script old new s
-ends_there script rest old mid new budget s c over kept = record {
+pub ends_there : (script rest : List ℕ) (old mid new : Option (List ℕ)) (form : Form) (budget : ℕ) (s : Played) (c : Course script rest old mid form budget s) → rest ≡ [] → Keeps mid new → IsEndOf script old new s
+ends_there script rest old mid new form budget s c over kept = record {
   turns = c.turns;
   are = sym (whole_lines script rest (lines_of c.turns) c.cut over);
   run = c.run;
@@ -329,26 +365,26 @@ ends_there script rest old mid new budget s c over kept = record {
 }
 
 -- it has no fault
-pub ends_well : (script rest : List ℕ) (old mid new : Option (List ℕ)) (budget : ℕ) (s : Played) (c : Course script rest old mid budget s) → rest ≡ [] → Keeps mid new → ending s ≡ None →
+pub ends_well : (script rest : List ℕ) (old mid new : Option (List ℕ)) (form : Form) (budget : ℕ) (s : Played) (c : Course script rest old mid form budget s) → rest ≡ [] → Keeps mid new → ending s ≡ None →
     (fault_of script ≡ None) × (text : List ℕ) × IsTold (reverse (pieces script)) text × Appends old new text
-ends_well script rest old mid new budget s c over kept none =
+ends_well script rest old mid new form budget s c over kept none =
     let lines = whole_lines script rest (lines_of c.turns) c.cut over in
-    (fault_of_whole script rest old mid budget s c over ∙ none, c.text, subst (λ (l : List (List ℕ)). IsTold l c.text) (sym lines) (told_by c.turns c.run c.text s.header s.recorded c.holds.plays), appends_kept old mid new c.text c.written kept)
+    (fault_of_whole script rest old mid form budget s c over ∙ none, c.text, subst (λ (l : List (List ℕ)). IsTold l c.text) (sym lines) (told_by c.turns c.run c.text s.header s.recorded c.holds.plays), appends_kept old mid new c.text c.written kept)
 
 -- one that has a fault at its end
-pub ends_badly : (script rest left : List ℕ) (old mid new : Option (List ℕ)) (budget : ℕ) (s : Played) (fault : ScriptFault) (c : Course script rest old mid budget s) → rest ≡ [] → Keeps mid new → ending s ≡ Some fault →
+pub ends_badly : (script rest left : List ℕ) (old mid new : Option (List ℕ)) (form : Form) (budget : ℕ) (s : Played) (fault : ScriptFault) (c : Course script rest old mid form budget s) → rest ≡ [] → Keeps mid new → ending s ≡ Some fault →
     RunsTo script left old new fault fault.kind
-ends_badly script rest left old mid new budget s fault c over kept found =
+ends_badly script rest left old mid new form budget s fault c over kept found =
     let stands = end_stands script c.turns c.run c.text (pieces rest) s.header s.recorded fault c.cut c.holds.plays found in
-    ends_with script left old new fault fault.kind stands.1 (fault_of_whole script rest old mid budget s c over ∙ found, c.text, stands.0, appends_kept old mid new c.text c.written kept)
+    ends_with script left old new fault fault.kind stands.1 (fault_of_whole script rest old mid form budget s c over ∙ found, c.text, stands.0, appends_kept old mid new c.text c.written kept)
 
 -- ---- the start
 
 nothing_silent : IsSilent []
-nothing_silent zero = (refl, λ o. refl)
-nothing_silent (suc k) = (refl, λ o. refl)
+nothing_silent zero = (refl, (λ o. refl), tt)
+nothing_silent (suc k) = (refl, (λ o. refl), tt)
 
-pub at_start : (script : List ℕ) (written : Option (List ℕ)) → Course script script written written 16777216 (record { lines = 0; header = nothing_told; recorded = None })
+pub at_start : (script : List ℕ) (written : Option (List ℕ)) → Course script script written written Script 16777216 (record { lines = 0; header = nothing_told; recorded = None })
 at_start script written = record {
   turns = [];
   run = [];
@@ -356,6 +392,7 @@ at_start script written = record {
   holds = record { count = refl; plays = record { begun = refl; told = refl; none = refl; nothing = refl; silent = nothing_silent; within = omega arith } };
   cut = refl;
   fault = refl;
+  form_is = refl;
   spent = refl;
   written = appends_none written written (keeps_self written);
 }

@@ -15,6 +15,8 @@ use Rattle.swim_wire.specs.declared.codec.WireFault.{WireFault}
 use Rattle.swim_script.specs.declared.commands.LineFault.{LineFault}
 use Rattle.swim_script.specs.declared.commands.LineFault.TheVariants.{Number, Peer, Hex, Order}
 use Rattle.swim_script.specs.declared.arguments.OpenArguments.{OpenArguments}
+use Rattle.swim_script.specs.declared.forms.Form.{Form}
+use Rattle.swim_script.specs.declared.forms.Form.TheVariants.{Script, Journal}
 
 -- the datagram that the digits spell, or its fault
 abbrev pub datagram_of : List ℕ → Option (Result Message WireFault)
@@ -58,6 +60,12 @@ take_datagram = argument Hex datagram_of
 
 abbrev pub take_seed : List (List ℕ) → Result (List ℕ × List (List ℕ)) LineFault
 take_seed = argument Hex seed_of
+
+-- the life of a detector that a seed is followed in: a journal file may tell it, and 0 where none is told
+abbrev pub take_life : Form → List (List ℕ) → Result (ℕ × List (List ℕ)) LineFault
+take_life Script given = Ok (0, given)
+take_life Journal [] = Ok (0, [])
+take_life Journal (word ∷ after) = take_number 18446744073709551615 (word ∷ after)
 
 -- an order
 abbrev pub take_order : List (List ℕ) → Result (ArrayVec ℕ × List (List ℕ)) LineFault

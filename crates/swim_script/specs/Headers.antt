@@ -1,6 +1,5 @@
 -- What the lines of a script tell before the first event line. Lines are lists of bytes with their line feeds; a
--- list of
--- lines is newest first, so that each line stands before the earlier ones.
+-- list of lines is newest first, so that each line stands before the earlier ones.
 use Rattle.std.specs.Prelude.{ℕ, ◌+◌, Bool, true, false, ◌||◌, List, [], ◌∷◌, ◌++◌, length, Option, Some, None, Result}
 use Rattle.std.specs.Prelude.{Ok, Err, if◌then◌else◌}
 use Rattle.swim_wire.specs.Address.{Address}
@@ -17,16 +16,18 @@ use Rattle.swim_script.specs.declared.commands.Draws.TheVariants.{Unsaid, Script
 use Rattle.swim_script.specs.declared.commands.Stage.{Stage}
 use Rattle.swim_script.specs.declared.commands.Stage.TheVariants.{Blank, Header, Events}
 use Rattle.swim_script.specs.declared.commands.Command.{Command}
-use Rattle.swim_script.specs.declared.commands.Command.TheVariants.{Open, Row, Order, Place, Seed}
+use Rattle.swim_script.specs.declared.commands.Command.TheVariants.{Open, Row, Order, Place, Seed, Answer}
+use Rattle.swim_script.specs.declared.forms.Form.{Form}
 use Rattle.swim_script.specs.Commands.{line_read}
+use Rattle.swim_script.specs.Forms.{is_mark, form_of}
 
--- what header lines tell: the opening, its rows in order, and who chooses
+-- what header lines tell: the opening, its rows in order, and who chooses; of a seed also the life
 pub record Told : Type 0 where
   pub opened : Option Opened
   pub rows : List (ℕ × Address)
   pub orders : List (List ℕ)
   pub places : List ℕ
-  pub seed : Option (List ℕ)
+  pub seed : Option (List ℕ × ℕ)
 
 abbrev pub nothing_told : Told
 nothing_told = record { opened = None; rows = []; orders = []; places = []; seed = None }
@@ -37,7 +38,7 @@ told_then n (Open arguments) told = record told { opened = Some (record { line =
 told_then n (Row id peer) told = record told { rows = told.rows ++ (id, peer) ∷ [] }
 told_then n (Order order) told = record told { orders = told.orders ++ order.items ∷ [] }
 told_then n (Place place) told = record told { places = told.places ++ place ∷ [] }
-told_then n (Seed key) told = record told { seed = Some key }
+told_then n (Seed key life) told = record told { seed = Some (key, life) }
 told_then n command told = told
 
 -- an event line
@@ -46,7 +47,8 @@ is_event (Open arguments) = false
 is_event (Row id peer) = false
 is_event (Order order) = false
 is_event (Place place) = false
-is_event (Seed key) = false
+is_event (Seed key life) = false
+is_event (Answer text) = false
 is_event command = true
 
 -- what lines told, and whether an event line is among them
@@ -55,8 +57,8 @@ pub record Head : Type 0 where
   pub begun : Bool
 
 -- what was told of who chooses
-abbrev pub draws_with : List (List ℕ) → List ℕ → Option (List ℕ) → Draws
-draws_with orders places (Some key) = Seeded
+abbrev pub draws_with : List (List ℕ) → List ℕ → Option (List ℕ × ℕ) → Draws
+draws_with orders places (Some seed) = Seeded
 draws_with [] [] None = Unsaid
 draws_with orders places None = Scripted
 
@@ -76,8 +78,9 @@ abbrev pub command_in : Result (Option Command) LineFault → Option Command
 command_in (Ok said) = said
 command_in (Err fault) = None
 
-abbrev pub said : Head → List ℕ → Option Command
-said head line = command_in (line_read (stage_of head) (bare line))
+-- what a line says, after those of a head; nothing where it is the mark of a journal file
+abbrev pub read_with : Bool → Form → Head → List ℕ → Result (Option Command) LineFault
+read_with mark form head line = if mark then Ok None else line_read form (stage_of head) (bare line)
 
 abbrev pub head_then : ℕ → Option Command → Head → Head
 head_then n None head = head
@@ -87,7 +90,16 @@ head_then n (Some command) head =
 -- after all these lines
 abbrev pub head_of : List (List ℕ) → Head
 head_of [] = record { told = nothing_told; begun = false }
-head_of (line ∷ before) = head_then (length before + 1) (said (head_of before) line) (head_of before)
+head_of (line ∷ before) =
+    head_then (length before + 1)
+    (command_in (read_with (is_mark (length before) (bare line)) (form_of before) (head_of before) line)) (head_of before)
+
+-- what a line says after those before it
+abbrev pub read_after : List (List ℕ) → List ℕ → Result (Option Command) LineFault
+read_after before line = read_with (is_mark (length before) (bare line)) (form_of before) (head_of before) line
+
+abbrev pub said : List (List ℕ) → List ℕ → Option Command
+said before line = command_in (read_after before line)
 
 -- ---- what follows from it
 
@@ -107,9 +119,10 @@ limit_with (Some opened) = opened.arguments.limit
 abbrev pub limit_in : Told → ℕ
 limit_in told = limit_with told.opened
 
--- who chooses: the generator of the seed, or else the orders and places that were written down
-abbrev pub chooser_with : List (List ℕ) → List ℕ → Option (List ℕ) → Drawer
-chooser_with orders places (Some key) = drawers.Seeded (of_seed key)
+-- who chooses: the generator of the seed at the start of its life's stream, or else the orders and places that were
+-- written down
+abbrev pub chooser_with : List (List ℕ) → List ℕ → Option (List ℕ × ℕ) → Drawer
+chooser_with orders places (Some seed) = drawers.Seeded (record (of_seed seed.0) { stream = seed.1 })
 chooser_with orders places None = drawers.Scripted (record { orders = orders; places = places })
 
 abbrev pub chooser_in : Told → Drawer

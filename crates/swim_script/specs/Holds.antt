@@ -1,9 +1,9 @@
 -- What the fields of a session mean, by the definitions over the lines of its script.
-use Rattle.std.specs.Prelude.{◌≡◌, ◌⊎◌, ℕ, ◌+◌, ◌≤◌, Bool, true, false, List, [], ◌∷◌, ◌++◌, length, take, drop}
+use Rattle.std.specs.Prelude.{◌≡◌, ◌≢◌, ◌⊎◌, ℕ, ◌+◌, ◌≤◌, Bool, true, false, List, [], ◌∷◌, ◌++◌, length, take, drop}
 use Rattle.std.specs.Prelude.{reverse, Option, Some, None, Result, Ok, Err}
 use Rattle.std.specs.Io.KnownBytes.{Keeps, Appends}
 use Rattle.swim_wire.specs.Address.{Address}
-use Rattle.swim_wire.specs.Lines.{pieces, bare}
+use Rattle.swim_wire.specs.Lines.{pieces}
 use Rattle.swim_wire.specs.Streams.{Puts}
 use Rattle.swim_wire.specs.declared.codec.WireFault.{WireFault}
 use Rattle.swim_wire.specs.declared.messages.Message.{Message}
@@ -18,19 +18,20 @@ use Rattle.swim_script.specs.declared.arguments.Opened.{Opened}
 use Rattle.swim_script.specs.declared.choosers.Drawer.{Drawer}
 use Rattle.swim_script.specs.declared.commands.Command.{Command}
 use Rattle.swim_script.specs.declared.commands.Command.TheVariants.{Open, Row, Order, Place, Seed, Tick, Hear, Join}
-use Rattle.swim_script.specs.declared.commands.Command.TheVariants.{Remove, Table, Gap}
+use Rattle.swim_script.specs.declared.commands.Command.TheVariants.{Remove, Table, Gap, Answer}
 use Rattle.swim_script.specs.declared.commands.Stage.{Stage}
 use Rattle.swim_script.specs.declared.commands.Stage.TheVariants.{Events}
-use Rattle.swim_script.specs.declared.faults.FaultKind.TheVariants.{Memory, Write}
+use Rattle.swim_script.specs.declared.faults.FaultKind.TheVariants.{Memory, Differs, Write}
 use Rattle.swim_script.specs.declared.faults.ScriptFault.{ScriptFault}
 use Rattle.swim_script.specs.Choosers.{ChoosesOrder, ChoosesPlace}
-use Rattle.swim_script.specs.Commands.{line_read}
-use Rattle.swim_script.specs.Headers.{Told, told_then, stage_told, stage_of, said, head_of, setting_in, limit_in}
+use Rattle.swim_script.specs.declared.forms.Form.{Form}
+use Rattle.swim_script.specs.Forms.{form_of, most_bytes}
+use Rattle.swim_script.specs.Headers.{Told, told_then, stage_told, read_after, said, head_of, setting_in, limit_in}
 use Rattle.swim_script.specs.Headers.{chooser_in}
 use Rattle.swim_history.specs.Texts.{table_text, gap_text}
-use Rattle.swim_script.specs.Texts.{answer_text, wire_text, full_text, no_memory_text}
-use Rattle.swim_script.specs.Script.{Turn, lines_of, calls_in, output_of, IsRunOf, takes_memory, is_answered, fault_of}
-use Rattle.swim_script.specs.Script.{fault_from, fault_of_read, fault_of_header, at_line, bytes_of}
+use Rattle.swim_script.specs.Texts.{newest_text, answer_text, wire_text, full_text, no_memory_text}
+use Rattle.swim_script.specs.Script.{Turn, lines_of, calls_in, output_of, AreConfirmed, IsContrary, IsRunOf, takes_memory}
+use Rattle.swim_script.specs.Script.{is_answered, fault_of, fault_from, fault_of_read, fault_of_header, at_line, bytes_of}
 
 -- what contracts see of a session: how many lines it was given, what those of the header told, and the recorder,
 -- once an event line was met
@@ -53,7 +54,9 @@ kept told = record told { rows = first_rows told.rows }
 
 -- no call was made by these lines or the older of them, and nothing was written
 abbrev pub IsSilent : List Turn → Type 0
-IsSilent turns = (k : ℕ) → (calls_in (drop k turns) ≡ []) × ((o : Setting) → output_of o (drop k turns) [] ≡ [])
+IsSilent turns =
+    (k : ℕ) → (calls_in (drop k turns) ≡ []) × ((o : Setting) → output_of o (drop k turns) [] ≡ [])
+    × AreConfirmed (drop k turns) []
 
 abbrev pub line_of : Option Opened → ℕ
 line_of None = 0
@@ -75,6 +78,7 @@ pub record IsRecorded (turns : List Turn) (run : List Entry) (text : List ℕ)
   pub opening : recorded.opening ≡ setting_in (head_of (lines_of turns)).told
   pub limit : recorded.limit ≡ limit_in (head_of (lines_of turns)).told
   pub made : IsRunOf (head_of (lines_of turns)).told (calls_in turns) run recorded.chooser
+  pub confirmed : AreConfirmed turns run
   pub text_is : text ≡ output_of (setting_in (head_of (lines_of turns)).told) turns run
 
 abbrev pub Plays : List Turn → List Entry → List ℕ → Told → Option (Recording Drawer) → Type 0
@@ -184,6 +188,24 @@ abbrev pub MayNote : Played → Played → Told → Option (List ℕ) → Option
 MayNote old new header before after (Ok done) = IsNoted old new header before after
 MayNote old new header before after (Err fault) = (fault ≡ at_line (old.lines + 1) Memory) × Keeps before after
 
+-- the newest entry was answered so
+abbrev pub Tells : Option (Recording Drawer) → List ℕ → Type 0
+Tells None text = ⊥
+Tells (Some a) text = newest_text a.past ≡ Some text
+
+-- or otherwise
+abbrev pub TellsOther : Option (Recording Drawer) → List ℕ → Type 0
+TellsOther None text = Unit {0}
+TellsOther (Some a) text = newest_text a.past ≢ Some text
+
+-- what was told of an answer was confirmed; or it wasn't answered so, or there was no memory to compare it
+abbrev pub Confirms : Played → Played → List ℕ → Option (List ℕ) → Option (List ℕ) → Result (Unit {0}) ScriptFault → Type 0
+Confirms old new text before after (Ok done) =
+    Tells old.recorded text × IsNoted old new old.header before after
+Confirms old new text before after (Err fault) =
+    ((fault ≡ at_line (old.lines + 1) Memory) × Keeps before after)
+    ⊎ ((fault ≡ at_line (old.lines + 1) Differs) × TellsOther old.recorded text × Keeps before after)
+
 -- what a command did
 abbrev pub Done : Played → Played → Command → Option (List ℕ) → Option (List ℕ) → Result (Unit {0}) ScriptFault → Type 0
 Done old new (Open arguments) before after result =
@@ -194,20 +216,21 @@ Done old new (Order order) before after result =
     MayNote old new (told_then (old.lines + 1) (Order order) old.header) before after result
 Done old new (Place place) before after result =
     MayNote old new (told_then (old.lines + 1) (Place place) old.header) before after result
-Done old new (Seed key) before after result =
-    Notes old new (told_then (old.lines + 1) (Seed key) old.header) before after result
+Done old new (Seed key life) before after result =
+    Notes old new (told_then (old.lines + 1) (Seed key life) old.header) before after result
 Done old new Tick before after result = PlaysLine old new calls.Tick before after result
 Done old new (Hear source read) before after result = HearsLine old new source read before after result
 Done old new (Join id peer) before after result = PlaysLine old new (calls.Join id peer) before after result
 Done old new (Remove id) before after result = PlaysLine old new (calls.Remove id) before after result
 Done old new Table before after result = ShowsLine old new table_of before after result
 Done old new (Gap id) before after result = ShowsLine old new (gap_of id) before after result
+Done old new (Answer text) before after result = Confirms old new text before after result
 
 -- what one line did: it has no fault, and its answer was written
 pub record TurnDone (turns : List Turn) (text piece : List ℕ) (new : Played)
     (before after : Option (List ℕ)) : Type 0 where
-  pub none : fault_of_read (length (lines_of turns) + 1) (head_of (lines_of turns))
-      (line_read (stage_of (head_of (lines_of turns))) (bare piece)) ≡ None
+  pub none :
+      fault_of_read (length (lines_of turns) + 1) (head_of (lines_of turns)) (read_after (lines_of turns) piece) ≡ None
   pub refused : Bool
   pub run : List Entry
   pub more : List ℕ
@@ -218,38 +241,48 @@ pub record TurnDone (turns : List Turn) (text piece : List ℕ) (new : Played)
 abbrev pub FindsNoMemory : List Turn → List ℕ → ScriptFault → Option (List ℕ) → Option (List ℕ) → Type 0
 FindsNoMemory turns piece fault before after =
     (fault ≡ at_line (length (lines_of turns) + 1) Memory)
-    × (takes_memory (said (head_of (lines_of turns)) piece) ≡ true) × Keeps before after
+    × (takes_memory (said (lines_of turns) piece) ≡ true) × Keeps before after
 
 -- the writer failed at its answer
 abbrev pub FailsToAnswer : List Turn → List ℕ → ScriptFault → Option (List ℕ) → Option (List ℕ) → Type 0
 FailsToAnswer turns piece fault before after =
-    (fault ≡ at_line (length (lines_of turns) + 1) Write) × (is_answered (said (head_of (lines_of turns)) piece) ≡ true)
+    (fault ≡ at_line (length (lines_of turns) + 1) Write) × (is_answered (said (lines_of turns) piece) ≡ true)
     × (part : List ℕ) × Appends before after part
 
--- it has a fault and nothing was written, or there was no memory, or the writer failed
-abbrev pub TurnFails : List Turn → List ℕ → ScriptFault → Option (List ℕ) → Option (List ℕ) → Type 0
-TurnFails turns piece fault before after =
-    ((fault_of_read (length (lines_of turns) + 1) (head_of (lines_of turns))
-    (line_read (stage_of (head_of (lines_of turns))) (bare piece)) ≡ Some fault) × Keeps before after)
-    ⊎ (FindsNoMemory turns piece fault before after ⊎ FailsToAnswer turns piece fault before after)
+-- it tells an answer otherwise than it was, and nothing was written
+abbrev pub FindsDifference : List Turn → List Entry → List ℕ → ScriptFault → Option (List ℕ) → Option (List ℕ) → Type 0
+FindsDifference turns run piece fault before after =
+    (fault ≡ at_line (length (lines_of turns) + 1) Differs)
+    × ((head_of (lines_of turns)).begun ≡ true)
+    × IsContrary (said (lines_of turns) piece) run × Keeps before after
 
-abbrev pub Turned : List Turn → List ℕ → List ℕ → Played → Option (List ℕ) → Option (List ℕ) →
+-- it has a fault and nothing was written, or there was no memory, or it differs, or the writer failed
+abbrev pub TurnFails : List Turn → List Entry → List ℕ → ScriptFault → Option (List ℕ) → Option (List ℕ) → Type 0
+TurnFails turns run piece fault before after =
+    ((fault_of_read (length (lines_of turns) + 1) (head_of (lines_of turns)) (read_after (lines_of turns) piece) ≡ Some fault)
+    × Keeps before after)
+    ⊎ (FindsNoMemory turns piece fault before after
+    ⊎ (FailsToAnswer turns piece fault before after ⊎ FindsDifference turns run piece fault before after))
+
+abbrev pub Turned : List Turn → List Entry → List ℕ → List ℕ → Played → Option (List ℕ) → Option (List ℕ) →
     Result (Unit {0}) ScriptFault → Type 0
-Turned turns text piece new before after (Ok done) = TurnDone turns text piece new before after
-Turned turns text piece new before after (Err fault) = TurnFails turns piece fault before after
+Turned turns run text piece new before after (Ok done) = TurnDone turns text piece new before after
+Turned turns run text piece new before after (Err fault) = TurnFails turns run piece fault before after
 
--- where the lines lead that were read of a script
-pub record Course (script rest : List ℕ) (old new : Option (List ℕ)) (budget : ℕ) (s : Played) : Type 0 where
+-- where the lines lead that were read of a script, of that form so far
+pub record Course (script rest : List ℕ) (old new : Option (List ℕ)) (form : Form) (budget : ℕ) (s : Played) : Type 0 where
   pub turns : List Turn
   pub run : List Entry
   pub text : List ℕ
   pub holds : Holds turns run text s
   pub cut : pieces script ≡ reverse (lines_of turns) ++ pieces rest
   pub fault : fault_of script ≡ fault_from (lines_of turns) (pieces rest)
-  pub spent : bytes_of (lines_of turns) + budget ≡ 16777216
+  pub form_is : form ≡ form_of (lines_of turns)
+  pub spent : bytes_of (lines_of turns) + budget ≡ most_bytes form
   pub written : Appends old new text
 
-abbrev pub CourseKnown : Option (List ℕ) → Option (List ℕ) → Option (List ℕ) → Option (List ℕ) → ℕ → Played → Type 0
-CourseKnown None rest old new budget s = Unit {0}
-CourseKnown (Some script) None old new budget s = ⊥
-CourseKnown (Some script) (Some rest) old new budget s = Course script rest old new budget s
+abbrev pub CourseKnown :
+    Option (List ℕ) → Option (List ℕ) → Option (List ℕ) → Option (List ℕ) → Form → ℕ → Played → Type 0
+CourseKnown None rest old new form budget s = Unit {0}
+CourseKnown (Some script) None old new form budget s = ⊥
+CourseKnown (Some script) (Some rest) old new form budget s = Course script rest old new form budget s

@@ -1,6 +1,7 @@
 pub mod Arguments
 pub mod Choosers
 pub mod Commands
+pub mod Forms
 pub mod Headers
 pub mod Holds
 pub mod Script

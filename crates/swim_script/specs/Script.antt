@@ -1,7 +1,7 @@
 -- A script: its first fault, its calls, and what is written for it. Lines are lists of bytes with their line feeds; a
 -- list of lines is newest first, so that each line stands before the earlier ones.
 use Rattle.std.specs.Prelude.{◌≡◌, ℕ, ◌+◌, ◌-◌, ◌==◌, Bool, true, false, not, ◌||◌, nat_lt, ◌⊎◌, List, [], ◌∷◌, ◌++◌}
-use Rattle.std.specs.Prelude.{length, map, take, reverse, Option, Some, None, Result, Ok, Err, if◌then◌else◌}
+use Rattle.std.specs.Prelude.{length, map, take, drop, reverse, ◌≢◌, Option, Some, None, Result, Ok, Err, if◌then◌else◌}
 use Rattle.std.specs.List.{list_all}
 use Rattle.std.specs.Io.KnownBytes.{Appends}
 use Rattle.swim_wire.specs.Lines.{pieces, bare, has_feed}
@@ -21,15 +21,15 @@ use Rattle.swim_script.specs.declared.choosers.Drawer.{Drawer}
 use Rattle.swim_script.specs.declared.commands.LineFault.{LineFault}
 use Rattle.swim_script.specs.declared.commands.LineFault.TheVariants.{Word}
 use Rattle.swim_script.specs.declared.commands.Command.{Command}
-use Rattle.swim_script.specs.declared.commands.Command.TheVariants.{Order, Place, Tick, Hear, Join, Remove, Table, Gap}
+use Rattle.swim_script.specs.declared.commands.Command.TheVariants.{Order, Place, Tick, Hear, Join, Remove, Table, Gap, Answer}
 use Rattle.swim_script.specs.declared.faults.FaultKind.{FaultKind}
-use Rattle.swim_script.specs.declared.faults.FaultKind.TheVariants.{Size, Long, Words, Opening, Memory, Read, Write}
+use Rattle.swim_script.specs.declared.faults.FaultKind.TheVariants.{Size, Long, Words, Opening, Memory, Differs, Read, Write}
 use Rattle.swim_script.specs.declared.faults.ScriptFault.{ScriptFault}
 use Rattle.swim_script.specs.Choosers.{ChoosesOrder, ChoosesPlace}
-use Rattle.swim_script.specs.Commands.{line_read}
-use Rattle.swim_script.specs.Headers.{Told, is_event, Head, stage_of, said, head_of, setting_in, limit_in, chooser_in}
+use Rattle.swim_script.specs.Forms.{form_of, most_bytes}
+use Rattle.swim_script.specs.Headers.{Told, is_event, Head, read_after, said, head_of, setting_in, limit_in, chooser_in}
 use Rattle.swim_history.specs.Texts.{table_text, gap_text}
-use Rattle.swim_script.specs.Texts.{answer_text, wire_text, full_text, no_memory_text}
+use Rattle.swim_script.specs.Texts.{newest_text, answer_text, wire_text, full_text, no_memory_text}
 
 -- ---- faults
 
@@ -69,9 +69,9 @@ bytes_of (line ∷ before) = length line + bytes_of before
 abbrev pub fault_at : List (List ℕ) → List ℕ → Option ScriptFault
 fault_at before line =
     let n = length before + 1 in
-    if nat_lt 16777216 (length line + bytes_of before) then Some (at_line n Size)
+    if nat_lt (most_bytes (form_of before)) (length line + bytes_of before) then Some (at_line n Size)
     else (if nat_lt 2048 (length (bare line)) then Some (at_line n Long)
-    else fault_of_read n (head_of before) (line_read (stage_of (head_of before)) (bare line)))
+    else fault_of_read n (head_of before) (read_after before line))
 
 -- the fault of a script that ends with its header: where there is no opening the first word is missing
 abbrev pub fault_with : Option Opened → Option ScriptFault → Option ScriptFault
@@ -129,7 +129,7 @@ asked_by (Some (Gap id)) = Measures id
 asked_by command = Nothing
 
 abbrev pub asked_in : List (List ℕ) → List ℕ → Asked
-asked_in before line = asked_by (said (head_of before) line)
+asked_in before line = asked_by (said before line)
 
 -- the journal has as many entries as it may have
 abbrev pub is_full : ℕ → ℕ → Bool
@@ -170,6 +170,32 @@ output_of o (turn ∷ before) run =
     output_then o (is_full (limit_in (head_of (lines_of before)).told) (length (calls_in before))) turn.refused
     (asked_in (lines_of before) turn.line) (output_of o before) run
 
+-- ---- what lines tell of answers
+
+-- the run before a line
+abbrev pub run_before : Bool → Bool → Asked → List Entry → List Entry
+run_before full refused (Calls call) run = if full then run else (if refused then run else drop 1 run)
+run_before full refused asked run = run
+
+-- a line that tells what the newest entry was answered tells it as it was
+abbrev pub IsConfirmed : Option Command → List Entry → Type 0
+IsConfirmed (Some (Answer text)) run = newest_text run ≡ Some text
+IsConfirmed command run = Unit {0}
+
+-- and each such line does
+abbrev pub AreConfirmed : List Turn → List Entry → Type 0
+AreConfirmed [] run = Unit {0}
+AreConfirmed (turn ∷ before) run =
+    IsConfirmed (said (lines_of before) turn.line) run
+    × AreConfirmed before
+    (run_before (is_full (limit_in (head_of (lines_of before)).told) (length (calls_in before))) turn.refused
+    (asked_in (lines_of before) turn.line) run)
+
+-- a line tells it otherwise
+abbrev pub IsContrary : Option Command → List Entry → Type 0
+IsContrary (Some (Answer text)) run = newest_text run ≢ Some text
+IsContrary command run = ⊥
+
 -- ---- the whole
 
 -- the run is one of the opening that was told, by one caller, of these calls, and its choices are those of the
@@ -188,16 +214,18 @@ pub record IsTold (lines : List (List ℕ)) (text : List ℕ) : Type 0 where
   pub run : List Entry
   pub after : Drawer
   pub made : IsRunOf (head_of lines).told (calls_in turns) run after
+  pub confirmed : AreConfirmed turns run
   pub text_is : text ≡ output_of (setting_in (head_of lines).told) turns run
 
 -- the lines of a script before line n
 abbrev pub lines_before : ℕ → List ℕ → List (List ℕ)
 lines_before n script = reverse (take (n - 1) (pieces script))
 
--- the line tells an order or a place, which is kept in memory
+-- the line tells an order or a place, which is kept in memory, or an answer, which is compared there
 abbrev pub takes_memory : Option Command → Bool
 takes_memory (Some (Order order)) = true
 takes_memory (Some (Place place)) = true
+takes_memory (Some (Answer text)) = true
 takes_memory command = false
 
 -- line n of a script takes memory
@@ -205,7 +233,22 @@ pub record WantsMemory (script : List ℕ) (n : ℕ) : Type 0 where
   pub piece : List ℕ
   pub more : List (List ℕ)
   pub cut : pieces script ≡ reverse (lines_before n script) ++ piece ∷ more
-  pub takes : takes_memory (said (head_of (lines_before n script)) piece) ≡ true
+  pub takes : takes_memory (said (lines_before n script) piece) ≡ true
+
+-- line n of a script tells an answer otherwise than it was: this text is written for the lines before it, by a run whose
+-- newest entry, if it has one, stands elsewhere or was answered something else
+pub record IsDifferent (script : List ℕ) (n : ℕ) (text : List ℕ) : Type 0 where
+  pub turns : List Turn
+  pub piece : List ℕ
+  pub more : List (List ℕ)
+  pub cut : pieces script ≡ reverse (lines_of turns) ++ piece ∷ more
+  pub number : n ≡ length (lines_of turns) + 1
+  pub run : List Entry
+  pub after : Drawer
+  pub made : IsRunOf (head_of (lines_of turns)).told (calls_in turns) run after
+  pub confirmed : AreConfirmed turns run
+  pub text_is : text ≡ output_of (setting_in (head_of (lines_of turns)).told) turns run
+  pub contrary : IsContrary (said (lines_of turns) piece) run
 
 -- line n of a script is waited for: the lines before it were taken, and perhaps bytes of it, but no line feed, and
 -- this is left
@@ -225,7 +268,7 @@ pub record IsAnswering (script left : List ℕ) (n : ℕ) : Type 0 where
   pub number : n ≡ length (lines_before n script) + 1
   pub piece : List ℕ
   pub cut : pieces script ≡ reverse (lines_before n script) ++ piece ∷ pieces left
-  pub event : is_answered (said (head_of (lines_before n script)) piece) ≡ true
+  pub event : is_answered (said (lines_before n script) piece) ≡ true
 
 -- where in a script a fault stopped, of which this is left, and what was written before it: the reader failed at the
 -- line that was waited for, and the lines before it were answered
@@ -237,10 +280,13 @@ RunsTo script left old new fault Read =
 RunsTo script left old new fault Write =
     (WaitsFor script left fault.line ⊎ IsAnswering script left fault.line)
     × (text : List ℕ) × (part : List ℕ) × IsTold (lines_before fault.line script) text × Appends old new (text ++ part)
--- memory is wanted for a line that is kept in it, and the lines before it were answered
+-- memory is wanted for a line that takes it, and the lines before it were answered
 RunsTo script left old new fault Memory =
     WantsMemory script fault.line
     × (text : List ℕ) × IsTold (lines_before fault.line script) text × Appends old new text
+-- what was answered is told otherwise, and the lines before it were answered
+RunsTo script left old new fault Differs =
+    (text : List ℕ) × IsDifferent script fault.line text × Appends old new text
 -- any other fault is the one that the format names, and the lines before it were answered
 RunsTo script left old new fault kind =
     (fault_of script ≡ Some fault)

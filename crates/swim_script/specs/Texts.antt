@@ -1,11 +1,12 @@
 -- The texts of answers.
-use Rattle.std.specs.Prelude.{ℕ, List, [], ◌∷◌, ◌++◌, Option, Some, None, codes, decimal}
+use Rattle.std.specs.Prelude.{ℕ, List, [], ◌∷◌, ◌++◌, length, Option, Some, None, codes, decimal}
 use Rattle.hex.specs.Hex.{encode_lower}
 use Rattle.swim_wire.specs.Address.{Address, address_text}
 use Rattle.swim_wire.specs.Layout.{text_of, fault_number}
 use Rattle.swim_wire.specs.declared.messages.Message.{Message}
 use Rattle.swim_wire.specs.declared.codec.WireFault.{WireFault}
 use Rattle.swim_history.specs.declared.replies.Reply.{Reply}
+use Rattle.swim_history.specs.declared.entries.Entry.{Entry}
 use Rattle.swim_history.specs.declared.replies.Reply.TheVariants.{Quiet, Started, Asked, Heard, Send, Dropped, Joined}
 use Rattle.swim_history.specs.declared.replies.Reply.TheVariants.{Removed, Refused}
 use Rattle.swim_history.specs.declared.replies.Probe.{Probe}
@@ -46,6 +47,14 @@ reply_text (Dropped why) = codes "dropped " ++ decimal (drop_number why)
 reply_text (Joined place) = codes "joined " ++ decimal place
 reply_text Removed = codes "removed"
 reply_text (Refused why) = codes "refused " ++ decimal (refusal_number why)
+
+-- what is told of the newest entry: its place, and what was answered
+abbrev pub placed_text : ℕ → Reply → List ℕ
+placed_text place reply = decimal place ++ (codes " " ++ reply_text reply)
+
+abbrev pub newest_text : List Entry → Option (List ℕ)
+newest_text [] = None
+newest_text (e ∷ before) = Some (placed_text (length before) e.reply)
 
 -- the line of a message that is sent: its address and its datagram
 abbrev pub datagram_text : Message → List ℕ

@@ -5,7 +5,8 @@ ghost use Rattle.swim_wire.specs.Address.{address_text};
 ghost use Rattle.swim_wire.specs.Streams.{Puts, failures_if};
 ghost use Rattle.swim_history.specs.Sends.{sends_of, to_each};
 ghost use Rattle.swim_history.specs.Texts.{feed};
-ghost use Rattle.swim_script.specs.Texts.{answer_text, reply_text, id_text, probe_text, relays_text, more_relays_text};
+ghost use Rattle.swim_script.specs.Texts.{placed_text, answer_text, reply_text, id_text, probe_text, relays_text};
+ghost use Rattle.swim_script.specs.Texts.{more_relays_text};
 ghost use Rattle.swim_script.specs.Texts.{datagram_text, line_text, lines_text, sends_text, wire_text};
 
 use swim_history::{Opening, Probe, Relay, Reply};
@@ -23,6 +24,27 @@ pub fn put_answer<W: Sink>(writer: &mut W, reply: &Reply, opening: &Opening) -> 
         return false;
     }
     put_end_and_sends(writer, reply, opening)
+}
+
+/// What is told of an entry: its place, and the text of what was answered, without a line feed.
+pub fn put_placed<W: Sink>(writer: &mut W, place: u32, reply: &Reply) -> bool
+    ensures bytes { Puts (W.written writer.old) (W.written writer.new) (placed_text place reply.now) result }
+    ensures failures { W.failures writer.new ≡ failures_if (W.failures writer.old) result }
+{
+    if !put_number(writer, u64::from(place)) {
+        return false;
+    }
+    put_spaced_reply(writer, reply)
+}
+
+fn put_spaced_reply<W: Sink>(writer: &mut W, reply: &Reply) -> bool
+    ensures bytes { Puts (W.written writer.old) (W.written writer.new) (codes " " ++ reply_text reply.now) result }
+    ensures failures { W.failures writer.new ≡ failures_if (W.failures writer.old) result }
+{
+    if !writer.put(b" ") {
+        return false;
+    }
+    put_reply(writer, reply)
 }
 
 /// The end of a reply's line, and a line for each message that it sends.

@@ -2,11 +2,13 @@
 
 ghost use Rattle.std.specs.Prelude.{◌≡◌};
 ghost use Rattle.swim_wire.specs.Arguments.{TakesFrom};
-ghost use Rattle.swim_script.specs.Arguments.{open_arguments, take_number, take_order, take_seed, take_datagram};
+ghost use Rattle.swim_script.specs.Arguments.{open_arguments, take_number, take_order, take_seed, take_life};
+ghost use Rattle.swim_script.specs.Arguments.{take_datagram};
 ghost use Rattle.swim_script.specs.Arguments.{order_of, seed_of};
 
 use crate::commands::LineFault;
 use crate::datagrams::read_datagram;
+use crate::forms::Form;
 use std::marker::Model;
 use swim_targets::Order;
 use swim_wire::{Id, Message, WireFault, Words, read_number, take_id};
@@ -65,6 +67,20 @@ impl<'a> OrderText<'a> {
     }
 }
 
+/// What a line of a journal file tells of the newest entry: its place, and what was answered. A contract sees the bytes.
+#[derive(Debug, Drop)]
+pub struct AnswerText<'a> {
+    pub(crate) text: &'a [u8],
+}
+
+impl<'a> Model for AnswerText<'a> {
+    ghost use Rattle.std.specs.Prelude.{List, ℕ};
+
+    ghost Value = { List ℕ };
+
+    ghost view = { λ answer. answer.text.now };
+}
+
 /// Takes the next six words, which are to be the arguments of an `open` line; else the fault is `LineFault::Number`.
 #[tactic(auto, unfolding(crate::specs::Arguments::open_arguments))]
 #[inline(never)]
@@ -121,6 +137,20 @@ pub fn take_seed(words: &mut Words<'_>) -> Result<[u8; 32], LineFault>
 {
     let word = words.next().ok_or(LineFault::Hex)?;
     read_seed(word).ok_or(LineFault::Hex)
+}
+
+/// Takes the next word, if one is left and the script is of a form that may tell it: it is to be a decimal number from 0
+/// to 18446744073709551615, the life of a detector; else the fault is `LineFault::Number`. Where none is told it is 0.
+pub fn take_life(form: Form, words: &mut Words<'_>) -> Result<u64, LineFault>
+    ensures { TakesFrom result words.new (take_life form words.old) }
+{
+    match form {
+        Form::Script => Ok(0),
+        Form::Journal => match words.next() {
+            None => Ok(0),
+            Some(word) => read_number(word, u64::MAX).ok_or(LineFault::Number),
+        },
+    }
 }
 
 /// The seed that 64 digits spell, of either case.

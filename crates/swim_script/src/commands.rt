@@ -1,12 +1,14 @@
 //! What a line of a script says.
 
-ghost use Rattle.std.specs.Prelude.{◌≡◌};
+ghost use Rattle.std.specs.Prelude.{◌≡◌, Some, None, MatchOption};
 ghost use Rattle.swim_script.specs.Commands.{fault_name, LineStandsAt, word_of, fault_of_word, command_after};
-ghost use Rattle.swim_script.specs.Commands.{line_read, is_skipped, words_read, said_by};
+ghost use Rattle.swim_script.specs.Commands.{line_read, is_skipped, behind_sign, answer_in, answer_read, words_read, said_by};
 
 use crate::arguments::{
-    OpenArguments, OrderText, take_datagram, take_number, take_open, take_order, take_seed,
+    AnswerText, OpenArguments, OrderText, take_datagram, take_life, take_number, take_open,
+    take_order, take_seed,
 };
+use crate::forms::Form;
 use swim_wire::{Id, Message, Peer, WireFault, Words, nothing_left, take_id, take_peer};
 
 /// The longest line of a script, in bytes without its line feed.
@@ -70,8 +72,8 @@ pub enum Stage {
     Events,
 }
 
-/// The first word of a line, which says what the line is. The first five stand in header lines, and the others in event
-/// lines.
+/// The first word of a line, which says what the line is. The first five stand in header lines, and the next six in event
+/// lines. The last begins a line of a journal file that tells an answer; no other text than `= ` does.
 #[derive(Clone, Copy, Debug, PartialEq, Eq)]
 pub enum Word {
     Open,
@@ -85,6 +87,7 @@ pub enum Word {
     Remove,
     Table,
     Gap,
+    Answer,
 }
 
 /// What a line says.
@@ -98,8 +101,8 @@ pub enum Command<'a> {
     Order(OrderText<'a>),
     /// The next place to be followed.
     Place(u32),
-    /// Orders and places are drawn from this seed.
-    Seed([u8; 32]),
+    /// Orders and places are drawn from this seed, by the detector of that life.
+    Seed([u8; 32], u64),
     /// One tick.
     Tick,
     /// A datagram came from that address: a message, or bytes that are none.
@@ -112,25 +115,67 @@ pub enum Command<'a> {
     Table,
     /// The widest gap between probes of this member is to be shown.
     Gap(Id),
+    /// The newest entry stands there, and was answered so.
+    Answer(AnswerText<'a>),
 }
 
-/// What a line says at that stage of its script: nothing where it is skipped, else a command, or the first
+/// What a line says at that stage of a script of that form: nothing where it is skipped, else a command, or the first
 /// fault of its words.
-pub fn read_line<'a>(stage: Stage, line: &'a [u8]) -> Result<Option<Command<'a>>, LineFault>
-    ensures exact { result ≡ line_read stage line.now }
+pub fn read_line<'a>(
+    form: Form,
+    stage: Stage,
+    line: &'a [u8],
+) -> Result<Option<Command<'a>>, LineFault>
+    ensures exact { result ≡ line_read form stage line.now }
     ensures stands { LineStandsAt stage result }
 {
-    read_any(stage, line)
+    read_any(form, stage, line)
 }
 
-fn read_any<'a>(stage: Stage, line: &'a [u8]) -> Result<Option<Command<'a>>, LineFault>
-    ensures { result ≡ line_read stage line.now }
+fn read_any<'a>(form: Form, stage: Stage, line: &'a [u8]) -> Result<Option<Command<'a>>, LineFault>
+    ensures { result ≡ line_read form stage line.now }
 {
     if is_skipped(line) {
         return Ok(None);
     }
+    if let Some(text) = answer_in(form, line) {
+        return read_answer(stage, text);
+    }
     let mut words = Words::new(line);
-    read_words(stage, &mut words)
+    read_words(form, stage, &mut words)
+}
+
+/// What a line of a journal file tells of an answer, if it does.
+fn answer_in(form: Form, line: &[u8]) -> Option<&[u8]>
+    ensures { MatchOption result (answer_in form line.now ≡ None) (λ text. answer_in form line.now ≡ Some text.now) }
+{
+    match form {
+        Form::Script => None,
+        Form::Journal => behind_sign(line),
+    }
+}
+
+/// What stands behind `= ` in a line that begins so.
+fn behind_sign(line: &[u8]) -> Option<&[u8]>
+    ensures { MatchOption result (behind_sign line.now ≡ None) (λ text. behind_sign line.now ≡ Some text.now) }
+{
+    let (first, rest) = line.split_first()?;
+    let (second, text) = rest.split_first()?;
+    if *first == b'=' && *second == b' ' {
+        Some(text)
+    } else {
+        None
+    }
+}
+
+/// What a line tells of an answer, where it may stand.
+fn read_answer<'a>(stage: Stage, text: &'a [u8]) -> Result<Option<Command<'a>>, LineFault>
+    ensures { result ≡ answer_read stage text.now }
+{
+    match stage {
+        Stage::Events => Ok(Some(Command::Answer(AnswerText { text }))),
+        Stage::Blank | Stage::Header(_) => Err(LineFault::Word),
+    }
 }
 
 /// Whether a line is empty or a comment.
@@ -144,14 +189,18 @@ fn is_skipped(line: &[u8]) -> bool
 }
 
 /// What the words of a line say.
-fn read_words<'a>(stage: Stage, words: &mut Words<'a>) -> Result<Option<Command<'a>>, LineFault>
-    ensures { result ≡ said_by (words_read stage words.old) }
+fn read_words<'a>(
+    form: Form,
+    stage: Stage,
+    words: &mut Words<'a>,
+) -> Result<Option<Command<'a>>, LineFault>
+    ensures { result ≡ said_by (words_read form stage words.old) }
 {
     let first = words.next().ok_or(LineFault::Word)?;
     let word = first_word(first).ok_or(LineFault::Word)?;
     match fault_of_word(stage, word) {
         Some(fault) => Err(fault),
-        None => read_command(word, words),
+        None => read_command(form, word, words),
     }
 }
 
@@ -195,6 +244,7 @@ fn fault_of_word(stage: Stage, word: Word) -> Option<LineFault>
     match (stage, word) {
         (Stage::Blank, Word::Open) => None,
         (Stage::Blank, _) | (_, Word::Open) => Some(LineFault::Word),
+        (Stage::Header(_), Word::Answer) => Some(LineFault::Word),
         (Stage::Events, Word::Row | Word::Order | Word::Place | Word::Seed) => {
             Some(LineFault::Word)
         }
@@ -206,12 +256,16 @@ fn fault_of_word(stage: Stage, word: Word) -> Option<LineFault>
     }
 }
 
-/// What the words after the first say.
+/// What the words after the first say in a script of that form.
 // It is put in place for each line, also beside the lines that are read for their words alone.
 #[tactic(auto, unfolding(crate::specs::Commands::command_after))]
 #[inline(always)]
-pub fn read_command<'a>(word: Word, words: &mut Words<'a>) -> Result<Option<Command<'a>>, LineFault>
-    ensures { result ≡ said_by (command_after word words.old) }
+pub fn read_command<'a>(
+    form: Form,
+    word: Word,
+    words: &mut Words<'a>,
+) -> Result<Option<Command<'a>>, LineFault>
+    ensures { result ≡ said_by (command_after form word words.old) }
 {
     match word {
         Word::Open => {
@@ -237,8 +291,9 @@ pub fn read_command<'a>(word: Word, words: &mut Words<'a>) -> Result<Option<Comm
         }
         Word::Seed => {
             let seed = take_seed(words)?;
+            let life = take_life(form, words)?;
             nothing_left(words, LineFault::Extra)?;
-            Ok(Some(Command::Seed(seed)))
+            Ok(Some(Command::Seed(seed, life)))
         }
         Word::Tick => {
             nothing_left(words, LineFault::Extra)?;
@@ -270,5 +325,6 @@ pub fn read_command<'a>(word: Word, words: &mut Words<'a>) -> Result<Option<Comm
             nothing_left(words, LineFault::Extra)?;
             Ok(Some(Command::Gap(id)))
         }
+        Word::Answer => Err(LineFault::Word),
     }
 }

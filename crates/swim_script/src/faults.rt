@@ -5,13 +5,10 @@ use std::error::Error;
 use std::fmt;
 use swim_history::OpeningFault;
 
-/// The most bytes of a script.
-pub const SCRIPT_BYTES: u32 = 16_777_216;
-
 /// The kinds of faults of a script.
 #[derive(Clone, Copy, Debug, PartialEq, Eq)]
 pub enum FaultKind {
-    /// The script is longer than 16,777,216 bytes.
+    /// The script is longer than one of its form may be.
     Size,
     /// The line has more than 2,048 bytes.
     Long,
@@ -19,8 +16,10 @@ pub enum FaultKind {
     Words(LineFault),
     /// The opening is refused.
     Opening(OpeningFault),
-    /// Memory to keep what the line tells was refused.
+    /// Memory to keep or to compare what the line tells was refused.
     Memory,
+    /// The newest entry stands at another place than the line tells, or was answered otherwise.
+    Differs,
     /// The reader failed.
     Read,
     /// The writer failed.
@@ -71,6 +70,7 @@ impl fmt::Display for FaultKind {
                 write!(f, "opening {number}")
             }
             FaultKind::Memory => f.write_str("memory"),
+            FaultKind::Differs => f.write_str("differs"),
             FaultKind::Read => f.write_str("read"),
             FaultKind::Write => f.write_str("write"),
         }

@@ -29,7 +29,7 @@ pub struct Header {
     rows: ArrayVec<(Id, Peer), 129>,
     orders: Vec<Order>,
     places: Vec<u32>,
-    seed: Option<[u8; 32]>,
+    seed: Option<([u8; 32], u64)>,
 }
 
 impl Model for Header {
@@ -93,11 +93,11 @@ impl Header {
         Ok(self.places.push(place)?)
     }
 
-    /// A `seed` line.
-    pub fn set_seed(&mut self, key: [u8; 32])
-        ensures { self.new ≡ record self.old { seed = Some key } }
+    /// A `seed` line, with the life that draws from it.
+    pub fn set_seed(&mut self, key: [u8; 32], life: u64)
+        ensures { self.new ≡ record self.old { seed = Some (key, life) } }
     {
-        self.seed = Some(key);
+        self.seed = Some((key, life));
     }
 
     /// How far a script has come that ends with this header.
@@ -151,7 +151,10 @@ impl Header {
         ensures { result ≡ chooser_in self }
     {
         match self.seed {
-            Some(key) => Drawer::Seeded(Seeded::new(key)),
+            Some(seed) => {
+                let key = seed.0;
+                Drawer::Seeded(Seeded::life(key, seed.1))
+            }
             None => Drawer::Scripted(Scripted::new(self.orders, self.places)),
         }
     }

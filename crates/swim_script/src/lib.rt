@@ -6,16 +6,21 @@ mod arguments;
 mod choosers;
 mod commands;
 mod datagrams;
+mod events;
 mod faults;
+mod forms;
 mod headers;
 mod playing;
 mod session;
 mod simulator;
 
+pub use answers::put_placed;
 pub use arguments::{
-    OpenArguments, OrderText, take_datagram, take_long_number, take_number, take_order, take_seed,
+    OpenArguments, OrderText, take_datagram, take_life, take_long_number, take_number, take_order,
+    take_seed,
 };
 pub use commands::{Command, LINE_BYTES, LineFault, Word, first_word, read_command};
 pub use faults::{FaultKind, ScriptFault};
+pub use forms::Form;
 pub use session::Session;
 pub use simulator::run;

@@ -1,40 +1,36 @@
 //! A script as it is played, line by line.
 
-ghost use Rattle.std.specs.Prelude.{◌≡◌, ◌≢◌, ◌+◌, ◌<◌, List, ℕ, Some, None, Ok, Err, MatchResult, OnOk, false, not};
+ghost use Rattle.std.specs.Prelude.{◌≡◌, ◌≢◌, ◌+◌, ◌<◌, ◌≤◌, ◌∷◌, List, ℕ, Some, None, Ok, Err, MatchResult, OnOk, not};
 ghost use Rattle.std.specs.Prelude.{if◌then◌else◌};
 ghost use Rattle.swim_wire.specs.Lines.{bare};
 ghost use Rattle.swim_wire.specs.Streams.{failures_if};
-ghost use Rattle.swim_history.specs.declared.calls.Call.TheVariants as calls;
 ghost use Rattle.swim_history.specs.declared.entries.Entry.{Entry};
 ghost use Rattle.swim_script.specs.declared.commands.Command.TheVariants as commands;
-ghost use Rattle.swim_script.specs.Texts.{wire_text};
 ghost use Rattle.swim_script.specs.Ends.{IsJournalOf};
+ghost use Rattle.swim_script.specs.Forms.{form_after, form_of, is_mark, most_bytes};
 ghost use Rattle.swim_script.specs.Headers.{nothing_told, told_then};
-ghost use Rattle.swim_script.specs.Script.{Turn, is_write, result_kind};
-ghost use Rattle.swim_script.specs.Holds.{Done, Holds, Turned, Started, Called, Showed, table_of, gap_of, PlaysLine};
-ghost use Rattle.swim_script.specs.Holds.{ShowsLine, HearsLine, kept, ending, stage_in};
+ghost use Rattle.swim_script.specs.Script.{Turn, lines_of, is_write, result_kind};
+ghost use Rattle.swim_script.specs.Holds.{Done, Holds, Turned, kept, ending, stage_in};
 
-use crate::answers::put_wire_fault;
 use crate::arguments::{OpenArguments, OrderText};
 use crate::choosers::Drawer;
 use crate::commands::{Command, Stage, read_line};
 use crate::faults::{FaultKind, ScriptFault};
+use crate::forms::{Form, is_mark};
 use crate::headers::Header;
-use crate::playing::play;
 use std::alloc::Global;
 use std::marker::Model;
-use std::mem;
 use swim_detector::Recorder;
-use swim_history::{Call, Journal, put_gap, put_table};
-use swim_wire::{Id, Message, Peer, Sink, WireFault};
+use swim_history::{Call, Journal};
+use swim_wire::{Id, Peer, Sink};
 
 /// Where a script has come: its header, and the recorder once an event line was met.
 #[derive(Drop)]
 pub struct Session {
-    alloc: Global,
-    lines: u32,
-    header: Header,
-    recorder: Option<Recorder<Drawer>>,
+    pub(crate) alloc: Global,
+    pub(crate) lines: u32,
+    pub(crate) header: Header,
+    pub(crate) recorder: Option<Recorder<Drawer>>,
 }
 
 impl Model for Session {
@@ -69,17 +65,35 @@ impl Session {
         }
     }
 
-    /// Plays the next line of the script, and writes its answer.
-    pub(crate) fn turn<W: Sink>(&mut self, line: &[u8], writer: &mut W) -> Result<(), ScriptFault>
+    /// The form of a script of that form so far, with its next line.
+    pub(crate) fn form_with(&self, form: Form, line: &[u8]) -> Form
+        ensures form { result ≡ form_after self.now.lines line.now form }
+        ensures grows { most_bytes form ≤ most_bytes result }
+        ensures most { most_bytes result ≤ 1073741824 }
+    {
+        form.after(self.lines, line)
+    }
+
+    /// Plays the next line of the script, which has that form with it, and writes its answer.
+    pub(crate) fn turn<W: Sink>(
+        &mut self,
+        form: Form,
+        line: &[u8],
+        writer: &mut W,
+    ) -> Result<(), ScriptFault>
         requires { self.old.lines < u32.MAX }
         ensures turned { (turns : List Turn) (run : List Entry) (text piece : List ℕ) → Holds turns run text self.old →
-            bare piece ≡ line.now →
-            Turned turns text piece self.new (W.written writer.old) (W.written writer.new) result }
+            bare piece ≡ line.now → form ≡ form_of (piece ∷ lines_of turns) →
+            Turned turns run text piece self.new (W.written writer.old) (W.written writer.new) result }
         ensures failures { W.failures writer.new ≡ failures_if (W.failures writer.old) (not (is_write result)) }
         ensures count { OnOk result (self.new.lines ≡ self.old.lines + 1) }
         ensures words { result_kind result ≢ Some FaultKind.Read }
     {
-        match read_line(self.stage(), line) {
+        if self.begins_journal(line) {
+            self.skip();
+            return Ok(());
+        }
+        match read_line(form, self.stage(), line) {
             Err(fault) => Err(self.fault(FaultKind::Words(fault))),
             Ok(None) => {
                 self.skip();
@@ -87,6 +101,13 @@ impl Session {
             }
             Ok(Some(command)) => self.carry_out(command, writer),
         }
+    }
+
+    /// Whether the next line, which is this one, is the first of a journal file.
+    fn begins_journal(&self, line: &[u8]) -> bool
+        ensures { result ≡ is_mark self.now.lines line.now }
+    {
+        is_mark(self.lines, line)
     }
 
     /// The end of the script.
@@ -131,8 +152,8 @@ impl Session {
             }
             Command::Order(order) => self.add_order(order),
             Command::Place(place) => self.add_place(place),
-            Command::Seed(key) => {
-                self.set_seed(key);
+            Command::Seed(key, life) => {
+                self.set_seed(key, life);
                 Ok(())
             }
             Command::Tick => self.call(Call::Tick, writer),
@@ -141,6 +162,7 @@ impl Session {
             Command::Remove(id) => self.call(Call::Remove(id), writer),
             Command::Table => self.show_table(writer),
             Command::Gap(id) => self.show_gap(id, writer),
+            Command::Answer(answer) => self.confirm(answer),
         }
     }
 
@@ -217,157 +239,22 @@ impl Session {
         }
     }
 
-    fn set_seed(&mut self, key: [u8; 32])
+    fn set_seed(&mut self, key: [u8; 32], life: u64)
         requires { self.old.lines < u32.MAX }
         ensures { self.new ≡
             record {
               lines = self.old.lines + 1;
               header =
-                  told_then (self.old.lines + 1) (commands.Seed key) self.old.header;
+                  told_then (self.old.lines + 1) (commands.Seed key life) self.old.header;
               recorded = self.old.recorded;
             } }
     {
         self.lines += 1;
-        self.header.set_seed(key);
-    }
-
-    /// At the first event line, checks the opening and opens the recorder.
-    fn start(&mut self) -> Result<(), ScriptFault>
-        ensures started { Started self.old self.new result }
-        ensures same { self.new.lines ≡ self.old.lines }
-        ensures unread { result_kind result ≢ Some FaultKind.Read }
-        ensures written { is_write result ≡ false }
-    {
-        if self.recorder.is_some() {
-            return Ok(());
-        }
-        self.open_recorder()
-    }
-
-    // A function of its own, since its locals are large and `start` runs at each event line.
-    #[inline(never)]
-    fn open_recorder(&mut self) -> Result<(), ScriptFault>
-        requires { self.old.recorded ≡ None }
-        ensures started { Started self.old self.new result }
-        ensures same { self.new.lines ≡ self.old.lines }
-        ensures unread { result_kind result ≢ Some FaultKind.Read }
-        ensures written { is_write result ≡ false }
-    {
-        let opening = self.header.opening()?;
-        let limit = self.header.limit();
-        let header = mem::replace(&mut self.header, Header::new(self.alloc));
-        let chooser = header.into_chooser();
-        self.recorder = Some(Recorder::open(self.alloc, opening, chooser, limit));
-        Ok(())
-    }
-
-    /// A message, or bytes that are none, came.
-    fn hear<W: Sink>(
-        &mut self,
-        source: Peer,
-        read: Result<Message, WireFault>,
-        writer: &mut W,
-    ) -> Result<(), ScriptFault>
-        requires { self.old.lines < u32.MAX }
-        ensures done { HearsLine self.old self.new source read (W.written writer.old) (W.written writer.new) result }
-        ensures unread { result_kind result ≢ Some FaultKind.Read }
-        ensures failures { W.failures writer.new ≡ failures_if (W.failures writer.old) (not (is_write result)) }
-    {
-        match read {
-            Ok(message) => self.call(Call::Hear(message, source), writer),
-            Err(fault) => self.tell_fault(fault, writer),
-        }
-    }
-
-    /// A call of the detector.
-    fn call<W: Sink>(&mut self, call: Call, writer: &mut W) -> Result<(), ScriptFault>
-        requires { self.old.lines < u32.MAX }
-        ensures done { PlaysLine self.old self.new call (W.written writer.old) (W.written writer.new) result }
-        ensures unread { result_kind result ≢ Some FaultKind.Read }
-        ensures failures { W.failures writer.new ≡ failures_if (W.failures writer.old) (not (is_write result)) }
-    {
-        self.start()?;
-        let done = self.apply(call, writer);
-        self.written(done)
-    }
-
-    fn apply<W: Sink>(&mut self, call: Call, writer: &mut W) -> bool
-        requires { self.old.lines < u32.MAX }
-        ensures called { Called self.old.recorded self.new.recorded call (W.written writer.old)
-            (W.written writer.new) result }
-        ensures count { self.new.lines ≡ self.old.lines + 1 }
-        ensures failures { W.failures writer.new ≡ failures_if (W.failures writer.old) result }
-    {
-        self.lines += 1;
-        match &mut self.recorder {
-            Some(recorder) => play(recorder, call, writer),
-            None => true,
-        }
-    }
-
-    /// A datagram that is none.
-    fn tell_fault<W: Sink>(&mut self, fault: WireFault, writer: &mut W) -> Result<(), ScriptFault>
-        requires { self.old.lines < u32.MAX }
-        ensures done { ShowsLine self.old self.new (λ a. wire_text fault) (W.written writer.old)
-            (W.written writer.new) result }
-        ensures unread { result_kind result ≢ Some FaultKind.Read }
-        ensures failures { W.failures writer.new ≡ failures_if (W.failures writer.old) (not (is_write result)) }
-    {
-        self.start()?;
-        self.lines += 1;
-        let done = put_wire_fault(writer, fault);
-        self.written(done)
-    }
-
-    /// The member table.
-    fn show_table<W: Sink>(&mut self, writer: &mut W) -> Result<(), ScriptFault>
-        requires { self.old.lines < u32.MAX }
-        ensures done { ShowsLine self.old self.new table_of (W.written writer.old) (W.written writer.new) result }
-        ensures unread { result_kind result ≢ Some FaultKind.Read }
-        ensures failures { W.failures writer.new ≡ failures_if (W.failures writer.old) (not (is_write result)) }
-    {
-        self.start()?;
-        self.lines += 1;
-        let done = self.put_rows(writer);
-        self.written(done)
-    }
-
-    fn put_rows<W: Sink>(&self, writer: &mut W) -> bool
-        ensures showed { Showed self.now.recorded table_of (W.written writer.old) (W.written writer.new) result }
-        ensures failures { W.failures writer.new ≡ failures_if (W.failures writer.old) result }
-    {
-        match &self.recorder {
-            Some(recorder) => put_table(writer, recorder.table().as_slice()),
-            None => true,
-        }
-    }
-
-    /// The widest gap of a member.
-    fn show_gap<W: Sink>(&mut self, member: Id, writer: &mut W) -> Result<(), ScriptFault>
-        requires { self.old.lines < u32.MAX }
-        ensures done { ShowsLine self.old self.new (gap_of member) (W.written writer.old)
-            (W.written writer.new) result }
-        ensures unread { result_kind result ≢ Some FaultKind.Read }
-        ensures failures { W.failures writer.new ≡ failures_if (W.failures writer.old) (not (is_write result)) }
-    {
-        self.start()?;
-        self.lines += 1;
-        let done = self.put_gap_of(member, writer);
-        self.written(done)
-    }
-
-    fn put_gap_of<W: Sink>(&self, member: Id, writer: &mut W) -> bool
-        ensures showed { Showed self.now.recorded (gap_of member) (W.written writer.old) (W.written writer.new) result }
-        ensures failures { W.failures writer.new ≡ failures_if (W.failures writer.old) result }
-    {
-        match &self.recorder {
-            Some(recorder) => put_gap(writer, recorder.journal().widest_gap(member)),
-            None => true,
-        }
+        self.header.set_seed(key, life);
     }
 
     /// Whether the answer of the newest line was written.
-    fn written(&self, done: bool) -> Result<(), ScriptFault>
+    pub(crate) fn written(&self, done: bool) -> Result<(), ScriptFault>
         ensures { result ≡ (if done then Ok tt else Err (record { line = self.now.lines; kind = FaultKind.Write })) }
     {
         if done {
@@ -378,7 +265,7 @@ impl Session {
     }
 
     /// A fault in the newest line.
-    fn stopped(&self, kind: FaultKind) -> ScriptFault
+    pub(crate) fn stopped(&self, kind: FaultKind) -> ScriptFault
         ensures { result ≡ record { line = self.now.lines; kind = kind } }
     {
         ScriptFault {

@@ -6,14 +6,16 @@ ghost use Rattle.swim_script.specs.Ends.{LeavesKnown, unplayed};
 ghost use Rattle.swim_script.specs.Script.{RunsKnown, is_read, is_write};
 
 use crate::commands::LINE_BYTES;
-use crate::faults::{FaultKind, SCRIPT_BYTES, ScriptFault};
+use crate::faults::{FaultKind, ScriptFault};
+use crate::forms::Form;
 use crate::session::Session;
 use arrayvec::ArrayVec;
 use swim_wire::{Sink, Source, Taken, next_line};
 
 /// Plays the script that the reader gives, and writes its answers. Each answer is written as soon as its
-/// line was read, and handed on before the reader is waited for. The session, of which no line was read before, has
-/// the journal of the run afterwards.
+/// line was read, and handed on before the reader is waited for. What a journal file tells of answers is compared with
+/// them, and the first that differs ends the run. The session, of which no line was read before, has the journal of the
+/// run afterwards.
 pub fn run<R: Source, W: Sink>(
     session: &mut Session,
     reader: &mut R,
@@ -29,10 +31,16 @@ pub fn run<R: Source, W: Sink>(
     ensures leaves { LeavesKnown result (R.left reader.old) (W.written writer.old) (W.written writer.new) session.new }
 {
     let mut line = ArrayVec::<u8, LINE_BYTES>::new();
-    let mut budget = SCRIPT_BYTES;
+    let mut form = Form::Script;
+    let mut budget = form.bytes();
     loop {
         match next_line(reader, writer, &mut line, &mut budget) {
-            Taken::Line => session.turn(line.as_slice(), writer)?,
+            Taken::Line => {
+                let told = session.form_with(form, line.as_slice());
+                budget += told.bytes() - form.bytes();
+                form = told;
+                session.turn(form, line.as_slice(), writer)?;
+            }
             Taken::Over => return session.end(),
             Taken::Long => return Err(session.fault(FaultKind::Long)),
             Taken::Size => return Err(session.fault(FaultKind::Size)),

@@ -1,3 +1,4 @@
 pub mod Options
 pub mod Meanings
 pub mod Named
+pub mod Differences

@@ -11,6 +11,7 @@ use Rattle.swim_script.specs.declared.commands.Command.{Command}
 use Rattle.swim_script.specs.declared.commands.Command.TheVariants.{Hear as Heard}
 use Rattle.swim_script.specs.declared.commands.LineFault.{LineFault}
 use Rattle.swim_script.specs.declared.commands.Word.TheVariants.{Hear}
+use Rattle.swim_script.specs.declared.forms.Form.TheVariants.{Script}
 use Rattle.swim_script.specs.Commands.{command_after, said_by}
 
 abbrev pub kind_name : Kind → List ℕ
@@ -36,7 +37,7 @@ message_heard said = None
 abbrev pub message_behind : List ℕ → List (List ℕ) → Option Message
 message_behind mark [] = None
 message_behind mark (word ∷ after) =
-    if bytes_eq word mark then message_heard (said_by (command_after Hear after)) else None
+    if bytes_eq word mark then message_heard (said_by (command_after Script Hear after)) else None
 
 abbrev pub message_after : List ℕ → List ℕ → Option Message
 message_after mark line = message_behind mark (words_of line)

@@ -12,6 +12,10 @@ pub enum Expected {
     AnyLine,
     /// An event line.
     Event,
+    /// In a journal file.
+    EventOrAnswer,
+    /// A call before a line that tells an answer.
+    Call,
     /// Draws that are told in one way.
     OneChooser,
     Argument(Argument),
@@ -22,6 +26,7 @@ pub enum Expected {
     DifferentRows,
     ShortLine,
     ShortScript,
+    ShortJournal,
     Memory,
     Input,
     Output,
@@ -42,6 +47,8 @@ impl Expected {
             Expected::Opening => "open ME K RTT PERIOD LAST LIMIT, before any other line",
             Expected::AnyLine => "row, order, place, seed, tick, hear, join, remove, table or gap",
             Expected::Event => "tick, hear, join, remove, table or gap",
+            Expected::EventOrAnswer => "tick, hear, join, remove, table, gap or =",
+            Expected::Call => "a call before it: tick, hear, join or remove",
             Expected::OneChooser => "one seed, or orders and places",
             Expected::Argument(_) => "",
             Expected::LineEnd => "the end of the line",
@@ -50,6 +57,7 @@ impl Expected {
             Expected::DifferentRows => "rows with different IDs",
             Expected::ShortLine => "at most 2048 bytes in a line",
             Expected::ShortScript => "at most 16777216 bytes in a script",
+            Expected::ShortJournal => "at most 1073741824 bytes in a journal file",
             Expected::Memory => "memory to keep what the line tells",
             Expected::Input => "input that can be read",
             Expected::Output => "output that can be written",

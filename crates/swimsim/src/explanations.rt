@@ -1,6 +1,7 @@
 //! A fault of a script, explained to a person.
 
 use crate::causes::{Cause, cause_for, cause_in, cause_in_spelling};
+use crate::differences::first_difference;
 use crate::expectations::Expected;
 use crate::grammar::Argument;
 use crate::marks::{Mark, first_refused, part_at, word_at};
@@ -9,7 +10,7 @@ use crate::showing::Shown;
 use std::fmt;
 use swim_history::OpeningFault;
 use swim_script::{
-    Command, FaultKind, LineFault, OpenArguments, ScriptFault, Word, first_word, read_command,
+    Command, FaultKind, Form, LineFault, OpenArguments, ScriptFault, Word, first_word, read_command,
 };
 use swim_wire::{Id, Words};
 
@@ -23,17 +24,37 @@ pub struct Marked<'a> {
     mark: Mark<'a>,
 }
 
+/// What was expected: one of some things, or a line, without its line feed.
+#[derive(Clone, Copy, Debug)]
+enum Wanted<'a> {
+    Thing(Expected),
+    Line(&'a [u8]),
+}
+
+impl<'a> fmt::Display for Wanted<'a> {
+    fn fmt<W: fmt::Write>(&self, f: &mut fmt::Formatter<W>) -> fmt::Result {
+        match self {
+            Wanted::Thing(expected) => write!(f, "{expected}"),
+            Wanted::Line(line) => {
+                let line = Shown { bytes: line };
+                write!(f, "{line}")
+            }
+        }
+    }
+}
+
 /// What is told of a fault: the line with a mark under the word, what was expected there, and the commonest cause.
 #[derive(Debug, Drop)]
 pub struct Explanation<'a> {
     marked: Option<Marked<'a>>,
-    expected: Expected,
+    wanted: Wanted<'a>,
     cause: Option<Cause>,
 }
 
 impl<'a> Explanation<'a> {
-    /// The explanation of a fault, from what was noted of its script.
-    pub fn of(fault: &ScriptFault, notes: &'a Notes) -> Explanation<'a> {
+    /// The explanation of a fault, from what was noted of its script, and from the line that tells the newest entry, if
+    /// there is one.
+    pub fn of(fault: &ScriptFault, notes: &'a Notes, newest: Option<&'a [u8]>) -> Explanation<'a> {
         if fault.line == 0 {
             return bare(Expected::Opening, Some(Cause::NoLine));
         }
@@ -45,8 +66,9 @@ impl<'a> Explanation<'a> {
         }
         match fault.kind {
             FaultKind::Long => bare(Expected::ShortLine, Some(Cause::LongLine(notes.bytes()))),
-            FaultKind::Size => bare(Expected::ShortScript, None),
+            FaultKind::Size => bare(size_of(notes.told().form), None),
             FaultKind::Memory => bare(Expected::Memory, None),
+            FaultKind::Differs => of_difference(notes.line(), newest),
             FaultKind::Read => bare(Expected::Input, None),
             _ => bare(Expected::Output, None),
         }
@@ -59,8 +81,8 @@ impl<'a> fmt::Display for Explanation<'a> {
         if let Some(marked) = self.marked {
             write!(f, "{marked}")?;
         }
-        let expected = self.expected;
-        write!(f, "  expected: {expected}\n")?;
+        let wanted = self.wanted;
+        write!(f, "  expected: {wanted}\n")?;
         match self.cause {
             Some(cause) => write!(f, "  cause: {cause}\n"),
             None => Ok(()),
@@ -95,7 +117,7 @@ fn repeat<W: fmt::Write>(text: &str, count: usize, f: &mut fmt::Formatter<W>) ->
 fn bare<'a>(expected: Expected, cause: Option<Cause>) -> Explanation<'a> {
     Explanation {
         marked: None,
-        expected,
+        wanted: Wanted::Thing(expected),
         cause,
     }
 }
@@ -109,7 +131,7 @@ fn at<'a>(
 ) -> Explanation<'a> {
     Explanation {
         marked: Some(Marked { line, mark }),
-        expected,
+        wanted: Wanted::Thing(expected),
         cause: cause_in(line, &mark).or(cause),
     }
 }
@@ -124,7 +146,7 @@ fn of_words<'a>(kind: LineFault, line: &'a [u8], told: &Told) -> Explanation<'a>
             let (expected, cause) = of_first_word(first, mark.word, told);
             at(line, mark, expected, cause)
         }
-        (_, Some(word)) => of_argument(word, line, &mut words),
+        (_, Some(word)) => of_argument(told.form, word, line, &mut words),
     }
 }
 
@@ -135,11 +157,40 @@ fn of_first_word(first: Option<Word>, word: &[u8], told: &Told) -> (Expected, Op
         return (Expected::Opening, spelling);
     }
     match (first, told.event) {
-        (Some(Word::Open), Some(_)) => (Expected::Event, Some(Cause::SecondOpen)),
+        (Some(Word::Open), Some(_)) => (event_in(told.form), Some(Cause::SecondOpen)),
         (Some(Word::Open), None) => (Expected::AnyLine, Some(Cause::SecondOpen)),
-        (Some(_), Some(line)) => (Expected::Event, Some(Cause::EventLine(line))),
-        (_, Some(_)) => (Expected::Event, spelling),
+        (Some(_), Some(line)) => (event_in(told.form), Some(Cause::EventLine(line))),
+        (_, Some(_)) => (event_in(told.form), spelling),
         (_, None) => (Expected::AnyLine, spelling),
+    }
+}
+
+/// What stands behind the first event line of a script of that form.
+fn event_in(form: Form) -> Expected {
+    match form {
+        Form::Script => Expected::Event,
+        Form::Journal => Expected::EventOrAnswer,
+    }
+}
+
+/// How many bytes a script of that form may have.
+fn size_of(form: Form) -> Expected {
+    match form {
+        Form::Script => Expected::ShortScript,
+        Form::Journal => Expected::ShortJournal,
+    }
+}
+
+/// A line that tells the newest entry otherwise than the one given.
+fn of_difference<'a>(line: &'a [u8], newest: Option<&'a [u8]>) -> Explanation<'a> {
+    let Some(wanted) = newest else {
+        return at(line, word_at(line, 0), Expected::Call, None);
+    };
+    let mark = first_difference(line, wanted);
+    Explanation {
+        marked: Some(Marked { line, mark }),
+        wanted: Wanted::Line(wanted),
+        cause: cause_in(line, &mark),
     }
 }
 
@@ -158,8 +209,13 @@ fn cause_of_chooser(told: &Told) -> Option<Cause> {
 }
 
 /// A word behind a known first word.
-fn of_argument<'a>(word: Word, line: &'a [u8], words: &mut Words<'a>) -> Explanation<'a> {
-    let (index, refused) = first_refused(word, words);
+fn of_argument<'a>(
+    form: Form,
+    word: Word,
+    line: &'a [u8],
+    words: &mut Words<'a>,
+) -> Explanation<'a> {
+    let (index, refused) = first_refused(form, word, words);
     let mark = word_at(line, index);
     match refused {
         None => at(line, mark, Expected::LineEnd, None),
@@ -196,7 +252,7 @@ fn at_id<'a>(line: &'a [u8], ids: Mark<'a>, index: usize) -> Explanation<'a> {
     if mark.word.is_empty() && !ids.word.is_empty() {
         return Explanation {
             marked: Some(Marked { line, mark }),
-            expected,
+            wanted: Wanted::Thing(expected),
             cause: Some(Cause::Comma),
         };
     }
@@ -229,7 +285,7 @@ fn of_opening<'a>(kind: OpeningFault, told: &'a Told) -> Explanation<'a> {
 fn arguments_in(line: &[u8]) -> Option<OpenArguments> {
     let mut words = Words::new(line);
     let _open = words.next()?;
-    match read_command(Word::Open, &mut words) {
+    match read_command(Form::Script, Word::Open, &mut words) {
         Ok(Some(Command::Open(arguments))) => Some(arguments),
         _ => None,
     }

@@ -2,7 +2,8 @@
 
 use std::fmt;
 use swim_script::{
-    LineFault, Word, take_datagram, take_long_number, take_number, take_order, take_seed,
+    Form, LineFault, Word, take_datagram, take_life, take_long_number, take_number, take_order,
+    take_seed,
 };
 use swim_wire::{Words, take_id, take_peer};
 
@@ -20,6 +21,7 @@ pub enum Argument {
     Ids,
     Place,
     Seed,
+    Life,
     Datagram,
 }
 
@@ -42,21 +44,24 @@ static OF_PLACE: [Argument; 1] = [Argument::Place];
 
 static OF_SEED: [Argument; 1] = [Argument::Seed];
 
+static OF_SEED_IN_JOURNAL: [Argument; 2] = [Argument::Seed, Argument::Life];
+
 static OF_HEAR: [Argument; 2] = [Argument::Address, Argument::Datagram];
 
 static OF_NONE: [Argument; 0] = [];
 
-/// The arguments of a line with that first word.
-pub fn arguments_of(word: Word) -> &'static [Argument] {
+/// The arguments of a line with that first word, in a script of that form.
+pub fn arguments_of(form: Form, word: Word) -> &'static [Argument] {
     match word {
         Word::Open => &OF_OPEN,
         Word::Row | Word::Join => &OF_MEMBER_AT,
         Word::Remove | Word::Gap => &OF_MEMBER,
         Word::Order => &OF_ORDER,
         Word::Place => &OF_PLACE,
+        Word::Seed if form == Form::Journal => &OF_SEED_IN_JOURNAL,
         Word::Seed => &OF_SEED,
         Word::Hear => &OF_HEAR,
-        Word::Tick | Word::Table => &OF_NONE,
+        Word::Tick | Word::Table | Word::Answer => &OF_NONE,
     }
 }
 
@@ -73,6 +78,7 @@ pub fn take_argument(argument: Argument, words: &mut Words<'_>) -> bool {
         Argument::Address => take_peer(words, LineFault::Peer).is_ok(),
         Argument::Ids => take_order(words).is_ok(),
         Argument::Seed => take_seed(words).is_ok(),
+        Argument::Life => take_life(Form::Journal, words).is_ok(),
         Argument::Datagram => take_datagram(words).is_ok(),
     }
 }
@@ -96,6 +102,7 @@ impl fmt::Display for Argument {
             Argument::Ids => "1 to 128 IDs with commas between, each 1 to 4294967295",
             Argument::Place => "a place: 0 to 4294967295",
             Argument::Seed => "a seed: 64 hexadecimal digits",
+            Argument::Life => "LIFE, the stream of the seed: 0 to 18446744073709551615",
             Argument::Datagram => "HEX: hexadecimal digits, an even number of them",
         })
     }

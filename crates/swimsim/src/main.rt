@@ -6,6 +6,7 @@ ghost use Rattle.swim_script.specs.Ends.{unplayed};
 
 mod causes;
 mod decoding;
+mod differences;
 mod drawing;
 mod draws;
 mod expectations;
@@ -28,6 +29,7 @@ mod wording;
 
 use anyhow::Result;
 use decoding::Decoder;
+use differences::newest_line;
 use drawing::draw_at;
 use draws::warnings_of;
 use explanations::Explanation;
@@ -184,7 +186,9 @@ fn explain(
     notes: &Notes,
 ) {
     if let Err(fault) = outcome {
-        let explanation = Explanation::of(&fault, notes);
+        let newest = journal.and_then(|journal| newest_line(rt.alloc(), journal));
+        let newest = newest.as_ref().map(|line| line.text());
+        let explanation = Explanation::of(&fault, notes, newest);
         let _ = eprint!(rt; "{explanation}");
     }
     let Some(journal) = journal else {

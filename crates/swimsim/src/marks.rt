@@ -1,7 +1,7 @@
 //! Where in a line a word stands.
 
 use crate::grammar::{Argument, arguments_of, take_argument};
-use swim_script::Word;
+use swim_script::{Form, Word};
 use swim_wire::Words;
 
 /// A part of a line: the bytes before it, and its own. A word that is missing has none, behind the line's end.
@@ -43,9 +43,9 @@ pub fn part_at<'a>(line: &'a [u8], separator: u8, from: usize, index: usize) -> 
 
 /// The first argument that the words behind the first are refused at, with the index of its word; `None` where each is
 /// taken, with the index of the word behind them.
-pub fn first_refused(word: Word, words: &mut Words<'_>) -> (usize, Option<Argument>) {
+pub fn first_refused(form: Form, word: Word, words: &mut Words<'_>) -> (usize, Option<Argument>) {
     let mut index: usize = 1;
-    for argument in arguments_of(word) {
+    for argument in arguments_of(form, word) {
         if !take_argument(*argument, words) {
             return (index, Some(*argument));
         }

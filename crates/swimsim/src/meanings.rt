@@ -4,7 +4,7 @@ ghost use Rattle.std.specs.Prelude.{◌≡◌, IfOk, string_bytes};
 ghost use Rattle.swimsim.specs.Meanings.{kind_name, message_after, message_words};
 
 use std::alloc::{AllocError, Global};
-use swim_script::{Command, Word, read_command};
+use swim_script::{Command, Form, Word, read_command};
 use swim_wire::{Kind, Message, Words};
 
 /// The line that says in words what a message is.
@@ -41,7 +41,7 @@ pub fn message_after(mark: &[u8], line: &[u8]) -> Option<Message>
     if first != mark {
         return None;
     }
-    match read_command(Word::Hear, &mut words) {
+    match read_command(Form::Script, Word::Hear, &mut words) {
         Ok(Some(Command::Hear(_, Ok(message)))) => Some(message),
         _ => None,
     }

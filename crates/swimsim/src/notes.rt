@@ -4,7 +4,7 @@ use crate::overhearing::Listener;
 use arrayvec::ArrayVec;
 use std::alloc::{AllocError, Global};
 use std::cell::RefCell;
-use swim_script::{Command, LINE_BYTES, first_word, read_command};
+use swim_script::{Command, Form, LINE_BYTES, first_word, read_command};
 use swim_targets::Order;
 use swim_wire::{Id, Words};
 
@@ -15,6 +15,8 @@ const NOTED_ROWS: usize = 129;
 /// says so.
 #[derive(Drop)]
 pub struct Told {
+    /// The form of the script.
+    pub form: Form,
     /// The `open` line, without its line feed.
     pub open: Option<ArrayVec<u8, LINE_BYTES>>,
     /// The ids of the first rows, each with the number of its line.
@@ -34,6 +36,7 @@ pub struct Told {
 impl Told {
     fn new(alloc: Global) -> Told {
         Told {
+            form: Form::Script,
             open: None,
             rows: ArrayVec::new(),
             orders: Vec::new(alloc),
@@ -46,11 +49,12 @@ impl Told {
 
     /// Keeps what a line tells, given with its number and without its line feed.
     fn keep(&mut self, number: u32, line: &[u8]) {
+        self.form = self.form.after(number.saturating_sub(1), line);
         let mut words = Words::new(line);
         let Some(word) = words.next().and_then(|text| first_word(text)) else {
             return;
         };
-        if let Ok(Some(command)) = read_command(word, &mut words) {
+        if let Ok(Some(command)) = read_command(self.form, word, &mut words) {
             if let Err(refused) = self.keep_command(number, line, &command) {
                 self.kept = Err(refused);
             }
@@ -74,7 +78,7 @@ impl Told {
             }
             Command::Order(order) => self.orders.push((number, order.read()))?,
             Command::Place(_) => self.places.push(number)?,
-            Command::Seed(_) => self.seed = Some(number),
+            Command::Seed(_, _) => self.seed = Some(number),
             _ => {
                 if self.event.is_none() {
                     self.event = Some(number);

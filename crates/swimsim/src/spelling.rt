@@ -40,6 +40,7 @@ pub fn text_of(word: Word) -> &'static str {
         Word::Remove => "remove",
         Word::Table => "table",
         Word::Gap => "gap",
+        Word::Answer => "=",
     }
 }
 

@@ -15,6 +15,7 @@ pub enum Fault {
     Order,
     Extra,
     Opening(u8),
+    Differs,
     Read,
     Write,
 }
@@ -46,6 +47,7 @@ impl fmt::Display for ScriptFault {
             Fault::Order => "order",
             Fault::Extra => "extra",
             Fault::Opening(number) => return write!(f, "line {}: opening {number}", self.line),
+            Fault::Differs => "differs",
             Fault::Read => "read",
             Fault::Write => "write",
         };

@@ -45,6 +45,8 @@ pub struct Header {
     pub opening: Opening,
     script: Scripted,
     seed: Option<[u8; 32]>,
+    /// The life of a daemon that draws from the seed.
+    life: u64,
 }
 
 impl Header {
@@ -65,27 +67,38 @@ impl Header {
             opening,
             script: Scripted::default(),
             seed: None,
+            life: 0,
         })
     }
 
-    /// A further line of the header.
-    pub fn tell(&mut self, word: &[u8], words: &mut Words) -> Result<(), Fault> {
+    /// A further line of the header, perhaps of a journal file.
+    pub fn tell(
+        &mut self,
+        word: &[u8],
+        words: &mut Words,
+        is_journal: bool,
+    ) -> Result<(), Fault> {
         match word {
             b"row" => self.opening.rows.push((words.id()?, words.peer()?)),
             b"order" | b"place" | b"seed" if self.seed.is_some() => return Err(Fault::Seed),
             b"order" => self.script.add_order(words)?,
             b"place" => self.script.add_place(words)?,
             b"seed" if !self.script.is_empty() => return Err(Fault::Seed),
-            b"seed" => self.seed = Some(words.seed()?),
+            b"seed" => {
+                self.seed = Some(words.seed()?);
+                if is_journal && words.end().is_err() {
+                    self.life = words.number(u64::MAX)?;
+                }
+            }
             _ => return Err(Fault::Word),
         }
         Ok(())
     }
 
-    /// Who chooses in the life of that number, which counts from 0.
+    /// Who chooses in the life of that number, which counts from the one that was told.
     pub fn chooser(&self, life: u64) -> Chooser {
         match &self.seed {
-            Some(seed) => Chooser::Seeded(ChaCha::of_stream(seed, life)),
+            Some(seed) => Chooser::Seeded(ChaCha::of_stream(seed, self.life.wrapping_add(life))),
             None => Chooser::Scripted(self.script.clone()),
         }
     }

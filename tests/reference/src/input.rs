@@ -3,25 +3,43 @@
 use crate::faults::Fault;
 use std::io::{BufRead, Read};
 
-/// The most bytes of a script, and of a line without its line feed.
+/// The most bytes of a script, of a journal file, and of a line without its line feed.
 const SCRIPT_BYTES: usize = 16_777_216;
+const JOURNAL_BYTES: usize = 1_073_741_824;
 const LINE_BYTES: usize = 2_048;
+
+/// The first line of a journal file.
+const FIRST_LINE: &[u8] = b"journal 1";
 
 /// What was read: at most one byte more than a script may have.
 pub struct Input {
     pub bytes: Vec<u8>,
     /// Whether reading failed behind these bytes.
     pub failed: bool,
+    pub is_journal: bool,
 }
 
 impl Input {
-    pub fn read(reader: impl Read) -> Input {
+    pub fn read(mut reader: impl Read) -> Input {
         let mut bytes = Vec::new();
-        let failed = reader
-            .take(SCRIPT_BYTES as u64 + 1)
-            .read_to_end(&mut bytes)
-            .is_err();
-        Input { bytes, failed }
+        let mut failed = read_up_to(SCRIPT_BYTES + 1, &mut reader, &mut bytes);
+        let is_journal = bytes.split(|byte| *byte == b'\n').next() == Some(FIRST_LINE);
+        if is_journal && !failed {
+            failed = read_up_to(JOURNAL_BYTES + 1, &mut reader, &mut bytes);
+        }
+        Input {
+            bytes,
+            failed,
+            is_journal,
+        }
+    }
+
+    fn most_bytes(&self) -> usize {
+        if self.is_journal {
+            JOURNAL_BYTES
+        } else {
+            SCRIPT_BYTES
+        }
     }
 
     pub fn lines(&self) -> Lines<'_> {
@@ -30,6 +48,12 @@ impl Input {
             start: 0,
         }
     }
+}
+
+/// Reads until there are so many bytes, and says whether that failed.
+fn read_up_to(count: usize, reader: &mut impl Read, bytes: &mut Vec<u8>) -> bool {
+    let left = count - bytes.len();
+    reader.take(left as u64).read_to_end(bytes).is_err()
 }
 
 /// The lines that are still to be played; in the place of one, its fault.
@@ -48,7 +72,7 @@ impl<'a> Iterator for Lines<'a> {
         let length = behind.skip_until(b'\n').unwrap_or(rest.len());
         let ended = rest[..length].strip_suffix(b"\n");
         self.start += length;
-        if self.start > SCRIPT_BYTES {
+        if self.start > self.input.most_bytes() {
             return Some(Err(Fault::Size));
         }
         if ended.is_none() && self.input.failed {

@@ -51,6 +51,20 @@ impl<W: Write> Output<W> {
         written.and_then(|()| self.writer.flush())
     }
 
+    /// How many bytes are gathered.
+    pub fn length(&self) -> usize {
+        self.text.len()
+    }
+
+    /// The first line of those that were gathered behind so many bytes.
+    pub fn line_behind(&self, length: usize) -> &[u8] {
+        let lines = &self.text[length..];
+        lines
+            .split(|byte| *byte == b'\n')
+            .next()
+            .unwrap_or_default()
+    }
+
     /// A reply, and the messages that it sends; of an ask also its relays.
     pub fn reply(&mut self, reply: &Reply, me: u32, relays: &[(u32, Peer)]) {
         match reply {

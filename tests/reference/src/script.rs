@@ -19,6 +19,7 @@ pub struct Player {
     /// Whether one goes on where a call meets the full journal, and how many did.
     has_lives: bool,
     life: u64,
+    is_journal: bool,
     line: u32,
     header: Option<Header>,
     session: Option<Session>,
@@ -59,6 +60,7 @@ impl Player {
     }
 
     fn play<W: Write>(&mut self, input: &Input, output: &mut Output<W>) -> Result<(), ScriptFault> {
+        self.is_journal = input.is_journal;
         for line in input.lines() {
             self.line += 1;
             match line.and_then(|line| self.read(line)) {
@@ -66,9 +68,10 @@ impl Player {
                 Ok(None) => {}
                 Ok(Some(event)) => {
                     self.cut(output)?;
+                    let is_journal = self.is_journal;
                     let session = self.session()?;
                     let is_full = session.is_full_for(&event);
-                    session.play(event, output);
+                    session.play(event, output, is_journal);
                     self.events += 1;
                     if is_full && self.has_lives {
                         self.life += 1;
@@ -101,8 +104,16 @@ impl Player {
 
     /// The event of a line. What a header line says is kept.
     fn read(&mut self, line: &[u8]) -> Result<Option<Event>, Fault> {
-        if line.is_empty() || line[0] == b'#' {
+        if line.is_empty() || line[0] == b'#' || (self.is_journal && self.line == 1) {
             return Ok(None);
+        }
+        if let (true, Some(session), [b'=', b' ', text @ ..]) =
+            (self.is_journal, &self.session, line)
+        {
+            return match session.is_newest(text) {
+                true => Ok(None),
+                false => Err(Fault::Differs),
+            };
         }
         let mut words = Words::new(line);
         let word = words.next().unwrap_or_default();
@@ -112,7 +123,7 @@ impl Player {
             Some(header) => match Event::read(word, &mut words)? {
                 Some(event) => return Ok(Some(event)),
                 None if self.session.is_some() => return Err(Fault::Word),
-                None => header.tell(word, &mut words)?,
+                None => header.tell(word, &mut words, self.is_journal)?,
             },
         }
         words.end()?;

@@ -14,6 +14,8 @@ pub struct Session {
     entries: u32,
     limit: u32,
     journal: Option<Journal>,
+    /// The place of the newest entry and its reply, as a line of a journal file tells them.
+    newest: Option<String>,
 }
 
 impl Session {
@@ -29,6 +31,7 @@ impl Session {
                     entries: 0,
                     limit: header.limit,
                     journal: keeps_journal.then(Journal::default),
+                    newest: None,
                 })
             }
         }
@@ -40,13 +43,20 @@ impl Session {
         self.entries = 0;
     }
 
+    /// Whether a line behind an entry tells it as it is.
+    pub fn is_newest(&self, text: &[u8]) -> bool {
+        self.newest
+            .as_ref()
+            .is_some_and(|newest| newest.as_bytes() == text)
+    }
+
     /// Whether the event is a call that finds the journal full.
     pub fn is_full_for(&self, event: &Event) -> bool {
         self.entries == self.limit && event.is_call()
     }
 
-    /// Plays an event, and writes its answer.
-    pub fn play<W: Write>(&mut self, event: Event, output: &mut Output<W>) {
+    /// Plays an event, and writes its answer. The newest reply is kept where lines may tell it.
+    pub fn play<W: Write>(&mut self, event: Event, output: &mut Output<W>, is_journal: bool) {
         let is_full = self.is_full_for(&event);
         let detector = &mut self.detector;
         let reply = match &event {
@@ -59,8 +69,13 @@ impl Session {
             Event::Join(id, peer) => detector.join(*id, *peer),
             Event::Remove(id) => detector.remove(*id),
         };
-        self.entries += 1;
+        let start = output.length();
         output.reply(&reply, detector.me(), detector.relays());
+        if is_journal {
+            let text = String::from_utf8_lossy(output.line_behind(start));
+            self.newest = Some(format!("{} {text}", self.entries));
+        }
+        self.entries += 1;
         if let Some(journal) = &mut self.journal {
             let drawn = detector.drawn(&reply);
             journal.add(Entry {
