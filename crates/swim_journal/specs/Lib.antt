@@ -1,0 +1,5 @@
+pub mod Headings
+pub mod Journals
+pub mod Lines
+pub mod Replays
+pub mod Seatless

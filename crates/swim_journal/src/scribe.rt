@@ -1,0 +1,117 @@
+//! Who writes a node's journal down while the node runs.
+
+ghost use Rattle.std.specs.Prelude.{◌≡◌, ◌+◌, ◌<◌, [], Bool, true, false, length};
+ghost use mathlib.Core.List.{IsPrefix};
+ghost use Rattle.swim_wire.specs.Streams.{Puts, failures_if};
+ghost use Rattle.swim_journal.specs.Journals.{calls_text, AreReadBack, step_calls};
+
+use crate::naming::PageNaming;
+use crate::writing::{Progress, write_next};
+use std::alloc::Global;
+use std::marker::Model;
+use std::sync::Wait;
+use swim_node::{Follower, Node};
+use swim_targets::Chooser;
+use swim_wire::Sink;
+
+/// Writes a node's journal into a sink while the node runs. Once the sink has failed, at a text or where it was to hand on
+/// what it held back, nothing more is read or written. A contract sees the calls that were read, the sink, and whether all
+/// of their text was taken and handed on.
+#[derive(Drop)]
+pub struct Scribe<N: PageNaming, W: Sink + Drop> {
+    follower: Follower<N>,
+    writer: W,
+    is_whole: bool,
+}
+
+impl<N: PageNaming, W: Sink + Drop> Model for Scribe<N, W> {
+    ghost use Rattle.swim_wire.specs.Streams.{Puts};
+    ghost use Rattle.swim_journal.specs.Journals.{Scribed, calls_text, AreReadBack};
+
+    ghost Value = { Scribed W };
+
+    ghost view = { λ s. record { read = s.follower; writer = s.writer; whole = s.is_whole } };
+
+    ghost invariant = { λ s. Puts N.page (W.written s.writer) (calls_text s.follower) s.is_whole
+        × AreReadBack s.follower };
+}
+
+impl<N: PageNaming, W: Sink + Drop> Scribe<N, W> {
+    /// Nothing was read or written yet.
+    pub fn new<C: Chooser, H: Wait + Drop>(
+        alloc: Global,
+        node: &Node<N, C, H>,
+        writer: W,
+    ) -> Scribe<N, W>
+        requires { W.written writer ≡ N.page }
+        ensures { result ≡ record { read = []; writer = writer; whole = true } }
+    {
+        Scribe {
+            follower: node.follower(alloc),
+            writer,
+            is_whole: true,
+        }
+    }
+
+    /// Writes what was added to the journal since the last time, at most 1,024 calls, and has the sink hand it on. It
+    /// answers whether more may stand there.
+    pub fn step<C: Chooser, H: Wait + Drop, R: Wait>(
+        &mut self,
+        rt: &R,
+        node: &Node<N, C, H>,
+    ) -> bool
+        ensures reads { IsPrefix self.old.read self.new.read }
+        ensures full { result ≡ true → (self.new.whole ≡ true)
+            × (length self.new.read ≡ length self.old.read + step_calls) }
+        ensures over { result ≡ false → self.new.whole ≡ true →
+            length self.new.read < length self.old.read + step_calls }
+        ensures kept { self.old.whole ≡ false → (result ≡ false) × (self.new ≡ self.old) }
+        ensures failures { self.old.whole ≡ true →
+            W.failures self.new.writer ≡ failures_if (W.failures self.old.writer) self.new.whole }
+    {
+        if !self.is_whole {
+            return false;
+        }
+        let progress = write_next(rt, node, &mut self.follower, &mut self.writer);
+        if progress == Progress::Cut {
+            self.is_whole = false;
+            return false;
+        }
+        // What the sink holds back would be lost with the process.
+        self.is_whole = self.writer.flush();
+        self.is_whole && progress == Progress::Part
+    }
+
+    /// Writes all that stands in the journal. It is for the time when nobody calls any more: as long as calls are made
+    /// faster than they are written, it goes on.
+    pub fn finish<C: Chooser, H: Wait + Drop, R: Wait>(&mut self, rt: &R, node: &Node<N, C, H>)
+        ensures reads { IsPrefix self.old.read self.new.read }
+        ensures kept { self.old.whole ≡ false → self.new ≡ self.old }
+        ensures failures { self.old.whole ≡ true →
+            W.failures self.new.writer ≡ failures_if (W.failures self.old.writer) self.new.whole }
+    {
+        for _ in rt.forever() {
+            if !self.step(rt, node) {
+                return;
+            }
+        }
+        unreachable!()
+    }
+
+    /// The reader of the journal, the sink, and whether it took all of the text of what was read and handed it on. Where
+    /// the reader has read as many calls as the journal has entries, it has read all of it.
+    pub fn into_parts(self) -> (Follower<N>, W, bool)
+        ensures reader { result.0 ≡ self.read }
+        ensures writer { result.1 ≡ self.writer }
+        ensures whole { result.2 ≡ self.whole }
+        ensures written { Puts N.page (W.written result.1) (calls_text result.0) result.2 }
+        ensures back { AreReadBack result.0 }
+    {
+        let Scribe {
+            follower,
+            writer,
+            is_whole,
+        } = self;
+        (follower, writer, is_whole)
+    }
+}

@@ -1,0 +1,155 @@
+ghost use Rattle.std.specs.Prelude.{◌≡◌, List, Some};
+ghost use Rattle.swim_history.specs.declared.entries.Entry.{Entry};
+
+use std::alloc::Global;
+use std::marker::Brand;
+use std::process::Abort;
+use std::sync::Wait;
+use std::test::*;
+use swim_history::Opening;
+use swim_journal::*;
+use swim_node::{Naming, Node, Parts, Seat};
+use swim_script::{Session, run};
+use swim_targets::Seeded;
+use swim_wire::{Id, Kind, Message, Page, Peer, PeriodNumber, Text, encode};
+
+// Member 1 knows member 2, has a timeout of one tick and a period of three, and draws from life 5 of a seed of sevens.
+const HEADER: &[u8] = b"journal 1\nopen 1 1 1 3 0 2000\nrow 2 10.0.0.2:7000\n\
+    seed 0707070707070707070707070707070707070707070707070707070707070707 5\n";
+
+// Member 2 pings, is probed, and is removed, so that nobody is asked to ping it; it can't be removed again, and joins.
+const WORKED: &[u8] =
+    b"hear 10.0.0.2:7000 535701010000000200000002000000010000000000000001\n= 0 sent\n\
+    tick\n= 1 started judged - probe 2 1\n\
+    remove 2\n= 2 removed\n\
+    tick\n= 3 quiet\n\
+    remove 2\n= 4 refused 4\n\
+    join 2 10.0.0.2:7000\n= 5 joined 0\n";
+
+fn id(number: u32) -> Id {
+    Id::new(number).unwrap_or_default()
+}
+
+fn at(last: u8) -> Peer {
+    Peer {
+        ip: [10, 0, 0, last],
+        port: 7000,
+    }
+}
+
+fn opening() -> Result<Opening, Fail> {
+    Ok(Opening::check(id(1), 1, 1, 3, &[(id(2), at(2))], 0).map_err(|_| "an opening")?)
+}
+
+fn header(alloc: Global) -> Result<Page, Fail> {
+    let mut page = Page::new(alloc);
+    if !put_header(&mut page, &opening()?, 2000, &[7; 32], 5) {
+        return Err(Fail::new("a header"));
+    }
+    Ok(page)
+}
+
+// Calls that are written behind a header while a node runs are those that were made, and are played without a difference.
+#[test]
+fn what_is_written_is_played(rt: HostRuntime) -> Result<(), Fail> {
+    let alloc = rt.alloc();
+    let page = write_calls::<Brand, _>(
+        rt,
+        alloc,
+        Parts::make(alloc, 2000)?,
+        opening()?,
+        header(alloc)?,
+    )?;
+    let Some(calls) = page.text().strip_prefix(HEADER) else {
+        return Err(Fail::new("the header"));
+    };
+    assert!(rt; calls.starts_with(WORKED));
+    let mut session = Session::new(alloc);
+    let mut output = Page::new(alloc);
+    let played = run(&mut session, &mut Text::new(page.text()), &mut output);
+    assert!(rt; played.is_ok());
+    let Some(journal) = session.into_journal() else {
+        return Err(Fail::new("a journal"));
+    };
+    assert_eq!(rt; journal.len(), 1506);
+    Ok(())
+}
+
+// Three of a node's seats.
+fn callers_of<N: Naming>(seats: [Seat<N>; 4]) -> (Seat<N>, Seat<N>, Seat<N>) {
+    let [first, second, third, fourth] = seats;
+    drop(fourth);
+    (first, second, third)
+}
+
+fn write_calls<N: PageNaming, R: Wait + Abort + Copy + Drop>(
+    rt: R,
+    alloc: Global,
+    parts: Parts,
+    opening: Opening,
+    page: Page,
+) -> Result<Page, Fail>
+    requires parts { parts ≡ record { limit = N.limit; ledgers = N.ledgers; log = N.log; cells = N.cells } }
+    requires opening { opening ≡ N.opening }
+    requires limit { N.limit ≡ 2000 }
+    requires drawn { (h : List Entry) → N.drawn h }
+    requires page { Some page.text ≡ N.page }
+{
+    let chooser = Seeded::life([7; 32], 5);
+    let Ok(opened) = Node::<N, Seeded, R>::open(alloc, rt, parts, opening, chooser, 2000) else {
+        return Err(Fail::new("a node"));
+    };
+    let (node, seats, viewers) = opened;
+    drop(viewers);
+    let (hears, ticks, changes) = callers_of(seats);
+    let mut hears = hears;
+    let mut ticks = ticks;
+    let mut changes = changes;
+    let mut scribe = Scribe::new(alloc, &node, page);
+    make_calls(&rt, &node, &mut hears, &mut ticks, &mut changes)?;
+    let is_first_part = scribe.step(&rt, &node);
+    assert!(rt; !is_first_part);
+    tick_often(&rt, &node, &mut ticks)?;
+    let is_second_part = scribe.step(&rt, &node);
+    assert!(rt; is_second_part);
+    scribe.finish(&rt, &node);
+    let (follower, page, is_whole) = scribe.into_parts();
+    assert!(rt; is_whole);
+    assert_eq!(rt; follower.len(), 1506);
+    Ok(page)
+}
+
+// The calls of `WORKED`, by three seats.
+fn make_calls<N: PageNaming, R: Wait + Copy + Drop>(
+    rt: &R,
+    node: &Node<N, Seeded, R>,
+    hears: &mut Seat<N>,
+    ticks: &mut Seat<N>,
+    changes: &mut Seat<N>,
+) -> Result<(), Fail> {
+    let ping = Message {
+        kind: Kind::Ping,
+        sender: id(2),
+        initiator: id(2),
+        target: id(1),
+        number: PeriodNumber::new(1).unwrap_or_default(),
+    };
+    let _sent = node.hear(rt, hears, &encode(&ping), at(2))?;
+    let _started = node.tick(rt, ticks)?;
+    let _removed = node.remove(rt, changes, id(2))?;
+    let _quiet = node.tick(rt, ticks)?;
+    let _refused = node.remove(rt, changes, id(2))?;
+    let _joined = node.join(rt, changes, id(2), at(2))?;
+    Ok(())
+}
+
+fn tick_often<N: PageNaming, R: Wait + Copy + Drop>(
+    rt: &R,
+    node: &Node<N, Seeded, R>,
+    ticks: &mut Seat<N>,
+) -> Result<(), Fail> {
+    for _ in 0..1500 {
+        let _answered = node.tick(rt, ticks)?;
+    }
+    Ok(())
+}
