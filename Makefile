@@ -1,5 +1,5 @@
-# The commands of this repository. They need `rt`, the command of the Rattle toolchain, and python3 on PATH; `compare` and
-# `bench` also `rustc`, the Rust compiler, and `compare` Python 3.11.
+# The commands of this repository. They need `rt`, the command of the Rattle toolchain, and python3 on PATH; `compare`, `fuzz` and
+# `bench` also `rustc`, the Rust compiler, and `compare` and `fuzz` Python 3.11.
 
 PREFIX = /usr/local
 # Programs that were built already, to be installed in place of those that tests/support/build prints.
@@ -11,7 +11,7 @@ MAN = $(DESTDIR)$(PREFIX)/share/man/man1
 DOC = $(DESTDIR)$(PREFIX)/share/doc
 UNIT = $(DESTDIR)$(PREFIX)/lib/systemd/system
 
-.PHONY: help build run demo check test compare bench install uninstall
+.PHONY: help build run demo check test compare fuzz bench install uninstall
 
 help:
 	@echo 'make run        plays examples/first.swim: by the proved swimsim where that was built, and else by its sources, as'
@@ -26,6 +26,8 @@ help:
 	@echo '                tests/all --list names them, and tests/all --only NAME runs one'
 	@echo 'make compare    runs swimsim and tests/reference on random scripts, and swimd on random configurations and'
 	@echo '                control lines beside models of both, and compares what they write'
+	@echo 'make fuzz       gives both programs mutations of valid scripts, datagrams, configurations and control lines, for ten'
+	@echo '                minutes, and compares what they write with what models and the reference say'
 	@echo 'make bench      measures swimsim and the node beside tests/reference, and swimd beside that and the least responder'
 	@echo 'make install    puts programs, man pages, examples and the service of systemd below PREFIX (/usr/local, or'
 	@echo '                make install PREFIX=..)'
@@ -50,6 +52,9 @@ test:
 compare:
 	@tests/swimsim/compare
 	@tests/swimd/compare
+
+fuzz:
+	@tests/fuzz/run --seconds 600
 
 bench:
 	@tests/bench/swimsim

@@ -6,12 +6,16 @@ import re
 import subprocess
 
 from tests.generators.cut_scripts import answers
-from tests.support.daemons import PING, PORTS_TRIED, DaemonFault, Machine, PortTaken, datagram, fields, must, until
+from tests.support.daemons import PING, PORTS_TRIED, DaemonFault, Machine, PortTaken, datagram, fields, first_line_of, must, until
 from tests.generators.growing_scripts import joined
 from tests.node.refusing import REFUSED, Ran
+from tests.swimd.worked_configs import BELOW, is_as
 
 AS_EVER, NO_MEMORY, NOT_KEPT, NOT_BEGUN = "as ever", "a call without memory", "a line that isn't kept", "nothing was done"
+NOT_COMPARED = "an answer that isn't compared"
 MEMORY = re.compile(rb"line (\d+): memory\n")
+DIFFERS = re.compile(rb"line (\d+): differs\n")
+EVENTS = ("tick", "hear ", "join ", "remove ", "table", "gap ")
 EXPLAINED = rb"line (\d+): memory\n  expected: memory to keep what the line tells\n(no memory to sum the run up\n|entries .*)"
 EXPLAINED_MEMORY = re.compile(EXPLAINED, re.S)
 WORDS = re.compile(rb"^  .*\n", re.M)
@@ -24,6 +28,28 @@ def of_a_test(refuser, words):
     yield AS_EVER, [] if refuser.run(words).status == 0 else ["it fails without a refusal"]
     for number, ran in refuser.refusals(words):
         yield AS_EVER, [f"request {number}: {ran}"] if ran.status else []
+
+
+# A script, and what is written where its first tick is refused: the others are those of a script with one tick less.
+FIRST_TICK = b"open 1 1 1 3 0 1000\nrow 2 10.0.0.2:7000\nrow 3 10.0.0.3:7000\ntick\ntick\ntick\ntick\ntable\n"
+REFUSED_FIRST_TICK = b"""no memory
+started judged - probe 2 1
+> 10.0.0.2:7000 535701010000000100000001000000020000000000000001
+asked 2 1 by 3
+> 10.0.0.3:7000 535701020000000100000001000000020000000000000001
+quiet
+2 10.0.0.2:7000 up
+3 10.0.0.3:7000 up
+.
+"""
+
+
+def of_a_first_tick(refuser, program):
+    """The runs in which the first tick is refused, which changes nothing: the next one is answered in its place."""
+    for number, ran in refuser.refusals([program], FIRST_TICK):
+        if ran.stdout.startswith(b"no memory\n"):
+            is_good = ran == Ran(REFUSED_FIRST_TICK, b"", 0)
+            yield NO_MEMORY, [] if is_good else [f"request {number}: {ran}"]
 
 
 def without(lines, place):
@@ -82,6 +108,40 @@ def of_an_explained_script(refuser, program, script, played):
             yield NOT_BEGUN, [] if is_good else [f"request {number}: {str(ran)[-1_000:]}"]
 
 
+def of_a_journal_file(refuser, program, file, wanted):
+    """Either the run is as ever; or an answer that is told can't be compared; or one call is answered `no memory`, and the line right
+    behind it that tells its answer differs; or an `order` or a `place` can't be kept, or the file isn't begun."""
+    lines = file.decode().split("\n")
+    yield AS_EVER, [] if refuser.run([program], file) == wanted else ["without a refusal it writes something else"]
+    for number, ran in refuser.refusals([program], file):
+        line, is_front = MEMORY.fullmatch(ran.stderr), wanted.stdout.startswith(ran.stdout)
+        if ran == wanted:
+            yield AS_EVER, []
+        elif ran.status == 1 and is_front and line and lines[int(line[1]) - 1].startswith("= "):
+            yield NOT_COMPARED, []
+        elif b"no memory\n" in ran.stdout:
+            said = is_met(lines, ran, wanted)
+            yield NO_MEMORY, [] if said else [f"request {number}: a call without memory isn't met: {str(ran)[-1_000:]}"]
+        elif ran.status == 1 and not ran.stdout and line and lines[int(line[1]) - 1].startswith(("order ", "place ")):
+            yield NOT_KEPT, []
+        else:
+            is_good = ran.status == 1 and not ran.stdout and NO_PROGRAM.fullmatch(ran.stderr)
+            yield NOT_BEGUN, [] if is_good else [f"request {number}: {str(ran)[-1_000:]}"]
+
+
+def is_met(lines, ran, wanted):
+    """Whether the line right behind a call without memory differs, where it tells an answer, and the answers before are as ever."""
+    differs = DIFFERS.fullmatch(ran.stderr)
+    end = int(differs[1]) - 1 if differs else len(lines)
+    places = [at for at, line in enumerate(lines[:end]) if line.startswith(EVENTS)]
+    found = answers([lines[at] for at in places], ran.stdout)
+    lost = found.index(["no memory"])
+    front = "".join(f"{line}\n" for answer in found[:lost] for line in answer).encode()
+    behind = next((at for at, line in enumerate(lines) if at > places[lost] and not line.startswith("#") and line), len(lines))
+    is_told = behind < len(lines) and lines[behind].startswith("= ")
+    return wanted.stdout.startswith(front) and ran.status == bool(differs) and (not is_told or end == behind)
+
+
 def loses_one_call(events, head, stdout, played):
     """What isn't as in a run without the call that is answered `no memory`."""
     found = answers(events, stdout)
@@ -92,11 +152,23 @@ def loses_one_call(events, head, stdout, played):
 
 
 def of_a_configuration(refuser, program, document, wanted):
-    """Either `swimd check` answers as ever, or `no memory`."""
-    yield AS_EVER, [] if refuser.run([program, "check"], document) == wanted else ["without a refusal it writes something else"]
+    """Either `swimd check` answers as ever, but that it says less below a fault, or `no memory`."""
+    whole = refuser.run([program, "check"], document)
+    is_whole = (whole.stdout, whole.status) == (wanted.stdout, wanted.status) and is_as(whole.stderr, wanted.stderr)
+    yield AS_EVER, [] if is_whole else [f"without a refusal it writes {whole}"]
     for number, ran in refuser.refusals([program, "check"], document):
         is_refused = ran == (b"", b"no memory\n", 4)
-        yield NO_MEMORY if is_refused else AS_EVER, [] if is_refused or ran == wanted else [f"request {number}: {ran}"]
+        is_less = (ran.stdout, ran.status) == (whole.stdout, whole.status) and says_less(ran.stderr, whole.stderr)
+        yield NO_MEMORY if is_refused else AS_EVER, [] if is_refused or is_less else [f"request {number}: {ran}"]
+
+
+def says_less(text, whole):
+    """Whether a text has the first line of another, and below it lines that begin with two spaces, as many at most. Of a text that
+    has none it is the same."""
+    first, *below = whole.splitlines(True) or [b""]
+    if not all(it.startswith(b"  ") for it in below):
+        return text == whole
+    return is_as(text, first + BELOW) and len(text.splitlines()) <= len(whole.splitlines())
 
 
 def answered(daemon, text):
@@ -137,7 +209,7 @@ def how_it_runs(refuser, program, number):
         until(lambda: daemon.child.poll() is not None or daemon.answers(), "it runs or ends")
         found = asked(daemon, machine.socket()) if daemon.child.poll() is None else None
         stdout, stderr = daemon.child.communicate(timeout=20)
-    ran = Ran(stdout, stderr.replace(REFUSED, b"", 1), daemon.child.returncode)
+    ran = Ran(stdout, first_line_of(stderr.replace(REFUSED, b"", 1)), daemon.child.returncode)
     if ran.stderr == b"bind listen\n":
         raise PortTaken(f"port {daemon.port} is taken")
     if not found:

@@ -6,7 +6,9 @@ import resource
 import subprocess
 import time
 
-from tests.support.daemons import ACK, PING, SECONDS, configuration, datagram, fields, must, until
+from tests.generators.forgeries import forgeries
+from tests.models.datagram_model import fault_of
+from tests.support.daemons import ACK, PING, SECONDS, but_for_notices, configuration, datagram, fields, first_line_of, must, until
 
 MINUTE = 60_000
 MEGABYTE = 2**20
@@ -38,6 +40,29 @@ def datagrams_that_are_none(machine):
     ping_and_hear(peer, daemon, 100)
     closing, entries = daemon.stop(), len(texts) + len(dropped) + 1
     must(closing == (0, "stopped", entries, 0, 0, len(texts), 0), f"it ended {closing}")
+
+
+def forged_datagrams(machine):
+    """Of texts that are nearly a datagram each is counted or makes an entry, and none is answered but pings of this member."""
+    daemon, peer, other = machine.started(2, tick_ms=MINUTE), machine.socket(), machine.socket()
+    texts, markers = [b"", *forgeries()], 0
+    for place, text in enumerate(texts):
+        other.sendto(text, daemon.address)
+        if fault_of(text) is None and (fields(text)[0], fields(text)[3]) == (PING, daemon.id):
+            found, (_, _, initiator, _, number) = fields(other.recv(100)), fields(text)
+            must(found == (ACK, daemon.id, initiator, daemon.id, number), f"the ping {text.hex()} is answered {found}")
+        elif place % 32 == 0:
+            # No more are under way than a socket keeps.
+            markers += 1
+            ping_and_hear(peer, daemon, markers)
+    ping_and_hear(peer, daemon, markers + 1)
+    other.setblocking(False)
+    try:
+        must(False, f"{other.recv(100).hex()} is sent beside")
+    except BlockingIOError:
+        pass
+    faults, closing = sum(fault_of(it) is not None for it in texts), daemon.stop()
+    must(closing == (0, "stopped", len(texts) - faults + markers + 1, 0, 0, faults, 0), f"it ended {closing}, with {faults} faults")
 
 
 def every_entry_is_counted(machine):
@@ -164,7 +189,7 @@ def refused(program, words, wanted, **streams):
     """A run that has to end at once, with that line on standard error and that status."""
     streams = {"stdin": subprocess.DEVNULL, **streams}
     ran = subprocess.run([program, *words], stdout=subprocess.PIPE, stderr=subprocess.PIPE, timeout=SECONDS, **streams)
-    found = (ran.stdout, ran.stderr, ran.returncode)
+    found = (ran.stdout, first_line_of(ran.stderr), ran.returncode)
     must(found == (b"", *wanted), f"{words}: {found}, and not {wanted}")
 
 
@@ -179,7 +204,7 @@ def how_it_ends(daemon, most):
     if daemon.child.poll() is None:
         daemon.ask(b"stop\n")
     stdout, stderr = daemon.child.communicate(timeout=SECONDS)
-    return daemon.child.returncode, stdout, stderr
+    return daemon.child.returncode, stdout, but_for_notices(stderr)
 
 
 def too_little_memory(machine):
@@ -266,10 +291,11 @@ def sockets_that_cannot_be_bound(machine):
     with open(kept.control) as file:
         must(file.read() == "kept", "a file that stood at the control path has changed")
     must(first.states() == {}, "the first daemon is disturbed")
-    first.kill()
-    refused(machine.program, run(first), control)
     for path in (kept.control, f"{machine.folder}/none.sock", machine.folder):
-        refused(machine.program, ["ask", "--control", path], (b"connect control\n", 5))
+        ran = subprocess.run([machine.program, "ask", "--control", path], capture_output=True, timeout=SECONDS)
+        first, below = ran.stderr.split(b"\n", 1)
+        must((ran.stdout, first, ran.returncode) == (b"", b"connect control", 5), f"asking at {path}: {ran!r}")
+        must(below.startswith(f"  {path}: ".encode()) and below.count(b"\n") == 1, f"asking at {path}: {below!r}")
 
 
 def the_longest_control_path(machine):
@@ -303,6 +329,7 @@ def another_port_of_the_member(machine):
 
 EDGES = [
     datagrams_that_are_none,
+    forged_datagrams,
     every_entry_is_counted,
     a_journal_that_fills_by_pings,
     a_journal_that_fills_by_ticks,

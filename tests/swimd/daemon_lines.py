@@ -12,6 +12,10 @@ MINUTE = 60_000
 ROWS = [(2, "10.0.0.2:7000"), (3, "10.0.0.3:7000")]
 LISTED = b"2 10.0.0.2:7000 up\n3 10.0.0.3:7000 up\n.\n"
 READS = 1_048_576
+# Each command, with the fault that each of its words may have.
+WORD, BAD_ID, BAD_PEER = 2, 3, 4
+COMMANDS = [(b"list", [WORD]), (b"stop", [WORD]), (b"remove 2", [WORD, BAD_ID]), (b"gap 2", [WORD, BAD_ID])]
+COMMANDS += [(b"join 5 10.0.0.5:7000", [WORD, BAD_ID, BAD_PEER])]
 
 
 def quiet(machine, **values):
@@ -62,6 +66,18 @@ def lines_in_pieces(machine):
     must_be(daemon.ask(b"\x00\xff\r\n" + text), b"fault 2\n" + wanted, "a text with bytes past ASCII")
     must_be(daemon.ask(b"a" * 128 + b"\n" + b"b" * 129 + b"\nlist\n"), b"fault 2\nfault 1\n", "a line that is too long")
     must_be(daemon.ask(), b"", "nothing")
+    must(daemon.stop() == (0, "stopped", 0, 0, 0, 0, 0), "it made entries")
+
+
+def a_byte_past_ascii_in_each_word(machine):
+    """It is the fault of the word in which it stands."""
+    daemon = quiet(machine)
+    for line, faults in COMMANDS:
+        words = line.split(b" ")
+        for place, fault in enumerate(faults):
+            for word in (b"\xff" + words[place], words[place][:1] + b"\xff" + words[place][1:], words[place] + b"\xff", b"\xff"):
+                text = b" ".join([*words[:place], word, *words[place + 1 :]])
+                must_be(daemon.ask(text + b"\n"), b"fault %d\n" % fault, f"{text!r}")
     must(daemon.stop() == (0, "stopped", 0, 0, 0, 0, 0), "it made entries")
 
 
@@ -124,14 +140,15 @@ def asked(daemon, lines, **streams):
 
 def lines_by_ask(machine):
     daemon = quiet(machine)
-    must(asked(daemon, b"list\nlis") == (LISTED + b"fault 6\n", b"", 0), "another answer to `list` and half a line")
+    must(asked(daemon, b"list\nlis") == (LISTED + b"fault 6\n", b"", 3), "another answer to `list` and half a line")
     must(asked(daemon, b"") == (b"", b"", 0), "another answer to nothing")
     many = asked(daemon, b"list\n" * 150_000)
     must(many == (LISTED * 150_000, b"", 0), f"150,000 lines are answered {len(many[0])} bytes, {many[1:]}")
     must(asked(daemon, b"stop\nlist\n") == (b"stopping\n", b"", 0), "another answer to `stop`")
     must(daemon.ended() == (0, "stopped", 0, 0, 0, 0, 0), "it ended otherwise")
     gone = asked(daemon, b"list\n")
-    must(gone == (b"", b"connect control\n", 5), f"a daemon that is gone: {gone}")
+    told = f"connect control\n  {daemon.control}: nobody serves this socket; remove it\n".encode()
+    must(gone == (b"", told, 5), f"a daemon that is gone: {gone}")
 
 
 def a_dialogue_by_ask(machine):
@@ -144,7 +161,7 @@ def a_dialogue_by_ask(machine):
                 child.stdin.write(line)
                 must_be(come(child.stdout, len(wanted)), wanted, f"{line!r}")
             child.stdin.close()
-            must(child.wait(SECONDS) == 0 and child.stdout.read() == b"", "it ends otherwise")
+            must(child.wait(SECONDS) == 3 and child.stdout.read() == b"", "it ends otherwise")
         finally:
             child.kill()
     must(daemon.stop().status == 0, "the daemon ended otherwise")
@@ -191,6 +208,7 @@ def the_owner_alone(machine):
 LINES = [
     lines_of_a_person,
     lines_in_pieces,
+    a_byte_past_ascii_in_each_word,
     half_a_line_and_away,
     many_connections,
     a_client_that_never_sends,

@@ -1,18 +1,27 @@
+use std::process::Abort;
 use std::test::*;
 use swim_wire::Peer;
 
-#[test]
-fn read_and_written(rt: HostRuntime) -> Result<(), Fail> {
-    for (text, ip, port) in [
-        ("10.0.0.2:7000", [10, 0, 0, 2], 7000),
-        ("255.255.255.255:65535", [255, 255, 255, 255], 65535),
-    ] {
-        let peer = Peer::read(text.as_bytes()).ok_or("the text is an address")?;
-        assert_eq!(rt; peer.ip, ip);
-        assert_eq!(rt; peer.port, port);
-        assert_eq!(rt; peer.write().as_str(), text);
+// A text is that address, and is written so.
+fn assert_address<R: Abort>(rt: &R, text: &str, ip: [u8; 4], port: u16) {
+    match Peer::read(text.as_bytes()) {
+        Some(peer) => {
+            assert_eq!(rt; peer.ip, ip);
+            assert_eq!(rt; peer.port, port);
+            assert_eq!(rt; peer.write().as_str(), text);
+        }
+        None => panic!(rt; "{text} is an address"),
     }
-    Ok(())
+}
+
+fn assert_none<R: Abort>(rt: &R, text: &str) {
+    assert_eq!(rt; Peer::read(text.as_bytes()), None, "at {text}");
+}
+
+#[test]
+fn read_and_written(rt: HostRuntime) {
+    assert_address(&rt, "10.0.0.2:7000", [10, 0, 0, 2], 7000);
+    assert_address(&rt, "255.255.255.255:65535", [255, 255, 255, 255], 65535);
 }
 
 #[test]
@@ -33,6 +42,6 @@ fn refused(rt: HostRuntime) {
         " 1.2.3.4:1",
         "1.2.3.4:1 ",
     ] {
-        assert_eq!(rt; Peer::read(text.as_bytes()), None, "at {text}");
+        assert_none(&rt, text);
     }
 }

@@ -1,6 +1,7 @@
 //! Lines that are read up to a limit of bytes and of reads.
 
 use arrayvec::ArrayVec;
+use std::process::Abort;
 use swim_wire::{Byte, LineEnd, Met, Page, Source, Text, next_short_line, read_on};
 
 /// What the first line of a text ends with, where a line has at most 4 bytes, its bytes, and the reads that are left.
@@ -11,25 +12,31 @@ fn first(text: &[u8], page: &mut Page, mut reads: u32) -> (LineEnd, ArrayVec<u8,
     (end, line, reads)
 }
 
+// What the first line of a text is taken as, with so many reads.
+fn assert_first<R: Abort>(
+    rt: &R,
+    page: &mut Page,
+    (text, reads): (&[u8], u32),
+    end: LineEnd,
+    (bytes, left): (&[u8], u32),
+) {
+    let (got, line, after) = first(text, page, reads);
+    assert_eq!(rt; got, end);
+    assert_eq!(rt; line.as_slice(), bytes);
+    assert_eq!(rt; after, left);
+}
+
 #[test]
 fn takes_short_lines(rt: HostRuntime) {
     let mut page = Page::new(rt.alloc());
-    let table = [
-        (b"".as_slice(), 9, LineEnd::Over, b"".as_slice(), 8),
-        (b"", 0, LineEnd::Spent, b"", 0),
-        (b"\n", 1, LineEnd::Feed, b"", 0),
-        (b"ab\ncd", 9, LineEnd::Feed, b"ab", 6),
-        (b"abcd\n", 5, LineEnd::Feed, b"abcd", 0),
-        (b"abcd", 5, LineEnd::Unended, b"abcd", 0),
-        (b"abcd", 4, LineEnd::Spent, b"abcd", 0),
-        (b"abcd\n", 3, LineEnd::Spent, b"abc", 0),
-    ];
-    for (text, reads, end, bytes, left) in table {
-        let (got, line, after) = first(text, &mut page, reads);
-        assert_eq!(rt; got, end);
-        assert_eq!(rt; line.as_slice(), bytes);
-        assert_eq!(rt; after, left);
-    }
+    assert_first(&rt, &mut page, (b"", 9), LineEnd::Over, (b"", 8));
+    assert_first(&rt, &mut page, (b"", 0), LineEnd::Spent, (b"", 0));
+    assert_first(&rt, &mut page, (b"\n", 1), LineEnd::Feed, (b"", 0));
+    assert_first(&rt, &mut page, (b"ab\ncd", 9), LineEnd::Feed, (b"ab", 6));
+    assert_first(&rt, &mut page, (b"abcd\n", 5), LineEnd::Feed, (b"abcd", 0));
+    assert_first(&rt, &mut page, (b"abcd", 5), LineEnd::Unended, (b"abcd", 0));
+    assert_first(&rt, &mut page, (b"abcd", 4), LineEnd::Spent, (b"abcd", 0));
+    assert_first(&rt, &mut page, (b"abcd\n", 3), LineEnd::Spent, (b"abc", 0));
 }
 
 #[test]
@@ -62,36 +69,66 @@ fn tells_failures_of_short_lines(rt: HostRuntime) {
     }
 }
 
+// How far the reading of a line gets.
+fn assert_met<R: Abort>(
+    rt: &R,
+    source: &mut Text<'_>,
+    line: &mut ArrayVec<u8, 8>,
+    reads: &mut u32,
+    met: Met,
+) {
+    assert_eq!(rt; read_on(source, line, reads), met);
+}
+
 // A line that is read on in as it comes: first it is looked for, and then it is there.
 #[test]
 fn reads_on_without_waiting(rt: HostRuntime) {
     let mut source = Text::new(b"one\nt");
     let mut line = ArrayVec::<u8, 8>::new();
     let mut reads = 7;
-    assert_eq!(rt; read_on(&mut source, &mut line, &mut reads), Met::Part);
-    assert_eq!(rt;
-        read_on(&mut source, &mut line, &mut reads),
-        Met::End(LineEnd::Feed)
+    assert_met(&rt, &mut source, &mut line, &mut reads, Met::Part);
+    assert_met(
+        &rt,
+        &mut source,
+        &mut line,
+        &mut reads,
+        Met::End(LineEnd::Feed),
     );
     assert_eq!(rt; line.as_slice(), b"one".as_slice());
     line.clear();
-    assert_eq!(rt; read_on(&mut source, &mut line, &mut reads), Met::Part);
-    assert_eq!(rt; read_on(&mut source, &mut line, &mut reads), Met::Part);
-    assert_eq!(rt;
-        read_on(&mut source, &mut line, &mut reads),
-        Met::End(LineEnd::Unended)
+    assert_met(&rt, &mut source, &mut line, &mut reads, Met::Part);
+    assert_met(&rt, &mut source, &mut line, &mut reads, Met::Part);
+    assert_met(
+        &rt,
+        &mut source,
+        &mut line,
+        &mut reads,
+        Met::End(LineEnd::Unended),
     );
     assert_eq!(rt; line.as_slice(), b"t".as_slice());
     assert_eq!(rt; reads, 1);
+}
+
+// A failed read, and then no read that is left.
+#[test]
+fn tells_why_no_line_goes_on(rt: HostRuntime) {
     let mut failing = Text::failing_after(b"one\n", 1);
-    assert_eq!(rt; read_on(&mut failing, &mut line, &mut reads), Met::Nothing);
-    assert_eq!(rt;
-        read_on(&mut failing, &mut line, &mut reads),
-        Met::End(LineEnd::Failed)
+    let mut line = ArrayVec::<u8, 8>::new();
+    let mut reads = 1;
+    assert_met(&rt, &mut failing, &mut line, &mut reads, Met::Nothing);
+    assert_met(
+        &rt,
+        &mut failing,
+        &mut line,
+        &mut reads,
+        Met::End(LineEnd::Failed),
     );
     reads = 0;
-    assert_eq!(rt;
-        read_on(&mut failing, &mut line, &mut reads),
-        Met::End(LineEnd::Spent)
+    assert_met(
+        &rt,
+        &mut failing,
+        &mut line,
+        &mut reads,
+        Met::End(LineEnd::Spent),
     );
 }

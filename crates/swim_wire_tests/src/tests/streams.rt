@@ -1,7 +1,9 @@
 //! Bytes, lines and words: values from outside, and failures in mid-stream.
 
 use arrayvec::ArrayVec;
+use std::alloc::Global;
 use std::io::{Error, ErrorKind, Read, Result, Write};
+use std::process::Abort;
 use swim_wire::{Byte, Page, ReadSource, Sink, Source, Taken, Text, Words, WriteSink, next_line};
 
 /// A reader that is interrupted so many times before it gives its bytes.
@@ -63,43 +65,61 @@ fn second(text: &[u8], page: &mut Page, mut budget: u32) -> (Taken, ArrayVec<u8,
     (taken, line, budget)
 }
 
+// What the second line of a text is taken as, with such a budget.
+fn assert_second<R: Abort>(
+    rt: &R,
+    page: &mut Page,
+    (text, budget): (&[u8], u32),
+    taken: Taken,
+    (bytes, left): (&[u8], u32),
+) {
+    let (got, line, after) = second(text, page, budget);
+    assert_eq!(rt; got, taken);
+    assert_eq!(rt; line.as_slice(), bytes);
+    assert_eq!(rt; after, left);
+}
+
 #[test]
 fn takes_lines(rt: HostRuntime) {
     let mut page = Page::new(rt.alloc());
-    let table = [
-        (b"".as_slice(), 9, Taken::Over, b"".as_slice(), 9),
-        (b"ab", 9, Taken::Over, b"", 7),
-        (b"ab\n", 3, Taken::Over, b"", 0),
-        (b"ab\n\n", 9, Taken::Line, b"", 5),
-        (b"ab\ncd", 9, Taken::Line, b"cd", 4),
-        (b"ab\ncd\nef", 9, Taken::Line, b"cd", 3),
-        (b"ab\nabcd\n", 9, Taken::Line, b"abcd", 1),
-        (b"abcdef\ncd\n", 12, Taken::Line, b"cd", 2),
-    ];
-    for (text, budget, taken, bytes, left) in table {
-        let (got, line, after) = second(text, &mut page, budget);
-        assert_eq!(rt; got, taken);
-        assert_eq!(rt; line.as_slice(), bytes);
-        assert_eq!(rt; after, left);
-    }
+    assert_second(&rt, &mut page, (b"", 9), Taken::Over, (b"", 9));
+    assert_second(&rt, &mut page, (b"ab", 9), Taken::Over, (b"", 7));
+    assert_second(&rt, &mut page, (b"ab\n", 3), Taken::Over, (b"", 0));
+    assert_second(&rt, &mut page, (b"ab\n\n", 9), Taken::Line, (b"", 5));
+    assert_second(&rt, &mut page, (b"ab\ncd", 9), Taken::Line, (b"cd", 4));
+    assert_second(&rt, &mut page, (b"ab\ncd\nef", 9), Taken::Line, (b"cd", 3));
+    assert_second(
+        &rt,
+        &mut page,
+        (b"ab\nabcd\n", 9),
+        Taken::Line,
+        (b"abcd", 1),
+    );
+    assert_second(
+        &rt,
+        &mut page,
+        (b"abcdef\ncd\n", 12),
+        Taken::Line,
+        (b"cd", 2),
+    );
+}
+
+// The second line of a text is refused, with such a budget.
+fn assert_refused<R: Abort>(rt: &R, page: &mut Page, text: &[u8], budget: u32, taken: Taken) {
+    let (got, line, after) = second(text, page, budget);
+    assert_eq!(rt; got, taken);
+    assert!(rt; line.len() <= 4);
+    assert!(rt; after <= budget);
 }
 
 #[test]
 fn refuses_lines(rt: HostRuntime) {
     let mut page = Page::new(rt.alloc());
-    let table = [
-        (b"ab\nabcde\n".as_slice(), 9, Taken::Long),
-        (b"ab\nabcde", 9, Taken::Long),
-        (b"ab\ncd", 4, Taken::Size),
-        (b"ab\ncd\n", 5, Taken::Size),
-        (b"ab\nabcde\n", 8, Taken::Size),
-    ];
-    for (text, budget, taken) in table {
-        let (got, line, after) = second(text, &mut page, budget);
-        assert_eq!(rt; got, taken);
-        assert!(rt; line.len() <= 4);
-        assert!(rt; after <= budget);
-    }
+    assert_refused(&rt, &mut page, b"ab\nabcde\n", 9, Taken::Long);
+    assert_refused(&rt, &mut page, b"ab\nabcde", 9, Taken::Long);
+    assert_refused(&rt, &mut page, b"ab\ncd", 4, Taken::Size);
+    assert_refused(&rt, &mut page, b"ab\ncd\n", 5, Taken::Size);
+    assert_refused(&rt, &mut page, b"ab\nabcde\n", 8, Taken::Size);
 }
 
 #[test]
@@ -141,74 +161,92 @@ fn answers_before_it_waits(rt: HostRuntime) {
     assert_eq!(rt; seen.as_slice(), b"firstsecond".as_slice());
 }
 
-#[test]
-fn reads_through_interruptions(rt: HostRuntime) {
-    for (interruptions, first) in [
-        (0, Byte::One(b'a')),
-        (15, Byte::One(b'a')),
-        (16, Byte::Fault),
-    ] {
-        let mut source = ReadSource::new(Stutter {
-            left: b"ab",
-            interruptions,
-        });
-        assert!(rt; source.ready().is_empty());
-        assert_eq!(rt; source.byte(), first);
-        if first == Byte::Fault {
-            assert_eq!(rt; source.byte(), Byte::One(b'a'));
-        }
-        assert_eq!(rt; source.ready(), b"b".as_slice());
-        assert_eq!(rt; source.byte(), Byte::One(b'b'));
-        assert_eq!(rt; source.byte(), Byte::End);
-        assert_eq!(rt; source.byte(), Byte::End);
+// The next byte of a source.
+fn assert_byte<R: Abort, S: Source>(rt: &R, source: &mut S, byte: Byte) {
+    assert_eq!(rt; source.byte(), byte);
+}
+
+// What is ready in a source, of which so many bytes are skipped.
+fn skip_of<R: Abort, S: Source>(rt: &R, source: &mut S, ready: &[u8], count: usize) {
+    assert_eq!(rt; source.ready(), ready);
+    assert!(rt; count <= source.ready().len());
+    source.skip(count);
+}
+
+// A reader that is interrupted so often gives this first, and then what is left of its bytes.
+fn assert_first<R: Abort>(rt: &R, interruptions: u32, first: Byte) {
+    let mut source = ReadSource::new(Stutter {
+        left: b"ab",
+        interruptions,
+    });
+    skip_of(rt, &mut source, b"", 0);
+    assert_byte(rt, &mut source, first);
+    if first == Byte::Fault {
+        assert_byte(rt, &mut source, Byte::One(b'a'));
     }
+    skip_of(rt, &mut source, b"b", 0);
+    assert_byte(rt, &mut source, Byte::One(b'b'));
+    assert_byte(rt, &mut source, Byte::End);
+    assert_byte(rt, &mut source, Byte::End);
 }
 
 #[test]
-fn gives_what_is_ready(rt: HostRuntime) {
-    let mut source = ReadSource::new(b"abcd".as_slice());
-    assert_eq!(rt; source.byte(), Byte::One(b'a'));
-    assert_eq!(rt; source.ready(), b"bcd".as_slice());
-    source.skip(2);
-    assert_eq!(rt; source.ready(), b"d".as_slice());
-    source.skip(1);
-    assert_eq!(rt; source.byte(), Byte::End);
+fn reads_through_interruptions(rt: HostRuntime) {
+    assert_first(&rt, 0, Byte::One(b'a'));
+    assert_first(&rt, 15, Byte::One(b'a'));
+    assert_first(&rt, 16, Byte::Fault);
+}
 
+#[test]
+fn gives_what_was_read(rt: HostRuntime) {
+    let mut source = ReadSource::new(b"abcd".as_slice());
+    assert_byte(&rt, &mut source, Byte::One(b'a'));
+    skip_of(&rt, &mut source, b"bcd", 2);
+    skip_of(&rt, &mut source, b"d", 1);
+    assert_byte(&rt, &mut source, Byte::End);
+}
+
+#[test]
+fn gives_the_rest_of_a_line(rt: HostRuntime) {
     let mut text = Text::new(b"ab\ncd");
-    assert!(rt; text.ready().is_empty());
-    assert_eq!(rt; text.byte(), Byte::One(b'a'));
-    assert_eq!(rt; text.ready(), b"b\n".as_slice());
-    text.skip(1);
-    assert_eq!(rt; text.ready(), b"\n".as_slice());
-    text.skip(1);
-    assert!(rt; text.ready().is_empty());
-    assert_eq!(rt; text.byte(), Byte::One(b'c'));
+    skip_of(&rt, &mut text, b"", 0);
+    assert_byte(&rt, &mut text, Byte::One(b'a'));
+    skip_of(&rt, &mut text, b"b\n", 1);
+    skip_of(&rt, &mut text, b"\n", 1);
+    skip_of(&rt, &mut text, b"", 0);
+    assert_byte(&rt, &mut text, Byte::One(b'c'));
+}
+
+// What a writer that is interrupted and refuses takes of 5,000 bytes, whether they were put and flushed.
+fn assert_taken<R: Abort>(
+    rt: &R,
+    alloc: Global,
+    interruptions: u32,
+    refuses_in: u32,
+    (is_put, is_flushed): (bool, bool),
+    whole: usize,
+) {
+    let mut taken = Vec::new(alloc);
+    {
+        let mut sink = WriteSink::new(Trickle {
+            taken: &mut taken,
+            interruptions,
+            refuses_in,
+        });
+        assert!(rt; !sink.flush());
+        assert_eq!(rt; sink.put(&[b'x'; 5000]), is_put);
+        assert_eq!(rt; sink.flush(), is_flushed);
+        assert!(rt; sink.flush());
+    }
+    assert_eq!(rt; taken.len(), whole);
 }
 
 #[test]
 fn writes_all_it_took(rt: HostRuntime) {
-    let text = [b'x'; 5000];
-    let table = [
-        (15, 0, true, true, 5000),
-        (16, 0, false, true, 4096),
-        (0, 2, false, true, 4096),
-        (0, 1500, true, false, 5000),
-    ];
-    for (interruptions, refuses_in, is_put, is_flushed, whole) in table {
-        let mut taken = Vec::new(rt.alloc());
-        {
-            let mut sink = WriteSink::new(Trickle {
-                taken: &mut taken,
-                interruptions,
-                refuses_in,
-            });
-            assert!(rt; !sink.flush());
-            assert_eq!(rt; sink.put(&text), is_put);
-            assert_eq!(rt; sink.flush(), is_flushed);
-            assert!(rt; sink.flush());
-        }
-        assert_eq!(rt; taken.len(), whole);
-    }
+    assert_taken(&rt, rt.alloc(), 15, 0, (true, true), 5000);
+    assert_taken(&rt, rt.alloc(), 16, 0, (false, true), 4096);
+    assert_taken(&rt, rt.alloc(), 0, 2, (false, true), 4096);
+    assert_taken(&rt, rt.alloc(), 0, 1500, (true, false), 5000);
 }
 
 #[test]
@@ -221,16 +259,26 @@ fn shows_what_was_put(rt: HostRuntime) {
     assert_eq!(rt; page.text(), b"abef".as_slice());
 }
 
+// The next word.
+fn assert_word<R: Abort>(rt: &R, words: &mut Words<'_>, word: &[u8]) {
+    assert!(rt; !words.is_empty());
+    assert_eq!(rt; words.next(), Some(word));
+}
+
+fn assert_no_word<R: Abort>(rt: &R, words: &mut Words<'_>) {
+    assert!(rt; words.is_empty());
+    assert_eq!(rt; words.next(), None);
+}
+
 #[test]
 fn cuts_words(rt: HostRuntime) {
     let mut words = Words::new(b"open 7  x");
-    for word in [b"open".as_slice(), b"7", b"", b"x"] {
-        assert!(rt; !words.is_empty());
-        assert_eq!(rt; words.next(), Some(word));
-    }
-    assert!(rt; words.is_empty());
-    assert_eq!(rt; words.next(), None);
+    assert_word(&rt, &mut words, b"open");
+    assert_word(&rt, &mut words, b"7");
+    assert_word(&rt, &mut words, b"");
+    assert_word(&rt, &mut words, b"x");
+    assert_no_word(&rt, &mut words);
     let mut parts = Words::split(b"", b',');
-    assert_eq!(rt; parts.next(), Some(b"".as_slice()));
-    assert_eq!(rt; parts.next(), None);
+    assert_word(&rt, &mut parts, b"");
+    assert_no_word(&rt, &mut parts);
 }
