@@ -1,12 +1,13 @@
-"""What is mutated, and who judges what comes of it. Each kind makes a case of random numbers, and says what isn't as it has to be."""
+"""What is mutated, and who judges what comes of it."""
 
+import os
 import random
 
 from tests.generators.growing_scripts import ACK, PING, REQUEST, address, datagram
+from tests.generators.journal_files import told
 from tests.generators.mutations import mutated
 from tests.generators.random_configs import random_config
 from tests.generators.random_lines import random_life, without_end
-from tests.generators.random_scripts import KINDS as SCRIPT_KINDS
 from tests.generators.random_scripts import random_script
 from tests.models.control_model import Model
 from tests.models.datagram_model import fault_of
@@ -15,21 +16,38 @@ from tests.support.written import differences, run
 from tests.swimd.compared_configs import compared_config
 
 MINUTE = 60_000
+MOST_ENTRIES = 1_000_000
 DATAGRAMS = 200
 SEEDS = 1_000_000
 MEMBERS = [2, 3, 4]
 HEAD = "".join(f"{it}\n" for it in ["open 1 2 1 3 0 1000000", *(f"row {id} {address(id)}" for id in MEMBERS), "tick"])
 
 
-class Scripts:
-    """Scripts of swimsim, judged by the reference."""
+class Kind:
+    """A kind of texts: it makes a case of random numbers, and says what isn't as it has to be. So many are judged at a time."""
+
+    lanes = os.cpu_count()
 
     def __init__(self, programs):
         self.programs = programs
 
+    def end(self):
+        """Ends what was started for it."""
+
+
+class Scripts(Kind):
+    """Scripts of swimsim, journal files among them, judged by the reference."""
+
     def case(self, r):
-        text, other = (random_script(r.randrange(SEEDS) * len(SCRIPT_KINDS) + r.randrange(len(SCRIPT_KINDS)))[1] for _ in range(2))
-        return mutated(r, text, other)
+        return mutated(r, self.script(r), self.script(r))
+
+    def script(self, r):
+        seed = r.randrange(SEEDS)
+        return random_script(seed)[1] if r.random() < 0.7 else told(seed, self.played).script
+
+    def played(self, script):
+        written = run([self.programs.reference], script)
+        return written.stdout, written.status == 0
 
     def said(self, script):
         return differences(("swimsim", "the reference"), run([self.programs.swimsim], script), run([self.programs.reference], script))
@@ -59,11 +77,8 @@ class Datagrams(Scripts):
         return said + differences(("swimsim", "the reference"), written, run([self.programs.reference], script.encode()))
 
 
-class Configurations:
+class Configurations(Kind):
     """Configurations of a daemon, judged by the model."""
-
-    def __init__(self, programs):
-        self.programs = programs
 
     def case(self, r):
         text, other = (random_config(r.randrange(SEEDS))[1] for _ in range(2))
@@ -73,23 +88,23 @@ class Configurations:
         return compared_config(self.programs.swimd, document)[0]
 
 
-class ControlLines:
+class ControlLines(Kind):
     """What comes on control connections of one daemon, whose first tick is a minute away, judged by the model."""
 
+    lanes = 1
+
     def __init__(self, programs):
-        self.life = random_life(0)
-        self.machine = Machine(programs.swimd)
-        self.model = self.daemon = None
+        super().__init__(programs)
+        life, self.machine = random_life(0), Machine(programs.swimd)
+        values = {"members": life.members, "seed": life.chooser, "journal": MOST_ENTRIES, "tick_ms": MINUTE}
+        self.daemon = self.machine.started(life.me, **values)
+        self.model = Model(life.me, [(id, at.encode()) for id, at in life.members], life.chooser, MOST_ENTRIES)
 
     def case(self, r):
         text, other = (b"".join(r.choice(random_life(r.randrange(SEEDS)).sessions)) for _ in range(2))
         return without_end(mutated(r, text, other))
 
     def said(self, text):
-        if not self.daemon:
-            values = {"members": self.life.members, "seed": self.life.chooser, "journal": 1_000_000, "tick_ms": MINUTE}
-            self.daemon = self.machine.started(self.life.me, **values)
-            self.model = Model(self.life.me, [(id, at.encode()) for id, at in self.life.members], self.life.chooser, 1_000_000)
         wanted = b"".join(b"%s\n" % it for it in self.model.served(text)[0])
         with self.daemon.connect() as connection:
             found = talk(connection, [text])
