@@ -1,30 +1,29 @@
--- The header that is written for an opening has no fault.
-use Rattle.std.proofs.Common.{◌≡◌, ℕ, ◌+◌, ◌*◌, ◌≤◌, Bool, false, List, [], ◌∷◌, ◌++◌, length, Option, None, refl, sym, ap, subst, ◌∙◌, arith, length-append}
+-- The header that is written for an opening whose members are all up has no fault.
+use Rattle.std.proofs.Common.{◌≡◌, ℕ, ◌+◌, ◌*◌, ◌≤◌, false, List, [], ◌∷◌, ◌++◌, length, None, refl, sym, ap, subst, ◌∙◌, arith, length-append}
 use Rattle.std.specs.List.{join_with_byte}
 use Rattle.hex.specs.Hex.{lower_digits, IsBytes}
 use Rattle.hex.proofs.HexLemmas.{length-encode_with}
-use Rattle.swim_wire.specs.Address.{IsAddress}
+use Rattle.swim_wire.specs.Address.{Address, IsAddress}
 use Rattle.swim_wire.specs.Lines.{pieces, bare}
+use Rattle.swim_history.specs.Check.{first_fault}
 use Rattle.swim_history.specs.Laws.Check.{no_fault as no_opening_fault}
 use Rattle.swim_history.specs.Setting.{Setting}
 use Rattle.swim_history.specs.Texts.{feed}
 use Rattle.swim_history.specs.declared.rows.Row.{Row}
-use Rattle.swim_history.specs.declared.rows.RowState.{RowState}
-use Rattle.swim_history.specs.declared.rows.RowState.TheVariants.{Up, Failed}
-use Rattle.swim_history.specs.declared.openings.OpeningFault.{OpeningFault}
+use Rattle.swim_history.specs.declared.rows.RowState.TheVariants.{Up}
 use Rattle.swim_history.specs.declared.entries.Entry.{Entry}
 use Rattle.swim_node.specs.Following.{filings_of}
 use Rattle.swim_targets.specs.Draws.{of_seed}
 use Rattle.swim_script.specs.declared.arguments.Opened.{Opened}
 use Rattle.swim_script.specs.declared.commands.Command.TheVariants.{Open, Row as RowLine, Seed}
 use Rattle.swim_script.specs.Headers.{Head, head_of}
-use Rattle.swim_script.specs.Script.{bytes_of, fault_at, fault_at_end, fault_of, fault_of_command, are_past, kind_with, opening_at}
-use Rattle.swim_journal.specs.Headings.{mark_line, open_line, row_line, seed_line, header_text, AreTellable, IsTellable}
+use Rattle.swim_script.specs.Script.{bytes_of, fault_at, fault_at_end, fault_of, fault_of_command, opening_at}
+use Rattle.swim_journal.specs.Headings.{mark_line, open_line, row_line, seed_line, header_text, AreUp, IsTellable}
 use Rattle.swim_journal.specs.Journals.{AreReadBack}
 use Rattle.swim_journal.specs.Replays.{IsDrawnRun, IsJournalFile}
 use Rattle.swim_journal.proofs.Faultless.{AreFaultless, none_from, no_fault}
 use Rattle.swim_journal.proofs.FileLines.{IsAt}
-use Rattle.swim_journal.proofs.Headed.{open_words, open_plain, state_words, row_words, row_plain, row_is, seed_words, seed_plain, opened_by, told_with, rows_onto, open_said, open_at, row_said, row_at, rows_at, seed_said, newest_lines, newest_are, header_at, header_is}
+use Rattle.swim_journal.proofs.Headed.{open_words, open_plain, row_words, row_plain, row_is, seed_words, seed_plain, opened_by, told_with, pairs, rows_onto, open_said, open_at, row_said, row_at, rows_at, seed_said, newest_lines, newest_are, header_at, header_is, opening_again}
 use Rattle.swim_journal.proofs.Short.{number_short, address_short}
 use Rattle.swim_journal.proofs.WordLines.{ArePlain, words_onto, line_bare}
 
@@ -62,34 +61,30 @@ open_short o limit =
     words_short (open_words o limit) (open_plain o limit)
     (omega (arith, number_short o.me, number_short o.k, number_short o.rtt, number_short o.period, number_short o.last, number_short limit))
 
-state_short : (state : RowState) → total (state_words state) ≤ 40
-state_short Up = omega arith
-state_short (Failed number) = omega (arith, number_short number)
-
-row_short : (row : Row) → IsAddress row.peer → IsShort (row_line row)
-row_short row is =
-    subst IsShort (sym (row_is row))
-    (words_short (row_words row) (row_plain row) (omega (arith, number_short row.id, address_short row.peer is, state_short row.state)))
+row_short : (row : Row) → row.state ≡ Up → IsAddress row.peer → IsShort (row_line row)
+row_short row up is =
+    subst IsShort (sym (row_is row up))
+    (words_short (row_words row.id row.peer) (row_plain row.id row.peer) (omega (arith, number_short row.id, address_short row.peer is)))
 
 seed_short : (seed : List ℕ) (life : ℕ) → length seed ≡ 32 → IsBytes seed → IsShort (seed_line seed life)
 seed_short seed life long bytes =
     words_short (seed_words seed life) (seed_plain seed life bytes) (omega (arith, number_short life, length-encode_with lower_digits seed, long))
 
-rows_bytes : (rows : List Row) (before : List (List ℕ)) → AreTellable rows → bytes_of (rows_onto rows before) ≤ 500 * length rows + bytes_of before
+rows_bytes : (rows : List Row) (before : List (List ℕ)) → AreUp rows → bytes_of (rows_onto rows before) ≤ 500 * length rows + bytes_of before
 rows_bytes [] before all = omega arith
 rows_bytes (row ∷ rows) before all =
-    let short = row_short row all.1 in omega (arith, rows_bytes rows (row_line row ∷ before) all.3, short.whole)
+    let short = row_short row all.0 all.2 in omega (arith, rows_bytes rows (row_line row ∷ before) all.3, short.whole)
 
 -- ---- the lines
 
-rows_faultless : (before : List (List ℕ)) (opened : Opened) (known : List Row) (rows : List Row) → IsAt before (told_with opened known None) false → AreTellable rows → AreFaultless before → 500 * length rows + bytes_of before ≤ 1000000 → AreFaultless (rows_onto rows before)
+rows_faultless : (before : List (List ℕ)) (opened : Opened) (known : List (ℕ × Address)) (rows : List Row) → IsAt before (told_with opened known None) false → AreUp rows → AreFaultless before → 500 * length rows + bytes_of before ≤ 1000000 → AreFaultless (rows_onto rows before)
 rows_faultless before opened known [] at all before-is fits = before-is
 rows_faultless before opened known (row ∷ rows) at all before-is fits =
-    let short = row_short row all.1 in
+    let short = row_short row all.0 all.2 in
     let here : fault_at before (row_line row) ≡ None =
-    no_fault before (row_line row) (RowLine row) at.form (omega (arith, short.whole, fits)) short.bare (row_said before opened known row at (all.0, all.1, all.2))
-    (ap (λ (head : Head). fault_of_command head (RowLine row)) at.head) in
-    rows_faultless (row_line row ∷ before) opened (known ++ row ∷ []) rows (row_at before opened known row at (all.0, all.1, all.2)) all.3 (here, before-is) (omega (arith, short.whole, fits))
+    no_fault before (row_line row) (RowLine row.id row.peer) at.form (omega (arith, short.whole, fits)) short.bare (row_said before opened known row at all.0 all.1 all.2)
+    (ap (λ (head : Head). fault_of_command head (RowLine row.id row.peer)) at.head) in
+    rows_faultless (row_line row ∷ before) opened (known ++ (row.id, row.peer) ∷ []) rows (row_at before opened known row at all.0 all.1 all.2) all.3 (here, before-is) (omega (arith, short.whole, fits))
 
 pub header_faultless : (o : Setting) (limit : ℕ) (seed : List ℕ) (life : ℕ) → IsTellable o limit seed life → fault_of (header_text o limit seed life) ≡ None
 header_faultless o limit seed life t =
@@ -106,13 +101,12 @@ header_faultless o limit seed life t =
     let at = rows_at second opened [] o.rows opens t.rows in
     let seed_none : fault_at (rows_onto o.rows second) (seed_line seed life) ≡ None =
     no_fault (rows_onto o.rows second) (seed_line seed life) (Seed seed life) at.form (omega (arith, last_short.whole, rows_bytes o.rows second t.rows, few)) last_short.bare
-    (seed_said (rows_onto o.rows second) opened o.rows seed life at t.key.0 t.key.1 t.numbers.1)
+    (seed_said (rows_onto o.rows second) opened (pairs o.rows) seed life at t.key.0 t.key.1 t.numbers.1)
     (ap (λ (head : Head). fault_of_command head (Seed seed life)) at.head) in
     let newest = newest_are o limit seed life t in
     let last = header_at o limit seed life t in
     let ending : fault_at_end (head_of (newest_lines o limit seed life)) ≡ None =
-    ap fault_at_end last.head ∙ ap (λ (first : Option OpeningFault). opening_at 2 (kind_with first (are_past o.last o.rows))) (no_opening_fault o t.setting)
-    ∙ ap (λ (past : Bool). opening_at 2 (kind_with None past)) t.setting.states in
+    ap fault_at_end last.head ∙ ap (λ (o : Setting). opening_at 2 (first_fault o)) (opening_again o limit seed life t) ∙ ap (opening_at 2) (no_opening_fault o t.setting) in
     none_from (pieces (header_text o limit seed life)) [] (subst AreFaultless (sym newest) (seed_none, rows))
     (ap (λ (l : List (List ℕ)). fault_at_end (head_of l)) newest ∙ ending)
 

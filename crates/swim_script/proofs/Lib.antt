@@ -7,5 +7,4 @@ pub mod LineTurns
 pub mod OrderParts
 pub mod SentLines
 pub mod StandingLines
-pub mod States
 pub mod Turns

@@ -4,7 +4,6 @@ use Rattle.std.specs.Prelude.{if◌then◌else◌}
 use Rattle.std.specs.Str.{bytes_eq}
 use Rattle.swim_wire.specs.Arguments.{◌>>=◌, nothing_left}
 use Rattle.swim_wire.specs.Words.{words_of}
-use Rattle.swim_history.specs.declared.rows.Row.{Row}
 use Rattle.swim_script.specs.declared.commands.LineFault.{LineFault}
 use Rattle.swim_script.specs.declared.commands.LineFault.TheVariants as faults
 use Rattle.swim_script.specs.declared.commands.Draws.TheVariants.{Scripted, Seeded}
@@ -13,9 +12,9 @@ use Rattle.swim_script.specs.declared.commands.Stage.TheVariants.{Blank, Header,
 use Rattle.swim_script.specs.declared.commands.Word.{Word}
 use Rattle.swim_script.specs.declared.commands.Word.TheVariants as words
 use Rattle.swim_script.specs.declared.commands.Command.{Command}
-use Rattle.swim_script.specs.declared.commands.Command.TheVariants.{Open, Row as RowLine, Order, Place, Seed, Tick, Hear, Join}
+use Rattle.swim_script.specs.declared.commands.Command.TheVariants.{Open, Row, Order, Place, Seed, Tick, Hear, Join}
 use Rattle.swim_script.specs.declared.commands.Command.TheVariants.{Remove, Table, Gap, Answer}
-use Rattle.swim_script.specs.Arguments.{take_id, take_number, take_peer, take_order, take_seed, take_life, take_state, take_datagram}
+use Rattle.swim_script.specs.Arguments.{take_id, take_number, take_peer, take_order, take_seed, take_life, take_datagram}
 use Rattle.swim_script.specs.Arguments.{open_arguments}
 use Rattle.swim_script.specs.declared.forms.Form.{Form}
 use Rattle.swim_script.specs.declared.forms.Form.TheVariants.{Script, Journal}
@@ -74,8 +73,7 @@ command_after form words.Open given = do
 command_after form words.Row given = do
   id ← take_id given
   peer ← take_peer id.1
-  state ← take_state form peer.1
-  alone (RowLine (record { id = id.0; peer = peer.0; state = state.0 })) state.1
+  alone (Row id.0 peer.0) peer.1
 command_after form words.Order given = do
   order ← take_order given
   alone (Order order.0) order.1
@@ -154,7 +152,7 @@ line_read form stage line = if is_skipped line then Ok None else unskipped_read 
 -- the first word of a line that says this
 abbrev pub word_for : Command → Word
 word_for (Open arguments) = words.Open
-word_for (RowLine row) = words.Row
+word_for (Row id peer) = words.Row
 word_for (Order order) = words.Order
 word_for (Place place) = words.Place
 word_for (Seed key life) = words.Seed

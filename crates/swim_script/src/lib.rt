@@ -10,7 +10,6 @@ mod events;
 mod faults;
 mod forms;
 mod headers;
-mod openings;
 mod playing;
 mod session;
 mod simulator;

@@ -49,16 +49,12 @@ impl Members {
 
     /// The member is up at that address from now on.
     pub fn put(&mut self, id: u32, peer: Peer) {
-        self.add(Row {
+        let row = Row {
             id,
             peer,
             state: State::Up,
-        });
-    }
-
-    /// The member has that row from now on.
-    pub fn add(&mut self, row: Row) {
-        match self.find(row.id) {
+        };
+        match self.find(id) {
             Ok(place) => self.rows[place] = row,
             Err(place) => self.rows.insert(place, row),
         }
