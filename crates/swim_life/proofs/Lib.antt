@@ -1,4 +1,2 @@
-pub mod LifeFiles
 pub mod Living
 pub mod Told
-pub mod Written

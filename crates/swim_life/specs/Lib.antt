@@ -7,4 +7,3 @@ pub mod Lives
 pub mod Notices
 pub mod Pacing
 pub mod Places
-pub mod Written

@@ -1,7 +1,6 @@
 ghost use Rattle.std.specs.Prelude.{◌≡◌};
 
 mod desk;
-mod files;
 mod gates;
 mod lives;
 mod two;

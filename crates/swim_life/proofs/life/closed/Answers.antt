@@ -7,6 +7,3 @@ returns-clause-why g c = elim c.if-all_began.branch [
   | then-all_began w ↦ rw (c.or-why.ensures, c.or-2.ensures, c.or.ensures, w.began-is, w.if-all_began.true) refl
   | else-all_began w ↦ rw (c.or-why.ensures, c.or-2.ensures, c.or.ensures, w.began-is, w.if-all_began.false) refl
 ]
-
-pub close_recorded-journal-requires-clause-seats : goal.close_recorded-journal-requires-clause-seats
-close_recorded-journal-requires-clause-seats g c = c.given_back-seats.ensures
