@@ -10,8 +10,8 @@ MINUTE = 60_000
 PERIODS = 12
 # From a socket of the loopback nothing goes to another net.
 NOWHERE = "192.0.2.1:7000"
-# Seconds of a period of three ticks, and how many more it may take where others work on this machine.
-PERIOD, MOST_BEHIND = 3, 0.15
+# Seconds of a period of three ticks, and how many more or fewer it may seem to take where others work on this machine.
+PERIOD, MOST_BESIDE, TRIES = 3, 0.15, 4
 # The longest path that the system takes has 4,095 bytes, and a name in it 255.
 LONG_PATHS = [41, 300, 4_000]
 
@@ -67,17 +67,17 @@ def other_relays_are_asked(machine):
 
 
 def ticks_last_as_long_as_they_have_to(machine):
-    """From ping to ping three ticks of a second go by. The least of three tries counts, as others work here."""
+    """From ping to ping three ticks of a second go by. One of four tries has to show it, as others work here."""
     members = Members(machine, 2)
     daemon = machine.started(members=members.rows(), k=0, rtt=1, period=3, tick_ms=1_000)
     last, took = None, []
-    while len(took) < 3 and not (took and min(took) <= PERIOD + MOST_BEHIND):
-        _, (kind, _, _, aim, number) = members.next()
-        now, last = (time.monotonic(), last)
+    while len(took) < TRIES and not any(abs(it - PERIOD) <= MOST_BESIDE for it in took):
+        _, (_, _, _, aim, number) = members.next()
+        now = time.monotonic()
         took += [now - last] if last else []
         last = now
         members.sockets[2].sendto(datagram(ACK, aim, daemon.id, aim, number), daemon.address)
-    must(PERIOD - MOST_BEHIND <= min(took) <= PERIOD + MOST_BEHIND, f"periods of {PERIOD} seconds take {took}")
+    must(any(abs(it - PERIOD) <= MOST_BESIDE for it in took), f"periods of {PERIOD} seconds take {took}")
     daemon.stop()
 
 
