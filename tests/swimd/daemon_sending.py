@@ -7,7 +7,7 @@ import time
 from tests.support.daemons import ACK, HOST, PING, REQUEST, SECONDS, datagram, fields, must
 
 MINUTE = 60_000
-PERIODS = 12
+PERIODS = 8
 # From a socket of the loopback nothing goes to another net.
 NOWHERE = "192.0.2.1:7000"
 # Seconds of a period of three ticks, and how many more or fewer it may seem to take where others work on this machine.
@@ -49,7 +49,7 @@ class Members:
 def each_relay_is_asked(machine):
     """Where the one that is pinged doesn't answer at once, each of the other three gets one ping-req."""
     members = Members(machine, 2, 3, 4, 5)
-    daemon = machine.started(members=members.rows(), k=3, tick_ms=40)
+    daemon = machine.started(members=members.rows(), k=3, period=20, tick_ms=40)
     for _ in range(PERIODS):
         members.period(daemon, members.sockets)
     closing = daemon.stop()
@@ -59,7 +59,7 @@ def each_relay_is_asked(machine):
 def other_relays_are_asked(machine):
     """Of three relays one can't be sent to, whichever is the first: the others are asked, and each datagram is counted."""
     members = Members(machine, 2, 3, 4)
-    daemon = machine.started(members=[(5, NOWHERE), *members.rows()], k=3, tick_ms=40)
+    daemon = machine.started(members=[(5, NOWHERE), *members.rows()], k=3, period=20, tick_ms=40)
     for _ in range(PERIODS):
         members.period(daemon, {*members.sockets, 5})
     closing = daemon.stop()
