@@ -24,9 +24,11 @@ HEAD = "".join(f"{it}\n" for it in ["open 1 2 1 3 0 1000000", *(f"row {id} {addr
 
 
 class Kind:
-    """A kind of texts: it makes a case of random numbers, and says what isn't as it has to be. So many are judged at a time."""
+    """A kind of texts: it makes a case of random numbers, and says what isn't as it has to be. So many are judged at a time; where
+    what a case does is seen by later ones, they go one by one."""
 
     lanes = os.cpu_count()
+    is_one_course = False
 
     def __init__(self, programs):
         self.programs = programs
@@ -91,7 +93,7 @@ class Configurations(Kind):
 class ControlLines(Kind):
     """What comes on control connections of one daemon, whose first tick is a minute away, judged by the model."""
 
-    lanes = 1
+    lanes, is_one_course = 1, True
 
     def __init__(self, programs):
         super().__init__(programs)
