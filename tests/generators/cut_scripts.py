@@ -2,10 +2,8 @@
 one leaves: the same parameters, the members known then, up or failed, ascending by id, and the last period number that was used.
 What is drawn in it is told anew.
 
-That detector is played twice. The reference goes on within one run (`reference --cut N`). And a script is written whose header is
-that opening, which swimsim and the reference play: its rows are those that swimsim's own `table` shows at the cut. As a script
-can't say of a row that it failed, those that are up stand there alone, and the failed ones are laid over what is answered
-(`laid_over`): they are shown, can be removed, and count where a table is full, and else change nothing.
+That detector is played twice. The reference goes on within one run (`reference --cut N`). And a journal file is written whose
+header is that opening, which swimsim and the reference play: its rows are those that swimsim's own `table` shows at the cut.
 
 `cut_everywhere` plays all cuts of the script of a seed, and says what isn't as it has to be.
 """
@@ -54,10 +52,10 @@ class Left(NamedTuple):
     last: int
 
     def up(self):
-        return {id: row for id, row in self.rows.items() if row[2] == "up"}
+        return sorted(id for id, row in self.rows.items() if row[2] == "up")
 
     def failed(self):
-        return {id: row for id, row in self.rows.items() if row[2] != "up"}
+        return {id for id, row in self.rows.items() if row[2] != "up"}
 
 
 def cut_script(seed):
@@ -106,46 +104,26 @@ def named(event):
     return int(event.split(" ")[1])
 
 
-def turned_away(left, events, found):
-    """Which events are joins that find the table full, with members that failed before the cut among those known."""
-    known, failed, said = set(left.rows), set(left.failed()), []
-    for event, answer in zip(events, found):
-        is_change = event.startswith(("join ", "remove ")) and answer != ["journal full"]
-        id = named(event) if is_change else None
-        is_new = is_change and event.startswith("join ") and answer != ["refused 1"] and id not in known
-        said.append(is_new and len(known) == KNOWN_MEMBERS and bool(failed))
-        if is_new and len(known) < KNOWN_MEMBERS:
-            known.add(id)
-        if is_change:
-            failed.discard(id)
-            known -= {id} if event.startswith("remove ") else set()
-    return said
+def second_script(script, left, events):
+    """A journal file, as its rows tell who failed."""
+    rows = [f"row {' '.join(row).replace(' up', '')}" for _, row in sorted(left.rows.items())]
+    return ["journal 1", opening(script, left.last), *rows, *script.chooser, *events]
 
 
-def second_script(script, left, events, away):
-    """The members that are up alone. In the place of a join that finds the table full stands another call that is refused."""
-    rows = [f"row {id} {row[1]}" for id, row in sorted(left.up().items())]
-    events = [f"remove {script.me}" if it else event for event, it in zip(events, away)]
-    return [opening(script, left.last), *rows, *script.chooser, *events]
-
-
-def laid_over(left, events, found, away, met):
-    """What has to be answered where those that failed before are known too, from what is answered where they aren't."""
+def note_cases(left, events, found, met):
+    """Which cases are met by these events and their answers."""
     failed = left.failed()
-    for event, answer, is_away in zip(events, found, away):
+    for event, answer in zip(events, found):
         if event == "table":
             met.update([SHOWN] if failed else [])
-            rows = {**{int(row.split()[0]): row for row in answer[:-1]}, **{id: " ".join(row) for id, row in failed.items()}}
-            answer = [*(row for _, row in sorted(rows.items())), "."]
-        elif is_away and answer == ["refused 1"]:
-            met.add(FULL)
-            answer = ["refused 3"]
-        elif event.startswith("remove ") and answer == ["refused 4"] and failed.pop(named(event), None):
+        elif event.startswith("join ") and answer == ["refused 3"]:
+            met.update([FULL] if failed else [])
+        elif event.startswith("remove ") and answer == ["removed"] and named(event) in failed:
+            failed.discard(named(event))
             met.add(REMOVED)
-            answer = ["removed"]
-        elif event.startswith("join ") and answer[0].startswith("joined ") and failed.pop(named(event), None):
+        elif event.startswith("join ") and answer[0].startswith("joined ") and named(event) in failed:
+            failed.discard(named(event))
             met.add(BACK)
-        yield answer
 
 
 def first_round(script, ids):
@@ -166,7 +144,7 @@ def begins_otherwise(script, left, events, found, met):
     said = [f"start {place} has the number {number}" for place, number in numbers if number != left.last + place]
     said += [f"the first start is {starts[0]}"] if starts and starts[0][2] != "-" else []
     first = next((place for place, answer in enumerate(found) if answer[0].startswith("started ")), None)
-    ids, changes = sorted(left.up()), ("joined ", "removed")
+    ids, changes = left.up(), ("joined ", "removed")
     if first is not None and ids and not any(answer[0].startswith(changes) for answer in found[:first]):
         met.add(ORDERED)
         wanted = str(first_round(script, ids)[0])
@@ -180,12 +158,11 @@ def cut_at(run, program, reference, script, place, left, met):
     whole = joined([opening(script, script.last), *script.header, *script.chooser, *script.events])
     cut = run([reference, "--cut", str(place)], whole).stdout.partition(b"cut\n")[2]
     within = answers(events, cut)
-    away = turned_away(left, events, within)
-    second = joined(second_script(script, left, events, away))
+    note_cases(left, events, within, met)
+    second = joined(second_script(script, left, events))
     written, right = run([program], second), run([reference], second)
     said = [] if written == right and right.status == 0 else ["swimsim and the reference write different answers"]
-    wanted = list(laid_over(left, events, answers(events, right.stdout), away, met))
-    for event, found, it in zip(events, within, wanted):
+    for event, found, it in zip(events, within, answers(events, right.stdout)):
         if found != it:
             said.append(f"`{event}` is answered {str(found)[:SHOWN_BYTES]}, and not {str(it)[:SHOWN_BYTES]}")
     said += begins_otherwise(script, left, events, within, met)

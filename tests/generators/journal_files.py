@@ -38,6 +38,14 @@ def with_seed(r, script):
     return script
 
 
+def with_failed(r, script):
+    """The same, some of whose members failed in periods that were used before, where there are such."""
+    numbers = lambda: r.choice([1, script.last, r.randint(1, script.last)])
+    if script.last:
+        script.header = [f"{line} failed {numbers()}" if r.random() < 0.3 else line for line in script.header]
+    return script
+
+
 def makes_entry(event, answer):
     return event.split(" ")[0] not in ("table", "gap") and not answer[0].startswith(("wire ", "journal full"))
 
@@ -55,7 +63,7 @@ def told(seed, play):
     """`play` answers what is written on standard output for a script, and whether it had no fault."""
     r = random.Random(seed)
     kind = KINDS[seed % len(KINDS)]
-    script = with_seed(r, kind(r))
+    script = with_failed(r, with_seed(r, kind(r)))
     lines = [FIRST, *script.lines()]
     stdout, is_good = play(joined(lines))
     if not is_good:
@@ -79,6 +87,8 @@ def told(seed, play):
 
 TEXTS = ["= 0 quiet", "= 0 started judged - probe -", "= ", "=", "=0", "= none", "= 1 heard", FIRST, "journal", "journal 2"]
 LIVES_OF_ANY_KIND = ["", " ", " 1", " 0", " 01", " x", " 18446744073709551616", " 1 2", " 1 "]
+STATES_OF_ANY_KIND = ["", " ", " up", " failed", " failed ", " failed 1", " failed 1", " failed 0", " failed 01", " failed x"]
+STATES_OF_ANY_KIND += [" failed 18446744073709551616", " failed 18446744073709551615", " failed 1 2", " Failed 1"]
 
 
 def spoiled(seed):
@@ -89,6 +99,7 @@ def spoiled(seed):
     made = made.lines() if isinstance(made, Script) else made
     lines = (made if isinstance(made, bytes) else joined(made)).decode("latin-1").split("\n")
     lines = [line + r.choice(LIVES_OF_ANY_KIND) if line.startswith("seed ") and r.random() < 0.7 else line for line in lines]
+    lines = [line + r.choice(STATES_OF_ANY_KIND) if line.startswith("row ") and r.random() < 0.2 else line for line in lines]
     for _ in range(r.choice([0, 1, 1, 2, 4])):
         lines.insert(r.randint(0, len(lines)), r.choice(TEXTS))
     first = r.choice([[FIRST]] * 8 + [["", FIRST], ["# a comment", FIRST], [FIRST + " "], [FIRST, FIRST], []])

@@ -183,6 +183,10 @@ SEEDED = b"seed " + b"0" * 64
 NEWEST = "= 0 started judged - probe 2 1"
 MORE = "tick, hear, join, remove, table, gap or ="
 LIFE = "LIFE, the stream of the seed: 0 to 18446744073709551615"
+FAILED = b"row 3 10.0.0.3:7000 failed"
+PERIOD = "N, the period at whose end the member was judged: 1 to LAST"
+STATE = "failed N, or the end of the line"
+USED = "rows that failed in periods from 1 to LAST"
 
 
 def differs(line, mark, cause=None, wanted=NEWEST):
@@ -216,9 +220,24 @@ JOURNALS = [
     (JOURNAL + b"seed 00 x\n", told("line 3: hex", ["seed 00 x", "     ^^"], SEED, "it has 2 digits")),
     (JOURNAL + SEEDED + b" 1\nplace 0\n", told("line 4: seed", ["place 0", "^^^^^"], CHOOSER,
      "line 3 is a seed, from which orders and places are drawn")),
+    (JOURNAL + FAILED + b"\n", told("line 3: number", ["row 3 10.0.0.3:7000 failed", " " * 26 + "^"], PERIOD, "the line ends before it")),
+    (JOURNAL + FAILED + b" 04\n", told("line 3: number", ["row 3 10.0.0.3:7000 failed 04", " " * 27 + "^^"], PERIOD,
+     "a number has no sign and no zero in front")),
+    (JOURNAL + FAILED + b" 4 5\n", told("line 3: extra", ["row 3 10.0.0.3:7000 failed 4 5", " " * 29 + "^"], "the end of the line")),
+    (JOURNAL + FAILED[:-6] + b"down\n", told("line 3: extra", ["row 3 10.0.0.3:7000 down", " " * 20 + "^^^^"], STATE)),
+    (JOURNAL + FAILED[:-6] + b"\n", told("line 3: extra", ["row 3 10.0.0.3:7000 ", " " * 20 + "^"], STATE,
+     "two spaces in a row, or one at the end of the line, have an empty word between them")),
+    (JOURNAL + FAILED[:-6].replace(b"3 ", b"0 ", 1), told("line 3: number", ["row 0 10.0.0.3:7000 ", "    ^"], ID)),
+    # a member that failed in a period that was not used
+    (JOURNAL + ROW + FAILED + b" 4\ntick\n", told("line 2: opening 6", ["open 1 0 1 3 0 100", " " * 13 + "^"], USED,
+     "the row of line 4 failed in period 4, which was not used")),
+    (JOURNAL.replace(b"3 0", b"3 12") + FAILED + b" 12\n" + FAILED.replace(b"3 ", b"2 ", 1) + b" 0\n", told("line 2: opening 6",
+     ["open 1 0 1 3 12 100", " " * 13 + "^^"], USED, "the row of line 4 failed in period 0, which was not used")),
+    (JOURNAL.replace(b"3 0", b"3 4") + ROW + FAILED + b" 4\ntick\n", ONE),
     (JOURNAL + ROW + b"tick\n" + NEWEST.encode() + b"\n", ONE),
     # the same in any other script
     (OPEN + ROW + b"tick\n" + NEWEST.encode() + b"\n", told("line 4: word", [NEWEST, "^"], EVENT, None, ONE)),
+    (OPEN + FAILED + b" 4\n", told("line 2: extra", ["row 3 10.0.0.3:7000 failed 4", " " * 20 + "^" * 6], "the end of the line")),
     (OPEN + SEEDED + b" 1\n", told("line 2: extra", ["seed " + "0" * 64 + " 1", " " * 70 + "^"], "the end of the line")),
     (b"#\n" + JOURNAL, told("line 2: word", ["journal 1", "^^^^^^^"], FIRST)),
 ]

@@ -149,8 +149,79 @@ def lives():
     yield bad("a seed with its life behind a place", head + "place 0\n" + SEED + " x\n", "line 5: seed")
 
 
+def members_that_failed():
+    """Member 3 failed in period 4 of an earlier life, of which 9 periods were used. It is known, and neither probed nor asked."""
+    head = FIRST + "open 1 1 1 3 9 1000\nrow 3 10.0.0.3:7000 failed 4\nrow 2 10.0.0.2:7000\n"
+    ping = "> 10.0.0.2:7000 53570101000000010000000100000002000000000000000a\n"
+    shown = "2 10.0.0.2:7000 up\n3 10.0.0.3:7000 failed 4\n.\n"
+    calls = [
+        ("table\n", shown),
+        ("tick\n= 0 started judged - probe 2 10\n", "started judged - probe 2 10\n" + ping),
+        ("tick\n= 1 asked 2 10 by -\n", "asked 2 10 by -\n"),
+        ("hear 10.0.0.2:7000 535701020000000200000002000000030000000000000005\n= 2 dropped 4\n", "dropped 4\n"),
+        ("gap 3\n", "gap none\n"),
+        ("join 3 10.0.0.3:7001\n= 3 joined 1\n", "joined 1\n"),
+        ("join 3 10.0.0.3:7001\n= 4 refused 2\n", "refused 2\n"),
+        ("table\n", shown.replace("7000 failed 4", "7001 up")),
+    ]
+    yield good("a member that failed before", head + "".join(call for call, _ in calls), "".join(answer for _, answer in calls))
+    gone = head + "remove 3\n= 0 removed\nremove 3\n= 1 refused 4\ntable\n"
+    yield good("a member that failed before is removed", gone, "removed\nrefused 4\n2 10.0.0.2:7000 up\n.\n")
+    alone = FIRST + "open 1 1 1 3 9 1000\nrow 3 10.0.0.3:7000 failed 9\ntick\n= 0 started judged - probe -\n"
+    yield good("nobody but a member that failed before", alone, "started judged - probe -\n")
+    rows = "".join(f"row {id} 10.0.0.2:7000 failed 1\n" for id in range(2, 130))
+    joins = "join 130 10.0.0.2:7000\n= 0 refused 3\njoin 129 10.0.0.2:7000\n= 1 joined 0\n"
+    full = FIRST + "open 1 1 1 3 9 1000\n" + rows + joins
+    yield good("as many as may be known, all of which failed before", full, "refused 3\njoined 0\n")
+    last = "18446744073709551615"
+    spent = FIRST + f"open 1 1 1 3 {last} 9\nrow 2 10.0.0.2:7000 failed {last}\ntable\ntick\n= 0 refused 5\n"
+    yield good("a member that failed in the last period of all", spent, f"2 10.0.0.2:7000 failed {last}\n.\nrefused 5\n")
+
+
+def words_of_a_member_that_failed():
+    head = FIRST + "open 1 1 1 3 9 1000\n"
+    others = [" ", " x", " up", " Failed 4", " failed4", " faile", " failedd 4", " 4", "  failed 4", " failed\r", " failed\t4"]
+    for end in others:
+        yield bad(f"a row with {end!r} behind it", head + f"row 3 10.0.0.3:7000{end}\n", "line 3: extra")
+    for end in ("", " ", " x", " 04", " -4", " +4", " 4\r", "  4", " 18446744073709551616", " 0x4", " four", " 4,5", " x 5"):
+        yield bad(f"a row that failed{end!r}", head + f"row 3 10.0.0.3:7000 failed{end}\n", "line 3: number")
+    for end in (" 4 ", " 4 5", " 4 failed 4", " 0 x"):
+        yield bad(f"a row that failed{end!r}, with words left over", head + f"row 3 10.0.0.3:7000 failed{end}\n", "line 3: extra")
+    yield bad("a bad ID before what is behind the address", head + "row 0 10.0.0.3:7000 failed x\n", "line 3: number")
+    yield bad("a bad address before what is behind it", head + "row 3 10.0.0.3 failed x\n", "line 3: peer")
+    yield bad("a script tells nobody that failed", OPEN + "row 4 10.0.0.4:7000 failed 4\n", "line 4: extra")
+    yield bad("a join tells nobody that failed", head + "join 3 10.0.0.3:7000 failed 4\n", "line 3: extra")
+    behind = FIRST + OPEN + "tick\nrow 4 10.0.0.4:7000 failed x\n"
+    yield bad("a row that failed, behind an event line", behind, "line 6: word", STARTED)
+
+
+def periods_that_were_not_used():
+    """A member failed in a period from 1 to LAST, and any other number is told where no other fault of the opening is."""
+    head, row = FIRST + "# the opening is in line 3\nopen 1 1 1 3 9 1000\n", "row 3 10.0.0.3:7000 failed"
+    for number in (1, 2, 8, 9):
+        yield good(f"a member failed in period {number} of 9", head + f"{row} {number}\ngap 3\n", "gap none\n")
+    for number in (0, 10, 11, 2**32, 2**64 - 1):
+        yield bad(f"a member failed in period {number} of 9", head + f"{row} {number}\ngap 3\n", "line 3: opening 6")
+        yield bad(f"a member failed in period {number} of 9, at the end", head + f"{row} {number}\n", "line 3: opening 6")
+    for number in (0, 1):
+        none = FIRST + f"open 1 1 1 3 0 9\n{row} {number}\n"
+        yield bad(f"a member failed in period {number}, and none was used", none, "line 2: opening 6")
+    yield bad("the second of two failed in no period", head + f"{row} 4\n{row.replace('3', '4')} 0\n", "line 3: opening 6")
+    yield bad("the first of two failed in no period", head + f"{row} 0\n{row.replace('3', '4')} 4\n", "line 3: opening 6")
+    yield bad("too many relays first", head.replace("1 1 1 3 9", "1 9 1 3 9") + f"{row} 0\n", "line 3: opening 1")
+    yield bad("the timing first", head.replace("1 1 1 3 9", "1 1 1 2 9") + f"{row} 0\n", "line 3: opening 2")
+    many = "".join(f"row {id} 10.0.0.2:7000 failed 0\n" for id in range(2, 131))
+    yield bad("too many rows first", head + many, "line 3: opening 3")
+    yield bad("this member first", head + f"{row} 0\nrow 1 10.0.0.1:7000 failed 0\n", "line 3: opening 4")
+    yield bad("a row that stands twice first", head + f"{row} 0\n{row} 4\n", "line 3: opening 5")
+    yield bad("a row that stands twice, up and failed", head + f"{row} 4\nrow 3 10.0.0.3:7000\n", "line 3: opening 5")
+    yield bad("the event line's own fault first", head + f"{row} 0\ntick x\n", "line 5: extra")
+    yield bad("a number that is none first", head + f"{row} 0\n{row} x\n", "line 5: number")
+    yield bad("no answer before it", head + f"{row} 0\n= 0 quiet\n", "line 5: word")
+
+
 def worked_journals():
     for part in (answers_as_they_were, each_kind_of_answer, answers_that_differ, lines_that_tell_no_answer):
         yield from part()
-    for part in (other_first_lines, lives):
+    for part in (other_first_lines, lives, members_that_failed, words_of_a_member_that_failed, periods_that_were_not_used):
         yield from part()

@@ -5,6 +5,8 @@ use Rattle.swim_wire.specs.Ids.{has, has_twice}
 use Rattle.swim_history.specs.declared.rows.Row.{Row}
 use Rattle.swim_history.specs.declared.openings.OpeningFault.{OpeningFault}
 use Rattle.swim_history.specs.declared.openings.OpeningFault.TheVariants.{Relays, Timing, TooManyRows, Myself, Twice}
+use Rattle.swim_history.specs.declared.rows.Change.TheVariants.{Failed}
+use Rattle.swim_history.specs.Changes.{after_change}
 use Rattle.swim_history.specs.Setting.{Setting, ids_of}
 use Rattle.swim_history.specs.Rows.{up}
 
@@ -16,6 +18,10 @@ rows_up members = map (λ member. up member.0 member.1) members
 abbrev pub setting_of : ℕ → ℕ → ℕ → ℕ → List (ℕ × Address) → ℕ → Setting
 setting_of me k rtt period members last =
     record { me = me; k = k; rtt = rtt; period = period; rows = rows_up members; last = last }
+
+-- the setting, but a member failed in that period
+abbrev pub setting_failed : ℕ → ℕ → Setting → Setting
+setting_failed id number o = record o { rows = after_change (Failed id number) o.rows }
 
 -- the fault applies
 abbrev pub has_fault : Setting → OpeningFault → Bool

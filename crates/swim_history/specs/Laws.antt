@@ -2,6 +2,7 @@ pub mod Table
 pub mod Determined
 pub mod Unchanged
 pub mod Check
+pub mod Failing
 pub mod Clock
 pub mod Run
 pub mod InOrder

@@ -1,9 +1,13 @@
 //! What a detector starts from.
 
-ghost use Rattle.std.specs.Prelude.{◌≡◌, ℕ, ◌↔◌, ◌≤◌, Some, None, length, MatchResult, IsOk};
+ghost use Rattle.std.specs.Prelude.{◌≡◌, ℕ, ◌↔◌, ◌≤◌, ◌==◌, ◌&&◌, Some, None, length, MatchResult, IsOk, if◌then◌else◌};
 ghost use Rattle.swim_wire.specs.Ids.{has, has_twice as stands_twice};
-ghost use Rattle.swim_history.specs.Setting.{IsSetting, ids_of};
-ghost use Rattle.swim_history.specs.Check.{first_fault, fault_number, setting_of, rows_up};
+ghost use Rattle.swim_history.specs.declared.rows.Change.TheVariants as changes;
+ghost use Rattle.swim_history.specs.declared.rows.RowState.TheVariants.{Failed};
+ghost use Rattle.swim_history.specs.Changes.{after_change};
+ghost use Rattle.swim_history.specs.Rows.{failed};
+ghost use Rattle.swim_history.specs.Setting.{IsSetting, ids_of, is_state_past};
+ghost use Rattle.swim_history.specs.Check.{first_fault, fault_number, setting_of, setting_failed, rows_up};
 ghost use Rattle.swim_history.specs.After.{setting_after, NumbersGoOn};
 
 use crate::changing::copy_table;
@@ -134,6 +138,26 @@ impl Opening {
         }
     }
 
+    /// The same opening, but that member failed in the period of that number, as it may have in an earlier life. None where it
+    /// isn't among the members, or no period of that number was used: it is from 1 to `last`.
+    #[tactic(auto, using(crate::specs::Laws::Failing::failed_is))]
+    pub fn with_failed(&self, id: Id, number: u64) -> Option<Opening>
+        ensures { result ≡ (if has (ids_of self.now.rows) id && is_state_past self.now.last (Failed number)
+            then Some (setting_failed id number self.now) else None) }
+    {
+        if number == 0 || number > self.last || !has_row(self.rows(), id) {
+            return None;
+        }
+        Some(Opening {
+            me: self.me,
+            k: self.k,
+            rtt: self.rtt,
+            period: self.period,
+            rows: rows_with_failed(self.rows(), id, number),
+            last: self.last,
+        })
+    }
+
     /// The same opening again. It takes no memory.
     pub fn copy(&self) -> Opening
         ensures { result ≡ self.now }
@@ -253,4 +277,39 @@ fn rows_of(members: &[(Id, Peer)]) -> Table
         });
     }
     rows
+}
+
+/// Whether a member has a row.
+fn has_row(rows: &[Row], id: Id) -> bool
+    ensures { result ≡ has (ids_of rows.now) id }
+{
+    match rows {
+        [] => false,
+        [first, others @ ..] => id == first.id || has_row(others, id),
+    }
+}
+
+/// The rows, of which the member's tells that it failed.
+fn rows_with_failed(rows: &[Row], id: Id, number: u64) -> Table
+    requires { length rows.now ≤ KNOWN_MEMBERS }
+    ensures { result.items ≡ after_change (changes.Failed id number) rows.now }
+{
+    let mut made = Table::new();
+    for row in rows {
+        made.push(failed_if_it_is(*row, id, number));
+    }
+    made
+}
+
+/// A row, which tells that its member failed where it is that one.
+fn failed_if_it_is(row: Row, id: Id, number: u64) -> Row
+    ensures { result ≡ (if row.id == id then failed number row else row) }
+{
+    if row.id != id {
+        return row;
+    }
+    Row {
+        state: RowState::Failed(number),
+        ..row
+    }
 }

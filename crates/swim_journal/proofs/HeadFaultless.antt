@@ -1,29 +1,30 @@
--- The header that is written for an opening whose members are all up has no fault.
-use Rattle.std.proofs.Common.{◌≡◌, ℕ, ◌+◌, ◌*◌, ◌≤◌, false, List, [], ◌∷◌, ◌++◌, length, None, refl, sym, ap, subst, ◌∙◌, arith, length-append}
+-- The header that is written for an opening has no fault.
+use Rattle.std.proofs.Common.{◌≡◌, ℕ, ◌+◌, ◌*◌, ◌≤◌, Bool, false, List, [], ◌∷◌, ◌++◌, length, Option, None, refl, sym, ap, subst, ◌∙◌, arith, length-append}
 use Rattle.std.specs.List.{join_with_byte}
 use Rattle.hex.specs.Hex.{lower_digits, IsBytes}
 use Rattle.hex.proofs.HexLemmas.{length-encode_with}
-use Rattle.swim_wire.specs.Address.{Address, IsAddress}
+use Rattle.swim_wire.specs.Address.{IsAddress}
 use Rattle.swim_wire.specs.Lines.{pieces, bare}
-use Rattle.swim_history.specs.Check.{first_fault}
 use Rattle.swim_history.specs.Laws.Check.{no_fault as no_opening_fault}
 use Rattle.swim_history.specs.Setting.{Setting}
 use Rattle.swim_history.specs.Texts.{feed}
 use Rattle.swim_history.specs.declared.rows.Row.{Row}
-use Rattle.swim_history.specs.declared.rows.RowState.TheVariants.{Up}
+use Rattle.swim_history.specs.declared.rows.RowState.{RowState}
+use Rattle.swim_history.specs.declared.rows.RowState.TheVariants.{Up, Failed}
+use Rattle.swim_history.specs.declared.openings.OpeningFault.{OpeningFault}
 use Rattle.swim_history.specs.declared.entries.Entry.{Entry}
 use Rattle.swim_node.specs.Following.{filings_of}
 use Rattle.swim_targets.specs.Draws.{of_seed}
 use Rattle.swim_script.specs.declared.arguments.Opened.{Opened}
 use Rattle.swim_script.specs.declared.commands.Command.TheVariants.{Open, Row as RowLine, Seed}
 use Rattle.swim_script.specs.Headers.{Head, head_of}
-use Rattle.swim_script.specs.Script.{bytes_of, fault_at, fault_at_end, fault_of, fault_of_command, opening_at}
-use Rattle.swim_journal.specs.Headings.{mark_line, open_line, row_line, seed_line, header_text, AreUp, IsTellable}
+use Rattle.swim_script.specs.Script.{bytes_of, fault_at, fault_at_end, fault_of, fault_of_command, are_past, kind_with, opening_at}
+use Rattle.swim_journal.specs.Headings.{mark_line, open_line, row_line, seed_line, header_text, AreTellable, IsTellable}
 use Rattle.swim_journal.specs.Journals.{AreReadBack}
 use Rattle.swim_journal.specs.Replays.{IsDrawnRun, IsJournalFile}
 use Rattle.swim_journal.proofs.Faultless.{AreFaultless, none_from, no_fault}
 use Rattle.swim_journal.proofs.FileLines.{IsAt}
-use Rattle.swim_journal.proofs.Headed.{open_words, open_plain, row_words, row_plain, row_is, seed_words, seed_plain, opened_by, told_with, pairs, rows_onto, open_said, open_at, row_said, row_at, rows_at, seed_said, newest_lines, newest_are, header_at, header_is, opening_again}
+use Rattle.swim_journal.proofs.Headed.{open_words, open_plain, state_words, row_words, row_plain, row_is, seed_words, seed_plain, opened_by, told_with, rows_onto, open_said, open_at, row_said, row_at, rows_at, seed_said, newest_lines, newest_are, header_at, header_is}
 use Rattle.swim_journal.proofs.Short.{number_short, address_short}
 use Rattle.swim_journal.proofs.WordLines.{ArePlain, words_onto, line_bare}
 
@@ -47,10 +48,10 @@ joined_short (word ∷ next ∷ words) =
 
 -- a line of words within so many bytes
 record IsShort (line : List ℕ) : Type 0 where
-  pub whole : length line ≤ 500
+  pub whole : length line ≤ 600
   pub bare : length (bare line) ≤ 2048
 
-words_short : (words : List (List ℕ)) → ArePlain words → total words ≤ 499 → IsShort (words_onto words feed)
+words_short : (words : List (List ℕ)) → ArePlain words → total words ≤ 599 → IsShort (words_onto words feed)
 words_short words plain few = record {
   whole = omega (arith, onto_short words feed, few);
   bare = omega (arith, ap length (line_bare words plain), joined_short words, few);
@@ -61,30 +62,34 @@ open_short o limit =
     words_short (open_words o limit) (open_plain o limit)
     (omega (arith, number_short o.me, number_short o.k, number_short o.rtt, number_short o.period, number_short o.last, number_short limit))
 
-row_short : (row : Row) → row.state ≡ Up → IsAddress row.peer → IsShort (row_line row)
-row_short row up is =
-    subst IsShort (sym (row_is row up))
-    (words_short (row_words row.id row.peer) (row_plain row.id row.peer) (omega (arith, number_short row.id, address_short row.peer is)))
+state_short : (state : RowState) → total (state_words state) ≤ 100
+state_short Up = omega arith
+state_short (Failed number) = omega (arith, number_short number)
+
+row_short : (row : Row) → IsAddress row.peer → IsShort (row_line row)
+row_short row is =
+    subst IsShort (sym (row_is row))
+    (words_short (row_words row) (row_plain row) (omega (arith, number_short row.id, address_short row.peer is, state_short row.state)))
 
 seed_short : (seed : List ℕ) (life : ℕ) → length seed ≡ 32 → IsBytes seed → IsShort (seed_line seed life)
 seed_short seed life long bytes =
     words_short (seed_words seed life) (seed_plain seed life bytes) (omega (arith, number_short life, length-encode_with lower_digits seed, long))
 
-rows_bytes : (rows : List Row) (before : List (List ℕ)) → AreUp rows → bytes_of (rows_onto rows before) ≤ 500 * length rows + bytes_of before
+rows_bytes : (rows : List Row) (before : List (List ℕ)) → AreTellable rows → bytes_of (rows_onto rows before) ≤ 600 * length rows + bytes_of before
 rows_bytes [] before all = omega arith
 rows_bytes (row ∷ rows) before all =
-    let short = row_short row all.0 all.2 in omega (arith, rows_bytes rows (row_line row ∷ before) all.3, short.whole)
+    let short = row_short row all.1 in omega (arith, rows_bytes rows (row_line row ∷ before) all.3, short.whole)
 
 -- ---- the lines
 
-rows_faultless : (before : List (List ℕ)) (opened : Opened) (known : List (ℕ × Address)) (rows : List Row) → IsAt before (told_with opened known None) false → AreUp rows → AreFaultless before → 500 * length rows + bytes_of before ≤ 1000000 → AreFaultless (rows_onto rows before)
+rows_faultless : (before : List (List ℕ)) (opened : Opened) (known : List Row) (rows : List Row) → IsAt before (told_with opened known None) false → AreTellable rows → AreFaultless before → 600 * length rows + bytes_of before ≤ 1000000 → AreFaultless (rows_onto rows before)
 rows_faultless before opened known [] at all before-is fits = before-is
 rows_faultless before opened known (row ∷ rows) at all before-is fits =
-    let short = row_short row all.0 all.2 in
+    let short = row_short row all.1 in
     let here : fault_at before (row_line row) ≡ None =
-    no_fault before (row_line row) (RowLine row.id row.peer) at.form (omega (arith, short.whole, fits)) short.bare (row_said before opened known row at all.0 all.1 all.2)
-    (ap (λ (head : Head). fault_of_command head (RowLine row.id row.peer)) at.head) in
-    rows_faultless (row_line row ∷ before) opened (known ++ (row.id, row.peer) ∷ []) rows (row_at before opened known row at all.0 all.1 all.2) all.3 (here, before-is) (omega (arith, short.whole, fits))
+    no_fault before (row_line row) (RowLine row) at.form (omega (arith, short.whole, fits)) short.bare (row_said before opened known row at (all.0, all.1, all.2))
+    (ap (λ (head : Head). fault_of_command head (RowLine row)) at.head) in
+    rows_faultless (row_line row ∷ before) opened (known ++ row ∷ []) rows (row_at before opened known row at (all.0, all.1, all.2)) all.3 (here, before-is) (omega (arith, short.whole, fits))
 
 pub header_faultless : (o : Setting) (limit : ℕ) (seed : List ℕ) (life : ℕ) → IsTellable o limit seed life → fault_of (header_text o limit seed life) ≡ None
 header_faultless o limit seed life t =
@@ -96,17 +101,18 @@ header_faultless o limit seed life t =
     let open_none : fault_at first (open_line o limit) ≡ None =
     no_fault first (open_line o limit) (Open (opened_by o limit)) refl (omega (arith, opening_short.whole)) opening_short.bare (open_said o limit seed life t) refl in
     let opens = open_at o limit seed life t in
-    let few : 500 * length o.rows + bytes_of second ≤ 1000000 = omega (arith, opening_short.whole, t.setting.rows) in
+    let few : 600 * length o.rows + bytes_of second ≤ 1000000 = omega (arith, opening_short.whole, t.setting.rows) in
     let rows = rows_faultless second opened [] o.rows opens t.rows (open_none, (refl, tt)) few in
     let at = rows_at second opened [] o.rows opens t.rows in
     let seed_none : fault_at (rows_onto o.rows second) (seed_line seed life) ≡ None =
     no_fault (rows_onto o.rows second) (seed_line seed life) (Seed seed life) at.form (omega (arith, last_short.whole, rows_bytes o.rows second t.rows, few)) last_short.bare
-    (seed_said (rows_onto o.rows second) opened (pairs o.rows) seed life at t.key.0 t.key.1 t.numbers.1)
+    (seed_said (rows_onto o.rows second) opened o.rows seed life at t.key.0 t.key.1 t.numbers.1)
     (ap (λ (head : Head). fault_of_command head (Seed seed life)) at.head) in
     let newest = newest_are o limit seed life t in
     let last = header_at o limit seed life t in
     let ending : fault_at_end (head_of (newest_lines o limit seed life)) ≡ None =
-    ap fault_at_end last.head ∙ ap (λ (o : Setting). opening_at 2 (first_fault o)) (opening_again o limit seed life t) ∙ ap (opening_at 2) (no_opening_fault o t.setting) in
+    ap fault_at_end last.head ∙ ap (λ (first : Option OpeningFault). opening_at 2 (kind_with first (are_past o.last o.rows))) (no_opening_fault o t.setting)
+    ∙ ap (λ (past : Bool). opening_at 2 (kind_with None past)) t.setting.states in
     none_from (pieces (header_text o limit seed life)) [] (subst AreFaultless (sym newest) (seed_none, rows))
     (ap (λ (l : List (List ℕ)). fault_at_end (head_of l)) newest ∙ ending)
 

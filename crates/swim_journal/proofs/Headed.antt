@@ -1,4 +1,4 @@
--- The header that is written for an opening whose members are all up is the header of a journal file.
+-- The header that is written for an opening is the header of a journal file.
 use Rattle.std.proofs.Common.{◌≡◌, ℕ, ◌<◌, ◌^◌, false, List, [], ◌∷◌, ◌++◌, length, map, Option, Some, None, codes, decimal, refl, sym, ap, subst, ◌∙◌, arith, append_assoc, append-nil}
 use mathlib.Core.List.{reverse_aux}
 use Rattle.std.specs.Prelude.{reverse}
@@ -10,12 +10,11 @@ use Rattle.swim_wire.specs.AddressLaws.{address_read}
 use Rattle.swim_wire.specs.Cutting.{pieces_at}
 use Rattle.swim_wire.specs.Lines.{pieces, bare}
 use Rattle.swim_wire.specs.Numbers.{number_read, positive_read}
-use Rattle.swim_history.specs.Check.{rows_up}
 use Rattle.swim_history.specs.Setting.{Setting}
 use Rattle.swim_history.specs.Texts.{feed}
 use Rattle.swim_history.specs.declared.rows.Row.{Row}
 use Rattle.swim_history.specs.declared.rows.RowState.{RowState}
-use Rattle.swim_history.specs.declared.rows.RowState.TheVariants.{Up}
+use Rattle.swim_history.specs.declared.rows.RowState.TheVariants.{Up, Failed}
 use Rattle.swim_script.specs.declared.arguments.OpenArguments.{OpenArguments}
 use Rattle.swim_script.specs.declared.arguments.Opened.{Opened}
 use Rattle.swim_script.specs.declared.commands.Command.{Command}
@@ -28,7 +27,7 @@ use Rattle.swim_script.specs.Arguments.{open_arguments, seed_of}
 use Rattle.swim_script.specs.Commands.{line_read, words_read, said_by, command_after}
 use Rattle.swim_script.specs.Forms.{form_of}
 use Rattle.swim_script.specs.Headers.{Told, Head, head_of, stage_of, command_in, said, setting_in, limit_in, chooser_in}
-use Rattle.swim_journal.specs.Headings.{mark_line, open_line, row_line, row_lines, seed_line, header_text, AreUp, IsTellable}
+use Rattle.swim_journal.specs.Headings.{mark_line, open_line, row_line, row_lines, seed_line, header_text, IsState, AreTellable, IsTellable}
 use Rattle.swim_journal.specs.Lines.{IsId}
 use Rattle.swim_journal.specs.Replays.{lines_in, IsHeader}
 use Rattle.swim_journal.proofs.FileLines.{IsAt, said_in, still_journal}
@@ -55,12 +54,20 @@ open_plain o limit = (
       (number_then o.last (decimal limit ∷ []) (number_then limit [] tt))))),
 )
 
-abbrev pub row_words : ℕ → Address → List (List ℕ)
-row_words id peer = codes "row" ∷ decimal id ∷ address_text peer ∷ []
+abbrev pub state_words : RowState → List (List ℕ)
+state_words Up = []
+state_words (Failed number) = codes "failed" ∷ decimal number ∷ []
 
-pub row_plain : (id : ℕ) (peer : Address) → ArePlain (row_words id peer)
-row_plain id peer =
-    (refl, refl, number_then id (address_text peer ∷ []) (address_without 32 peer (omega arith), address_without 10 peer (omega arith), tt))
+state_plain : (state : RowState) → ArePlain (state_words state)
+state_plain Up = tt
+state_plain (Failed number) = (refl, refl, number_then number [] tt)
+
+abbrev pub row_words : Row → List (List ℕ)
+row_words row = codes "row" ∷ decimal row.id ∷ address_text row.peer ∷ state_words row.state
+
+pub row_plain : (row : Row) → ArePlain (row_words row)
+row_plain row =
+    (refl, refl, number_then row.id (address_text row.peer ∷ state_words row.state) (address_without 32 row.peer (omega arith), address_without 10 row.peer (omega arith), state_plain row.state))
 
 abbrev pub seed_words : List ℕ → ℕ → List (List ℕ)
 seed_words seed life = codes "seed" ∷ encode_lower seed ∷ decimal life ∷ []
@@ -90,9 +97,16 @@ open_says o limit seed life t =
       number_read 4294967295 limit (omega (arith, t.numbers.0)) (omega (arith, t.numbers.0)),
     ) refl
 
-row_says : (id : ℕ) (peer : Address) → IsId id → IsAddress peer → said_words (Header Unsaid) (row_words id peer) ≡ Some (RowLine id peer)
+row_says : (id : ℕ) (peer : Address) (state : RowState) → IsId id → IsAddress peer → IsState state →
+    said_words (Header Unsaid) (row_words (record { id = id; peer = peer; state = state })) ≡ Some (RowLine (record { id = id; peer = peer; state = state }))
 unfolding command_after
-row_says id peer is address = rw (positive_read 4294967295 id is.0 (omega (arith, is.1)) (omega (arith, is.1)), address_read peer address) refl
+row_says id peer Up is address past = rw (positive_read 4294967295 id is.0 (omega (arith, is.1)) (omega (arith, is.1)), address_read peer address) refl
+row_says id peer (Failed number) is address small =
+    rw (
+      positive_read 4294967295 id is.0 (omega (arith, is.1)) (omega (arith, is.1)),
+      address_read peer address,
+      number_read 18446744073709551615 number (omega (arith, small)) small,
+    ) refl
 
 seed_says : (seed : List ℕ) (life : ℕ) → length seed ≡ 32 → IsBytes seed → life < 2 ^ 64 → said_words (Header Unsaid) (seed_words seed life) ≡ Some (Seed seed life)
 unfolding command_after
@@ -103,7 +117,7 @@ seed_says seed life long bytes small =
 -- ---- how far a header has come
 
 -- what is told, with these members and perhaps a seed
-abbrev pub told_with : Opened → List (ℕ × Address) → Option (List ℕ × ℕ) → Told
+abbrev pub told_with : Opened → List Row → Option (List ℕ × ℕ) → Told
 told_with opened rows seed = record { opened = Some opened; rows = rows; orders = []; places = []; seed = seed }
 
 pub open_said : (o : Setting) (limit : ℕ) (seed : List ℕ) (life : ℕ) → IsTellable o limit seed life → said (mark_line ∷ []) (open_line o limit) ≡ Some (Open (opened_by o limit))
@@ -121,33 +135,38 @@ abbrev pub rows_onto : List Row → List (List ℕ) → List (List ℕ)
 rows_onto [] before = before
 rows_onto (row ∷ rows) before = rows_onto rows (row_line row ∷ before)
 
-abbrev pub pairs : List Row → List (ℕ × Address)
-pairs rows = map (λ row. (row.id, row.peer)) rows
+pub row_is : (row : Row) → row_line row ≡ words_onto (row_words row) feed
+row_is row = by row.state
+  where
+    by : (state : RowState) → row_line (record { id = row.id; peer = row.peer; state = state }) ≡ words_onto (row_words (record { id = row.id; peer = row.peer; state = state })) feed
+    by Up = refl
+    by (Failed number) = refl
 
-pub row_is : (row : Row) → row.state ≡ Up → row_line row ≡ words_onto (row_words row.id row.peer) feed
-row_is row up = ap (λ (state : RowState). row_line (record { id = row.id; peer = row.peer; state = state })) up
+-- a member that can be told
+abbrev pub IsRowTellable : Row → Type 0
+IsRowTellable row = IsId row.id × IsAddress row.peer × IsState row.state
 
-pub row_said : (before : List (List ℕ)) (opened : Opened) (known : List (ℕ × Address)) (row : Row) → IsAt before (told_with opened known None) false → row.state ≡ Up → IsId row.id → IsAddress row.peer → said before (row_line row) ≡ Some (RowLine row.id row.peer)
-row_said before opened known row at up is address =
+pub row_said : (before : List (List ℕ)) (opened : Opened) (known : List Row) (row : Row) → IsAt before (told_with opened known None) false → IsRowTellable row → said before (row_line row) ≡ Some (RowLine row)
+row_said before opened known row at is =
     said_in before (row_line row) at.form
     ∙ ap (λ (head : Head). command_in (line_read Journal (stage_of head) (bare (row_line row)))) at.head
-    ∙ ap (λ (l : List ℕ). command_in (line_read Journal (Header Unsaid) (bare l))) (row_is row up)
-    ∙ ap (λ (l : List ℕ). command_in (line_read Journal (Header Unsaid) l)) (line_bare (row_words row.id row.peer) (row_plain row.id row.peer))
-    ∙ ap (said_words (Header Unsaid)) (words_again (codes "row") (decimal row.id ∷ address_text row.peer ∷ []) (row_plain row.id row.peer))
-    ∙ row_says row.id row.peer is address
+    ∙ ap (λ (l : List ℕ). command_in (line_read Journal (Header Unsaid) (bare l))) (row_is row)
+    ∙ ap (λ (l : List ℕ). command_in (line_read Journal (Header Unsaid) l)) (line_bare (row_words row) (row_plain row))
+    ∙ ap (said_words (Header Unsaid)) (words_again (codes "row") (decimal row.id ∷ address_text row.peer ∷ state_words row.state) (row_plain row))
+    ∙ row_says row.id row.peer row.state is.0 is.1 is.2
 
-pub row_at : (before : List (List ℕ)) (opened : Opened) (known : List (ℕ × Address)) (row : Row) → IsAt before (told_with opened known None) false → row.state ≡ Up → IsId row.id → IsAddress row.peer →
-    IsAt (row_line row ∷ before) (told_with opened (known ++ (row.id, row.peer) ∷ []) None) false
-row_at before opened known row at up is address =
-    record { form = still_journal before (row_line row) at.form; head = rw (row_said before opened known row at up is address, at.head) refl }
+pub row_at : (before : List (List ℕ)) (opened : Opened) (known : List Row) (row : Row) → IsAt before (told_with opened known None) false → IsRowTellable row →
+    IsAt (row_line row ∷ before) (told_with opened (known ++ row ∷ []) None) false
+row_at before opened known row at is =
+    record { form = still_journal before (row_line row) at.form; head = rw (row_said before opened known row at is, at.head) refl }
 
-pub rows_at : (before : List (List ℕ)) (opened : Opened) (known : List (ℕ × Address)) (rows : List Row) → IsAt before (told_with opened known None) false → AreUp rows → IsAt (rows_onto rows before) (told_with opened (known ++ pairs rows) None) false
-rows_at before opened known [] at all = subst (λ (l : List (ℕ × Address)). IsAt before (told_with opened l None) false) (sym (append-nil known)) at
+pub rows_at : (before : List (List ℕ)) (opened : Opened) (known : List Row) (rows : List Row) → IsAt before (told_with opened known None) false → AreTellable rows → IsAt (rows_onto rows before) (told_with opened (known ++ rows) None) false
+rows_at before opened known [] at all = subst (λ (l : List Row). IsAt before (told_with opened l None) false) (sym (append-nil known)) at
 rows_at before opened known (row ∷ rows) at all =
-    subst (λ (l : List (ℕ × Address)). IsAt (rows_onto rows (row_line row ∷ before)) (told_with opened l None) false) (append_assoc known ((row.id, row.peer) ∷ []) (pairs rows))
-    (rows_at (row_line row ∷ before) opened (known ++ (row.id, row.peer) ∷ []) rows (row_at before opened known row at all.0 all.1 all.2) all.3)
+    subst (λ (l : List Row). IsAt (rows_onto rows (row_line row ∷ before)) (told_with opened l None) false) (append_assoc known (row ∷ []) rows)
+    (rows_at (row_line row ∷ before) opened (known ++ row ∷ []) rows (row_at before opened known row at (all.0, all.1, all.2)) all.3)
 
-pub seed_said : (before : List (List ℕ)) (opened : Opened) (known : List (ℕ × Address)) (seed : List ℕ) (life : ℕ) → IsAt before (told_with opened known None) false → length seed ≡ 32 → IsBytes seed → life < 2 ^ 64 → said before (seed_line seed life) ≡ Some (Seed seed life)
+pub seed_said : (before : List (List ℕ)) (opened : Opened) (known : List Row) (seed : List ℕ) (life : ℕ) → IsAt before (told_with opened known None) false → length seed ≡ 32 → IsBytes seed → life < 2 ^ 64 → said before (seed_line seed life) ≡ Some (Seed seed life)
 seed_said before opened known seed life at long bytes small =
     said_in before (seed_line seed life) at.form
     ∙ ap (λ (head : Head). command_in (line_read Journal (stage_of head) (bare (seed_line seed life)))) at.head
@@ -155,7 +174,7 @@ seed_said before opened known seed life at long bytes small =
     ∙ ap (said_words (Header Unsaid)) (words_again (codes "seed") (encode_lower seed ∷ decimal life ∷ []) (seed_plain seed life bytes))
     ∙ seed_says seed life long bytes small
 
-seed_at : (before : List (List ℕ)) (opened : Opened) (known : List (ℕ × Address)) (seed : List ℕ) (life : ℕ) → IsAt before (told_with opened known None) false → length seed ≡ 32 → IsBytes seed → life < 2 ^ 64 →
+seed_at : (before : List (List ℕ)) (opened : Opened) (known : List Row) (seed : List ℕ) (life : ℕ) → IsAt before (told_with opened known None) false → length seed ≡ 32 → IsBytes seed → life < 2 ^ 64 →
     IsAt (seed_line seed life ∷ before) (told_with opened known (Some (seed, life))) false
 seed_at before opened known seed life at long bytes small =
     record { form = still_journal before (seed_line seed life) at.form; head = rw (seed_said before opened known seed life at long bytes small, at.head) refl }
@@ -166,22 +185,22 @@ seed_at before opened known seed life at long bytes small =
 abbrev head_lines : Setting → ℕ → List ℕ → ℕ → List (List ℕ)
 head_lines o limit seed life = mark_line ∷ open_line o limit ∷ (map row_line o.rows ++ seed_line seed life ∷ [])
 
-rows_pieces : (rows : List Row) (rest : List ℕ) → AreUp rows → pieces (row_lines rows ++ rest) ≡ map row_line rows ++ pieces rest
-rows_pieces [] rest all = refl
-rows_pieces (row ∷ rows) rest all =
+rows_pieces : (rows : List Row) (rest : List ℕ) → pieces (row_lines rows ++ rest) ≡ map row_line rows ++ pieces rest
+rows_pieces [] rest = refl
+rows_pieces (row ∷ rows) rest =
     ap (λ l. pieces l) (append_assoc (row_line row) (row_lines rows) rest)
-    ∙ ap (λ l. pieces (l ++ (row_lines rows ++ rest))) (row_is row all.0)
-    ∙ line_piece (row_words row.id row.peer) (row_lines rows ++ rest) (row_plain row.id row.peer)
-    ∙ ap (λ l. l ∷ pieces (row_lines rows ++ rest)) (sym (row_is row all.0))
-    ∙ ap (λ l. row_line row ∷ l) (rows_pieces rows rest all.3)
+    ∙ ap (λ l. pieces (l ++ (row_lines rows ++ rest))) (row_is row)
+    ∙ line_piece (row_words row) (row_lines rows ++ rest) (row_plain row)
+    ∙ ap (λ l. l ∷ pieces (row_lines rows ++ rest)) (sym (row_is row))
+    ∙ ap (λ l. row_line row ∷ l) (rows_pieces rows rest)
 
-header_pieces : (o : Setting) (limit : ℕ) (seed : List ℕ) (life : ℕ) (rest : List ℕ) → AreUp o.rows → IsBytes seed → pieces (header_text o limit seed life ++ rest) ≡ head_lines o limit seed life ++ pieces rest
-header_pieces o limit seed life rest all bytes =
+header_pieces : (o : Setting) (limit : ℕ) (seed : List ℕ) (life : ℕ) (rest : List ℕ) → IsBytes seed → pieces (header_text o limit seed life ++ rest) ≡ head_lines o limit seed life ++ pieces rest
+header_pieces o limit seed life rest bytes =
     let opening = open_line o limit in
     let rows = row_lines o.rows in
     let last = seed_line seed life in
     let behind : pieces ((rows ++ last) ++ rest) ≡ map row_line o.rows ++ last ∷ pieces rest =
-    ap (λ l. pieces l) (append_assoc rows last rest) ∙ rows_pieces o.rows (last ++ rest) all
+    ap (λ l. pieces l) (append_assoc rows last rest) ∙ rows_pieces o.rows (last ++ rest)
     ∙ ap (λ l. map row_line o.rows ++ l) (line_piece (seed_words seed life) rest (seed_plain seed life bytes)) in
     pieces_at (codes "journal 1") ((opening ++ (rows ++ last)) ++ rest) refl
     ∙ ap (λ l. mark_line ∷ l)
@@ -193,34 +212,23 @@ rows_back : (rows : List Row) (before : List (List ℕ)) (last : List ℕ) → r
 rows_back [] before last = refl
 rows_back (row ∷ rows) before last = rows_back rows (row_line row ∷ before) last
 
-up_again : (rows : List Row) → AreUp rows → rows_up (pairs rows) ≡ rows
-up_again [] all = refl
-up_again (row ∷ rows) all =
-    ap (λ (state : RowState). record { id = row.id; peer = row.peer; state = state } ∷ rows_up (pairs rows)) (sym all.0)
-    ∙ ap (λ l. row ∷ l) (up_again rows all.3)
-
 -- newest first, behind the opening
 abbrev pub newest_lines : Setting → ℕ → List ℕ → ℕ → List (List ℕ)
 newest_lines o limit seed life = seed_line seed life ∷ rows_onto o.rows (open_line o limit ∷ mark_line ∷ [])
 
 alone : (o : Setting) (limit : ℕ) (seed : List ℕ) (life : ℕ) → IsTellable o limit seed life → pieces (header_text o limit seed life) ≡ head_lines o limit seed life
 alone o limit seed life t =
-    ap (λ l. pieces l) (sym (append-nil (header_text o limit seed life))) ∙ header_pieces o limit seed life [] t.rows t.key.1 ∙ append-nil (head_lines o limit seed life)
+    ap (λ l. pieces l) (sym (append-nil (header_text o limit seed life))) ∙ header_pieces o limit seed life [] t.key.1 ∙ append-nil (head_lines o limit seed life)
 
 pub newest_are : (o : Setting) (limit : ℕ) (seed : List ℕ) (life : ℕ) → IsTellable o limit seed life → lines_in (header_text o limit seed life) ≡ newest_lines o limit seed life
 newest_are o limit seed life t =
     ap reverse (alone o limit seed life t) ∙ rows_back o.rows (open_line o limit ∷ mark_line ∷ []) (seed_line seed life)
 
-pub header_at : (o : Setting) (limit : ℕ) (seed : List ℕ) (life : ℕ) → IsTellable o limit seed life → IsAt (newest_lines o limit seed life) (told_with (record { line = 2; arguments = opened_by o limit }) (pairs o.rows) (Some (seed, life))) false
+pub header_at : (o : Setting) (limit : ℕ) (seed : List ℕ) (life : ℕ) → IsTellable o limit seed life → IsAt (newest_lines o limit seed life) (told_with (record { line = 2; arguments = opened_by o limit }) o.rows (Some (seed, life))) false
 header_at o limit seed life t =
     let opened : Opened = record { line = 2; arguments = opened_by o limit } in
     let rows = rows_at (open_line o limit ∷ mark_line ∷ []) opened [] o.rows (open_at o limit seed life t) t.rows in
-    seed_at (rows_onto o.rows (open_line o limit ∷ mark_line ∷ [])) opened (pairs o.rows) seed life rows t.key.0 t.key.1 t.numbers.1
-
--- what it tells is the opening
-pub opening_again : (o : Setting) (limit : ℕ) (seed : List ℕ) (life : ℕ) → IsTellable o limit seed life → setting_in (told_with (record { line = 2; arguments = opened_by o limit }) (pairs o.rows) (Some (seed, life))) ≡ o
-opening_again o limit seed life t =
-    ap (λ (rows : List Row). record { me = o.me; k = o.k; rtt = o.rtt; period = o.period; rows = rows; last = o.last }) (up_again o.rows t.rows)
+    seed_at (rows_onto o.rows (open_line o limit ∷ mark_line ∷ [])) opened o.rows seed life rows t.key.0 t.key.1 t.numbers.1
 
 pub header_is : (o : Setting) (limit : ℕ) (seed : List ℕ) (life : ℕ) → IsTellable o limit seed life → IsHeader (header_text o limit seed life) o limit (record (of_seed seed) { stream = life })
 header_is o limit seed life t =
@@ -228,11 +236,11 @@ header_is o limit seed life t =
     let at = header_at o limit seed life t in
     let head = ap head_of newest ∙ at.head in
     record {
-      lines = λ rest. header_pieces o limit seed life rest t.rows t.key.1 ∙ ap (λ l. l ++ pieces rest) (sym (alone o limit seed life t));
+      lines = λ rest. header_pieces o limit seed life rest t.key.1 ∙ ap (λ l. l ++ pieces rest) (sym (alone o limit seed life t));
       form = ap form_of newest ∙ at.form;
       begun = ap (λ (head : Head). head.begun) head;
       stage = ap stage_of head;
-      opening = ap (λ (head : Head). setting_in head.told) head ∙ opening_again o limit seed life t;
+      opening = ap (λ (head : Head). setting_in head.told) head;
       limit_is = ap (λ (head : Head). limit_in head.told) head;
       chooser = ap (λ (head : Head). chooser_in head.told) head;
     }

@@ -12,7 +12,6 @@ pub mod PlayedBack
 pub mod Replayed
 pub mod Reseated
 pub mod Short
-pub mod Tellable
 pub mod Tellings
 pub mod Unrefused
 pub mod Without

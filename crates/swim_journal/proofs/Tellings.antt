@@ -92,7 +92,7 @@ are_told before told (x ∷ h) (tells ∷ asks ∷ rest) seeded at back lines =
 pub none_then : (n : ℕ) (head : Head) (o : Option Command) → (head_then n o head).begun ≡ false → (head.begun ≡ false) × (asked_by o ≡ Nothing)
 none_then n head None e = (e, refl)
 none_then n head (Some (commands.Open arguments)) e = (e, refl)
-none_then n head (Some (commands.Row id peer)) e = (e, refl)
+none_then n head (Some (commands.Row row)) e = (e, refl)
 none_then n head (Some (commands.Order order)) e = (e, refl)
 none_then n head (Some (commands.Place place)) e = (e, refl)
 none_then n head (Some (commands.Seed key life)) e = (e, refl)

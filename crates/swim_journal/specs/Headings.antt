@@ -1,12 +1,11 @@
 -- The header of a journal file: its first line, the opening, the members that are known, and the seed with the life.
-use Rattle.std.specs.Prelude.{◌≡◌, ℕ, Bool, ◌<◌, ◌^◌, List, [], ◌∷◌, ◌++◌, length, codes, decimal}
-use Rattle.std.specs.List.{list_all}
+use Rattle.std.specs.Prelude.{◌≡◌, ℕ, ◌<◌, ◌^◌, List, [], ◌∷◌, ◌++◌, length, codes, decimal}
 use Rattle.hex.specs.Hex.{encode_lower, IsBytes}
 use Rattle.swim_wire.specs.Address.{IsAddress, address_text}
 use Rattle.swim_history.specs.declared.rows.Row.{Row}
 use Rattle.swim_history.specs.declared.rows.RowState.{RowState}
 use Rattle.swim_history.specs.declared.rows.RowState.TheVariants.{Up, Failed}
-use Rattle.swim_history.specs.Setting.{Setting, IsSetting, is_state_up}
+use Rattle.swim_history.specs.Setting.{Setting, IsSetting}
 use Rattle.swim_history.specs.Texts.{feed}
 use Rattle.swim_journal.specs.Lines.{IsId}
 
@@ -40,19 +39,20 @@ seed_line seed life = codes "seed " ++ (encode_lower seed ++ (codes " " ++ (deci
 abbrev pub header_text : Setting → ℕ → List ℕ → ℕ → List ℕ
 header_text o limit seed life = mark_line ++ (open_line o limit ++ (row_lines o.rows ++ seed_line seed life))
 
--- all members are up
-abbrev pub is_all_up : List Row → Bool
-is_all_up rows = list_all (λ row. is_state_up row.state) rows
+-- the number of a period is one of its type
+abbrev pub IsState : RowState → Type 0
+IsState Up = Unit {0}
+IsState (Failed number) = number < 2 ^ 64
 
--- they are, and have the ids and the addresses of such
-abbrev pub AreUp : List Row → Type 0
-AreUp [] = Unit {0}
-AreUp (row ∷ rows) = (row.state ≡ Up) × IsId row.id × IsAddress row.peer × AreUp rows
+-- members have the ids, the addresses and the states of such
+abbrev pub AreTellable : List Row → Type 0
+AreTellable [] = Unit {0}
+AreTellable (row ∷ rows) = IsId row.id × IsAddress row.peer × IsState row.state × AreTellable rows
 
--- header lines can tell this: all members are up, and the numbers are those of their types
+-- header lines can tell this: it is an opening, and the numbers are those of their types
 pub record IsTellable (o : Setting) (limit : ℕ) (seed : List ℕ) (life : ℕ) : Type 0 where
   pub setting : IsSetting o
   pub me : IsId o.me
-  pub rows : AreUp o.rows
+  pub rows : AreTellable o.rows
   pub numbers : (limit < 2 ^ 32) × (life < 2 ^ 64)
   pub key : (length seed ≡ 32) × IsBytes seed

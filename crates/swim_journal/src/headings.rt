@@ -1,12 +1,12 @@
 //! The header of a journal file, written to a sink. Each function answers whether the sink took its text.
 
-ghost use Rattle.std.specs.Prelude.{◌≡◌, ◌++◌, true};
+ghost use Rattle.std.specs.Prelude.{◌≡◌, ◌++◌};
 ghost use Rattle.hex.specs.Hex.{encode_lower};
 ghost use Rattle.swim_wire.specs.Address.{IsAddress};
 ghost use Rattle.swim_wire.specs.Streams.{Puts, failures_if};
 ghost use Rattle.swim_history.specs.declared.rows.RowState.TheVariants.{Up, Failed};
 ghost use Rattle.swim_journal.specs.Headings.{mark_line, open_line, row_line, row_lines, seed_line, header_text};
-ghost use Rattle.swim_journal.specs.Headings.{is_all_up, AreUp, IsTellable};
+ghost use Rattle.swim_journal.specs.Headings.{IsState, AreTellable, IsTellable};
 ghost use Rattle.swim_journal.specs.Lines.{IsId};
 
 use crate::lines::check_peer;
@@ -14,8 +14,8 @@ use swim_history::{Opening, Row, RowState};
 use swim_wire::{Id, Peer, Piece, Sink, put_pieces};
 
 /// The header of the journal file of a detector's life: its opening, how many entries the journal may have, and the seed
-/// with the number of the life, from whose stream it draws. The row of a member that failed stands there with the number
-/// of that period, which no script can tell yet. Where all members are up, the header tells what it was given.
+/// with the number of the life, from whose stream it draws. The row of a member that failed tells the number of that
+/// period. The header tells what it was given.
 pub fn put_header<W: Sink>(
     writer: &mut W,
     opening: &Opening,
@@ -26,7 +26,7 @@ pub fn put_header<W: Sink>(
     ensures bytes { Puts (W.written writer.old) (W.written writer.new)
         (header_text opening.now limit seed.now life) result }
     ensures failures { W.failures writer.new ≡ failures_if (W.failures writer.old) result }
-    ensures tellable { is_all_up opening.now.rows ≡ true → IsTellable opening.now limit seed.now life }
+    ensures tellable { IsTellable opening.now limit seed.now life }
 {
     check_opening(opening, limit, seed, life);
     if !writer.put(b"journal 1\n") {
@@ -172,16 +172,16 @@ fn seed_digits(seed: &[u8; 32]) -> [u8; 64]
     digits
 }
 
-/// What the types of an opening show: where all members are up, a header can tell it.
+/// What the types of an opening show: a header can tell it.
 fn check_opening(opening: &Opening, limit: u32, seed: &[u8; 32], life: u64)
-    ensures { is_all_up opening.now.rows ≡ true → IsTellable opening.now limit seed.now life }
+    ensures { IsTellable opening.now limit seed.now life }
 {
     let _number = opening.me().get();
     check_rows(opening.rows());
 }
 
 fn check_rows(rows: &[Row])
-    ensures { is_all_up rows.now ≡ true → AreUp rows.now }
+    ensures { AreTellable rows.now }
 {
     let [first, others @ ..] = rows else {
         return;
@@ -193,7 +193,18 @@ fn check_rows(rows: &[Row])
 fn check_row(row: &Row)
     ensures id { IsId row.now.id }
     ensures peer { IsAddress row.now.peer }
+    ensures state { IsState row.now.state }
 {
     let _number = row.id.get();
     check_peer(&row.peer);
+    check_state(row.state);
+}
+
+fn check_state(state: RowState)
+    ensures { IsState state }
+{
+    match state {
+        RowState::Up => {}
+        RowState::Failed(_) => {}
+    }
 }

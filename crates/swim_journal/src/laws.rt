@@ -43,8 +43,8 @@ pub fn a_journal_file_is_its_run()
     ensures well { (header : List ℕ) (h : List Entry) → IsJournalFile header h → PlaysWell header h }
 {}
 
-/// The header that `put_header` writes, where all members of the opening are up. It tells that opening, that limit, and the
-/// seed, from the stream of that life; and it has no fault. So with the text of a run that is drawn so it is a journal file.
+/// The header that `put_header` writes. It tells that opening, with the members that failed, that limit, and the seed, from
+/// the stream of that life; and it has no fault. So with the text of a run that is drawn so it is a journal file.
 pub fn a_header_tells_its_opening()
     ensures tells { (o : Setting) (limit : ℕ) (seed : List ℕ) (life : ℕ) → IsTellable o limit seed life →
         IsHeader (header_text o limit seed life) o limit (record (of_seed seed) { stream = life }) }

@@ -13,14 +13,16 @@ use swim_script::{Session, run};
 use swim_targets::Seeded;
 use swim_wire::{Id, Kind, Message, Page, Peer, PeriodNumber, Text, encode};
 
-// Member 1 knows member 2, has a timeout of one tick and a period of three, and draws from life 5 of a seed of sevens.
-const HEADER: &[u8] = b"journal 1\nopen 1 1 1 3 0 2000\nrow 2 10.0.0.2:7000\n\
+// Member 1 knows member 2, and member 3, which failed in period 4 of 9. It has a timeout of one tick and a period of three, and
+// draws from life 5 of a seed of sevens.
+const HEADER: &[u8] =
+    b"journal 1\nopen 1 1 1 3 9 2000\nrow 2 10.0.0.2:7000\nrow 3 10.0.0.3:7000 failed 4\n\
     seed 0707070707070707070707070707070707070707070707070707070707070707 5\n";
 
 // Member 2 pings, is probed, and is removed, so that nobody is asked to ping it; it can't be removed again, and joins.
 const WORKED: &[u8] =
     b"hear 10.0.0.2:7000 535701010000000200000002000000010000000000000001\n= 0 sent\n\
-    tick\n= 1 started judged - probe 2 1\n\
+    tick\n= 1 started judged - probe 2 10\n\
     remove 2\n= 2 removed\n\
     tick\n= 3 quiet\n\
     remove 2\n= 4 refused 4\n\
@@ -38,7 +40,9 @@ fn at(last: u8) -> Peer {
 }
 
 fn opening() -> Result<Opening, Fail> {
-    Ok(Opening::check(id(1), 1, 1, 3, &[(id(2), at(2))], 0).map_err(|_| "an opening")?)
+    let members = [(id(2), at(2)), (id(3), at(3))];
+    let opening = Opening::check(id(1), 1, 1, 3, &members, 9).map_err(|_| "an opening")?;
+    Ok(opening.with_failed(id(3), 4).ok_or("a period 4 was used")?)
 }
 
 fn header(alloc: Global) -> Result<Page, Fail> {

@@ -152,7 +152,7 @@ entry_recorded turns turn run text a b e call head r seat called adds calls conf
 -- a line that makes a call tells of no answer
 calm_call : (command : Command) (call : Call) (run : List Entry) → asked_by (Some command) ≡ Calls call → IsConfirmed (Some command) run
 calm_call (commands.Open arguments) call run asks = tt
-calm_call (commands.Row id peer) call run asks = tt
+calm_call (commands.Row row) call run asks = tt
 calm_call (commands.Order order) call run asks = tt
 calm_call (commands.Place place) call run asks = tt
 calm_call (commands.Seed key life) call run asks = tt

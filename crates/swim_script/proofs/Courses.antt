@@ -18,13 +18,13 @@ use Rattle.swim_script.specs.declared.commands.Command.{Command}
 use Rattle.swim_script.specs.declared.commands.LineFault.{LineFault}
 use Rattle.swim_script.specs.declared.commands.LineFault.TheVariants.{Word}
 use Rattle.swim_script.specs.declared.faults.FaultKind.{FaultKind}
-use Rattle.swim_script.specs.declared.faults.FaultKind.TheVariants.{Size, Long, Words, Opening, Memory, Differs, Read, Write}
+use Rattle.swim_script.specs.declared.faults.FaultKind.TheVariants.{Size, Long, Words, Opening, Unused, Memory, Differs, Read, Write}
 use Rattle.swim_script.specs.declared.faults.ScriptFault.{ScriptFault}
 use Rattle.swim_script.specs.declared.forms.Form.{Form}
 use Rattle.swim_script.specs.declared.forms.Form.TheVariants.{Script}
 use Rattle.swim_script.specs.Forms.{form_after, form_of, most_bytes}
 use Rattle.swim_script.specs.Headers.{Told, nothing_told, is_event, read_after, said, head_of, setting_in, chooser_in}
-use Rattle.swim_script.specs.Script.{Turn, lines_of, at_line, opening_at, fault_of_setting, fault_of_opening, fault_of_read, bytes_of, fault_at, fault_with, fault_of_header, fault_at_end, first_of, fault_from, fault_of, IsTold, lines_before, takes_memory, IsContrary, IsDifferent, WantsMemory, WaitsFor, is_answered, IsAnswering, RunsTo}
+use Rattle.swim_script.specs.Script.{Turn, lines_of, at_line, opening_at, are_past, kind_with, kind_of_setting, fault_of_setting, fault_of_opening, fault_of_read, bytes_of, fault_at, fault_with, fault_of_header, fault_at_end, first_of, fault_from, fault_of, IsTold, lines_before, takes_memory, IsContrary, IsDifferent, WantsMemory, WaitsFor, is_answered, IsAnswering, RunsTo}
 use Rattle.swim_script.specs.Holds.{Played, kept, IsSilent, line_of, IsWaiting, Plays, Holds, ending, ending_with, TurnDone, TurnFails, Course}
 use Rattle.swim_script.specs.Ends.{IsEndOf}
 use Rattle.swim_script.proofs.KeptRows.{fault_of_kept}
@@ -148,6 +148,7 @@ ends_with script left old new fault Size named p = p
 ends_with script left old new fault Long named p = p
 ends_with script left old new fault (Words wrong) named p = p
 ends_with script left old new fault (Opening opening) named p = p
+ends_with script left old new fault Unused named p = p
 ends_with script left old new fault Read named p = absurd (named.0 refl)
 ends_with script left old new fault Write named p = absurd (named.1 refl)
 ends_with script left old new fault Memory named p = absurd (named.2 refl)
@@ -163,14 +164,22 @@ named_words wrong = ((λ e. absurd (cc e)), (λ e. absurd (cc e)), (λ e. absurd
 named_opening : (refused : OpeningFault) → IsNamed (Opening refused)
 named_opening refused = ((λ e. absurd (cc e)), (λ e. absurd (cc e)), (λ e. absurd (cc e)), (λ e. absurd (cc e)))
 
+named_unused : IsNamed Unused
+named_unused = ((λ e. absurd (cc e)), (λ e. absurd (cc e)), (λ e. absurd (cc e)), (λ e. absurd (cc e)))
+
+named_kind : (refused : Option OpeningFault) (past : Bool) (kind : FaultKind) → kind_with refused past ≡ Some kind → IsNamed kind
+named_kind (Some refused) past kind found = subst IsNamed (same_Some (Opening refused) kind found) (named_opening refused)
+named_kind None true kind found = absurd (cc found)
+named_kind None false kind found = subst IsNamed (same_Some Unused kind found) named_unused
+
 -- the fault of an opening stands in its `open` line
-refused_at : (n : ℕ) (refused : Option OpeningFault) (fault : ScriptFault) → opening_at n refused ≡ Some fault → (fault.line ≡ n) × IsNamed fault.kind
-refused_at n None fault found = absurd (cc found)
-refused_at n (Some refused) fault found = subst (λ (f : ScriptFault). (f.line ≡ n) × IsNamed f.kind) (same_Some (at_line n (Opening refused)) fault found) (refl, named_opening refused)
+refused_at : (n : ℕ) (refused : Option FaultKind) (fault : ScriptFault) → ((kind : FaultKind) → refused ≡ Some kind → IsNamed kind) → opening_at n refused ≡ Some fault → (fault.line ≡ n) × IsNamed fault.kind
+refused_at n None fault named found = absurd (cc found)
+refused_at n (Some kind) fault named found = subst (λ (f : ScriptFault). (f.line ≡ n) × IsNamed f.kind) (same_Some (at_line n kind) fault found) (refl, named kind refl)
 
 opening_stands : (opened : Option Opened) (o : Setting) (fault : ScriptFault) → fault_of_setting opened o ≡ Some fault → (fault.line ≡ line_of opened) × IsNamed fault.kind
 opening_stands None o fault found = absurd (cc found)
-opening_stands (Some opened) o fault found = refused_at opened.line (first_fault o) fault found
+opening_stands (Some opened) o fault found = refused_at opened.line (kind_of_setting o) fault (named_kind (first_fault o) (are_past o.last o.rows)) found
 
 -- a fault of a command is one of the opening, at the first event line
 opening_found : (begun event : Bool) (refused : Option ScriptFault) (fault : ScriptFault) → cond begun None (cond event refused None) ≡ Some fault → (begun ≡ false) × (refused ≡ Some fault)

@@ -1,9 +1,8 @@
 -- The rows that are kept of a header: one more than an opening may have.
-use Rattle.std.proofs.Common.{◌≡◌, ℕ, suc, ◌<◌, ◌*◌, ◌==◌, ◌||◌, nat_lt, cond, Bool, true, false, List, [], ◌∷◌, ◌++◌, length, take, Option, Some, None, refl, sym, ap, ◌∙◌, arith, inl, inr}
+use Rattle.std.proofs.Common.{◌≡◌, ◌<◌, ◌*◌, ◌==◌, ◌||◌, nat_lt, cond, Bool, true, false, List, [], ◌∷◌, ◌++◌, length, take, Option, Some, None, refl, sym, ap, ◌∙◌, arith, inl, inr}
 use Rattle.std.proofs.lemmas.Bool.{lt-ltb, cases_lt}
 use Rattle.std.proofs.lemmas.List.{take_all, take_at, length-take, length-append, take-append-le}
-use Rattle.swim_wire.specs.Address.{Address}
-use Rattle.swim_history.specs.Check.{rows_up}
+use Rattle.swim_history.specs.declared.rows.Row.{Row}
 use Rattle.swim_history.specs.declared.openings.OpeningFault.{OpeningFault}
 use Rattle.swim_history.specs.declared.openings.OpeningFault.TheVariants.{Relays, Timing, TooManyRows}
 use Rattle.swim_script.specs.declared.arguments.Opened.{Opened}
@@ -11,10 +10,6 @@ use Rattle.swim_script.specs.declared.faults.FaultKind.TheVariants.{Opening}
 use Rattle.swim_script.specs.Headers.{Told, setting_with}
 use Rattle.swim_script.specs.Script.{at_line, fault_of_setting, fault_with, fault_of_header}
 use Rattle.swim_script.specs.Holds.{first_rows, kept}
-
-length_rows_up : (members : List (ℕ × Address)) → length (rows_up members) ≡ length members
-length_rows_up [] = refl
-length_rows_up (member ∷ members) = ap suc (length_rows_up members)
 
 -- the first fault of an opening with too many rows, by whether it has too many relays or a wrong timing
 abbrev pub first_with_many : Bool → Bool → OpeningFault
@@ -28,14 +23,14 @@ first_is false true = refl
 first_is false false = refl
 
 -- more rows than an opening may have are told as that, whichever they are
-many_rows : (opened : Opened) (rows : List (ℕ × Address)) → 128 < length rows →
+many_rows : (opened : Opened) (rows : List Row) → 128 < length rows →
     fault_of_setting (Some opened) (setting_with (Some opened) rows) ≡ Some (at_line opened.line (Opening (first_with_many (nat_lt 8 opened.arguments.k) (opened.arguments.rtt == 0 || nat_lt opened.arguments.period (3 * opened.arguments.rtt) || nat_lt 65535 opened.arguments.period))))
 many_rows opened rows many =
-    let test = lt-ltb 128 (length (rows_up rows)) (omega (arith, length_rows_up rows)) in
+    let test = lt-ltb 128 (length rows) many in
     rw (test, first_is (nat_lt 8 opened.arguments.k) (opened.arguments.rtt == 0 || nat_lt opened.arguments.period (3 * opened.arguments.rtt) || nat_lt 65535 opened.arguments.period)) refl
 
 -- the rows that are kept tell the fault
-fault_of_first_rows : (opened : Option Opened) (rows : List (ℕ × Address)) → fault_of_setting opened (setting_with opened (first_rows rows)) ≡ fault_of_setting opened (setting_with opened rows)
+fault_of_first_rows : (opened : Option Opened) (rows : List Row) → fault_of_setting opened (setting_with opened (first_rows rows)) ≡ fault_of_setting opened (setting_with opened rows)
 fault_of_first_rows None rows = refl
 fault_of_first_rows (Some opened) rows =
     elim (cases_lt 128 (length rows)) [
@@ -47,7 +42,7 @@ pub fault_of_kept : (told : Told) → fault_of_header (kept told) ≡ fault_of_h
 fault_of_kept told = ap (fault_with told.opened) (fault_of_first_rows told.opened told.rows)
 
 -- where there is no fault all rows are kept
-first_are_all : (opened : Option Opened) (rows : List (ℕ × Address)) → fault_with opened (fault_of_setting opened (setting_with opened (first_rows rows))) ≡ None → first_rows rows ≡ rows
+first_are_all : (opened : Option Opened) (rows : List Row) → fault_with opened (fault_of_setting opened (setting_with opened (first_rows rows))) ≡ None → first_rows rows ≡ rows
 first_are_all None rows none = absurd cc
 first_are_all (Some opened) rows none =
     elim (cases_lt 128 (length rows)) [
@@ -56,7 +51,7 @@ first_are_all (Some opened) rows none =
     ]
 
 pub all_kept : (told : Told) → fault_of_header (kept told) ≡ None → kept told ≡ told
-all_kept told none = ap (λ (rows : List (ℕ × Address)). record told { rows = rows }) (first_are_all told.opened told.rows none)
+all_kept told none = ap (λ (rows : List Row). record told { rows = rows }) (first_are_all told.opened told.rows none)
 
 -- a row more, where more are kept
 pub row_kept : {A : Type 0} (rows : List A) (row : A) → length rows < 129 → rows ++ row ∷ [] ≡ take 129 (rows ++ row ∷ [])
@@ -75,5 +70,5 @@ first_rows_more rows row =
       | inr few ↦ ap (λ xs. take 129 (xs ++ row ∷ [])) (take_all 129 rows few)
     ]
 
-pub kept_more : (told : Told) (id : ℕ) (peer : Address) → kept (record told { rows = first_rows told.rows ++ (id, peer) ∷ [] }) ≡ kept (record told { rows = told.rows ++ (id, peer) ∷ [] })
-kept_more told id peer = ap (λ (rows : List (ℕ × Address)). record told { rows = rows }) (first_rows_more told.rows (id, peer))
+pub kept_more : (told : Told) (row : Row) → kept (record told { rows = first_rows told.rows ++ row ∷ [] }) ≡ kept (record told { rows = told.rows ++ row ∷ [] })
+kept_more told row = ap (λ (rows : List Row). record told { rows = rows }) (first_rows_more told.rows row)

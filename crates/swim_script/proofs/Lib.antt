@@ -7,4 +7,5 @@ pub mod LineTurns
 pub mod OrderParts
 pub mod SentLines
 pub mod StandingLines
+pub mod States
 pub mod Turns

@@ -11,7 +11,7 @@ use Rattle.swim_detector.specs.Recording.{Recording}
 use Rattle.swim_script.specs.declared.arguments.Opened.{Opened}
 use Rattle.swim_script.specs.declared.choosers.Drawer.{Drawer}
 use Rattle.swim_script.specs.declared.commands.Command.{Command}
-use Rattle.swim_script.specs.declared.commands.Command.TheVariants.{Open, Row, Order, Place, Seed, Tick, Hear, Join, Remove, Table, Gap, Answer}
+use Rattle.swim_script.specs.declared.commands.Command.TheVariants.{Open, Row as RowLine, Order, Place, Seed, Tick, Hear, Join, Remove, Table, Gap, Answer}
 use Rattle.swim_script.specs.declared.commands.Draws.{Draws}
 use Rattle.swim_script.specs.declared.commands.LineFault.TheVariants as faults
 use Rattle.swim_script.specs.declared.commands.Stage.TheVariants.{Blank, Events}
@@ -189,10 +189,10 @@ turned_by turns run text piece s new (Open arguments) before after (Ok done) rea
     noted_turn turns run text piece s new (told_then (s.lines + 1) (Open arguments) s.header) (Open arguments) before after read refl refl tt refl stands
     (λ t is. ap (λ n. told_then (n + 1) (Open arguments) s.header) h.count ∙ ap (told_then (length (lines_of turns) + 1) (Open arguments)) is) (λ within. omega (arith, h.count)) h d
 turned_by turns run text piece s new (Open arguments) before after (Err fault) read stands h d = absurd d
-turned_by turns run text piece s new (Row id peer) before after (Ok done) read stands h d =
-    noted_turn turns run text piece s new (kept (told_then (s.lines + 1) (Row id peer) s.header)) (Row id peer) before after read refl refl tt refl stands
-    (λ t is. ap (λ (header : Told). kept (told_then (s.lines + 1) (Row id peer) header)) is ∙ kept_more t id peer) (λ within. omega (arith, within)) h d
-turned_by turns run text piece s new (Row id peer) before after (Err fault) read stands h d = absurd d
+turned_by turns run text piece s new (RowLine row) before after (Ok done) read stands h d =
+    noted_turn turns run text piece s new (kept (told_then (s.lines + 1) (RowLine row) s.header)) (RowLine row) before after read refl refl tt refl stands
+    (λ t is. ap (λ (header : Told). kept (told_then (s.lines + 1) (RowLine row) header)) is ∙ kept_more t row) (λ within. omega (arith, within)) h d
+turned_by turns run text piece s new (RowLine row) before after (Err fault) read stands h d = absurd d
 turned_by turns run text piece s new (Order order) before after (Ok done) read stands h d =
     noted_turn turns run text piece s new (told_then (s.lines + 1) (Order order) s.header) (Order order) before after read refl refl tt refl stands
     (λ t is. ap (told_then (s.lines + 1) (Order order)) is) (λ within. omega (arith, within)) h d

@@ -8,9 +8,9 @@ use Rattle.swim_script.specs.declared.commands.Word.{Word}
 use Rattle.swim_script.specs.declared.forms.Form.{Form}
 use Rattle.swim_script.specs.declared.commands.Word.TheVariants as words
 use Rattle.swim_script.specs.declared.commands.Command.{Command}
-use Rattle.swim_script.specs.declared.commands.Command.TheVariants.{Open, Row, Order, Place, Seed, Tick, Hear, Join, Remove, Table, Gap}
+use Rattle.swim_script.specs.declared.commands.Command.TheVariants.{Open, Row as RowLine, Order, Place, Seed, Tick, Hear, Join, Remove, Table, Gap}
 use Rattle.swim_wire.specs.Arguments.{◌>>=◌}
-use Rattle.swim_script.specs.Arguments.{take_id, take_number, take_peer, take_order, take_seed, take_life, take_datagram, open_arguments}
+use Rattle.swim_script.specs.Arguments.{take_id, take_number, take_peer, take_order, take_seed, take_life, take_state, take_datagram, open_arguments}
 use Rattle.swim_script.specs.Commands.{alone, command_after, word_of, fault_of_word, word_read, known_read, words_read, said_by, is_skipped, answer_in, answer_read, unskipped_read, line_read, word_for, LineStandsAt}
 
 -- the value of a step that did not fail
@@ -34,9 +34,10 @@ word_after form words.Open after command e =
     let arguments = bind_ok (open_arguments after) (λ a. alone (Open a.0) a.1) command e in
     word_alone (Open arguments.0.0) command arguments.0.1 arguments.2
 word_after form words.Row after command e =
-    let id = bind_ok (take_id after) (λ i. take_peer i.1 >>= λ p. alone (Row i.0 p.0) p.1) command e in
-    let peer = bind_ok (take_peer id.0.1) (λ p. alone (Row id.0.0 p.0) p.1) command id.2 in
-    word_alone (Row id.0.0 peer.0.0) command peer.0.1 peer.2
+    let id = bind_ok (take_id after) (λ i. take_peer i.1 >>= λ p. take_state form p.1 >>= λ s. alone (RowLine (record { id = i.0; peer = p.0; state = s.0 })) s.1) command e in
+    let peer = bind_ok (take_peer id.0.1) (λ p. take_state form p.1 >>= λ s. alone (RowLine (record { id = id.0.0; peer = p.0; state = s.0 })) s.1) command id.2 in
+    let state = bind_ok (take_state form peer.0.1) (λ s. alone (RowLine (record { id = id.0.0; peer = peer.0.0; state = s.0 })) s.1) command peer.2 in
+    word_alone (RowLine (record { id = id.0.0; peer = peer.0.0; state = state.0.0 })) command state.0.1 state.2
 word_after form words.Order after command e =
     let order = bind_ok (take_order after) (λ o. alone (Order o.0) o.1) command e in
     word_alone (Order order.0.0) command order.0.1 order.2

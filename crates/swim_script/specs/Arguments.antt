@@ -1,7 +1,8 @@
 -- What the arguments of a line say.
 use Rattle.std.specs.Prelude.{ℕ, nat_lt, List, [], ◌∷◌, length, Option, Some, None, Result, Ok, Err, if◌then◌else◌}
-use Rattle.std.specs.Prelude.{option_and_then}
+use Rattle.std.specs.Prelude.{option_and_then, codes}
 use Rattle.std.specs.Option.{option_map}
+use Rattle.std.specs.Str.{bytes_eq}
 use Rattle.std.specs.Result.{result_ok}
 use Rattle.arrayvec.specs.ArrayVec.{ArrayVec}
 use Rattle.hex.specs.Hex.{decode_of, decode_sized}
@@ -12,8 +13,10 @@ use Rattle.swim_wire.specs.Layout.{decoded}
 use Rattle.swim_wire.specs.Words.{words_by}
 use Rattle.swim_wire.specs.declared.messages.Message.{Message}
 use Rattle.swim_wire.specs.declared.codec.WireFault.{WireFault}
+use Rattle.swim_history.specs.declared.rows.RowState.{RowState}
+use Rattle.swim_history.specs.declared.rows.RowState.TheVariants.{Up, Failed}
 use Rattle.swim_script.specs.declared.commands.LineFault.{LineFault}
-use Rattle.swim_script.specs.declared.commands.LineFault.TheVariants.{Number, Peer, Hex, Order}
+use Rattle.swim_script.specs.declared.commands.LineFault.TheVariants.{Number, Peer, Hex, Order, Extra}
 use Rattle.swim_script.specs.declared.arguments.OpenArguments.{OpenArguments}
 use Rattle.swim_script.specs.declared.forms.Form.{Form}
 use Rattle.swim_script.specs.declared.forms.Form.TheVariants.{Script, Journal}
@@ -66,6 +69,18 @@ abbrev pub take_life : Form → List (List ℕ) → Result (ℕ × List (List �
 take_life Script given = Ok (0, given)
 take_life Journal [] = Ok (0, [])
 take_life Journal (word ∷ after) = take_number 18446744073709551615 (word ∷ after)
+
+-- the state of a row's member, of which the first word is this one: it failed in the period of the number behind it
+abbrev pub state_told : List ℕ → List (List ℕ) → Result (RowState × List (List ℕ)) LineFault
+state_told word after = if bytes_eq word (codes "failed") then (do
+  number ← take_number 18446744073709551615 after
+  Ok (Failed number.0, number.1)) else Err Extra
+
+-- a journal file may tell it, and the member is up where nothing is told
+abbrev pub take_state : Form → List (List ℕ) → Result (RowState × List (List ℕ)) LineFault
+take_state Script given = Ok (Up, given)
+take_state Journal [] = Ok (Up, [])
+take_state Journal (word ∷ after) = state_told word after
 
 -- an order
 abbrev pub take_order : List (List ℕ) → Result (ArrayVec ℕ × List (List ℕ)) LineFault

@@ -12,9 +12,9 @@ use Rattle.swim_script.specs.declared.commands.Stage.TheVariants.{Blank, Header,
 use Rattle.swim_script.specs.declared.commands.Word.{Word}
 use Rattle.swim_script.specs.declared.commands.Word.TheVariants as words
 use Rattle.swim_script.specs.declared.commands.Command.{Command}
-use Rattle.swim_script.specs.declared.commands.Command.TheVariants.{Open, Row, Order, Place, Seed, Tick, Hear, Join}
+use Rattle.swim_script.specs.declared.commands.Command.TheVariants.{Open, Row as RowLine, Order, Place, Seed, Tick, Hear, Join}
 use Rattle.swim_script.specs.declared.commands.Command.TheVariants.{Remove, Table, Gap, Answer}
-use Rattle.swim_script.specs.Arguments.{take_id, take_number, take_peer, take_order, take_seed, take_life, take_datagram}
+use Rattle.swim_script.specs.Arguments.{take_id, take_number, take_peer, take_order, take_seed, take_life, take_state, take_datagram}
 use Rattle.swim_script.specs.Arguments.{open_arguments}
 use Rattle.swim_script.specs.declared.forms.Form.{Form}
 use Rattle.swim_script.specs.declared.forms.Form.TheVariants.{Script, Journal}
@@ -73,7 +73,8 @@ command_after form words.Open given = do
 command_after form words.Row given = do
   id ← take_id given
   peer ← take_peer id.1
-  alone (Row id.0 peer.0) peer.1
+  state ← take_state form peer.1
+  alone (RowLine (record { id = id.0; peer = peer.0; state = state.0 })) state.1
 command_after form words.Order given = do
   order ← take_order given
   alone (Order order.0) order.1
@@ -152,7 +153,7 @@ line_read form stage line = if is_skipped line then Ok None else unskipped_read 
 -- the first word of a line that says this
 abbrev pub word_for : Command → Word
 word_for (Open arguments) = words.Open
-word_for (Row id peer) = words.Row
+word_for (RowLine row) = words.Row
 word_for (Order order) = words.Order
 word_for (Place place) = words.Place
 word_for (Seed key life) = words.Seed

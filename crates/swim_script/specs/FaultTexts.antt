@@ -2,7 +2,8 @@
 use Rattle.std.specs.Prelude.{ℕ, List, ◌++◌, codes, decimal}
 use Rattle.swim_history.specs.Check.{fault_number}
 use Rattle.swim_script.specs.declared.faults.FaultKind.{FaultKind}
-use Rattle.swim_script.specs.declared.faults.FaultKind.TheVariants.{Size, Long, Words, Opening, Memory, Differs, Read, Write}
+use Rattle.swim_script.specs.declared.faults.FaultKind.TheVariants.{Size, Long, Words, Opening, Unused, Memory}
+use Rattle.swim_script.specs.declared.faults.FaultKind.TheVariants.{Differs, Read, Write}
 use Rattle.swim_script.specs.declared.faults.ScriptFault.{ScriptFault}
 use Rattle.swim_script.specs.Commands.{fault_name}
 
@@ -12,6 +13,7 @@ kind_text Size = codes "size"
 kind_text Long = codes "long"
 kind_text (Words fault) = fault_name fault
 kind_text (Opening fault) = codes "opening " ++ decimal (fault_number fault)
+kind_text Unused = codes "opening 6"
 kind_text Memory = codes "memory"
 kind_text Differs = codes "differs"
 kind_text Read = codes "read"

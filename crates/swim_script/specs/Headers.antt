@@ -2,11 +2,11 @@
 -- list of lines is newest first, so that each line stands before the earlier ones.
 use Rattle.std.specs.Prelude.{ℕ, ◌+◌, Bool, true, false, ◌||◌, List, [], ◌∷◌, ◌++◌, length, Option, Some, None, Result}
 use Rattle.std.specs.Prelude.{Ok, Err, if◌then◌else◌}
-use Rattle.swim_wire.specs.Address.{Address}
 use Rattle.swim_wire.specs.Lines.{bare}
 use Rattle.swim_history.specs.Setting.{Setting}
-use Rattle.swim_history.specs.Check.{setting_of}
+use Rattle.swim_history.specs.declared.rows.Row.{Row}
 use Rattle.swim_targets.specs.Draws.{of_seed}
+use Rattle.swim_script.specs.declared.arguments.OpenArguments.{OpenArguments}
 use Rattle.swim_script.specs.declared.arguments.Opened.{Opened}
 use Rattle.swim_script.specs.declared.choosers.Drawer.{Drawer}
 use Rattle.swim_script.specs.declared.choosers.Drawer.TheVariants as drawers
@@ -16,7 +16,7 @@ use Rattle.swim_script.specs.declared.commands.Draws.TheVariants.{Unsaid, Script
 use Rattle.swim_script.specs.declared.commands.Stage.{Stage}
 use Rattle.swim_script.specs.declared.commands.Stage.TheVariants.{Blank, Header, Events}
 use Rattle.swim_script.specs.declared.commands.Command.{Command}
-use Rattle.swim_script.specs.declared.commands.Command.TheVariants.{Open, Row, Order, Place, Seed, Answer}
+use Rattle.swim_script.specs.declared.commands.Command.TheVariants.{Open, Row as RowLine, Order, Place, Seed, Answer}
 use Rattle.swim_script.specs.declared.forms.Form.{Form}
 use Rattle.swim_script.specs.Commands.{line_read}
 use Rattle.swim_script.specs.Forms.{is_mark, form_of}
@@ -24,7 +24,7 @@ use Rattle.swim_script.specs.Forms.{is_mark, form_of}
 -- what header lines tell: the opening, its rows in order, and who chooses; of a seed also the life
 pub record Told : Type 0 where
   pub opened : Option Opened
-  pub rows : List (ℕ × Address)
+  pub rows : List Row
   pub orders : List (List ℕ)
   pub places : List ℕ
   pub seed : Option (List ℕ × ℕ)
@@ -35,7 +35,7 @@ nothing_told = record { opened = None; rows = []; orders = []; places = []; seed
 -- after a line that says this; n is its number
 abbrev pub told_then : ℕ → Command → Told → Told
 told_then n (Open arguments) told = record told { opened = Some (record { line = n; arguments = arguments }) }
-told_then n (Row id peer) told = record told { rows = told.rows ++ (id, peer) ∷ [] }
+told_then n (RowLine row) told = record told { rows = told.rows ++ row ∷ [] }
 told_then n (Order order) told = record told { orders = told.orders ++ order.items ∷ [] }
 told_then n (Place place) told = record told { places = told.places ++ place ∷ [] }
 told_then n (Seed key life) told = record told { seed = Some (key, life) }
@@ -44,7 +44,7 @@ told_then n command told = told
 -- an event line
 abbrev pub is_event : Command → Bool
 is_event (Open arguments) = false
-is_event (Row id peer) = false
+is_event (RowLine row) = false
 is_event (Order order) = false
 is_event (Place place) = false
 is_event (Seed key life) = false
@@ -104,9 +104,12 @@ said before line = command_in (read_after before line)
 -- ---- what follows from it
 
 -- the opening
-abbrev pub setting_with : Option Opened → List (ℕ × Address) → Setting
-setting_with None rows = setting_of 0 0 0 0 rows 0
-setting_with (Some opened) rows = let a = opened.arguments in setting_of a.me a.k a.rtt a.period rows a.last
+abbrev pub setting_by : OpenArguments → List Row → Setting
+setting_by a rows = record { me = a.me; k = a.k; rtt = a.rtt; period = a.period; rows = rows; last = a.last }
+
+abbrev pub setting_with : Option Opened → List Row → Setting
+setting_with None rows = record { me = 0; k = 0; rtt = 0; period = 0; rows = rows; last = 0 }
+setting_with (Some opened) rows = setting_by opened.arguments rows
 
 abbrev pub setting_in : Told → Setting
 setting_in told = setting_with told.opened told.rows

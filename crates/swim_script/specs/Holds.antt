@@ -10,6 +10,7 @@ use Rattle.swim_wire.specs.declared.messages.Message.{Message}
 use Rattle.swim_history.specs.declared.calls.Call.{Call}
 use Rattle.swim_history.specs.declared.calls.Call.TheVariants as calls
 use Rattle.swim_history.specs.declared.entries.Entry.{Entry}
+use Rattle.swim_history.specs.declared.rows.Row.{Row}
 use Rattle.swim_history.specs.Setting.{Setting}
 use Rattle.swim_history.specs.LastProbe.{widest_gap}
 use Rattle.swim_history.specs.Changes.{table}
@@ -17,7 +18,7 @@ use Rattle.swim_detector.specs.Recording.{Recording, IsKept, Records}
 use Rattle.swim_script.specs.declared.arguments.Opened.{Opened}
 use Rattle.swim_script.specs.declared.choosers.Drawer.{Drawer}
 use Rattle.swim_script.specs.declared.commands.Command.{Command}
-use Rattle.swim_script.specs.declared.commands.Command.TheVariants.{Open, Row, Order, Place, Seed, Tick, Hear, Join}
+use Rattle.swim_script.specs.declared.commands.Command.TheVariants.{Open, Row as RowLine, Order, Place, Seed, Tick, Hear, Join}
 use Rattle.swim_script.specs.declared.commands.Command.TheVariants.{Remove, Table, Gap, Answer}
 use Rattle.swim_script.specs.declared.commands.Stage.{Stage}
 use Rattle.swim_script.specs.declared.commands.Stage.TheVariants.{Events}
@@ -46,7 +47,7 @@ stage_in header None = stage_told header
 stage_in header (Some recorded) = Events
 
 -- the rows that are kept: one more than an opening may have
-abbrev pub first_rows : List (ℕ × Address) → List (ℕ × Address)
+abbrev pub first_rows : List Row → List Row
 first_rows rows = take 129 rows
 
 abbrev pub kept : Told → Told
@@ -210,8 +211,8 @@ Confirms old new text before after (Err fault) =
 abbrev pub Done : Played → Played → Command → Option (List ℕ) → Option (List ℕ) → Result (Unit {0}) ScriptFault → Type 0
 Done old new (Open arguments) before after result =
     Notes old new (told_then (old.lines + 1) (Open arguments) old.header) before after result
-Done old new (Row id peer) before after result =
-    Notes old new (kept (told_then (old.lines + 1) (Row id peer) old.header)) before after result
+Done old new (RowLine row) before after result =
+    Notes old new (kept (told_then (old.lines + 1) (RowLine row) old.header)) before after result
 Done old new (Order order) before after result =
     MayNote old new (told_then (old.lines + 1) (Order order) old.header) before after result
 Done old new (Place place) before after result =

@@ -4,13 +4,15 @@ use Rattle.std.specs.Prelude.{◌≡◌, ℕ, ◌+◌, ◌-◌, ◌==◌, Bool, 
 use Rattle.std.specs.Prelude.{length, map, take, drop, reverse, ◌≢◌, Option, Some, None, Result, Ok, Err, if◌then◌else◌}
 use Rattle.std.specs.List.{list_all}
 use Rattle.std.specs.Io.KnownBytes.{Appends}
+use Rattle.swim_wire.specs.Address.{Address}
 use Rattle.swim_wire.specs.Lines.{pieces, bare, has_feed}
 use Rattle.swim_wire.specs.declared.codec.WireFault.{WireFault}
 use Rattle.swim_history.specs.declared.calls.Call.{Call}
 use Rattle.swim_history.specs.declared.calls.Call.TheVariants as calls
 use Rattle.swim_history.specs.declared.entries.Entry.{Entry}
 use Rattle.swim_history.specs.declared.openings.OpeningFault.{OpeningFault}
-use Rattle.swim_history.specs.Setting.{Setting}
+use Rattle.swim_history.specs.declared.rows.Row.{Row}
+use Rattle.swim_history.specs.Setting.{Setting, is_state_past}
 use Rattle.swim_history.specs.Check.{first_fault}
 use Rattle.swim_history.specs.LastProbe.{widest_gap}
 use Rattle.swim_history.specs.Changes.{table}
@@ -23,7 +25,8 @@ use Rattle.swim_script.specs.declared.commands.LineFault.TheVariants.{Word}
 use Rattle.swim_script.specs.declared.commands.Command.{Command}
 use Rattle.swim_script.specs.declared.commands.Command.TheVariants.{Order, Place, Tick, Hear, Join, Remove, Table, Gap, Answer}
 use Rattle.swim_script.specs.declared.faults.FaultKind.{FaultKind}
-use Rattle.swim_script.specs.declared.faults.FaultKind.TheVariants.{Size, Long, Words, Opening, Memory, Differs, Read, Write}
+use Rattle.swim_script.specs.declared.faults.FaultKind.TheVariants.{Size, Long, Words, Opening, Unused, Memory}
+use Rattle.swim_script.specs.declared.faults.FaultKind.TheVariants.{Differs, Read, Write}
 use Rattle.swim_script.specs.declared.faults.ScriptFault.{ScriptFault}
 use Rattle.swim_script.specs.Choosers.{ChoosesOrder, ChoosesPlace}
 use Rattle.swim_script.specs.Forms.{form_of, most_bytes}
@@ -37,14 +40,31 @@ use Rattle.swim_script.specs.Texts.{newest_text, answer_text, wire_text, full_te
 abbrev pub at_line : ℕ → FaultKind → ScriptFault
 at_line n kind = record { line = n; kind = kind }
 
-abbrev pub opening_at : ℕ → Option OpeningFault → Option ScriptFault
+abbrev pub opening_at : ℕ → Option FaultKind → Option ScriptFault
 opening_at n None = None
-opening_at n (Some fault) = Some (at_line n (Opening fault))
+opening_at n (Some kind) = Some (at_line n kind)
+
+-- each member that failed did so in a period that was used, of which this number is the last
+abbrev pub are_past : ℕ → List Row → Bool
+are_past last rows = list_all (λ row. is_state_past last row.state) rows
+
+-- the members of rows, and their addresses
+abbrev pub members_of : List Row → List (ℕ × Address)
+members_of rows = map (λ row. (row.id, row.peer)) rows
+
+-- what is wrong with an opening: the first fault, and that a member didn't fail so where there is no other
+abbrev pub kind_with : Option OpeningFault → Bool → Option FaultKind
+kind_with (Some fault) past = Some (Opening fault)
+kind_with None true = None
+kind_with None false = Some Unused
+
+abbrev pub kind_of_setting : Setting → Option FaultKind
+kind_of_setting o = kind_with (first_fault o) (are_past o.last o.rows)
 
 -- the fault of an opening, in its `open` line
 abbrev pub fault_of_setting : Option Opened → Setting → Option ScriptFault
 fault_of_setting None o = None
-fault_of_setting (Some opened) o = opening_at opened.line (first_fault o)
+fault_of_setting (Some opened) o = opening_at opened.line (kind_of_setting o)
 
 abbrev pub fault_of_opening : Told → Option ScriptFault
 fault_of_opening told = fault_of_setting told.opened (setting_in told)

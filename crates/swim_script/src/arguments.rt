@@ -3,13 +3,14 @@
 ghost use Rattle.std.specs.Prelude.{◌≡◌};
 ghost use Rattle.swim_wire.specs.Arguments.{TakesFrom};
 ghost use Rattle.swim_script.specs.Arguments.{open_arguments, take_number, take_order, take_seed, take_life};
-ghost use Rattle.swim_script.specs.Arguments.{take_datagram};
+ghost use Rattle.swim_script.specs.Arguments.{take_datagram, take_state, state_told};
 ghost use Rattle.swim_script.specs.Arguments.{order_of, seed_of};
 
 use crate::commands::LineFault;
 use crate::datagrams::read_datagram;
 use crate::forms::Form;
 use std::marker::Model;
+use swim_history::RowState;
 use swim_targets::Order;
 use swim_wire::{Id, Message, WireFault, Words, read_number, take_id};
 
@@ -151,6 +152,31 @@ pub fn take_life(form: Form, words: &mut Words<'_>) -> Result<u64, LineFault>
             Some(word) => read_number(word, u64::MAX).ok_or(LineFault::Number),
         },
     }
+}
+
+/// Takes the state of a row's member: up where no word is left, and in a script of a form that can't tell it. Else the next
+/// word is to be `failed`, or the fault is `LineFault::Extra`; and the word behind it a decimal number from 0 to
+/// 18446744073709551615, that of the period at whose end the member was judged, or the fault is `LineFault::Number`.
+pub fn take_state(form: Form, words: &mut Words<'_>) -> Result<RowState, LineFault>
+    ensures { TakesFrom result words.new (take_state form words.old) }
+{
+    match form {
+        Form::Script => Ok(RowState::Up),
+        Form::Journal => match words.next() {
+            None => Ok(RowState::Up),
+            Some(word) => take_failed(word, words),
+        },
+    }
+}
+
+/// Takes the number of the period in which a member failed, behind the word that says so.
+fn take_failed(word: &[u8], words: &mut Words<'_>) -> Result<RowState, LineFault>
+    ensures { TakesFrom result words.new (state_told word.now words.old) }
+{
+    if word != b"failed".as_slice() {
+        return Err(LineFault::Extra);
+    }
+    Ok(RowState::Failed(take_long_number(words)?))
 }
 
 /// The seed that 64 digits spell, of either case.

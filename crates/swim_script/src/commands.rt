@@ -6,9 +6,10 @@ ghost use Rattle.swim_script.specs.Commands.{line_read, is_skipped, behind_sign,
 
 use crate::arguments::{
     AnswerText, OpenArguments, OrderText, take_datagram, take_life, take_number, take_open,
-    take_order, take_seed,
+    take_order, take_seed, take_state,
 };
 use crate::forms::Form;
+use swim_history::Row;
 use swim_wire::{Id, Message, Peer, WireFault, Words, nothing_left, take_id, take_peer};
 
 /// The longest line of a script, in bytes without its line feed.
@@ -95,8 +96,8 @@ pub enum Word {
 pub enum Command<'a> {
     /// The opening is this one.
     Open(OpenArguments),
-    /// The opening has this member, at this address.
-    Row(Id, Peer),
+    /// The opening has this member. In a journal file it may have failed.
+    Row(Row),
     /// The next order to be followed.
     Order(OrderText<'a>),
     /// The next place to be followed.
@@ -276,8 +277,9 @@ pub fn read_command<'a>(
         Word::Row => {
             let id = take_id(words, LineFault::Number)?;
             let peer = take_peer(words, LineFault::Peer)?;
+            let state = take_state(form, words)?;
             nothing_left(words, LineFault::Extra)?;
-            Ok(Some(Command::Row(id, peer)))
+            Ok(Some(Command::Row(Row { id, peer, state })))
         }
         Word::Order => {
             let order = take_order(words)?;

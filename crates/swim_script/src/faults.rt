@@ -16,6 +16,8 @@ pub enum FaultKind {
     Words(LineFault),
     /// The opening is refused.
     Opening(OpeningFault),
+    /// It is refused since a member failed in a period that wasn't used: its number is 0, or beyond the last one.
+    Unused,
     /// Memory to keep or to compare what the line tells was refused.
     Memory,
     /// The newest entry stands at another place than the line tells, or was answered otherwise.
@@ -69,6 +71,7 @@ impl fmt::Display for FaultKind {
                 let number = fault.number();
                 write!(f, "opening {number}")
             }
+            FaultKind::Unused => f.write_str("opening 6"),
             FaultKind::Memory => f.write_str("memory"),
             FaultKind::Differs => f.write_str("differs"),
             FaultKind::Read => f.write_str("read"),

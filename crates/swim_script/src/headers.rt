@@ -3,21 +3,21 @@
 ghost use Rattle.std.specs.Prelude.{◌≡◌, ◌∷◌, ◌++◌, [], List, ℕ, Some, None, Ok, MatchResult, if◌then◌else◌};
 ghost use Rattle.std.specs.Result.{is_ok};
 ghost use Rattle.swim_script.specs.declared.commands.Command.TheVariants as commands;
-ghost use Rattle.swim_script.specs.Headers.{nothing_told, told_then, draws_with, stage_told, setting_with, setting_in};
+ghost use Rattle.swim_script.specs.Headers.{nothing_told, told_then, draws_with, stage_told, setting_in};
 ghost use Rattle.swim_script.specs.Headers.{limit_in, chooser_in};
-ghost use Rattle.swim_script.specs.Script.{fault_of_setting, fault_of_header};
+ghost use Rattle.swim_script.specs.Script.{fault_of_header};
 ghost use Rattle.swim_script.specs.Holds.{first_rows, kept};
 
 use crate::arguments::{OpenArguments, Opened};
 use crate::choosers::Drawer;
 use crate::commands::{Draws, LineFault, Stage};
 use crate::faults::{FaultKind, ScriptFault};
+use crate::openings::checked;
 use arrayvec::ArrayVec;
 use std::alloc::{AllocError, Global};
 use std::marker::Model;
-use swim_history::{KNOWN_MEMBERS, Opening};
+use swim_history::{KNOWN_MEMBERS, Opening, Row};
 use swim_targets::{Order, Scripted, Seeded};
-use swim_wire::{Id, Peer};
 
 /// How many rows are kept: one more than an opening may have, so that its check can tell.
 const KEPT_ROWS: usize = KNOWN_MEMBERS + 1;
@@ -26,7 +26,7 @@ const KEPT_ROWS: usize = KNOWN_MEMBERS + 1;
 #[derive(Drop)]
 pub struct Header {
     opened: Option<Opened>,
-    rows: ArrayVec<(Id, Peer), 129>,
+    rows: ArrayVec<Row, 129>,
     orders: Vec<Order>,
     places: Vec<u32>,
     seed: Option<([u8; 32], u64)>,
@@ -71,10 +71,10 @@ impl Header {
     }
 
     /// A `row` line.
-    pub fn add_row(&mut self, id: Id, peer: Peer)
-        ensures { self.new ≡ kept (record self.old { rows = self.old.rows ++ (id, peer) ∷ [] }) }
+    pub fn add_row(&mut self, row: Row)
+        ensures { self.new ≡ kept (record self.old { rows = self.old.rows ++ row ∷ [] }) }
     {
-        keep_row(&mut self.rows, id, peer);
+        keep_row(&mut self.rows, row);
     }
 
     /// An `order` line. Without memory nothing changes.
@@ -161,26 +161,10 @@ impl Header {
 }
 
 /// Puts a row last, unless as many are kept as tell that there are too many.
-fn keep_row(rows: &mut ArrayVec<(Id, Peer), 129>, id: Id, peer: Peer)
-    ensures { rows.new.items ≡ first_rows (rows.old.items ++ (id, peer) ∷ []) }
+fn keep_row(rows: &mut ArrayVec<Row, 129>, row: Row)
+    ensures { rows.new.items ≡ first_rows (rows.old.items ++ row ∷ []) }
 {
     if rows.len() < KEPT_ROWS {
-        rows.push((id, peer));
-    }
-}
-
-/// The opening of an `open` line and these rows, if it is within the limits.
-fn checked(opened: &Opened, rows: &[(Id, Peer)]) -> Result<Opening, ScriptFault>
-    ensures { let o = setting_with (Some opened.now) rows.now in MatchResult result
-        (λ opening. (fault_of_setting (Some opened.now) o ≡ None) × (opening ≡ o))
-        (λ fault. fault_of_setting (Some opened.now) o ≡ Some fault) }
-{
-    let a = opened.arguments;
-    match Opening::check(a.me, a.k, a.rtt, a.period, rows, a.last) {
-        Ok(opening) => Ok(opening),
-        Err(fault) => Err(ScriptFault {
-            line: opened.line,
-            kind: FaultKind::Opening(fault),
-        }),
+        rows.push(row);
     }
 }

@@ -10,6 +10,7 @@ mod events;
 mod faults;
 mod forms;
 mod headers;
+mod openings;
 mod playing;
 mod session;
 mod simulator;

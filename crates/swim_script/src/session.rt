@@ -21,8 +21,8 @@ use crate::headers::Header;
 use std::alloc::Global;
 use std::marker::Model;
 use swim_detector::Recorder;
-use swim_history::{Call, Journal};
-use swim_wire::{Id, Peer, Sink};
+use swim_history::{Call, Journal, Row};
+use swim_wire::Sink;
 
 /// Where a script has come: its header, and the recorder once an event line was met.
 #[derive(Drop)]
@@ -146,8 +146,8 @@ impl Session {
                 self.open(arguments);
                 Ok(())
             }
-            Command::Row(id, peer) => {
-                self.add_row(id, peer);
+            Command::Row(row) => {
+                self.add_row(row);
                 Ok(())
             }
             Command::Order(order) => self.add_order(order),
@@ -188,19 +188,19 @@ impl Session {
         self.header.open(self.lines, arguments);
     }
 
-    fn add_row(&mut self, id: Id, peer: Peer)
+    fn add_row(&mut self, row: Row)
         requires { self.old.lines < u32.MAX }
         ensures { self.new ≡
             record {
               lines = self.old.lines + 1;
               header =
-                  kept (told_then (self.old.lines + 1) (commands.Row id peer) self.old.header);
+                  kept (told_then (self.old.lines + 1) (commands.Row row) self.old.header);
               recorded =
                   self.old.recorded;
             } }
     {
         self.lines += 1;
-        self.header.add_row(id, peer);
+        self.header.add_row(row);
     }
 
     // A function of its own, since the order is large.

@@ -1,5 +1,5 @@
 -- Where texts differ.
-use Rattle.std.specs.Prelude.{ℕ, suc, ◌==◌, List, [], ◌∷◌, if◌then◌else◌}
+use Rattle.std.specs.Prelude.{ℕ, suc, ◌==◌, List, ◌∷◌, if◌then◌else◌}
 
 -- how many bytes at the front of two texts are the same
 abbrev pub same_front : List ℕ → List ℕ → ℕ

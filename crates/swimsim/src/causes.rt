@@ -42,6 +42,7 @@ pub enum Cause {
     MyselfIn(u32),
     Twice { member: Id, first: u32, second: u32 },
     RowTooMany(u32),
+    Unused { line: u32, number: u64 },
     Opening(OpeningFault),
 }
 
@@ -70,6 +71,10 @@ impl fmt::Display for Cause {
             Cause::LongLine(bytes) => write!(f, "it has {bytes} bytes"),
             Cause::MyselfIn(line) => write!(f, "the row of line {line} has the ID ME"),
             Cause::RowTooMany(line) => write!(f, "the row of line {line} is one too many"),
+            Cause::Unused { line, number } => write!(
+                f,
+                "the row of line {line} failed in period {number}, which was not used"
+            ),
             Cause::Opening(fault) => write!(f, "{fault}"),
             Cause::Twice {
                 member,
@@ -158,7 +163,7 @@ pub fn cause_for(argument: Argument, word: &[u8]) -> Option<Cause> {
         Argument::Address => cause_in_address(word),
         Argument::Seed => cause_in_digits(word, Cause::SeedLength(word.len())),
         Argument::Datagram => cause_in_digits(word, Cause::OddDigits(word.len())),
-        Argument::Ids => None,
+        Argument::Ids | Argument::Failed => None,
         _ => cause_in_number(word),
     }
 }

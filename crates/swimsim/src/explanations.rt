@@ -8,7 +8,7 @@ use crate::marks::{Mark, first_refused, part_at, word_at};
 use crate::notes::{Notes, Told};
 use crate::showing::Shown;
 use std::fmt;
-use swim_history::OpeningFault;
+use swim_history::{OpeningFault, Row, RowState};
 use swim_script::{
     Command, FaultKind, Form, LineFault, OpenArguments, ScriptFault, Word, first_word, read_command,
 };
@@ -58,19 +58,16 @@ impl<'a> Explanation<'a> {
         if fault.line == 0 {
             return bare(Expected::Opening, Some(Cause::NoLine));
         }
-        if let FaultKind::Words(kind) = fault.kind {
-            return of_words(kind, notes.line(), notes.told());
-        }
-        if let FaultKind::Opening(kind) = fault.kind {
-            return of_opening(kind, notes.told());
-        }
         match fault.kind {
+            FaultKind::Words(kind) => of_words(kind, notes.line(), notes.told()),
+            FaultKind::Opening(kind) => of_opening(kind, notes.told()),
+            FaultKind::Unused => of_unused(notes.told()),
             FaultKind::Long => bare(Expected::ShortLine, Some(Cause::LongLine(notes.bytes()))),
             FaultKind::Size => bare(size_of(notes.told().form), None),
             FaultKind::Memory => bare(Expected::Memory, None),
             FaultKind::Differs => of_difference(notes.line(), newest),
             FaultKind::Read => bare(Expected::Input, None),
-            _ => bare(Expected::Output, None),
+            FaultKind::Write => bare(Expected::Output, None),
         }
     }
 }
@@ -281,6 +278,16 @@ fn of_opening<'a>(kind: OpeningFault, told: &'a Told) -> Explanation<'a> {
     at(line, word_at(line, index), expected, cause)
 }
 
+/// An opening with a row that failed in a period that wasn't used, at the last number of its `open` line.
+fn of_unused<'a>(told: &'a Told) -> Explanation<'a> {
+    let Some(open) = &told.open else {
+        return bare(Expected::Opening, None);
+    };
+    let line = open.as_slice();
+    let cause = row_unused(arguments_in(line), told.rows.as_slice());
+    at(line, word_at(line, 5), Expected::UsedPeriods, cause)
+}
+
 /// What an `open` line tells.
 fn arguments_in(line: &[u8]) -> Option<OpenArguments> {
     let mut words = Words::new(line);
@@ -299,18 +306,18 @@ fn has_bad_timeout(opened: Option<OpenArguments>) -> bool {
 }
 
 /// The row with the id of the opening's own member.
-fn row_of_me(opened: Option<OpenArguments>, rows: &[(u32, Id)]) -> Option<Cause> {
+fn row_of_me(opened: Option<OpenArguments>, rows: &[(u32, Row)]) -> Option<Cause> {
     let me = opened?.me;
     Some(Cause::MyselfIn(line_of(rows, me)?))
 }
 
 /// The first row whose id an earlier one has, and that one.
-fn rows_twice(rows: &[(u32, Id)]) -> Option<Cause> {
-    for (second, member) in rows {
-        let first = line_of(rows, *member)?;
+fn rows_twice(rows: &[(u32, Row)]) -> Option<Cause> {
+    for (second, row) in rows {
+        let first = line_of(rows, row.id)?;
         if first < *second {
             return Some(Cause::Twice {
-                member: *member,
+                member: row.id,
                 first,
                 second: *second,
             });
@@ -320,17 +327,33 @@ fn rows_twice(rows: &[(u32, Id)]) -> Option<Cause> {
 }
 
 /// The line of the first row with an id.
-fn line_of(rows: &[(u32, Id)], member: Id) -> Option<u32> {
-    for (line, id) in rows {
-        if *id == member {
+fn line_of(rows: &[(u32, Row)], member: Id) -> Option<u32> {
+    for (line, row) in rows {
+        if row.id == member {
             return Some(*line);
         }
     }
     None
 }
 
+/// The first row that failed in a period of a number that is 0, or beyond the last that was used.
+fn row_unused(opened: Option<OpenArguments>, rows: &[(u32, Row)]) -> Option<Cause> {
+    let last = opened?.last;
+    for (line, row) in rows {
+        if let RowState::Failed(number) = row.state
+            && (number == 0 || number > last)
+        {
+            return Some(Cause::Unused {
+                line: *line,
+                number,
+            });
+        }
+    }
+    None
+}
+
 /// The last row that is noted, which is one too many.
-fn last_row(rows: &[(u32, Id)]) -> Option<Cause> {
+fn last_row(rows: &[(u32, Row)]) -> Option<Cause> {
     let (line, _) = rows.last()?;
     Some(Cause::RowTooMany(*line))
 }

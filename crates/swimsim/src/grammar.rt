@@ -18,6 +18,10 @@ pub enum Argument {
     Limit,
     Member,
     Address,
+    /// What a row of a journal file tells behind its address.
+    Failed,
+    /// The number behind it.
+    FailedIn,
     Ids,
     Place,
     Seed,
@@ -35,6 +39,13 @@ static OF_OPEN: [Argument; 6] = [
 ];
 
 static OF_MEMBER_AT: [Argument; 2] = [Argument::Member, Argument::Address];
+
+static OF_ROW_IN_JOURNAL: [Argument; 4] = [
+    Argument::Member,
+    Argument::Address,
+    Argument::Failed,
+    Argument::FailedIn,
+];
 
 static OF_MEMBER: [Argument; 1] = [Argument::Member];
 
@@ -54,6 +65,7 @@ static OF_NONE: [Argument; 0] = [];
 pub fn arguments_of(form: Form, word: Word) -> &'static [Argument] {
     match word {
         Word::Open => &OF_OPEN,
+        Word::Row if form == Form::Journal => &OF_ROW_IN_JOURNAL,
         Word::Row | Word::Join => &OF_MEMBER_AT,
         Word::Remove | Word::Gap => &OF_MEMBER,
         Word::Order => &OF_ORDER,
@@ -74,7 +86,10 @@ pub fn take_argument(argument: Argument, words: &mut Words<'_>) -> bool {
         | Argument::Period
         | Argument::Limit
         | Argument::Place => take_number(words).is_ok(),
-        Argument::Last => take_long_number(words).is_ok(),
+        Argument::Last | Argument::FailedIn => take_long_number(words).is_ok(),
+        Argument::Failed => words
+            .next()
+            .is_some_and(|word| word == b"failed".as_slice()),
         Argument::Address => take_peer(words, LineFault::Peer).is_ok(),
         Argument::Ids => take_order(words).is_ok(),
         Argument::Seed => take_seed(words).is_ok(),
@@ -99,6 +114,8 @@ impl fmt::Display for Argument {
             Argument::Address => {
                 "a PEER: a.b.c.d:port, four numbers from 0 to 255 and a port from 1 to 65535"
             }
+            Argument::Failed => "failed N, or the end of the line",
+            Argument::FailedIn => "N, the period at whose end the member was judged: 1 to LAST",
             Argument::Ids => "1 to 128 IDs with commas between, each 1 to 4294967295",
             Argument::Place => "a place: 0 to 4294967295",
             Argument::Seed => "a seed: 64 hexadecimal digits",

@@ -4,9 +4,10 @@ use crate::overhearing::Listener;
 use arrayvec::ArrayVec;
 use std::alloc::{AllocError, Global};
 use std::cell::RefCell;
+use swim_history::Row;
 use swim_script::{Command, Form, LINE_BYTES, first_word, read_command};
 use swim_targets::Order;
-use swim_wire::{Id, Words};
+use swim_wire::Words;
 
 /// More rows than an opening may have.
 const NOTED_ROWS: usize = 129;
@@ -19,8 +20,8 @@ pub struct Told {
     pub form: Form,
     /// The `open` line, without its line feed.
     pub open: Option<ArrayVec<u8, LINE_BYTES>>,
-    /// The ids of the first rows, each with the number of its line.
-    pub rows: ArrayVec<(u32, Id), NOTED_ROWS>,
+    /// The first rows, each with the number of its line.
+    pub rows: ArrayVec<(u32, Row), NOTED_ROWS>,
     /// The orders, each with the number of its line.
     pub orders: Vec<(u32, Order)>,
     /// The lines of places.
@@ -73,8 +74,8 @@ impl Told {
                 let _fits = open.try_extend_from_slice(line);
                 self.open = Some(open);
             }
-            Command::Row(id, _) => {
-                let _fits = self.rows.try_push((number, *id));
+            Command::Row(row) => {
+                let _fits = self.rows.try_push((number, *row));
             }
             Command::Order(order) => self.orders.push((number, order.read()))?,
             Command::Place(_) => self.places.push(number)?,

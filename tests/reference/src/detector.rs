@@ -33,9 +33,10 @@ impl Detector {
     /// A detector at its opening, which is within the limits.
     pub fn new(opening: &Opening, chooser: Chooser) -> Detector {
         let mut members = Members::default();
-        for (id, peer) in &opening.rows {
-            members.put(*id, *peer);
+        for row in &opening.rows {
+            members.add(*row);
         }
+        let listed = opening.rows.iter().filter(|row| row.state == State::Up);
         Detector {
             me: opening.me,
             k: opening.k as usize,
@@ -46,7 +47,7 @@ impl Detector {
             aim: None,
             heard: false,
             members,
-            round: Round::new(opening.rows.iter().map(|row| row.0).collect()),
+            round: Round::new(listed.map(|row| row.id).collect()),
             requests: Requests::new(opening.period),
             chooser,
             gaps: Gaps::default(),
@@ -57,20 +58,15 @@ impl Detector {
 
     /// A detector that goes on from this one, without an aim and without waiting requests.
     pub fn after(&self, chooser: Chooser) -> Detector {
-        let rows = self.members.rows().iter();
-        let listed = rows.filter(|row| row.state == State::Up);
         let opening = Opening {
             me: self.me,
             k: self.k as u32,
             rtt: self.rtt,
             period: self.period,
             last: self.number,
-            rows: listed.map(|row| (row.id, row.peer)).collect(),
+            rows: self.members.rows().to_vec(),
         };
-        Detector {
-            members: self.members.clone(),
-            ..Detector::new(&opening, chooser)
-        }
+        Detector::new(&opening, chooser)
     }
 
     pub fn members(&self) -> &Members {

@@ -4,8 +4,7 @@ use crate::chacha::ChaCha;
 use crate::choosers::{Chooser, Scripted};
 use crate::faults::Fault;
 use crate::fields::Words;
-use crate::members::KNOWN_MEMBERS;
-use crate::wire::Peer;
+use crate::members::{Row, State, KNOWN_MEMBERS};
 
 /// What a detector starts from.
 pub struct Opening {
@@ -14,14 +13,14 @@ pub struct Opening {
     pub rtt: u32,
     pub period: u32,
     pub last: u64,
-    pub rows: Vec<(u32, Peer)>,
+    pub rows: Vec<Row>,
 }
 
 impl Opening {
     /// The number of the first limit that it breaks.
     pub fn fault(&self) -> Option<u8> {
         let (rtt, period) = (u64::from(self.rtt), u64::from(self.period));
-        let mut ids: Vec<u32> = self.rows.iter().map(|row| row.0).collect();
+        let mut ids: Vec<u32> = self.rows.iter().map(|row| row.id).collect();
         ids.sort_unstable();
         let faults = [
             self.k > 8,
@@ -29,11 +28,20 @@ impl Opening {
             ids.len() > KNOWN_MEMBERS,
             ids.contains(&self.me),
             ids.windows(2).any(|pair| pair[0] == pair[1]),
+            self.rows.iter().any(|row| !self.was_used(row.state)),
         ];
         faults
             .iter()
             .position(|fault| *fault)
             .map(|place| place as u8 + 1)
+    }
+
+    /// Whether a member of that state failed in no period but those that were used.
+    fn was_used(&self, state: State) -> bool {
+        match state {
+            State::Up => true,
+            State::Failed(number) => (1..=self.last).contains(&number),
+        }
     }
 }
 
@@ -79,7 +87,11 @@ impl Header {
         is_journal: bool,
     ) -> Result<(), Fault> {
         match word {
-            b"row" => self.opening.rows.push((words.id()?, words.peer()?)),
+            b"row" => self.opening.rows.push(Row {
+                id: words.id()?,
+                peer: words.peer()?,
+                state: state_in(words, is_journal)?,
+            }),
             b"order" | b"place" | b"seed" if self.seed.is_some() => return Err(Fault::Seed),
             b"order" => self.script.add_order(words)?,
             b"place" => self.script.add_place(words)?,
@@ -101,5 +113,16 @@ impl Header {
             Some(seed) => Chooser::Seeded(ChaCha::of_stream(seed, self.life.wrapping_add(life))),
             None => Chooser::Scripted(self.script.clone()),
         }
+    }
+}
+
+/// The state of a row, which a journal file tells behind its address where the member failed.
+fn state_in(words: &mut Words, is_journal: bool) -> Result<State, Fault> {
+    if !is_journal || words.end().is_ok() {
+        return Ok(State::Up);
+    }
+    match words.next() {
+        Some(b"failed") => Ok(State::Failed(words.number(u64::MAX)?)),
+        _ => Err(Fault::Extra),
     }
 }

@@ -49,12 +49,16 @@ impl Members {
 
     /// The member is up at that address from now on.
     pub fn put(&mut self, id: u32, peer: Peer) {
-        let row = Row {
+        self.add(Row {
             id,
             peer,
             state: State::Up,
-        };
-        match self.find(id) {
+        });
+    }
+
+    /// The member has that row from now on.
+    pub fn add(&mut self, row: Row) {
+        match self.find(row.id) {
             Ok(place) => self.rows[place] = row,
             Err(place) => self.rows.insert(place, row),
         }

@@ -22,6 +22,7 @@ mod events;
 use crate::choosers::{Chooser, Scripted};
 use crate::detector::Detector;
 use crate::header::Opening;
+use crate::members::{Row, State};
 use crate::plain_node::{Call, Caller, Node, Recorder};
 use crate::wire::{Kind, Message, Peer};
 use std::process::ExitCode;
@@ -81,7 +82,11 @@ fn detector() -> Detector {
         rtt: 1,
         period: 65_535,
         last: 0,
-        rows: vec![(OTHER, SOMEWHERE)],
+        rows: vec![Row {
+            id: OTHER,
+            peer: SOMEWHERE,
+            state: State::Up,
+        }],
     };
     Detector::new(&opening, Chooser::Scripted(Scripted::default()))
 }

@@ -2,6 +2,7 @@
 
 use crate::fields::{bytes_of, number_of, peer_of};
 use crate::header::Opening;
+use crate::members::{Row, State};
 use crate::wire::Peer;
 use std::collections::HashMap;
 
@@ -22,7 +23,13 @@ impl Settings {
     pub fn read(text: &str) -> Option<Settings> {
         let mut tables = text.split("[[member]]").map(table);
         let top = tables.next()?;
-        let rows = tables.map(|member| Some((id(&member)?, peer(member.get("at")?)?)));
+        let rows = tables.map(|member| {
+            Some(Row {
+                id: id(&member)?,
+                peer: peer(member.get("at")?)?,
+                state: State::Up,
+            })
+        });
         let short = |key| number(top.get(key)?, u64::from(u32::MAX));
         let opening = Opening {
             me: id(&top)?,

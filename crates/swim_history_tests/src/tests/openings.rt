@@ -3,6 +3,7 @@ ghost use Rattle.std.specs.Prelude.{◌<◌, ◌≤◌};
 use super::{address, id};
 use arrayvec::ArrayVec;
 use std::process::Abort;
+use std::test::Fail;
 use swim_history::*;
 use swim_wire::{Id, Peer};
 
@@ -81,4 +82,23 @@ fn copies_an_opening(rt: HostRuntime) {
         Ok(opening) => assert_copied(&rt, &opening),
         Err(_) => panic!(rt; "an opening"),
     }
+}
+
+#[test]
+fn members_that_failed(rt: HostRuntime) -> Result<(), Fail> {
+    let opening = match Opening::check(id(1), 1, 1, 3, &[member(2), member(3)], 9) {
+        Ok(opening) => opening,
+        Err(_) => return Err("the parameters are within the limits".into()),
+    };
+    assert!(rt; opening.with_failed(id(2), 0).is_none());
+    assert!(rt; opening.with_failed(id(2), 10).is_none());
+    assert!(rt; opening.with_failed(id(4), 9).is_none());
+    assert!(rt; opening.with_failed(id(1), 9).is_none());
+    let failed = opening.with_failed(id(3), 9).ok_or("a period 9 was used")?;
+    assert_eq!(rt; failed.rows().len(), 2);
+    assert_eq!(rt; failed.rows()[0].state, RowState::Up);
+    assert_eq!(rt; failed.rows()[1].state, RowState::Failed(9));
+    assert_eq!(rt; failed.rows()[1].peer, address(3));
+    assert_eq!(rt; failed.last(), 9);
+    Ok(())
 }
