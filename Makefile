@@ -70,7 +70,7 @@ install:
 	install -m 644 man/swimsim.1 man/swimd.1 '$(MAN)'; \
 	install -m 644 examples/*.swim examples/*.stdout '$(DOC)/swimsim/examples'; \
 	install -m 644 examples/*.toml '$(DOC)/swimd/examples'; \
-	install -m 644 docs/OPERATING.md '$(DOC)/swimd'; \
+	install -m 644 docs/OPERATING.md docs/CHECKING.md '$(DOC)/swimd'; \
 	sed 's|/usr/local/bin/|$(PREFIX)/bin/|' contrib/swimd.service > '$(UNIT)/swimd.service'; \
 	chmod 644 '$(UNIT)/swimd.service'
 

@@ -24,6 +24,7 @@ use Rattle.swim_config.specs.declared.keys.Key.TheVariants as keys
 use Rattle.swim_config.specs.declared.config.Place.{Place}
 use Rattle.swim_config.specs.declared.config.Times.{Times}
 use Rattle.swim_config.specs.declared.config.Kept.{Kept}
+use Rattle.swim_config.specs.declared.config.JournalFiles.{JournalFiles}
 use Rattle.swim_config.specs.declared.config.Settings.{Settings}
 use Rattle.swim_config.specs.Keys.{name_of, form_of, default_of, top_keys, member_keys}
 
@@ -93,6 +94,21 @@ abbrev pub path_at : Members → Result (List ℕ) ConfigFault
 path_at table = do
   text ← text_at keys.Control table
   ok_or (path_of text) (faults.Range keys.Control)
+
+-- the path of a key that may be left out
+abbrev pub path_as : Key → Data → Result (List ℕ) ConfigFault
+path_as key value = do
+  text ← ok_or (as_str value) (faults.Kind key)
+  ok_or (path_of text) (faults.Range key)
+
+abbrev pub path_in : Key → Option Data → Result (Option (List ℕ)) ConfigFault
+path_in key None = Ok None
+path_in key (Some value) = do
+  path ← path_as key value
+  Ok (Some path)
+
+abbrev pub path_if : Key → Members → Result (Option (List ℕ)) ConfigFault
+path_if key table = path_in key (get_member (name_of key) table)
 
 -- the 32 bytes that 64 hexadecimal digits spell
 abbrev pub seed_at : Members → Result (List ℕ) ConfigFault
@@ -166,13 +182,21 @@ kept_in table = do
   last ← number_at keys.Last table
   Ok (record { seed = seed; journal = journal; last = last })
 
+-- where each life's journal is written to a file
+unfoldable pub files_in : Members → Result JournalFiles ConfigFault
+files_in table = do
+  dir ← path_if keys.JournalDir table
+  keep ← number_at keys.JournalKeep table
+  Ok (record { dir = dir; keep = keep })
+
 -- all of it, but for the members
 unfoldable pub settings_in : Members → Result Settings ConfigFault
 settings_in table = do
   place ← place_in table
   times ← times_in table
   kept ← kept_in table
-  Ok (record { place = place; times = times; kept = kept })
+  files ← files_in table
+  Ok (record { place = place; times = times; kept = kept; files = files })
 
 -- what the detector starts from
 abbrev pub setting_with : Settings → List (ℕ × Address) → Setting
@@ -188,6 +212,7 @@ config_unless None s opening =
       tick_ms = s.times.tick_ms;
       seed = s.kept.seed;
       journal = s.kept.journal;
+      files = s.files;
       opening = opening;
     })
 
@@ -202,6 +227,10 @@ config_in table = do
   members ← members_at table
   config_with settings members
 
+-- how many files stay, where some are made
+abbrev pub told_keep : JournalFiles → Option ℕ
+told_keep files = if is_some files.dir then Some files.keep else None
+
 -- the number that a summary tells of a key; none where it tells none, as of a key that is left out
 abbrev pub number_of : Key → Config → Option ℕ
 number_of keys.K config = Some config.opening.k
@@ -210,6 +239,7 @@ number_of keys.Period config = Some config.opening.period
 number_of keys.TickMs config = Some config.tick_ms
 number_of keys.Last config = Some config.opening.last
 number_of keys.Journal config = Some config.journal
+number_of keys.JournalKeep config = told_keep config.files
 number_of key config = None
 
 -- the table that the bytes are as a TOML document

@@ -47,6 +47,15 @@ entry_of keys.Last =
       about = codes "the last period number that was used before";
       begins_line = false;
     }
+entry_of keys.JournalDir = required (codes "journal_dir") Path (codes "the folder of the journal files")
+entry_of keys.JournalKeep =
+    record {
+      name = codes "journal_keep";
+      form = Number 0 4294967295;
+      default = Some 16;
+      about = codes "how many journal files stay, 0 for all";
+      begins_line = true;
+    }
 entry_of keys.Member = required (codes "member") Members (codes "the other members, at most 128")
 entry_of keys.MemberId = required (codes "id") (Number 1 4294967295) (codes "another member")
 entry_of keys.MemberAt = required (codes "at") Peer (codes "where another member listens")
@@ -55,14 +64,14 @@ entry_of keys.MemberAt = required (codes "at") Peer (codes "where another member
 abbrev pub top_keys : List Key
 top_keys =
     keys.Id ∷ keys.Listen ∷ keys.Control ∷ keys.K ∷ keys.Rtt ∷ keys.Period ∷ keys.TickMs ∷ keys.Seed ∷ keys.Journal ∷
-    keys.Last ∷ keys.Member ∷ []
+    keys.Last ∷ keys.JournalDir ∷ keys.JournalKeep ∷ keys.Member ∷ []
 
 abbrev pub member_keys : List Key
 member_keys = keys.MemberId ∷ keys.MemberAt ∷ []
 
 -- those whose numbers a summary tells behind its first three lines, in this order
 abbrev pub number_keys : List Key
-number_keys = keys.K ∷ keys.Rtt ∷ keys.Period ∷ keys.TickMs ∷ keys.Last ∷ keys.Journal ∷ []
+number_keys = keys.K ∷ keys.Rtt ∷ keys.Period ∷ keys.TickMs ∷ keys.Last ∷ keys.Journal ∷ keys.JournalKeep ∷ []
 
 -- ---- what follows of a key
 

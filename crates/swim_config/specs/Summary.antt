@@ -46,12 +46,17 @@ all_members_text rows = count_text (length rows) ++ members_text (ascending rows
 
 -- ---- the whole
 
--- who this member is, and where it listens
+-- where the journal files are made
+abbrev pub dir_text : Option (List ℕ) → List ℕ
+dir_text None = []
+dir_text (Some dir) = codes "\njournal_dir " ++ dir
+
+-- who this member is, where it listens, and where its journal files are made
 abbrev pub place_text : Config → List ℕ
 place_text config =
     codes "id " ++ (decimal config.opening.me
     ++ (codes "\nlisten " ++ (address_text config.listen
-    ++ (codes "\ncontrol " ++ config.control))))
+    ++ (codes "\ncontrol " ++ (config.control ++ dir_text config.files.dir)))))
 
 -- the numbers, and what follows
 abbrev pub numbers_and_members_text : Config → List ℕ

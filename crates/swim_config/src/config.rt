@@ -2,12 +2,14 @@
 
 ghost use Rattle.std.specs.Prelude.{◌≡◌};
 ghost use Rattle.toml.specs.View.{table_view};
-ghost use Rattle.swim_config.specs.Configuration.{config_with, kept_in, number_of, place_in, settings_in, times_in};
+ghost use Rattle.swim_config.specs.Configuration.{config_with, files_in, kept_in, number_of, place_in, settings_in, times_in, told_keep};
 
 use crate::config_fault::ConfigFault;
 use crate::keys::Key;
 use crate::socket_path::SocketPath;
-use crate::values::{take_id, take_number, take_path, take_peer, take_seed, take_small};
+use crate::values::{
+    take_id, take_number, take_path, take_path_if, take_peer, take_seed, take_small,
+};
 use swim_history::Opening;
 use swim_wire::{Id, Peer};
 use toml::Table;
@@ -25,6 +27,8 @@ pub struct Config {
     pub seed: [u8; 32],
     /// How many entries the journal may have: 1 to 1000000.
     pub journal: u32,
+    /// Where each life's journal is written to a file, if it is.
+    pub files: JournalFiles,
     /// What its detector starts from.
     pub opening: Opening,
 }
@@ -54,12 +58,22 @@ pub struct Kept {
     pub last: u64,
 }
 
+/// The journal files.
+#[derive(Debug, Drop)]
+pub struct JournalFiles {
+    /// The folder in which they are made. `None`: none are.
+    pub dir: Option<SocketPath>,
+    /// How many of them stay, the newest; 0 for all.
+    pub keep: u64,
+}
+
 /// All of it, but for the members.
 #[derive(Debug, Drop)]
 pub struct Settings {
     pub place: Place,
     pub times: Times,
     pub kept: Kept,
+    pub files: JournalFiles,
 }
 
 impl Config {
@@ -75,7 +89,21 @@ impl Config {
             Key::TickMs => Some(u64::from(self.tick_ms)),
             Key::Last => Some(opening.last()),
             Key::Journal => Some(u64::from(self.journal)),
+            Key::JournalKeep => self.files.told_keep(),
             _ => None,
+        }
+    }
+}
+
+impl JournalFiles {
+    /// How many files stay, where some are made.
+    fn told_keep(&self) -> Option<u64>
+        ensures { result ≡ told_keep self.now }
+    {
+        if self.dir.is_some() {
+            Some(self.keep)
+        } else {
+            None
         }
     }
 }
@@ -88,7 +116,13 @@ pub fn take_settings(table: &Table) -> Result<Settings, ConfigFault>
     let place = take_place(table)?;
     let times = take_times(table)?;
     let kept = take_kept(table)?;
-    Ok(Settings { place, times, kept })
+    let files = take_files(table)?;
+    Ok(Settings {
+        place,
+        times,
+        kept,
+        files,
+    })
 }
 
 #[tactic(auto, unfolding(crate::specs::Configuration::place_in))]
@@ -135,11 +169,25 @@ fn take_kept(table: &Table) -> Result<Kept, ConfigFault>
     })
 }
 
+#[tactic(auto, unfolding(crate::specs::Configuration::files_in))]
+fn take_files(table: &Table) -> Result<JournalFiles, ConfigFault>
+    ensures { result ≡ files_in (table_view table.now) }
+{
+    let dir = take_path_if(table, Key::JournalDir)?;
+    let keep = take_number(table, Key::JournalKeep)?;
+    Ok(JournalFiles { dir, keep })
+}
+
 /// The configuration of these settings and members, if the detector can start so.
 pub fn config_with(settings: Settings, members: &[(Id, Peer)]) -> Result<Config, ConfigFault>
     ensures { result ≡ config_with settings members.now }
 {
-    let Settings { place, times, kept } = settings;
+    let Settings {
+        place,
+        times,
+        kept,
+        files,
+    } = settings;
     let seed = kept.seed;
     match Opening::check(
         place.id,
@@ -156,6 +204,7 @@ pub fn config_with(settings: Settings, members: &[(Id, Peer)]) -> Result<Config,
             tick_ms: times.tick_ms,
             seed,
             journal: kept.journal,
+            files,
             opening,
         }),
     }

@@ -27,6 +27,10 @@ pub enum Key {
     Journal,
     /// The last period number that was used before.
     Last,
+    /// The folder of the journal files.
+    JournalDir,
+    /// How many journal files stay.
+    JournalKeep,
     /// The other members.
     Member,
     /// Another member's id.
@@ -42,7 +46,7 @@ pub enum Form {
     Number(u64, u64),
     /// A string that is an address.
     Peer,
-    /// A string that is the path of a socket.
+    /// A string that is a path.
     Path,
     /// A string that is a seed.
     Seed,
@@ -66,7 +70,7 @@ struct Entry {
 }
 
 /// The keys of a configuration, in the order in which their faults are told.
-pub const TOP_KEYS: [Key; 11] = [
+pub const TOP_KEYS: [Key; 13] = [
     Key::Id,
     Key::Listen,
     Key::Control,
@@ -77,17 +81,20 @@ pub const TOP_KEYS: [Key; 11] = [
     Key::Seed,
     Key::Journal,
     Key::Last,
+    Key::JournalDir,
+    Key::JournalKeep,
     Key::Member,
 ];
 
 /// The keys whose numbers a summary tells behind its first three lines, in this order.
-pub const NUMBER_KEYS: [Key; 6] = [
+pub const NUMBER_KEYS: [Key; 7] = [
     Key::K,
     Key::Rtt,
     Key::Period,
     Key::TickMs,
     Key::Last,
     Key::Journal,
+    Key::JournalKeep,
 ];
 
 /// The keys of a member, in the order in which their faults are told.
@@ -136,6 +143,18 @@ impl Key {
                 default: Some(0),
                 about: "the last period number that was used before",
                 begins_line: false,
+            },
+            Key::JournalDir => required(
+                "journal_dir",
+                Form::Path,
+                "the folder of the journal files",
+            ),
+            Key::JournalKeep => Entry {
+                name: "journal_keep",
+                form: Form::Number(0, 4_294_967_295),
+                default: Some(16),
+                about: "how many journal files stay, 0 for all",
+                begins_line: true,
             },
             Key::Member => required("member", Form::Members, "the other members, at most 128"),
             Key::MemberId => required("id", Form::Number(1, 4_294_967_295), "another member"),

@@ -21,7 +21,7 @@ mod values;
 mod warnings;
 
 pub use causes::put_cause;
-pub use config::Config;
+pub use config::{Config, JournalFiles};
 pub use config_fault::ConfigFault;
 pub use details::{DETAIL_BYTES, DetailLine};
 pub use fault_texts::put_fault;

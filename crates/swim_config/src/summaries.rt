@@ -1,6 +1,7 @@
 //! The summary of a configuration.
 
-ghost use Rattle.std.specs.Prelude.{◌≡◌, length};
+ghost use Rattle.std.specs.Prelude.{◌≡◌, ◌++◌, length, codes, decimal};
+ghost use Rattle.swim_wire.specs.Address.{address_text};
 ghost use Rattle.swim_wire.specs.Streams.{Puts, failures_if};
 ghost use Rattle.swim_config.specs.Summary.{all_members_text, count_text, mark_of, member_text, members_text, number_text};
 ghost use Rattle.swim_config.specs.Summary.{numbers_and_members_text, numbers_text, place_text, summary_text, told_text};
@@ -21,9 +22,23 @@ pub fn summary<W: Sink>(config: &Config, writer: &mut W) -> bool
     put_numbers_and_members(writer, config)
 }
 
-/// Who this member is, and where it listens.
+/// Who this member is, where it listens, and where its journal files are made.
 fn put_place<W: Sink>(writer: &mut W, config: &Config) -> bool
     ensures bytes { Puts (W.written writer.old) (W.written writer.new) (place_text config.now) result }
+    ensures failures { W.failures writer.new ≡ failures_if (W.failures writer.old) result }
+{
+    match &config.files.dir {
+        None => put_lines(writer, config, b"", b""),
+        Some(dir) => put_lines(writer, config, b"\njournal_dir ", dir.as_str().as_bytes()),
+    }
+}
+
+/// The lines of who this member is and where it listens, and what follows them.
+fn put_lines<'a, W: Sink>(writer: &mut W, config: &'a Config, word: &'a [u8], dir: &'a [u8]) -> bool
+    ensures bytes { Puts (W.written writer.old) (W.written writer.new)
+        (codes "id " ++ (decimal config.now.opening.me
+        ++ (codes "\nlisten " ++ (address_text config.now.listen
+        ++ (codes "\ncontrol " ++ (config.now.control ++ (word.now ++ dir.now))))))) result }
     ensures failures { W.failures writer.new ≡ failures_if (W.failures writer.old) result }
 {
     let pieces = [
@@ -33,6 +48,8 @@ fn put_place<W: Sink>(writer: &mut W, config: &Config) -> bool
         Piece::Address(config.listen),
         Piece::Text(b"\ncontrol "),
         Piece::Text(config.control.as_str().as_bytes()),
+        Piece::Text(word),
+        Piece::Text(dir),
     ];
     put_pieces(writer, &pieces)
 }

@@ -7,7 +7,7 @@ ghost use Rattle.std.specs.Result.{result_map_both};
 ghost use Rattle.toml.specs.Data.{get_member};
 ghost use Rattle.toml.specs.View.{view, table_view};
 ghost use Rattle.swim_config.specs.Configuration.{is_name, only_keys, value_at, within, number_as, number_at};
-ghost use Rattle.swim_config.specs.Configuration.{text_at, peer_at, path_at, seed_at};
+ghost use Rattle.swim_config.specs.Configuration.{text_at, peer_at, path_as, path_at, path_if, seed_at};
 ghost use Rattle.swim_config.specs.Keys.{name_of, form_of, default_of};
 ghost use Rattle.swim_config.specs.Reading.{IsWithin, IsSmall};
 
@@ -136,6 +136,24 @@ pub fn take_path(table: &Table) -> Result<SocketPath, ConfigFault>
 {
     let text = take_text(table, Key::Control)?;
     SocketPath::read(text).ok_or(ConfigFault::Range(Key::Control))
+}
+
+/// The path of a key that may be left out.
+pub fn take_path_if(table: &Table, key: Key) -> Result<Option<SocketPath>, ConfigFault>
+    ensures { result ≡ path_if key (table_view table.now) }
+{
+    match find(table, key) {
+        None => Ok(None),
+        Some(value) => Ok(Some(path_as(value, key)?)),
+    }
+}
+
+/// A value as the path that a key has to have.
+fn path_as(value: &Value, key: Key) -> Result<SocketPath, ConfigFault>
+    ensures { result ≡ path_as key (view value.now) }
+{
+    let text = value.as_str().ok_or(ConfigFault::Kind(key))?;
+    SocketPath::read(text).ok_or(ConfigFault::Range(key))
 }
 
 /// The seed.

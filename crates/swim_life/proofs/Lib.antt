@@ -1,2 +1,4 @@
+pub mod LifeFiles
 pub mod Living
 pub mod Told
+pub mod Written

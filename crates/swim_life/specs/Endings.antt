@@ -1,5 +1,5 @@
 -- The lines that tell how lives ended.
-use Rattle.std.specs.Prelude.{◌≡◌, ℕ, Bool, List, ◌++◌, length, Option, codes, decimal}
+use Rattle.std.specs.Prelude.{◌≡◌, ℕ, Bool, true, false, List, [], ◌++◌, length, Option, codes, decimal}
 use Rattle.swim_wire.specs.Streams.{Puts, failures_if}
 use Rattle.swim_history.specs.Judgement.{judgements}
 use Rattle.swim_life.specs.declared.counts.Why.{Why}
@@ -7,11 +7,16 @@ use Rattle.swim_life.specs.declared.counts.Why.TheVariants.{JournalFull}
 use Rattle.swim_life.specs.declared.lives.Past.{Past}
 use Rattle.swim_life.specs.Ends.{why_text}
 
--- what was counted beside the journal's entries
+-- that the journal was to be written, and wasn't, or not all of it
+abbrev pub cut_text : Bool → List ℕ
+cut_text false = []
+cut_text true = codes " journal cut"
+
+-- what was counted beside the journal's entries, and whether the journal was cut
 abbrev pub counts_text : Past → List ℕ
 counts_text past =
     codes " unsent " ++ (decimal past.unsent ++ (codes " wire " ++ (decimal past.wire ++ (codes " refused "
-    ++ (decimal past.refused ++ codes "\n")))))
+    ++ (decimal past.refused ++ (cut_text past.is_cut ++ codes "\n"))))))
 
 -- what follows the words that say which life it was, and why it ended
 abbrev pub past_text : Past → List ℕ

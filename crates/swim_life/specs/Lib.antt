@@ -7,3 +7,4 @@ pub mod Lives
 pub mod Notices
 pub mod Pacing
 pub mod Places
+pub mod Written

@@ -2,7 +2,7 @@
 
 ghost use Rattle.std.specs.Prelude.{◌≡◌, ◌++◌};
 ghost use Rattle.swim_wire.specs.Streams.{Puts, failures_if};
-ghost use Rattle.swim_life.specs.Endings.{past_text, ended_text, life_text};
+ghost use Rattle.swim_life.specs.Endings.{past_text, ended_text, life_text, cut_text};
 
 use crate::lives::Past;
 use itoa::Buffer;
@@ -47,7 +47,15 @@ fn put_line<'a, W: Sink>(writer: &mut W, word: &'a [u8], name: &'a [u8], past: &
         Piece::Number(past.wire),
         Piece::Text(b" refused "),
         Piece::Number(past.refused),
+        Piece::Text(cut_text(past.is_cut)),
         Piece::Text(b"\n"),
     ];
     put_pieces(writer, &pieces)
+}
+
+/// What is told of a journal that was cut.
+fn cut_text(is_cut: bool) -> &'static [u8]
+    ensures { result.now ≡ cut_text is_cut }
+{
+    if is_cut { b" journal cut" } else { b"" }
 }

@@ -1,12 +1,14 @@
 //! The gates of a life: where its datagrams, its ticks and its operators' connections come from. A worker asks its gate
 //! once a turn, so a gate that has nothing waits a moment, but not long, before it answers that it is idle; a door is told
-//! when to wait. A herald tells people that a life begins.
+//! when to wait. A herald tells people that a life begins, and a shelf has the files of the lives' journals.
 
-ghost use Rattle.std.specs.Prelude.{◌≡◌, ℕ};
+ghost use Rattle.std.specs.Prelude.{◌≡◌, ℕ, List, Option, IfSome};
 ghost use Rattle.swim_life.specs.Gates.{FitsInto};
 ghost use Rattle.swim_life.specs.Notices.{Notices};
+ghost use Rattle.swim_life.specs.Written.{IsFile};
 ghost use Rattle.swim_wire.specs.Streams.{one_more};
 
+use crate::lives::{Past, Terms};
 use std::sync::Wait;
 use swim_wire::{Peer, Polled, Sink};
 
@@ -88,5 +90,32 @@ pub trait Herald {
         requires { number ≡ begun self.old }
         ensures counts { begun self.new ≡ one_more (begun self.old) }
         ensures notices { Notices (F.written notices.old, F.failures notices.old)
+            (F.written notices.new, F.failures notices.new) };
+}
+
+/// Where the files of the lives' journals are, one for each life.
+pub trait Shelf<W: Sink> {
+    // what the sink of a new file was given, where that is known
+    ghost fresh: { Option (List ℕ) };
+
+    /// Opens a new file for the life of this number; `None` where lives have no files. The sink of a file that could not
+    /// be made takes nothing.
+    fn open<F: Sink>(&mut self, number: u64, notices: &mut F) -> Option<W>
+        ensures fresh { IfSome result (λ writer. W.written writer ≡ fresh) }
+        ensures notices { Notices (F.written notices.old, F.failures notices.old)
+            (F.written notices.new, F.failures notices.new) };
+
+    /// Takes back the sink of the life of this number, which is over, and answers whether its file is kept for good. It
+    /// has the header and all calls of that life, or where the life is told as cut a front of them.
+    fn close<F: Sink>(
+        &mut self,
+        terms: Terms,
+        number: u64,
+        past: &Past,
+        writer: W,
+        notices: &mut F,
+    ) -> bool
+        requires { IsFile fresh (W.written writer) terms.limit terms.seed number past.now }
+        ensures { Notices (F.written notices.old, F.failures notices.old)
             (F.written notices.new, F.failures notices.new) };
 }

@@ -1,9 +1,31 @@
-//! A worker's seat, with its number in its type, on its way into a thread and back.
+//! Seats on their way: a worker's, with its number in its type, into a thread and back, and the four of a node behind its close.
 
-ghost use Rattle.std.specs.Prelude.{◌≡◌};
+ghost use Rattle.std.specs.Prelude.{◌≡◌, [], ◌∷◌};
 
 use crate::counts::{Counts, Why};
 use swim_node::{Naming, Seat};
+
+/// The four seats of a node, in order.
+#[derive(Drop)]
+pub struct Seats<N: Naming> {
+    pub first: Seat<N>,
+    pub second: Seat<N>,
+    pub third: Seat<N>,
+    pub fourth: Seat<N>,
+}
+
+/// These seats.
+pub(crate) fn seats_of<N: Naming>(seats: [Seat<N>; 4]) -> Seats<N>
+    ensures { result.first ∷ result.second ∷ result.third ∷ result.fourth ∷ [] ≡ seats }
+{
+    let [first, second, third, fourth] = seats;
+    Seats {
+        first,
+        second,
+        third,
+        fourth,
+    }
+}
 
 /// The seat of this number. What comes back from a thread is known by its type alone.
 #[derive(Drop)]

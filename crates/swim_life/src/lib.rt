@@ -1,16 +1,19 @@
-//! Lives of a daemon: a node with its three workers over a line of datagrams, a pace of ticks and a door for operators.
+//! Lives of a daemon: a node with its workers over a line of datagrams, a pace of ticks and a door for operators.
 #![tactic(auto)]
 
 mod controlling;
 mod counts;
 mod endings;
+mod filing;
 mod gates;
 mod halls;
 mod holding;
 mod life;
 mod lives;
 mod node_desk;
+mod nowhere;
 mod places;
+mod recording;
 mod sleeping_pace;
 mod threads;
 mod udp_line;
@@ -19,10 +22,12 @@ mod unix_streams;
 mod workers;
 
 pub use counts::Why;
-pub use gates::{Beat, Door, Got, Herald, Knock, Line, Pace};
+pub use gates::{Beat, Door, Got, Herald, Knock, Line, Pace, Shelf};
 pub use halls::Hall;
+pub use holding::Seats;
 pub use life::{Life, run_life};
-pub use lives::{LivesEnd, Past, Terms, live, run_lives};
+pub use lives::{Lived, LivesEnd, Past, Terms, live, live_recorded, run_lives};
+pub use nowhere::{Never, NoShelf, Nowhere};
 pub use places::{Place, Sight};
 pub use sleeping_pace::SleepingPace;
 pub use udp_line::UdpLine;

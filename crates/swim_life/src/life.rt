@@ -1,27 +1,33 @@
-//! A life: a node with its three workers, from its opening to its close.
+//! A life: a node with its workers, from its opening to its close.
 
-ghost use Rattle.std.specs.Prelude.{◌≡◌, ◌≤◌, ◌||◌, length};
+ghost use Rattle.std.specs.Prelude.{◌≡◌, ◌≤◌, ◌||◌, [], ◌∷◌, length, true};
+ghost use Rattle.swim_wire.specs.Streams.{Puts};
 ghost use Rattle.swim_history.specs.Changes.{changes};
+ghost use Rattle.swim_node.specs.Following.{filings_of};
 ghost use Rattle.swim_node.specs.Seats.{AreTheSeats};
 ghost use Rattle.swim_node.specs.OneHistory.{IsOneHistory};
+ghost use Rattle.swim_journal.specs.Journals.{calls_text, AreReadBack};
 ghost use Rattle.swim_life.specs.Ends.{together, why_of};
 
 use crate::counts::Why;
 use crate::gates::{Door, Line, Pace};
 use crate::halls::Hall;
-use crate::holding::Held;
-use crate::threads::{Controlling, Hearing, Over, Ticking, work_at_once};
+use crate::holding::{Held, Seats};
+use crate::recording::{Recorded, close_recorded};
+use crate::threads::{Controlling, Hearing, Over, Recording, Ticking, work_at_once};
 use std::alloc::Global;
 use std::sync::Wait;
 use std::sync::atomic::AtomicBool;
 use std::thread::Threads;
 use swim_history::Journal;
+use swim_journal::{PageNaming, Scribe};
 use swim_node::{Naming, Node, Seat, Viewer};
 use swim_targets::Seeded;
+use swim_wire::Sink;
 
 /// What a life leaves behind.
 #[derive(Drop)]
-pub struct Life<N: Naming> {
+pub struct Life<N: PageNaming, W: Sink + Drop> {
     /// Why it ended: the gravest reason of its workers.
     pub why: Why,
     /// Whether a worker was told to stop, whatever else it ended for.
@@ -29,13 +35,17 @@ pub struct Life<N: Naming> {
     /// Everything that happened, in one order.
     pub journal: Journal,
     /// The node's four seats, in order.
-    pub seats: [Seat<N>; 4],
+    pub seats: Seats<N>,
     /// Datagrams that couldn't be sent. The counts stop at 2^64-1.
     pub unsent: u64,
     /// Datagrams that came and were none of this protocol.
     pub wire: u64,
     /// Calls that were refused for want of memory.
     pub refused: u64,
+    /// The sink of its journal.
+    pub writer: W,
+    /// Whether that took all of the journal's text, and handed it on.
+    pub is_whole: bool,
 }
 
 /// Runs a node over its gates until a worker ends: the receiver with the first seat, the ticker with the second, and
@@ -43,14 +53,21 @@ pub struct Life<N: Naming> {
 /// where it is told to, where the journal is full, and after 16 faults in a row of its line or door. Each sends the
 /// datagrams of its own replies after the node's lock was given back.
 ///
-/// Whatever came, and in whatever order, the journal is one run of the detector that holds the calls of the four seats.
+/// Beside them a writer writes the journal into a sink, at each tick of a pace of its own, and what is left once the
+/// others have ended. Where the sink fails nothing more is written, and the life goes on. The writer changes nothing of
+/// the node.
+///
+/// Whatever came, and in whatever order, the journal is one run of the detector that holds the calls of the four seats,
+/// and what was written is its text, or where the sink failed a front of it.
 pub fn run_life<
-    N: Naming + Send + Sync,
+    N: PageNaming + Send + Sync,
     H: Wait + Drop + Send,
     R: Threads + Wait + Sync,
     L: Line + Sync,
     P: Pace + Send,
     D: Door + Drop,
+    W: Sink + Drop + Send,
+    Q: Pace + Send,
 >(
     rt: &R,
     alloc: Global,
@@ -60,18 +77,28 @@ pub fn run_life<
     line: &L,
     pace: &mut P,
     hall: &mut Hall<D>,
-) -> Life<N>
-    requires { AreTheSeats seats }
+    writer: W,
+    pause: &mut Q,
+) -> Life<N, W>
+    requires seats { AreTheSeats seats }
+    requires page { W.written writer ≡ N.page }
     ensures opening { result.journal.opening ≡ N.opening }
     ensures within { length result.journal.past ≤ N.limit }
-    ensures seats { AreTheSeats result.seats }
-    ensures history { IsOneHistory N.opening result.journal.past result.seats
+    ensures seats { let s = result.seats in AreTheSeats (s.first ∷ s.second ∷ s.third ∷ s.fourth ∷ []) }
+    ensures history { let s = result.seats in IsOneHistory N.opening result.journal.past
+        (s.first ∷ s.second ∷ s.third ∷ s.fourth ∷ [])
         (changes N.opening result.journal.past) }
     ensures drawn { N.drawn result.journal.past }
+    ensures written { Puts N.page (W.written result.writer)
+        (calls_text (filings_of result.journal.past)) result.is_whole }
+    ensures back { result.is_whole ≡ true → AreReadBack (filings_of result.journal.past) }
 {
     let (viewer, _others) = apart(viewers);
     let (workers, fourth) = held(seats);
-    let ended = work(rt, alloc, &node, line, pace, hall, workers, viewer);
+    let scribe = Scribe::new(alloc, &node, writer);
+    let ended = work(
+        rt, alloc, &node, line, pace, hall, workers, viewer, scribe, pause,
+    );
     closed(rt, node, ended, fourth)
 }
 
@@ -102,14 +129,16 @@ fn apart<N: Naming>(viewers: [Viewer<N>; 4]) -> (Viewer<N>, [Viewer<N>; 3]) {
     (first, [second, third, fourth])
 }
 
-/// Runs the three workers of a node.
+/// Runs the workers of a node.
 fn work<
-    N: Naming + Send + Sync,
+    N: PageNaming + Send + Sync,
     H: Wait + Drop + Send,
     R: Threads + Wait + Sync,
     L: Line + Sync,
     P: Pace + Send,
     D: Door + Drop,
+    W: Sink + Drop + Send,
+    Q: Pace + Send,
 >(
     rt: &R,
     alloc: Global,
@@ -119,7 +148,9 @@ fn work<
     hall: &mut Hall<D>,
     workers: Workers<N>,
     viewer: Viewer<N>,
-) -> Over<N> {
+    scribe: Scribe<N, W>,
+    pause: &mut Q,
+) -> Over<N, W> {
     let over = AtomicBool::new(false);
     let hearing = Hearing {
         node,
@@ -142,22 +173,44 @@ fn work<
         viewer,
         hall,
     };
-    work_at_once(rt, &over, hearing, ticking, controlling)
+    let recording = Recording {
+        node,
+        over: &over,
+        scribe,
+        pause,
+    };
+    work_at_once(rt, &over, hearing, ticking, controlling, recording)
+}
+
+/// The node's four seats, in order.
+fn given_back<N: Naming>(
+    first: Held<N, 0>,
+    second: Held<N, 1>,
+    third: Held<N, 2>,
+    fourth: Held<N, 3>,
+) -> [Seat<N>; 4]
+    ensures { AreTheSeats result }
+{
+    [first.seat, second.seat, third.seat, fourth.seat]
 }
 
 /// Closes the node after its workers have ended.
-fn closed<N: Naming, H: Wait + Drop, R: Wait>(
+fn closed<N: PageNaming, H: Wait + Drop, R: Wait, W: Sink + Drop>(
     rt: &R,
     node: Node<N, Seeded, H>,
-    ended: Over<N>,
+    ended: Over<N, W>,
     fourth: Held<N, 3>,
-) -> Life<N>
+) -> Life<N, W>
     ensures opening { result.journal.opening ≡ N.opening }
     ensures within { length result.journal.past ≤ N.limit }
-    ensures seats { AreTheSeats result.seats }
-    ensures history { IsOneHistory N.opening result.journal.past result.seats
+    ensures seats { let s = result.seats in AreTheSeats (s.first ∷ s.second ∷ s.third ∷ s.fourth ∷ []) }
+    ensures history { let s = result.seats in IsOneHistory N.opening result.journal.past
+        (s.first ∷ s.second ∷ s.third ∷ s.fourth ∷ [])
         (changes N.opening result.journal.past) }
     ensures drawn { N.drawn result.journal.past }
+    ensures written { Puts N.page (W.written result.writer)
+        (calls_text (filings_of result.journal.past)) result.is_whole }
+    ensures back { result.is_whole ≡ true → AreReadBack (filings_of result.journal.past) }
     ensures why { result.why ≡ why_of ended.first.why ended.second.why ended.third.why ended.all_began }
     ensures stopped { result.is_stopped ≡ (ended.first.is_stopped || ended.second.is_stopped || ended.third.is_stopped) }
     ensures counts { together (together ended.first.counts ended.second.counts) ended.third.counts
@@ -168,6 +221,7 @@ fn closed<N: Naming, H: Wait + Drop, R: Wait>(
         second,
         third,
         all_began,
+        scribe,
     } = ended;
     let began = if all_began {
         Why::Stopped
@@ -177,13 +231,13 @@ fn closed<N: Naming, H: Wait + Drop, R: Wait>(
     let why = first.why.or(second.why).or(third.why).or(began);
     let is_stopped = first.is_stopped | second.is_stopped | third.is_stopped;
     let counts = first.counts.and(second.counts).and(third.counts);
-    let seats = [
-        first.held.seat,
-        second.held.seat,
-        third.held.seat,
-        fourth.seat,
-    ];
-    let (journal, seats, _news) = node.close(rt, seats);
+    let seats = given_back(first.held, second.held, third.held, fourth);
+    let Recorded {
+        journal,
+        seats,
+        writer,
+        is_whole,
+    } = close_recorded(rt, node, seats, scribe);
     Life {
         why,
         is_stopped,
@@ -192,5 +246,7 @@ fn closed<N: Naming, H: Wait + Drop, R: Wait>(
         unsent: counts.unsent,
         wire: counts.wire,
         refused: counts.refused,
+        writer,
+        is_whole,
     }
 }

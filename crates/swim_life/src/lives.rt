@@ -1,24 +1,28 @@
 //! Lives: one node after another, each of which goes on from the journal of the one before.
 
-ghost use Rattle.std.specs.Prelude.{◌≡◌, IfOk};
+ghost use Rattle.std.specs.Prelude.{◌≡◌, IfOk, false};
 ghost use Rattle.swim_targets.specs.Draws.{DrawsOrder, DrawsPlace, of_seed};
 ghost use Rattle.swim_node.specs.Draws.{DrawsAll};
 ghost use Rattle.swim_life.specs.Draws.{WasDrawn};
 ghost use Rattle.swim_life.specs.Endings.{TellsLife, TellsText, stopped_text};
 ghost use Rattle.swim_life.specs.Lives.{AreLived, IsLife, end_after, end_without};
 ghost use Rattle.swim_life.specs.Notices.{Notices};
+ghost use Rattle.swim_life.specs.Written.{IsWritten};
 
 use crate::counts::Why;
 use crate::endings::{STOPPED, put_ended, put_life};
-use crate::gates::{Door, Herald, Line, Pace};
+use crate::filing::{live_next, with_cut};
+use crate::gates::{Door, Herald, Line, Pace, Shelf};
 use crate::halls::Hall;
 use crate::life::run_life;
+use crate::nowhere::{Never, Nowhere};
 use std::alloc::Global;
 use std::marker::Brand;
 use std::sync::Wait;
 use std::thread::Threads;
 use swim_history::{Journal, Opening};
-use swim_node::{Naming, Node, OpenFault, Parts};
+use swim_journal::PageNaming;
+use swim_node::{Node, OpenFault, Parts};
 use swim_targets::Seeded;
 use swim_wire::Sink;
 
@@ -37,6 +41,15 @@ pub struct Past {
     pub wire: u64,
     /// Calls that were refused for want of memory.
     pub refused: u64,
+    /// Whether its journal was to be written and wasn't, or not all of it.
+    pub is_cut: bool,
+}
+
+/// What a life leaves behind whose journal was written: the sink that was to take it, too.
+#[derive(Drop)]
+pub struct Lived<W: Sink + Drop> {
+    pub past: Past,
+    pub writer: W,
 }
 
 /// What stays the same from life to life: the seed of the draws, and how many entries a journal may have.
@@ -67,11 +80,18 @@ pub enum LivesEnd {
 /// seed. How each life ended is written in a line; that a line can't be written changes nothing. Behind a life that
 /// was told to stop there is none: where its journal was full, the end is told as if the next life had been stopped at
 /// once. Before each life the herald, who has told of none yet, tells of it among the notices.
+///
+/// Where the shelf opens a file for a life, the journal is written into it while the life goes on, at each tick of the
+/// pause. The file goes back to the shelf before the line of the life is written, which tells where the journal was cut.
+/// Nothing of a file changes what a node answers.
 pub fn run_lives<
     R: Threads + Wait + Sync,
     L: Line + Sync,
     P: Pace + Send,
     D: Door + Drop,
+    V: Sink + Drop + Send,
+    S: Shelf<V>,
+    Q: Pace + Send,
     W: Sink,
     H: Herald,
     F: Sink,
@@ -83,6 +103,8 @@ pub fn run_lives<
     line: &L,
     pace: &mut P,
     hall: &mut Hall<D>,
+    shelf: &mut S,
+    pause: &mut Q,
     writer: &mut W,
     herald: &mut H,
     notices: &mut F,
@@ -97,8 +119,9 @@ pub fn run_lives<
     let mut number: u64 = 0;
     for _life in rt.forever() {
         herald.begins(number, notices);
-        let chooser = chooser_of(terms, number);
-        let past = match live(rt, alloc, opening, chooser, terms.limit, line, pace, hall) {
+        let past = match live_next::<R, L, P, D, V, S, Q, F>(
+            rt, alloc, opening, terms, number, line, pace, hall, shelf, pause, notices,
+        ) {
             Ok(past) => past,
             Err(fault) => return end_without(fault),
         };
@@ -117,7 +140,7 @@ pub fn run_lives<
 }
 
 /// The chooser of the life of that number: each draws from a stream of its own.
-fn chooser_of(terms: Terms, number: u64) -> Seeded
+pub(crate) fn chooser_of(terms: Terms, number: u64) -> Seeded
     ensures { result ≡ record (of_seed terms.seed) { stream = number } }
 {
     Seeded::life(terms.seed, number)
@@ -168,7 +191,8 @@ fn end_without(fault: OpenFault) -> LivesEnd
 
 /// Opens a node with a journal of at most `limit` entries, and runs its life over these gates. There is no life where
 /// the node gets no memory (`NoMemory`), or no reader of its member table (`NoPlace`). What its journal holds was drawn
-/// from the chooser.
+/// from the chooser. It is written nowhere.
+#[tactic(auto, using(crate::proofs::LifeFiles::life_with_cut, crate::proofs::LifeFiles::was_drawn_with_cut))]
 pub fn live<R: Threads + Wait + Sync, L: Line + Sync, P: Pace + Send, D: Door + Drop>(
     rt: &R,
     alloc: Global,
@@ -181,20 +205,62 @@ pub fn live<R: Threads + Wait + Sync, L: Line + Sync, P: Pace + Send, D: Door + 
 ) -> Result<Past, OpenFault>
     ensures life { IfOk result (IsLife opening limit) }
     ensures drawn { IfOk result (λ past. WasDrawn DrawsOrder DrawsPlace opening chooser past.journal.past) }
+    ensures cut { IfOk result (λ past. past.is_cut ≡ false) }
 {
-    let Ok(parts) = Parts::make(alloc, limit) else {
-        return Err(OpenFault::NoMemory);
-    };
-    live_so::<Brand, R, L, P, D>(rt, alloc, parts, opening, chooser, limit, line, pace, hall)
+    let writer = Nowhere::new();
+    let mut pause = Never {};
+    match live_recorded(
+        rt, alloc, opening, chooser, limit, line, pace, hall, writer, &mut pause,
+    ) {
+        Ok(lived) => Ok(with_cut(lived.past, false)),
+        Err(fault) => Err(fault),
+    }
 }
 
-/// The same, of a node that its types know by a name.
-fn live_so<
-    N: Naming + Send + Sync,
+/// As `live`; and a writer writes the journal into a sink while the life goes on, at each tick of a pace of its own, and
+/// what is left once the life is over. Where the sink fails the life goes on, and is told as cut: what was written is then
+/// a front of the text of the journal's calls.
+pub fn live_recorded<
     R: Threads + Wait + Sync,
     L: Line + Sync,
     P: Pace + Send,
     D: Door + Drop,
+    W: Sink + Drop + Send,
+    Q: Pace + Send,
+>(
+    rt: &R,
+    alloc: Global,
+    opening: Opening,
+    chooser: Seeded,
+    limit: u32,
+    line: &L,
+    pace: &mut P,
+    hall: &mut Hall<D>,
+    writer: W,
+    pause: &mut Q,
+) -> Result<Lived<W>, OpenFault>
+    ensures life { IfOk result (λ lived. IsLife opening limit lived.past) }
+    ensures drawn { IfOk result (λ lived. WasDrawn DrawsOrder DrawsPlace opening chooser lived.past.journal.past) }
+    ensures written { IfOk result (λ lived. IsWritten (W.written writer) (W.written lived.writer) lived.past) }
+{
+    let Ok(parts) = Parts::make(alloc, limit) else {
+        return Err(OpenFault::NoMemory);
+    };
+    live_so::<Brand, R, L, P, D, W, Q>(
+        rt, alloc, parts, opening, chooser, limit, line, pace, hall, writer, pause,
+    )
+}
+
+/// The same, of a node that its types know by a name.
+#[tactic(auto, using(crate::proofs::LifeFiles::is_left))]
+fn live_so<
+    N: PageNaming + Send + Sync,
+    R: Threads + Wait + Sync,
+    L: Line + Sync,
+    P: Pace + Send,
+    D: Door + Drop,
+    W: Sink + Drop + Send,
+    Q: Pace + Send,
 >(
     rt: &R,
     alloc: Global,
@@ -205,25 +271,36 @@ fn live_so<
     line: &L,
     pace: &mut P,
     hall: &mut Hall<D>,
-) -> Result<Past, OpenFault>
+    writer: W,
+    pause: &mut Q,
+) -> Result<Lived<W>, OpenFault>
     requires parts { parts ≡ record { limit = N.limit; ledgers = N.ledgers; log = N.log; cells = N.cells } }
     requires opening { opening ≡ N.opening }
     requires limit { limit ≡ N.limit }
     requires drawn { DrawsAll DrawsOrder DrawsPlace N.opening chooser N.drawn }
-    ensures life { IfOk result (IsLife opening limit) }
-    ensures drawn { IfOk result (λ past. N.drawn past.journal.past) }
+    requires page { W.written writer ≡ N.page }
+    ensures life { IfOk result (λ lived. IsLife opening limit lived.past) }
+    ensures drawn { IfOk result (λ lived. N.drawn lived.past.journal.past) }
+    ensures written { IfOk result (λ lived. IsWritten N.page (W.written lived.writer) lived.past) }
 {
     match Node::<N, Seeded, &R>::open(alloc, rt, parts, opening, chooser, limit) {
         Ok(opened) => {
             let (node, seats, viewers) = opened;
-            let life = run_life(rt, alloc, node, seats, viewers, line, pace, hall);
-            Ok(Past {
+            let life = run_life(
+                rt, alloc, node, seats, viewers, line, pace, hall, writer, pause,
+            );
+            let past = Past {
                 why: life.why,
                 is_stopped: life.is_stopped,
                 journal: life.journal,
                 unsent: life.unsent,
                 wire: life.wire,
                 refused: life.refused,
+                is_cut: !life.is_whole,
+            };
+            Ok(Lived {
+                past,
+                writer: life.writer,
             })
         }
         Err(fault) => Err(fault),

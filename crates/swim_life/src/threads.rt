@@ -1,4 +1,4 @@
-//! The three workers of a life at work at the same time: two in threads, the third in the thread that started them.
+//! The four workers of a life at work at the same time: three in threads, the controller in the thread that started them.
 
 ghost use denote.Param.Send.{IsSend, IsSync};
 
@@ -6,14 +6,17 @@ use crate::controlling::control;
 use crate::gates::{Door, Line, Pace};
 use crate::halls::Hall;
 use crate::holding::{Ended, Held};
+use crate::recording::write_along;
 use crate::workers::{receive, tick};
 use std::alloc::Global;
 use std::sync::Wait;
 use std::sync::atomic::{AtomicBool, Ordering};
 use std::thread;
 use std::thread::Threads;
+use swim_journal::{PageNaming, Scribe};
 use swim_node::{Naming, Node, Viewer};
 use swim_targets::{Chooser, Seeded};
+use swim_wire::Sink;
 
 /// What the receiver takes into its thread.
 #[derive(Drop)]
@@ -45,13 +48,32 @@ pub(crate) struct Controlling<'n, 'o, 'd, N: Naming, H: Wait + Drop, D: Door + D
     pub(crate) hall: &'d mut Hall<D>,
 }
 
-/// What the three workers hand back, and whether each of them was started.
+/// What the writer takes into its thread.
 #[derive(Drop)]
-pub(crate) struct Over<N: Naming> {
+pub(crate) struct Recording<
+    'n,
+    'o,
+    'q,
+    N: PageNaming,
+    C: Chooser,
+    H: Wait + Drop,
+    W: Sink + Drop,
+    Q,
+> {
+    pub(crate) node: &'n Node<N, C, H>,
+    pub(crate) over: &'o AtomicBool,
+    pub(crate) scribe: Scribe<N, W>,
+    pub(crate) pause: &'q mut Q,
+}
+
+/// What the workers hand back, and whether each of those that call the node was started.
+#[derive(Drop)]
+pub(crate) struct Over<N: PageNaming, W: Sink + Drop> {
     pub(crate) first: Ended<N, 0>,
     pub(crate) second: Ended<N, 1>,
     pub(crate) third: Ended<N, 2>,
     pub(crate) all_began: bool,
+    pub(crate) scribe: Scribe<N, W>,
 }
 
 fn run_hearing<'n, 'o, 'l, N: Naming, C: Chooser, H: Wait + Drop, L: Line, R: Wait>(
@@ -96,6 +118,26 @@ fn run_controlling<'n, 'o, 'd, N: Naming, H: Wait + Drop, D: Door + Drop, R: Wai
     control(rt, alloc, node, over, held, viewer, hall)
 }
 
+fn run_recording<
+    'n,
+    'o,
+    'q,
+    N: PageNaming,
+    C: Chooser,
+    H: Wait + Drop,
+    W: Sink + Drop,
+    Q: Pace,
+    R: Wait,
+>(rt: &R, it: Recording<'n, 'o, 'q, N, C, H, W, Q>) -> Scribe<N, W> {
+    let Recording {
+        node,
+        over,
+        scribe,
+        pause,
+    } = it;
+    write_along(rt, node, over, scribe, pause)
+}
+
 /// Tells the workers that run to end, where one could not be started.
 fn tell(over: &AtomicBool, is_missing: bool) {
     if is_missing {
@@ -103,32 +145,38 @@ fn tell(over: &AtomicBool, is_missing: bool) {
     }
 }
 
-/// Runs the three workers to their ends. One that could not be started for want of memory runs when the others have
-/// ended, sees the flag, and hands its seat back.
+/// Runs the workers to their ends. One that could not be started for want of memory runs when the others have ended, sees
+/// the flag, and hands back what it was given. The others end where that is one that calls the node; the writer isn't
+/// missed, since what is left of the journal is written once the life is over.
 pub(crate) fn work_at_once<
-    N: Naming + Send + Sync,
+    N: PageNaming + Send + Sync,
     H: Wait + Drop + Send,
     R: Threads + Wait + Sync,
     L: Line + Sync,
     P: Pace + Send,
     D: Door + Drop,
+    W: Sink + Drop + Send,
+    Q: Pace + Send,
 >(
     rt: &R,
     over: &AtomicBool,
     hearing: Hearing<N, Seeded, H, L>,
     ticking: Ticking<N, Seeded, H, L, P>,
     controlling: Controlling<N, H, D>,
-) -> Over<N> {
+    recording: Recording<N, Seeded, H, W, Q>,
+) -> Over<N, W> {
     thread::scope(
         thread::scope_env(),
         rt,
-        move |scope| -> Over<N>
-            requires { IsSync R.row × IsSync L.row × IsSend P.row × IsSend N.row × IsSync N.row × IsSend H.row }
+        move |scope| -> Over<N, W>
+            requires { IsSync R.row × IsSync L.row × IsSend P.row × IsSend N.row × IsSync N.row × IsSend H.row
+                × IsSend W.row × IsSend Q.row }
         {
             let first = scope.spawn(move || run_hearing(rt, hearing));
             tell(over, first.is_err());
             let second = scope.spawn(move || run_ticking(rt, ticking));
             tell(over, second.is_err());
+            let fourth = scope.spawn(move || run_recording(rt, recording));
             let all_began = first.is_ok() && second.is_ok();
             let third = run_controlling(rt, controlling);
             let first = match first {
@@ -139,11 +187,16 @@ pub(crate) fn work_at_once<
                 Ok(handle) => handle.join(rt),
                 Err(refused) => (refused.value)(),
             };
+            let scribe = match fourth {
+                Ok(handle) => handle.join(rt),
+                Err(refused) => (refused.value)(),
+            };
             Over {
                 first,
                 second,
                 third,
                 all_began,
+                scribe,
             }
         },
     )

@@ -1,6 +1,7 @@
 ghost use Rattle.std.specs.Prelude.{◌≡◌};
 
 mod desk;
+mod files;
 mod gates;
 mod lives;
 mod two;

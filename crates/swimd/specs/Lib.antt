@@ -4,6 +4,7 @@ pub mod Checking
 pub mod Commands
 pub mod Daemon
 pub mod Details
+pub mod OldFiles
 pub mod Outcomes
 pub mod Words
 pub mod Worked

@@ -7,9 +7,11 @@ ghost use Rattle.swimd.specs.Details.{Explains};
 
 use crate::checking::warn;
 use crate::details::{Details, words_of};
+use crate::folders::Folder;
 use crate::notices::{Announcer, Notice, is_taken_at_once};
 use crate::outcomes::Outcome;
 use arrayvec::ArrayVec;
+use jiff::Timestamp;
 use std::alloc::Global;
 use std::fs;
 use std::fs::File;
@@ -21,6 +23,9 @@ use std::thread::Threads;
 use swim_config::{Config, ConfigFault, INPUT_BYTES, read_config, read_input};
 use swim_life::{Hall, LivesEnd, Place, Sight, SleepingPace, Terms, UdpLine, UnixDoor, run_lives};
 use swim_wire::{Peer, ReadSource, Sink};
+
+/// How often a life's journal is written to its file, in milliseconds.
+const WRITE_MS: u32 = 50;
 
 /// Runs the daemon of a configuration file, and writes how its lives ended. What stands in the way of a start is told in
 /// the details. Among the faults stands what the configuration is warned of, and then, while it runs, notices; where it is
@@ -133,6 +138,8 @@ fn start<R: Files<File = File> + Net + Clock + Threads + Wait + Sync, W: Sink, F
     let mut herald = Announcer::new(rt, alloc, is_quiet);
     let terms = terms_of(&config);
     let opening = config.opening;
+    let mut shelf = Folder::new(rt, alloc, config.files, opening.me(), seconds(rt));
+    let mut pause = SleepingPace::new(rt, WRITE_MS);
     let end = run_lives(
         rt,
         alloc,
@@ -141,6 +148,8 @@ fn start<R: Files<File = File> + Net + Clock + Threads + Wait + Sync, W: Sink, F
         &line,
         &mut pace,
         &mut hall,
+        &mut shelf,
+        &mut pause,
         writer,
         &mut herald,
         faults,
@@ -207,6 +216,14 @@ fn tell_control(path: &str, kind: ErrorKind, sight: Sight, details: &mut Details
         Sight::Served => details.add("somebody serves this socket; it is kept"),
         Sight::Stale => details.add("nobody serves this socket; remove it"),
         Sight::Free | Sight::Unclear => {}
+    }
+}
+
+/// The seconds since 1970; 0 where the system can't tell them.
+fn seconds<K: Clock>(clock: &K) -> u64 {
+    match Timestamp::now(clock) {
+        Ok(time) => u64::try_from(time.as_second()).unwrap_or(0),
+        Err(_) => 0,
     }
 }
 

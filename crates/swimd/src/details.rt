@@ -154,6 +154,8 @@ pub fn words_of(kind: ErrorKind) -> &'static str {
         ErrorKind::InvalidInput | ErrorKind::InvalidFilename => "no path of a socket",
         ErrorKind::WouldBlock | ErrorKind::TimedOut => "too many wait there already",
         ErrorKind::StorageFull => "no space is left",
+        ErrorKind::QuotaExceeded => "the quota is used up",
+        ErrorKind::FileTooLarge => "the file would be too large",
         ErrorKind::OutOfMemory => "no memory",
         _ => "the system refuses it",
     }

@@ -6,7 +6,7 @@ ghost use Rattle.swim_wire.specs.Streams.{one_more};
 ghost use Rattle.swim_life.specs.Endings.{TellsText};
 ghost use Rattle.swim_life.specs.Notices.{Notices, line_text};
 
-use crate::details::{TEXT_BYTES, add_printed};
+use crate::details::{TEXT_BYTES, add_printed, words_of};
 use crate::words::VERSION;
 use arrayvec::ArrayVec;
 use jiff::Timestamp;
@@ -97,6 +97,14 @@ impl Notice {
             opening.rows().len(),
             period_ms
         );
+        notice
+    }
+
+    /// That a journal file can't be written any more, and why.
+    pub fn unwritten<K: Clock>(clock: &K, path: &str, fault: ErrorKind) -> Notice {
+        let mut notice = Notice::begun(clock);
+        let words = words_of(fault);
+        let _is_added = write!(notice, "journal {path}: {words}");
         notice
     }
 

@@ -5,7 +5,7 @@ use super::gates::{
 };
 use super::*;
 use std::sync::atomic::{AtomicBool, Ordering};
-use swim_life::{Beat, Got, Hall, LivesEnd, Terms, run_lives};
+use swim_life::{Beat, Got, Hall, LivesEnd, Never, NoShelf, Terms, run_lives};
 use swim_wire::Page;
 
 pub fn line<'s, K: Clock + Drop>(clock: K, signals: &'s Signals, faults: u32) -> PingLine<'s, K> {
@@ -137,6 +137,8 @@ fn two_lives(rt: HostRuntime) -> Result<(), Fail> {
         &line,
         &mut pace,
         &mut hall,
+        &mut NoShelf {},
+        &mut Never {},
         &mut page,
         &mut herald,
         &mut notices,
@@ -292,6 +294,8 @@ fn a_stop_at_a_full_journal(rt: HostRuntime) -> Result<(), Fail> {
         &line,
         &mut pace,
         &mut hall,
+        &mut NoShelf {},
+        &mut Never {},
         &mut page,
         &mut herald,
         &mut notices,

@@ -1,7 +1,5 @@
-use Rattle.std.proofs.Common.{◌≡◌, ◌+◌, ◌-◌, ◌^◌, min, None, ap, ◌∙◌, subst, sym, rules}
-use Rattle.swim_targets.specs.Draws.{DrawsOrder, DrawsPlace}
+use Rattle.std.proofs.Common.{◌≡◌, ◌+◌, ◌-◌, ◌^◌, min, None, ap, ◌∙◌, sym, rules}
 use Rattle.swim_wire.specs.Streams.{one_more}
-use Rattle.swim_life.specs.Draws.{WasDrawn}
 use Rattle.swim_life.specs.Lives.{end_after}
 use Rattle.swim_life.specs.Notices.{notices_both}
 use Rattle.swim_life.proofs.Living.{last_lived, last_stopped, one_more_lived}
@@ -9,37 +7,37 @@ use Rattle.swim_life.proofs.lives.run_lives.Goals as goal
 
 pub returns-in-Err-clause-notices : goal.returns-in-Err-clause-notices
 returns-in-Err-clause-notices g c =
-    notices_both (g.F.Sink.written c.args.notices.now, g.F.Sink.failures c.args.notices.now) (g.F.Sink.written c.loop-life.notices, g.F.Sink.failures c.loop-life.notices) (g.F.Sink.written c.begins.new.notices, g.F.Sink.failures c.begins.new.notices)
-    c.loop-life.invariant.1 c.begins.ensures.notices
+    notices_both (g.F.Sink.written c.args.notices.now, g.F.Sink.failures c.args.notices.now) (g.F.Sink.written c.begins.new.notices, g.F.Sink.failures c.begins.new.notices) (g.F.Sink.written c.live_next.new.notices, g.F.Sink.failures c.live_next.new.notices)
+    (notices_both (g.F.Sink.written c.args.notices.now, g.F.Sink.failures c.args.notices.now) (g.F.Sink.written c.loop-life.notices, g.F.Sink.failures c.loop-life.notices) (g.F.Sink.written c.begins.new.notices, g.F.Sink.failures c.begins.new.notices) c.loop-life.invariant.1 c.begins.ensures.notices) c.live_next.ensures.notices
 
 pub returns-in-Some-end_of-clause-notices : goal.returns-in-Some-end_of-clause-notices
 returns-in-Some-end_of-clause-notices g c =
-    notices_both (g.F.Sink.written c.args.notices.now, g.F.Sink.failures c.args.notices.now) (g.F.Sink.written c.loop-life.notices, g.F.Sink.failures c.loop-life.notices) (g.F.Sink.written c.begins.new.notices, g.F.Sink.failures c.begins.new.notices)
-    c.loop-life.invariant.1 c.begins.ensures.notices
+    notices_both (g.F.Sink.written c.args.notices.now, g.F.Sink.failures c.args.notices.now) (g.F.Sink.written c.begins.new.notices, g.F.Sink.failures c.begins.new.notices) (g.F.Sink.written c.live_next.new.notices, g.F.Sink.failures c.live_next.new.notices)
+    (notices_both (g.F.Sink.written c.args.notices.now, g.F.Sink.failures c.args.notices.now) (g.F.Sink.written c.loop-life.notices, g.F.Sink.failures c.loop-life.notices) (g.F.Sink.written c.begins.new.notices, g.F.Sink.failures c.begins.new.notices) c.loop-life.invariant.1 c.begins.ensures.notices) c.live_next.ensures.notices
 
 pub returns-then-past-clause-notices : goal.returns-then-past-clause-notices
 returns-then-past-clause-notices g c =
-    notices_both (g.F.Sink.written c.args.notices.now, g.F.Sink.failures c.args.notices.now) (g.F.Sink.written c.loop-life.notices, g.F.Sink.failures c.loop-life.notices) (g.F.Sink.written c.begins.new.notices, g.F.Sink.failures c.begins.new.notices)
-    c.loop-life.invariant.1 c.begins.ensures.notices
+    notices_both (g.F.Sink.written c.args.notices.now, g.F.Sink.failures c.args.notices.now) (g.F.Sink.written c.begins.new.notices, g.F.Sink.failures c.begins.new.notices) (g.F.Sink.written c.live_next.new.notices, g.F.Sink.failures c.live_next.new.notices)
+    (notices_both (g.F.Sink.written c.args.notices.now, g.F.Sink.failures c.args.notices.now) (g.F.Sink.written c.loop-life.notices, g.F.Sink.failures c.loop-life.notices) (g.F.Sink.written c.begins.new.notices, g.F.Sink.failures c.begins.new.notices) c.loop-life.invariant.1 c.begins.ensures.notices) c.live_next.ensures.notices
 
 pub returns-in-Some-end_of-clause-lived : goal.returns-in-Some-end_of-clause-lived
 returns-in-Some-end_of-clause-lived g c =
     last_lived c.args.opening c.args.terms.limit c.args.terms.seed c.loop-life.opening c.loop-life.number (g.W.Sink.written c.args.writer.now, g.W.Sink.failures c.args.writer.now) (g.W.Sink.written c.loop-life.writer, g.W.Sink.failures c.loop-life.writer) (g.W.Sink.written c.tell.new.writer, g.W.Sink.failures c.tell.new.writer) c.in-Ok.past c.in-Some-end_of.end
-    c.loop-life.invariant.0 (c.in-Ok.ensures.life, subst (λ s. WasDrawn DrawsOrder DrawsPlace c.loop-life.opening s c.in-Ok.past.journal.past) c.chooser_of-chooser.ensures c.in-Ok.ensures.drawn) (sym c.in-Some-end_of.ensures) c.tell.ensures
+    c.loop-life.invariant.0 c.in-Ok.ensures.life (sym c.in-Some-end_of.ensures) c.tell.ensures
 
 pub returns-then-past-clause-lived : goal.returns-then-past-clause-lived
 returns-then-past-clause-lived g c =
     let none : end_after c.in-Ok.past.why ≡ None = cc in
     last_stopped c.args.opening c.args.terms.limit c.args.terms.seed c.loop-life.opening c.loop-life.number (g.W.Sink.written c.args.writer.now, g.W.Sink.failures c.args.writer.now) (g.W.Sink.written c.loop-life.writer, g.W.Sink.failures c.loop-life.writer) (g.W.Sink.written c.tell.new.writer, g.W.Sink.failures c.tell.new.writer) (g.W.Sink.written c.tell_stopped.new.writer, g.W.Sink.failures c.tell_stopped.new.writer) c.in-Ok.past
-    c.loop-life.invariant.0 (c.in-Ok.ensures.life, subst (λ s. WasDrawn DrawsOrder DrawsPlace c.loop-life.opening s c.in-Ok.past.journal.past) c.chooser_of-chooser.ensures c.in-Ok.ensures.drawn) none (search rules) c.tell.ensures c.tell_stopped.ensures
+    c.loop-life.invariant.0 c.in-Ok.ensures.life none (search rules) c.tell.ensures c.tell_stopped.ensures
 
 pub loop-life-preserved : goal.loop-life-preserved
 loop-life-preserved g c =
     let none : end_after c.in-Ok.past.why ≡ None = cc in
     let counted : c.saturating_add-number.result ≡ min (c.loop-life.number + 1) (2 ^ 64 - 1) = search rules in (
       one_more_lived c.args.opening c.args.terms.limit c.args.terms.seed c.loop-life.opening c.after-opening.result c.loop-life.number c.saturating_add-number.result (g.W.Sink.written c.args.writer.now, g.W.Sink.failures c.args.writer.now) (g.W.Sink.written c.loop-life.writer, g.W.Sink.failures c.loop-life.writer) (g.W.Sink.written c.tell.new.writer, g.W.Sink.failures c.tell.new.writer) c.in-Ok.past
-          c.loop-life.invariant.0 (c.in-Ok.ensures.life, subst (λ s. WasDrawn DrawsOrder DrawsPlace c.loop-life.opening s c.in-Ok.past.journal.past) c.chooser_of-chooser.ensures c.in-Ok.ensures.drawn) none (search rules) c.tell.ensures c.after-opening.ensures.exact counted,
-      notices_both (g.F.Sink.written c.args.notices.now, g.F.Sink.failures c.args.notices.now) (g.F.Sink.written c.loop-life.notices, g.F.Sink.failures c.loop-life.notices) (g.F.Sink.written c.begins.new.notices, g.F.Sink.failures c.begins.new.notices)
-          c.loop-life.invariant.1 c.begins.ensures.notices,
+          c.loop-life.invariant.0 c.in-Ok.ensures.life none (search rules) c.tell.ensures c.after-opening.ensures.exact counted,
+      notices_both (g.F.Sink.written c.args.notices.now, g.F.Sink.failures c.args.notices.now) (g.F.Sink.written c.begins.new.notices, g.F.Sink.failures c.begins.new.notices) (g.F.Sink.written c.live_next.new.notices, g.F.Sink.failures c.live_next.new.notices)
+          (notices_both (g.F.Sink.written c.args.notices.now, g.F.Sink.failures c.args.notices.now) (g.F.Sink.written c.loop-life.notices, g.F.Sink.failures c.loop-life.notices) (g.F.Sink.written c.begins.new.notices, g.F.Sink.failures c.begins.new.notices) c.loop-life.invariant.1 c.begins.ensures.notices) c.live_next.ensures.notices,
       counted ∙ ap one_more c.loop-life.invariant.2 ∙ sym c.begins.ensures.counts,
     )

@@ -1,10 +1,10 @@
 use Rattle.swim_targets.specs.Draws.{DrawsOrder, DrawsPlace}
 use Rattle.swim_life.specs.Draws.{WasDrawn}
-use Rattle.swim_life.proofs.lives.live.Given as goal
+use Rattle.swim_life.proofs.lives.live_recorded.Given as goal
 
 -- the node of these parts, this opening and this chooser
-abbrev pub ghosts-live_so : goal.ghosts-live_so
-ghosts-live_so g a = record {
+abbrev pub ghosts-live_so-N-Naming : goal.ghosts-live_so-N-Naming
+ghosts-live_so-N-Naming g a = record {
   opening = a.opening;
   limit = a.parts.limit;
   ledgers = a.parts.ledgers;
@@ -12,3 +12,7 @@ ghosts-live_so g a = record {
   cells = a.parts.cells;
   drawn = λ h. WasDrawn DrawsOrder DrawsPlace a.opening a.chooser h;
 }
+
+-- what its sink was given before
+abbrev pub ghosts-live_so-N-PageNaming : goal.ghosts-live_so-N-PageNaming
+ghosts-live_so-N-PageNaming g a = record { page = g.W.Sink.written a.writer }

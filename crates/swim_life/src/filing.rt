@@ -1,0 +1,164 @@
+//! Lives with files: each life's journal in a file of its own, where a shelf opens one.
+
+ghost use Rattle.std.specs.Prelude.{◌≡◌, IfOk, true};
+ghost use Rattle.swim_life.specs.Lives.{IsDrawnLife};
+ghost use Rattle.swim_life.specs.Notices.{Notices};
+ghost use Rattle.swim_life.specs.Written.{IsFile};
+
+use crate::gates::{Door, Line, Pace, Shelf};
+use crate::halls::Hall;
+use crate::lives::{Lived, Past, Terms, chooser_of, live, live_recorded};
+use std::alloc::Global;
+use std::sync::Wait;
+use std::thread::Threads;
+use swim_history::Opening;
+use swim_journal::laws::a_header_tells_its_opening;
+use swim_journal::put_header;
+use swim_node::OpenFault;
+use swim_wire::Sink;
+
+/// The life of this number: with a file for its journal, where the shelf opens one.
+#[tactic(auto, using(crate::specs::Notices::notices_both, crate::proofs::LifeFiles::drawn_with_cut))]
+pub(crate) fn live_next<
+    R: Threads + Wait + Sync,
+    L: Line + Sync,
+    P: Pace + Send,
+    D: Door + Drop,
+    V: Sink + Drop + Send,
+    S: Shelf<V>,
+    Q: Pace + Send,
+    F: Sink,
+>(
+    rt: &R,
+    alloc: Global,
+    opening: Opening,
+    terms: Terms,
+    number: u64,
+    line: &L,
+    pace: &mut P,
+    hall: &mut Hall<D>,
+    shelf: &mut S,
+    pause: &mut Q,
+    notices: &mut F,
+) -> Result<Past, OpenFault>
+    ensures life { IfOk result (IsDrawnLife opening terms.limit terms.seed number) }
+    ensures notices { Notices (F.written notices.old, F.failures notices.old)
+        (F.written notices.new, F.failures notices.new) }
+{
+    let Some(writer) = shelf.open(number, notices) else {
+        return live_unfiled(rt, alloc, opening, terms, number, line, pace, hall);
+    };
+    match live_filed(
+        rt, alloc, opening, terms, number, line, pace, hall, writer, pause,
+    ) {
+        Ok(lived) => Ok(put_back(shelf, terms, number, lived, notices)),
+        Err(fault) => Err(fault),
+    }
+}
+
+/// The life of this number, whose journal is written nowhere.
+#[tactic(auto, using(crate::proofs::LifeFiles::drawn_life))]
+fn live_unfiled<R: Threads + Wait + Sync, L: Line + Sync, P: Pace + Send, D: Door + Drop>(
+    rt: &R,
+    alloc: Global,
+    opening: Opening,
+    terms: Terms,
+    number: u64,
+    line: &L,
+    pace: &mut P,
+    hall: &mut Hall<D>,
+) -> Result<Past, OpenFault>
+    ensures { IfOk result (IsDrawnLife opening terms.limit terms.seed number) }
+{
+    let chooser = chooser_of(terms, number);
+    match live(rt, alloc, opening, chooser, terms.limit, line, pace, hall) {
+        Ok(past) => Ok(past),
+        Err(fault) => Err(fault),
+    }
+}
+
+/// Gives the file of a life back to its shelf.
+#[tactic(auto, using(crate::proofs::LifeFiles::same_but_cut))]
+fn put_back<V: Sink + Drop, S: Shelf<V>, F: Sink>(
+    shelf: &mut S,
+    terms: Terms,
+    number: u64,
+    lived: Lived<V>,
+    notices: &mut F,
+) -> Past
+    requires { IsFile S.fresh (V.written lived.writer) terms.limit terms.seed number lived.past }
+    ensures past { result ≡ record lived.past { is_cut = result.is_cut } }
+    ensures cut { lived.past.is_cut ≡ true → result.is_cut ≡ true }
+    ensures notices { Notices (F.written notices.old, F.failures notices.old)
+        (F.written notices.new, F.failures notices.new) }
+{
+    let Lived { past, writer } = lived;
+    let is_kept = shelf.close(terms, number, &past, writer, notices);
+    let is_cut = past.is_cut || !is_kept;
+    with_cut(past, is_cut)
+}
+
+/// The life of this number, whose header and journal are written into this sink. Where that doesn't take the header,
+/// nothing more is written.
+#[tactic(auto, using(crate::proofs::LifeFiles::drawn_life, crate::proofs::LifeFiles::drawn_with_cut, crate::proofs::LifeFiles::whole_file, crate::proofs::LifeFiles::cut_file))]
+fn live_filed<
+    R: Threads + Wait + Sync,
+    L: Line + Sync,
+    P: Pace + Send,
+    D: Door + Drop,
+    V: Sink + Drop + Send,
+    Q: Pace + Send,
+>(
+    rt: &R,
+    alloc: Global,
+    opening: Opening,
+    terms: Terms,
+    number: u64,
+    line: &L,
+    pace: &mut P,
+    hall: &mut Hall<D>,
+    writer: V,
+    pause: &mut Q,
+) -> Result<Lived<V>, OpenFault>
+    ensures life { IfOk result (λ lived. IsDrawnLife opening terms.limit terms.seed number lived.past) }
+    ensures file { IfOk result (λ lived. IsFile (V.written writer) (V.written lived.writer)
+        terms.limit terms.seed number lived.past) }
+{
+    let mut writer = writer;
+    if !put_header(&mut writer, &opening, terms.limit, &terms.seed, number) {
+        return match live_unfiled(rt, alloc, opening, terms, number, line, pace, hall) {
+            Ok(past) => Ok(Lived {
+                past: with_cut(past, true),
+                writer,
+            }),
+            Err(fault) => Err(fault),
+        };
+    }
+    a_header_tells_its_opening();
+    let chooser = chooser_of(terms, number);
+    match live_recorded(
+        rt,
+        alloc,
+        opening,
+        chooser,
+        terms.limit,
+        line,
+        pace,
+        hall,
+        writer,
+        pause,
+    ) {
+        Ok(lived) => Ok(lived),
+        Err(fault) => Err(fault),
+    }
+}
+
+/// A life whose journal is told as cut, or isn't.
+pub(crate) fn with_cut(past: Past, is_cut: bool) -> Past
+    ensures past { result ≡ record past { is_cut = is_cut } }
+    ensures cut { result.is_cut ≡ is_cut }
+{
+    let mut past = past;
+    past.is_cut = is_cut;
+    past
+}

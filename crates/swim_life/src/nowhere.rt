@@ -1,0 +1,80 @@
+//! Where the journals of lives are written that have no files.
+
+ghost use Rattle.std.specs.Prelude.{◌≡◌, None, false};
+ghost use Rattle.swim_wire.specs.Streams.{failures_if};
+
+use crate::gates::{Beat, Pace, Shelf};
+use crate::lives::{Past, Terms};
+use std::sync::Wait;
+use swim_wire::Sink;
+
+/// A sink that takes nothing.
+#[derive(Drop)]
+pub struct Nowhere {
+    failures: u64,
+}
+
+impl Nowhere {
+    /// It was given nothing yet.
+    pub fn new() -> Nowhere {
+        Nowhere { failures: 0 }
+    }
+
+    /// Counts what wasn't taken.
+    fn refuse(&mut self) -> bool
+        ensures taken { result ≡ false }
+        ensures failures { self.new.failures ≡ failures_if self.old.failures result }
+    {
+        self.failures = self.failures.saturating_add(1);
+        false
+    }
+}
+
+impl Sink for Nowhere {
+    ghost written = { λ s. None };
+
+    ghost failures = { λ s. s.failures };
+
+    fn put(&mut self, _text: &[u8]) -> bool {
+        self.refuse()
+    }
+
+    fn flush(&mut self) -> bool {
+        self.refuse()
+    }
+}
+
+/// A pace that is over at once.
+#[derive(Drop)]
+pub struct Never {}
+
+impl Pace for Never {
+    fn next<R: Wait>(&mut self, _rt: &R) -> Beat {
+        Beat::Stop
+    }
+}
+
+/// A shelf of lives that have no files.
+#[derive(Drop)]
+pub struct NoShelf {}
+
+impl Shelf<Nowhere> for NoShelf {
+    ghost fresh = { None };
+
+    #[tactic(auto, using(crate::specs::Notices::no_notices))]
+    fn open<F: Sink>(&mut self, _number: u64, _notices: &mut F) -> Option<Nowhere> {
+        None
+    }
+
+    #[tactic(auto, using(crate::specs::Notices::no_notices))]
+    fn close<F: Sink>(
+        &mut self,
+        _terms: Terms,
+        _number: u64,
+        _past: &Past,
+        _writer: Nowhere,
+        _notices: &mut F,
+    ) -> bool {
+        false
+    }
+}

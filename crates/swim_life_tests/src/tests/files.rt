@@ -1,0 +1,175 @@
+//! Lives whose journals are written to files, here in memory.
+
+ghost use Rattle.std.specs.Prelude.{◌≡◌, None};
+ghost use Rattle.std.specs.Io.KnownBytes.{Keeps};
+ghost use Rattle.swim_wire.specs.Streams.{Puts, failures_if};
+
+use super::gates::{Counter, NoDoor, Signals};
+use super::lives::{line, pace};
+use super::*;
+use std::sync::atomic::AtomicBool;
+use swim_life::{Hall, LivesEnd, Shelf, SleepingPace, Terms, run_lives};
+use swim_script::{Session, run};
+use swim_wire::{Page, Sink, Text};
+
+// A file that takes so many bytes, and no text that is longer than what is left.
+#[derive(Drop)]
+struct File {
+    page: Page,
+    room: usize,
+    failures: u64,
+}
+
+impl Sink for File {
+    ghost written = { λ f. None };
+
+    ghost failures = { λ f. f.failures };
+
+    fn put(&mut self, text: &[u8]) -> bool
+        ensures bytes { Puts None None text.now result }
+        ensures failures { self.new.failures ≡ failures_if self.old.failures result }
+    {
+        if text.len() <= self.room && self.page.put(text) {
+            self.room -= text.len();
+            return true;
+        }
+        self.failures = self.failures.saturating_add(1);
+        false
+    }
+
+    fn flush(&mut self) -> bool
+        ensures bytes { Keeps None None }
+        ensures failures { self.new.failures ≡ failures_if self.old.failures result }
+    {
+        true
+    }
+}
+
+// A shelf of files that take so many bytes. It plays each file that comes back, and counts those that were played to their
+// end, and the calls in them.
+#[derive(Drop)]
+struct Player {
+    alloc: Global,
+    room: usize,
+    played: u32,
+    calls: u32,
+}
+
+impl Shelf<File> for Player {
+    ghost fresh = { None };
+
+    #[tactic(auto, using(swim_life::specs::Notices::no_notices))]
+    fn open<F: Sink>(&mut self, _number: u64, _notices: &mut F) -> Option<File> {
+        Some(File {
+            page: Page::new(self.alloc),
+            room: self.room,
+            failures: 0,
+        })
+    }
+
+    #[tactic(auto, using(swim_life::specs::Notices::no_notices))]
+    fn close<F: Sink>(
+        &mut self,
+        _terms: Terms,
+        _number: u64,
+        _past: &Past,
+        writer: File,
+        _notices: &mut F,
+    ) -> bool {
+        let mut session = Session::new(self.alloc);
+        let mut output = Page::new(self.alloc);
+        let text = writer.page.text();
+        if run(&mut session, &mut Text::new(text), &mut output).is_err() {
+            return false;
+        }
+        let Some(journal) = session.into_journal() else {
+            return false;
+        };
+        self.played = self.played.saturating_add(1);
+        self.calls = self.calls.saturating_add(journal.len());
+        true
+    }
+}
+
+// Two lives of two entries each, with files that take so many bytes: what was told of them, and what was played.
+fn live_twice<R: Threads + Wait + Clock + Send + Sync + Copy + Drop>(
+    rt: R,
+    alloc: Global,
+    room: usize,
+) -> Result<(Player, Page), Fail> {
+    let rows = [(id(2), at(2))];
+    let opening = Opening::check(id(1), 0, 1, 3, &rows, 0).map_err(|_| "an opening")?;
+    let signals = Signals::new(false);
+    let is_told = AtomicBool::new(true);
+    let line = line(rt, &signals, 0);
+    let mut pace = pace(rt, &is_told, 5);
+    let mut hall = Hall::new(alloc, NoDoor { clock: rt });
+    let mut shelf = Player {
+        alloc,
+        room,
+        played: 0,
+        calls: 0,
+    };
+    let mut pause = SleepingPace::new(rt, 1);
+    let mut page = Page::new(alloc);
+    let mut herald = Counter { begun: 0 };
+    let mut notices = Page::new(alloc);
+    let terms = Terms {
+        seed: [0; 32],
+        limit: 2,
+    };
+    let end = run_lives(
+        &rt,
+        alloc,
+        opening,
+        terms,
+        &line,
+        &mut pace,
+        &mut hall,
+        &mut shelf,
+        &mut pause,
+        &mut page,
+        &mut herald,
+        &mut notices,
+    );
+    if end != LivesEnd::Stopped {
+        return Err(Fail::new("an end"));
+    }
+    Ok((shelf, page))
+}
+
+// The file of each life is played without a difference, and has all of its calls.
+#[test]
+fn each_life_has_a_file(rt: HostRuntime) -> Result<(), Fail> {
+    let (shelf, page) = live_twice(rt, rt.alloc(), 1000)?;
+    assert_eq!(rt; shelf.played, 2);
+    assert_eq!(rt; shelf.calls, 4);
+    assert!(rt;
+        page.text()
+            .starts_with(b"life 0 entries 2 judged 0 unsent 0 wire 0 refused 0\n")
+    );
+    assert!(rt;
+        page.text().ends_with(b"ended stopped entries 2 judged 0 unsent 0 wire 0 refused 0\n")
+    );
+    Ok(())
+}
+
+// A file with no room for its header, and one with room for the header alone: the lives go on, and it is told.
+#[test]
+fn a_file_that_is_cut(rt: HostRuntime) -> Result<(), Fail> {
+    for room in [5, 150] {
+        let (shelf, page) = live_twice(rt, rt.alloc(), room)?;
+        assert!(rt; shelf.calls < 4);
+        assert!(rt;
+            page.text().starts_with(
+                b"life 0 entries 2 judged 0 unsent 0 wire 0 refused 0 journal cut\n"
+            )
+        );
+        assert!(rt;
+            page.text().ends_with(
+                b"ended stopped entries 2 judged 0 unsent 0 wire 0 refused 0 journal cut\n"
+            )
+        );
+    }
+    Ok(())
+}

@@ -1,0 +1,127 @@
+//! The folder of the journal files, one for each life of a daemon.
+
+ghost use Rattle.std.specs.Prelude.{◌≡◌, None};
+
+use crate::journal_files::JournalFile;
+use crate::notices::Notice;
+use crate::old_files::{Stamp, others_in, path_of, removed};
+use std::alloc::Global;
+use std::fs::{File, OpenOptions};
+use std::io;
+use std::io::ErrorKind;
+use std::net::Net;
+use std::os::unix::fs::OpenOptionsExt;
+use std::rt::{Clock, Files};
+use swim_config::JournalFiles;
+use swim_life::{Past, Shelf, Terms};
+use swim_wire::{Id, Sink};
+
+/// The folder in which a daemon makes a file for each of its lives, if it does. Each is new and its owner's alone. At a
+/// life's beginning old files of this member are removed. What fails is told among the notices.
+#[derive(Drop)]
+pub struct Folder<'r, R> {
+    rt: &'r R,
+    alloc: Global,
+    files: JournalFiles,
+    me: Id,
+    began: u64,
+}
+
+impl<'r, R> Folder<'r, R> {
+    /// The folder of this member's files, whose daemon began so many seconds after 1970.
+    pub fn new(rt: &'r R, alloc: Global, files: JournalFiles, me: Id, began: u64) -> Folder<'r, R> {
+        Folder {
+            rt,
+            alloc,
+            files,
+            me,
+            began,
+        }
+    }
+}
+
+/// Removes the oldest files of this member beside the new one, where there are more than stay. What can't be removed stays.
+fn remove_old<R: Files<File = File>>(
+    rt: &R,
+    alloc: Global,
+    dir: &str,
+    me: Id,
+    new: Stamp,
+    keep: u64,
+) {
+    if keep == 0 {
+        return;
+    }
+    let Ok(others) = others_in(rt, alloc, dir, me, new) else {
+        return;
+    };
+    for stamp in removed(others.as_slice(), keep) {
+        let _is_removed = rt.remove_file(path_of(dir, me, *stamp).as_str());
+    }
+}
+
+/// Makes a file that its owner alone may read; none may be there.
+fn make<R: Files<File = File>>(rt: &R, path: &str) -> io::Result<File> {
+    OpenOptions::new()
+        .write(true)
+        .create_new(true)
+        .mode(0o600)
+        .open(rt, path)
+}
+
+impl<'r, R: Files<File = File> + Net + Clock> Shelf<JournalFile<'r, R>> for Folder<'r, R> {
+    ghost fresh = { None };
+
+    #[tactic(auto, using(swim_life::specs::Notices::no_notices))]
+    fn open<F: Sink>(&mut self, number: u64, notices: &mut F) -> Option<JournalFile<'r, R>> {
+        let Some(dir) = &self.files.dir else {
+            return None;
+        };
+        let stamp = Stamp {
+            began: self.began,
+            life: number,
+        };
+        let path = path_of(dir.as_str(), self.me, stamp);
+        match make(self.rt, path.as_str()) {
+            Ok(file) => {
+                remove_old(
+                    self.rt,
+                    self.alloc,
+                    dir.as_str(),
+                    self.me,
+                    stamp,
+                    self.files.keep,
+                );
+                Some(JournalFile::new(self.rt, Some(file)))
+            }
+            Err(fault) => {
+                let notice = Notice::unwritten(self.rt, path.as_str(), fault.kind());
+                notice.tell(self.rt, self.alloc, notices);
+                Some(JournalFile::new(self.rt, None))
+            }
+        }
+    }
+
+    #[tactic(auto, using(swim_life::specs::Notices::no_notices))]
+    fn close<F: Sink>(
+        &mut self,
+        _terms: Terms,
+        number: u64,
+        _past: &Past,
+        writer: JournalFile<'r, R>,
+        notices: &mut F,
+    ) -> bool {
+        let mut writer = writer;
+        let is_kept = writer.keep();
+        if let (Some(fault), Some(dir)) = (writer.fault(), &self.files.dir) {
+            let stamp = Stamp {
+                began: self.began,
+                life: number,
+            };
+            let path = path_of(dir.as_str(), self.me, stamp);
+            let notice = Notice::unwritten(self.rt, path.as_str(), fault);
+            notice.tell(self.rt, self.alloc, notices);
+        }
+        is_kept
+    }
+}

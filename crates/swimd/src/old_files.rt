@@ -1,0 +1,121 @@
+//! Journal files of earlier lives, by their names, and which of them go.
+
+ghost use Rattle.std.specs.Prelude.{◌≡◌};
+ghost use Rattle.swimd.specs.OldFiles.{removed};
+
+use arrayvec::{ArrayString, ArrayVec};
+use std::alloc::{AllocError, Global};
+use std::fmt::Write;
+use std::rt::Files;
+use swim_wire::{Byte, Id, ReadSource, Source, read_number};
+
+/// Room for a name of a journal file, which has at most 57 bytes; of a longer name a front is looked at.
+const NAME_BYTES: usize = 64;
+
+/// Room for the path of a file: that of its folder, three numbers, and what stands between them.
+const PATH_BYTES: usize = 168;
+
+/// The path of a file.
+pub type FilePath = ArrayString<PATH_BYTES>;
+
+/// How many bytes of the names of a folder are looked at, since no life begins before that is done.
+const MOST_BYTES: u32 = 1_048_576;
+
+/// How many files are removed at a time at most.
+const REMOVALS: u64 = 64;
+
+/// Which life a file is of: when its daemon began, in seconds since 1970, and its number there. An older one is less.
+#[derive(Clone, Copy, Debug, PartialEq, Eq, PartialOrd, Ord)]
+pub struct Stamp {
+    pub began: u64,
+    pub life: u64,
+}
+
+/// The path of a member's file in a folder.
+pub fn path_of(dir: &str, me: Id, stamp: Stamp) -> FilePath {
+    let mut path = FilePath::new();
+    let _is_whole = write!(
+        path,
+        "{dir}/{}-{}-{}.swim",
+        me.get(),
+        stamp.began,
+        stamp.life
+    );
+    path
+}
+
+/// Which of a member's other files go beside a new one, where so many files stay: the first of them, which are the oldest,
+/// at most 64 at a time, since no life begins before they are gone. A `keep` of 0 lets all stay.
+pub fn removed(others: &[Stamp], keep: u64) -> &[Stamp]
+    ensures { result.now ≡ removed others.now keep }
+{
+    if keep == 0 {
+        return &[];
+    }
+    let beyond = (others.len() as u64).saturating_sub(keep - 1);
+    let count = beyond.min(REMOVALS).min(others.len() as u64);
+    &others[..count as usize]
+}
+
+/// A member's files in a folder but the one that is new, the oldest first. What has such a name and is no file, as a folder
+/// or a link, isn't one.
+pub fn others_in<R: Files>(
+    rt: &R,
+    alloc: Global,
+    dir: &str,
+    me: Id,
+    new: Stamp,
+) -> Result<Vec<Stamp>, AllocError> {
+    let mut files = Vec::new(alloc);
+    let Ok(names) = rt.open_dir(dir) else {
+        return Ok(files);
+    };
+    let mut names = ReadSource::new(names);
+    let mut name = ArrayVec::<u8, NAME_BYTES>::new();
+    for _byte in 0..MOST_BYTES {
+        match names.byte() {
+            Byte::One(0) => {
+                if let Some(stamp) = stamp_in(name.as_slice(), me) {
+                    if stamp != new && is_file(rt, dir, me, stamp) {
+                        files.push(stamp)?;
+                    }
+                }
+                name.clear();
+            }
+            Byte::One(byte) => {
+                let _is_added = name.try_push(byte);
+            }
+            Byte::End | Byte::Fault => break,
+        }
+    }
+    files.sort()?;
+    Ok(files)
+}
+
+/// Whether a file stands at the path of a member's file, and nothing else.
+fn is_file<R: Files>(rt: &R, dir: &str, me: Id, stamp: Stamp) -> bool {
+    match rt.symlink_metadata(path_of(dir, me, stamp).as_str()) {
+        Ok(metadata) => metadata.is_file(),
+        Err(_) => false,
+    }
+}
+
+/// Which life of a member a file of this name is of, if it is one: ID-SECONDS-LIFE.swim.
+fn stamp_in(name: &[u8], me: Id) -> Option<Stamp> {
+    let name = name.strip_suffix(b".swim")?;
+    let (id, rest) = parted(name)?;
+    let (began, life) = parted(rest)?;
+    if Id::read(id)? != me {
+        return None;
+    }
+    Some(Stamp {
+        began: read_number(began, u64::MAX)?,
+        life: read_number(life, u64::MAX)?,
+    })
+}
+
+/// What stands before the first `-` of a text, and behind it.
+fn parted(text: &[u8]) -> Option<(&[u8], &[u8])> {
+    let place = text.iter().position(|byte| *byte == b'-')?;
+    Some((&text[..place], &text[place + 1..]))
+}
