@@ -9,7 +9,10 @@ import random
 LARGEST_ID = 2**32 - 1
 MOST_BYTES = 65_536
 HEX = "0123456789abcdefABCDEF"
-STRINGS = ["listen", "control", "seed", "at"]
+PATHS = ["control", "journal_dir"]
+STRINGS = ["listen", "seed", "at", *PATHS]
+# Keys that may be left out, with values.
+OPTIONAL = {"last": "0", "journal_dir": "'files'", "journal_keep": "3"}
 # A brace that isn't closed in its line could be one of a newer TOML where the text around it is changed.
 PRINTABLE = "".join(map(chr, range(0x20, 0x7F))).replace("{", "")
 NUMBERS = [-(2**63), -1_000, -2, -1, -1, -1, 0, 1, 2, 3, 8, 9, 1000, 60_000, 60_001, 65_535, 65_536, 10**6, 10**6 + 1]
@@ -19,7 +22,7 @@ BAD_PEERS += ["1.2.3.4:05", "01.2.3.4:5", "1.2.3.4: 5", "1.2.3.4:+5", "localhost
 BAD_PEERS += ["1.2.3.4:5\n"]
 OTHER_KINDS = ["true", "false", "1.5", "-0.0", "inf", "nan", "1e3", "[]", "[1]", "{}", "{ a = 1 }", "'text'", "7"]
 OTHER_KINDS += ["2020-02-29", "2020-02-29T01:02:03Z", "01:02:03", '""', "[[]]", '"""\ntext"""']
-UNKNOWN = ["name", "ID", "members", "K", '""', "'id '", "tick-ms", "wire", "3", "more.id", '"\\u0000"']
+UNKNOWN = ["journal_dirs", "journal-keep", "journal.dir", "name", "ID", "members", "K", '""', "'id '", "tick-ms", "wire", "3", "more.id", '"\\u0000"']
 NO_TOML = ["id", "= 1", "id = ", "[", "[[member]", "x = 'a", 'x = "\\q"', "x = 01", "x = 1__0", "x = [1,,2]", "x = +0x1"]
 NO_TOML += ["x = 1.", "x = 2020-13-01", "x = tru", "a.b = 1\na = 1", "[id]\n[id]", "x = {a = 1, a = 2}", "x = 'a' 'b'"]
 NO_TOML += ["x = \x01", "x = '\x7f'", "x = 1 # \x00", 'x = "\\ud800"', "\ufeffx = 1\ufeff", "[member]\n[[member]]"]
@@ -75,8 +78,12 @@ class Config:
         values.update(tick_ms=r.choice([1, 10, 1_000, 60_000]), journal=r.choice([1, 1_000, 10**6]))
         if r.random() < 0.5:
             values["last"] = r.choice([0, 1, 2**32, 2**63 - 1, r.randint(0, 2**63 - 1)])
-        path = "".join(r.choice(PRINTABLE) for _ in range(r.choice([1, 5, 20, 99, 100])))
-        texts = {"listen": f"127.0.0.{r.randint(0, 255)}:{r.randint(1, 65_535)}", "control": path, "seed": seed_text(r)}
+        if r.random() < 0.3:
+            values["journal_keep"] = r.choice([0, 1, 16, 10**6, LARGEST_ID])
+        path = lambda: "".join(r.choice(PRINTABLE) for _ in range(r.choice([1, 5, 20, 99, 100])))
+        texts = {"listen": f"127.0.0.{r.randint(0, 255)}:{r.randint(1, 65_535)}", "control": path(), "seed": seed_text(r)}
+        if r.random() < 0.3:
+            texts["journal_dir"] = path()
         self.r = r
         self.top = [[key, number(r, it)] for key, it in values.items()] + [[key, text(r, it)] for key, it in texts.items()]
         r.shuffle(self.top)
@@ -143,22 +150,22 @@ def another(r, key):
     """A value of the key that may be out of range."""
     if key in ("listen", "at"):
         return text(r, r.choice(BAD_PEERS))
-    if key == "control":
+    if key in PATHS:
         path = r.choice(["", "\t", "\x7f", "\u00e9", "x" * 100, "x" * 101, "a\nb", "\x00", "/tmp/\U0001f600"])
         return text(r, path)
     if key == "seed":
         return text(r, r.choice([seed_text(r, 63), seed_text(r, 65), "", seed_text(r, 63) + "g", seed_text(r, 62) + "\u00e9"]))
-    return number(r, -1 if key == "last" and r.random() < 0.5 else r.choice(NUMBERS))
+    return number(r, -1 if key in OPTIONAL and r.random() < 0.5 else r.choice(NUMBERS))
 
 
 def of_one_fault(r):
     """A configuration that lacks one key, or has it of another kind or out of range."""
     config = Config(r, count=r.choice([1, 2, 3]))
-    config.top = [it for it in config.top if it[0] != "last"] + [["last", "0"]]
+    config.top = [it for it in config.top if it[0] not in OPTIONAL] + [list(it) for it in OPTIONAL.items()]
     table = r.choice([config.top, config.top, config.top, r.choice(config.members)])
     pair = r.choice(table)
     step = r.random()
-    if step < 0.3 and pair[0] != "last":
+    if step < 0.3 and pair[0] not in OPTIONAL:
         table.remove(pair)
     elif step < 0.65:
         pair[1] = r.choice(["true", "0.5", "[]", "{}", "2020-02-29", "1" if pair[0] in STRINGS else "'1'"])

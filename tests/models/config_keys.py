@@ -28,6 +28,8 @@ TOP = [
     Key("seed", "seed", (), None, "what orders and places are drawn from"),
     Key("journal", "integer", (1, 1_000_000), None, "the most entries of the journal"),
     Key("last", "integer", (0, 2**63 - 1), 0, "the last period number that was used before"),
+    Key("journal_dir", "path", (), "", "the folder of the journal files"),
+    Key("journal_keep", "integer", (0, LARGEST_ID), 16, "how many journal files stay, 0 for all"),
     Key("member", "members", (), [], "the other members, at most 128"),
 ]
 MEMBER = [
@@ -53,7 +55,7 @@ RULES = [
 def rows():
     """The rows of the table of keys in docs/FORMATS.md."""
     for text, key in BY_TEXT.items():
-        default = {None: "none", 0: "0"}[key.default] if key.default != [] else "none of them"
+        default = {None: "none", "": "no files"}.get(key.default, key.default) if key.default != [] else "none of them"
         yield f"| `{text}` | {expected_form(key)} | {default} | {key.about} |"
 
 

@@ -177,8 +177,9 @@ def opening_fault(config):
 
 def summary(config):
     numbers = " ".join(f"{key} {config[key]}" for key in ("k", "rtt", "period", "tick_ms", "last", "journal"))
-    lines = [f"{key} {config[key]}" for key in ("id", "listen", "control")]
-    lines += [numbers, f"members {len(config['member'])}"]
+    files = config["journal_dir"] != ""
+    lines = [f"{key} {config[key]}" for key in ("id", "listen", "control", *["journal_dir"] * files)]
+    lines += [numbers, *[f"journal_keep {config['journal_keep']}"] * files, f"members {len(config['member'])}"]
     return "".join(f"{line}\n" for line in lines + [f"{id} {at}" for id, at in sorted(config["member"])])
 
 

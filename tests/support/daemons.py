@@ -18,13 +18,14 @@ SECONDS = 20
 # So many ports are tried: one that was free a moment ago may be taken.
 PORTS_TRIED = 10
 PING, REQUEST, ACK = 1, 2, 3
-COUNTS = rb"entries (\d+) judged (\d+) unsent (\d+) wire (\d+) refused (\d+)\n"
+COUNTS = rb"entries (\d+) judged (\d+) unsent (\d+) wire (\d+) refused (\d+)( journal cut)?\n"
 LIFE = re.compile(rb"life (\d+) " + COUNTS)
 LIVES_AND_CLOSING = re.compile(rb"((?:life [^\n]*\n)*)ended (no memory|socket|stopped) " + COUNTS)
 ROW = re.compile(rb"(\d+) ([\d.]+:\d+) (up|failed \d+)")
 # What a daemon tells people: warnings before it begins, and while it runs lines with the time.
 TIME = rb"\d{4}-\d\d-\d\dT\d\d:\d\d:\d\d\.\d{3}Z"
-NOTICE = re.compile(rb"warning: [^\n]*\n|" + TIME + rb" (?:swimd [\d.]+ listens [^\n]*|life \d+ begins|removed [^\n]*)\n")
+NOTICES = rb"swimd [\d.]+ listens [^\n]*|life \d+ begins|removed [^\n]*|journal [^\n]*: [^\n]*"
+NOTICE = re.compile(rb"warning: [^\n]*\n|" + TIME + rb" (?:" + NOTICES + rb")\n")
 
 
 class DaemonFault(Exception):
@@ -132,6 +133,13 @@ def configuration(**values):
     return "\n".join(lines) + "\n"
 
 
+def put_aside(folder):
+    """Makes the folder anew, and keeps what it held in another one beside it."""
+    if os.path.exists(folder):
+        os.rename(folder, tempfile.mkdtemp(prefix=os.path.basename(folder) + "-", dir=os.path.dirname(folder)))
+    os.mkdir(folder)
+
+
 def connected(path):
     it = socket.socket(socket.AF_UNIX, socket.SOCK_STREAM)
     it.settimeout(SECONDS)
@@ -185,6 +193,9 @@ class Daemon:
     def __init__(self, program, folder, id, port, members=(), **values):
         self.program, self.id, self.port, self.child = program, id, port, None
         self.read, self.lives, self.told = b"", [], b""
+        # The lives that are told as cut, and whether any may be. In a folder of its own journal files are put aside before a start:
+        # those of one second have the same names.
+        self.cut, self.may_be_cut, self.has_own_folder = [], False, False
         self.control = f"{folder}/{id}.sock"
         self.file = f"{folder}/{id}.toml"
         usual = {"k": 1, "rtt": 3, "period": 12, "tick_ms": 20, "seed": f"{id:064x}", "journal": 1_000_000}
@@ -201,6 +212,8 @@ class Daemon:
         """Starts it, also with more words, and doesn't wait. Where it is clean its control path is removed before."""
         if is_clean and os.path.exists(self.control):
             os.remove(self.control)
+        if self.has_own_folder:
+            put_aside(self.values["journal_dir"])
         self.read, words = b"", [self.program, "run", "--config", self.file, *words]
         streams = {"stdin": subprocess.DEVNULL, "stdout": subprocess.PIPE, "stderr": subprocess.PIPE, **how}
         self.child = subprocess.Popen(words, **streams, bufsize=0)
@@ -275,11 +288,14 @@ class Daemon:
         must(found, f"the closing line of member {self.id} is {stdout[-1_000:]!r}")
         self.told = stderr
         must(but_for_notices(stderr) == b"", f"member {self.id} writes {stderr!r} on standard error")
-        self.lives = [Life(*map(int, it)) for it in LIFE.findall(found[1])]
+        lines = LIFE.findall(found[1])
+        self.lives = [Life(*map(int, it[:6])) for it in lines]
         must(len(self.lives) == found[1].count(b"\n"), f"lines of lives that are none: {found[1][:1_000]!r}")
         numbers = [it.number for it in self.lives]
         must(numbers == list(range(len(numbers))), f"the lives of member {self.id} are numbered {numbers[:20]}")
-        return Closing(self.child.returncode, found[2].decode(), *map(int, found.groups()[2:]))
+        self.cut = [number for number, it in enumerate([*(it[6] for it in lines), found[8]]) if it]
+        must(self.may_be_cut or not self.cut, f"the lives {self.cut[:20]} of member {self.id} are told as cut: {stderr[-1_000:]!r}")
+        return Closing(self.child.returncode, found[2].decode(), *map(int, found.groups()[2:7]))
 
     def lives_so_far(self):
         """How many lives it told of by now."""
@@ -323,11 +339,14 @@ def stop_all(daemons):
 
 
 class Machine:
-    """A place for daemons and sockets, which are gone behind it."""
+    """A place for daemons and sockets, which are gone behind it. Where there is a simulator that can play them, each daemon writes
+    journal files into a folder of its own, or all into one; but those that are told another folder, or None."""
 
-    def __init__(self, program):
-        self.program = program
+    def __init__(self, program, simulator=None):
+        self.program, self.simulator = program, simulator
         self.folder = tempfile.mkdtemp(prefix="swimd-")
+        self.journals, self.has_one_folder = f"{self.folder}/journals", False
+        os.mkdir(self.journals)
         self.daemons, self.sockets = [], []
 
     def __enter__(self):
@@ -341,7 +360,13 @@ class Machine:
         shutil.rmtree(self.folder, ignore_errors=True)
 
     def daemon(self, id, port=None, members=(), **values):
+        own = self.journals if self.has_one_folder else f"{self.journals}/{len(self.daemons)}"
+        if self.simulator:
+            values = {"journal_dir": own, "journal_keep": 0, **values}
+        if values.get("journal_dir") is None:
+            values = {key: it for key, it in values.items() if not key.startswith("journal_")}
         it = Daemon(self.program, self.folder, id, port or free_ports(1)[0], members, **values)
+        it.has_own_folder = values.get("journal_dir") == own != self.journals
         self.daemons.append(it)
         return it
 

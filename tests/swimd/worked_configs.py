@@ -116,6 +116,36 @@ def accepted():
     yield good("as long as may be", FULL + padding, SUMMARY)
 
 
+def with_files(lines, document=FULL):
+    """The document with these lines in front, where keys of the whole stand."""
+    return f"{lines}\n{document}"
+
+
+def files():
+    """The two keys of journal files: their lines stand in the summary where there is a folder."""
+    told = lambda dir, keep: with_summary("\nk 1 ", f"\njournal_dir {dir}\nk 1 ").replace("\nmembers", f"\njournal_keep {keep}\nmembers")
+    yield good("a folder", with_files('journal_dir = "/var/lib/swimd"'), told("/var/lib/swimd", 16))
+    yield good("a folder, and how many", with_files('journal_dir = "files"\njournal_keep = 3'), told("files", 3))
+    yield good("a folder, and all", with_files('journal_keep = 0\njournal_dir = "."'), told(".", 0))
+    yield good("a folder, and the most", with_files('journal_dir = " "\njournal_keep = 4294967295'), told(" ", 2**32 - 1))
+    yield good("no folder, and how many", with_files("journal_keep = 3"), SUMMARY)
+    yield good("the longest folder", with_files(f'journal_dir = "{"~" * 100}"'), told("~" * 100, 16))
+    for text in ("1", "true", "[]", "{}", "2020-01-01"):
+        yield bad(f"`journal_dir` is {text}", with_files(f"journal_dir = {text}"), "5 journal_dir")
+    for text in ('"3"', "3.0", "false", "[3]"):
+        yield bad(f"`journal_keep` is {text}", with_files(f"journal_keep = {text}"), "5 journal_keep")
+    for text in ('""', f'"{"x" * 101}"', '"\\t"', '"\\u007f"', '"\u00e9"', '"a\\nb"', '"a\\u0000"'):
+        yield bad(f"`journal_dir` is {text[:20]!r}", with_files(f"journal_dir = {text}"), "6 journal_dir")
+    for text in ("-1", "4294967296", "9223372036854775807"):
+        yield bad(f"`journal_keep` is {text}", with_files(f"journal_keep = {text}"), "6 journal_keep")
+    yield bad("a folder before how many", with_files('journal_keep = -1\njournal_dir = ""'), "6 journal_dir")
+    yield bad("the range of `last` before a folder", with_files('journal_dir = ""\nlast = -1'), "6 last")
+    yield bad("how many before a member", with_files("journal_keep = -1", with_member("id = 0")), "6 journal_keep")
+    for name in ("journal_dirs", "journal_dir2", "journal-dir", "journal_keeps", "Journal_dir", "journals"):
+        yield bad(f"`{name}`", with_files(f'{name} = "x"'), "3")
+    yield bad("a folder of a member", FULL + 'journal_dir = "x"\n', "3")
+
+
 def texts():
     yield bad("a byte too many", FULL + "#" * (65_537 - len(FULL)), "1")
     yield bad("a byte too many, and no TOML", "=" * 65_537, "1")
@@ -199,5 +229,5 @@ def openings():
 
 
 def worked_configs():
-    for part in (accepted, texts, keys, ranges, members, openings):
+    for part in (accepted, files, texts, keys, ranges, members, openings):
         yield from part()

@@ -37,7 +37,8 @@ def origins(programs):
     for name in os.listdir(f"{TOP}/examples"):
         owner = "swimd" if name.endswith(".toml") else "swimsim"
         yield f"share/doc/{owner}/examples/{name}", f"{TOP}/examples/{name}", 0o644
-    yield "share/doc/swimd/OPERATING.md", f"{TOP}/docs/OPERATING.md", 0o644
+    for name in ("OPERATING.md", "CHECKING.md"):
+        yield f"share/doc/swimd/{name}", f"{TOP}/docs/{name}", 0o644
     yield SERVICE, f"{TOP}/contrib/swimd.service", 0o644
 
 

@@ -1,0 +1,98 @@
+"""Journal files of daemons: which there are, what stands in them, and whether swimsim plays them."""
+
+import functools
+import os
+import re
+import subprocess
+from concurrent.futures import ThreadPoolExecutor
+from typing import NamedTuple
+
+from tests.support.daemons import SECONDS, must, until
+from tests.support.parts import content
+
+NAME = re.compile(r"([1-9]\d*)-(0|[1-9]\d*)-(0|[1-9]\d*)\.swim")
+TOLD = re.compile(rb"^= (\d+) ([^\n]*)\n", re.MULTILINE)
+LANES = 4
+# A folder may have so many files that playing all takes too long: then these are played, half of them the first, half the last.
+MOST_PLAYED = 40
+
+
+class File(NamedTuple):
+    """A journal file, and what its name says: whose it is, when the daemon started, and which life it is of."""
+
+    path: str
+    id: int
+    seconds: int
+    life: int
+
+    @property
+    def text(self):
+        return content(self.path)
+
+    @property
+    def header(self):
+        """Its lines before the first call, without comments."""
+        lines = self.text.split(b"\n")[:-1]
+        words = (b"journal", b"open", b"row", b"seed")
+        count = next((at for at, it in enumerate(lines) if not it.startswith(b"#") and it.split(b" ")[0] not in words), len(lines))
+        return [it.decode() for it in lines[:count] if not it.startswith(b"#")]
+
+
+def journals(folder, id=None):
+    """The journal files of a folder, of that member or of all, the oldest first."""
+    names = [NAME.fullmatch(it.name) for it in os.scandir(folder) if it.is_file(follow_symlinks=False)]
+    files = [File(f"{folder}/{it[0]}", *map(int, it.groups())) for it in names if it]
+    return sorted((it for it in files if id in (None, it.id)), key=lambda it: it[1:])
+
+
+def told(text):
+    """What the lines of a file tell of its entries: the text of each, in order, which have to be numbered from 0."""
+    found = TOLD.findall(text)
+    must([int(it) for it, _ in found] == list(range(len(found))), f"the entries of a file are numbered {[it for it, _ in found][:20]}")
+    return [it.decode() for _, it in found]
+
+
+def front(text):
+    """A file up to its last whole line that tells an answer; nothing where there is none."""
+    ends = [it.end() for it in TOLD.finditer(text)]
+    return text[: ends[-1]] if ends else b""
+
+
+def must_play(simulator, text, what):
+    """It is played to its end without a difference."""
+    ran = subprocess.run([simulator], input=text, stdout=subprocess.DEVNULL, stderr=subprocess.PIPE, timeout=SECONDS)
+    must((ran.returncode, ran.stderr) == (0, b""), f"swimsim plays {what} with status {ran.returncode}, {ran.stderr!r}")
+
+
+def must_play_fronts(simulator, files):
+    """Each is played up to its last answer. What comes behind that may be cut off by the end of a daemon."""
+    parts = [(front(it.text), it.path) for it in files]
+    with ThreadPoolExecutor(LANES) as pool:
+        list(pool.map(lambda it: must_play(simulator, *it), [it for it in parts if it[0]]))
+
+
+def must_play_all(machine):
+    """Plays what the daemons of a machine wrote, which are ended before."""
+    for it in machine.daemons:
+        it.kill()
+    if machine.simulator:
+        folders, half = [machine.journals, *(it.path for it in os.scandir(machine.journals) if it.is_dir())], MOST_PLAYED // 2
+        files = [file for folder in folders for file in journals(folder)]
+        must_play_fronts(machine.simulator, files if len(files) <= MOST_PLAYED else files[:half] + files[-half:])
+
+
+def in_one_folder(test):
+    """The same test with one folder for the journal files of all its daemons."""
+
+    @functools.wraps(test)
+    def run(machine):
+        machine.has_one_folder = True
+        return test(machine)
+
+    return run
+
+
+def written(folder, text, seconds=SECONDS):
+    """Waits until a file of a folder has the text, and says which."""
+    find = lambda: next((it for it in journals(folder) if text in it.text), None)
+    return until(find, f"{text!r} stands in a file", seconds)

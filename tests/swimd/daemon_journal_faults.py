@@ -1,0 +1,384 @@
+"""Journal files that can't be made or written: it is told, and nothing else of the daemon changes."""
+
+import itertools
+import os
+import re
+import resource
+import select
+import signal
+import socket
+import subprocess
+import time
+
+from tests.support.daemons import ACK, PING, REQUEST, SECONDS, TIME, datagram, fields, must, until
+from tests.support.journals import front, in_one_folder, journals, must_play, told
+from tests.swimd.daemon_journals import ROWS, filled, must_be_told, pinged
+from tests.swimd.daemon_starting import NOBODY
+
+MINUTE = 60_000
+SECONDS_AHEAD = 4
+TRIES = 5
+# A user of whom nothing else runs.
+STRANGER = 54_321
+SEED = "00112233445566778899aabbccddeeff" * 2
+# A file that may have so many bytes holds the header, and then some calls.
+FEW_BYTES = 1_000
+UNTOLD = re.compile(TIME + rb" journal ([^\n]*): ([^\n:]+)\n")
+
+
+def told_faults(daemon):
+    """What it told of files: pairs of a path and words."""
+    return [(path.decode(), words.decode()) for path, words in UNTOLD.findall(daemon.told)]
+
+
+def names_of(id, life, folder):
+    """The paths of a life's file, whenever its daemon starts within the next seconds."""
+    now = int(time.time())
+    return [f"{folder}/{id}-{now + more}-{life}.swim" for more in range(SECONDS_AHEAD + 1)]
+
+
+def with_something_there(machine, id, make):
+    """A daemon at the name of whose first file something lies, through two lives."""
+    paths = names_of(id, 0, machine.journals)
+    for it in paths:
+        make(it)
+    daemon, peer = machine.daemon(id, members=ROWS, tick_ms=MINUTE, journal=3), machine.socket()
+    daemon.may_be_cut = True
+    daemon.start()
+    filled(daemon, peer, 1)
+    pinged(peer, daemon, 10_000)
+    closing = daemon.stop()
+    must(closing.status == 0, f"it ended {closing}")
+    said, files = told_faults(daemon), [it for it in journals(machine.journals, id) if it.life]
+    must(len(said) == 1 and said[0][0] in paths, f"it tells {said}")
+    must(said[0][1] == "it exists already" and daemon.cut == [0], f"it tells {said}, and the lives {daemon.cut} are cut")
+    must_be_told(daemon, closing, files)
+    for it in files:
+        must_play(machine.simulator, it.text, it.path)
+    return paths
+
+
+def a_file_that_is_there(machine):
+    """It is never written over."""
+
+    def make(path):
+        with open(path, "w") as file:
+            file.write("kept")
+
+    for path in with_something_there(machine, 1, make):
+        with open(path) as file:
+            must(file.read() == "kept", f"{path} has changed")
+
+
+def something_else_is_there(machine):
+    """A pipe, a socket, a link and a folder aren't opened, and a link isn't followed."""
+    target = f"{machine.folder}/target"
+    with open(target, "w") as file:
+        file.write("kept")
+
+    def bound(path):
+        with socket.socket(socket.AF_UNIX) as it:
+            it.bind(path)
+
+    makes = [os.mkfifo, bound, os.mkdir, lambda it: os.symlink(target, it), lambda it: os.symlink(f"{machine.folder}/none", it)]
+    for id, make in enumerate(makes, 1):
+        with_something_there(machine, id, make)
+    with open(target) as file:
+        must(file.read() == "kept", "a link was followed")
+    must(not os.path.exists(f"{machine.folder}/none"), "a link was followed to where nothing was")
+
+
+def through_lives(machine, daemon, count=3):
+    """Starts a daemon whose files fail, and plays so many lives and a part of one: how it ended."""
+    peer, daemon.may_be_cut = machine.socket(), True
+    daemon.start()
+    filled(daemon, peer, count)
+    pinged(peer, daemon, 10_000)
+    must(daemon.ask(b"list\n") == b"".join(b"%d %s up\n" % (id, at.encode()) for id, at in ROWS) + b".\n", "it lists others")
+    closing = daemon.stop()
+    must(closing[:2] == (0, "stopped") and closing.entries >= 1, f"it ended {closing}")
+    return closing
+
+
+def folders_that_take_nothing(machine):
+    """None there, a file in its place or above it: each life says so once, and is told as cut."""
+    file = f"{machine.folder}/file"
+    with open(file, "w") as it:
+        it.write("kept")
+    folders = {f"{machine.folder}/none": "no such file or folder", file: "a part of the path is no folder"}
+    folders[f"{file}/below"] = "a part of the path is no folder"
+    for id, (folder, words) in enumerate(folders.items(), 1):
+        daemon = machine.daemon(id, members=ROWS, tick_ms=MINUTE, journal=3, journal_dir=folder)
+        through_lives(machine, daemon)
+        said, lives = told_faults(daemon), list(range(len(daemon.lives) + 1))
+        must(daemon.cut == lives, f"of the lives {lives} are cut {daemon.cut}")
+        must([it[1] for it in said] == [words] * len(lives), f"it tells {said}")
+        names = [re.fullmatch(rf"{re.escape(folder)}/{id}-\d+-(\d+)\.swim", it[0]) for it in said]
+        must(all(names) and [int(it[1]) for it in names] == lives, f"it tells {said}")
+    with open(file) as it:
+        must(it.read() == "kept", "the file in the folder's place has changed")
+
+
+def a_folder_of_others(machine):
+    """Where this user may not write."""
+    if os.getuid() != 0:
+        print("  not tried, since it needs another user than this one")
+        return
+    os.chmod(machine.folder, 0o777)
+    os.chmod(machine.journals, 0o755)
+    daemon = machine.daemon(1, members=ROWS, tick_ms=MINUTE, journal=3)
+    os.chmod(daemon.file, 0o644)
+    daemon.may_be_cut = True
+    daemon.start(preexec_fn=lambda: os.setuid(NOBODY))
+    daemon.stop()
+    must([it[1] for it in told_faults(daemon)] == ["permission denied"], f"it tells {daemon.told!r}")
+    must(daemon.cut == [0] and not journals(machine.journals), f"the lives {daemon.cut} are cut")
+
+
+def no_thread_for_the_writer(machine):
+    """Where a fourth thread is refused, the whole file is written when the life ends."""
+    if os.getuid() != 0:
+        print("  not tried, since it needs another user than this one")
+        return
+
+    def of_three_threads():
+        resource.setrlimit(resource.RLIMIT_NPROC, (3, 3))
+        os.setuid(STRANGER)
+
+    os.chmod(machine.folder, 0o777)
+    os.chmod(machine.journals, 0o777)
+    daemon, peer = machine.daemon(1, members=ROWS, tick_ms=MINUTE, journal=9), machine.socket()
+    os.chmod(daemon.file, 0o644)
+    daemon.launch(preexec_fn=of_three_threads)
+    daemon.ready()
+    number = filled(daemon, peer, 1)
+    pinged(peer, daemon, number)
+    threads = len(os.listdir(f"/proc/{daemon.child.pid}/task"))
+    must(threads == 3, f"it has {threads} threads")
+    time.sleep(0.3)
+    must(told(journals(machine.journals)[-1].text) == [], "the file of a life is written while it lasts")
+    closing, files = daemon.stop(), journals(machine.journals)
+    must_be_told(daemon, closing, files)
+    must(closing.status == 0 and closing.entries >= 1 and daemon.lives[0].entries == 9, f"it ended {closing}")
+    for it in files:
+        must_play(machine.simulator, it.text, it.path)
+
+
+def a_folder_that_goes(machine):
+    """What was opened is written on, wherever it lies; the next life is cut, and the one when it is back again isn't."""
+    daemon, peer = machine.daemon(1, members=ROWS, tick_ms=MINUTE, journal=3), machine.socket()
+    daemon.may_be_cut, moved = True, f"{machine.folder}/moved"
+    daemon.start()
+    pinged(peer, daemon, 1)
+    os.rename(machine.journals, moved)
+    number = filled(daemon, peer, 2, 2)
+    os.mkdir(machine.journals)
+    filled(daemon, peer, 3, number)
+    pinged(peer, daemon, 10_000)
+    closing = daemon.stop()
+    cut = [it.life for it in journals(moved)], [it.life for it in journals(machine.journals)]
+    must(cut == ([0], [it for it in range(1, len(daemon.lives) + 1) if it not in daemon.cut]), f"the lives {daemon.cut} are cut")
+    must(daemon.cut and daemon.cut[0] == 1 and len(told_faults(daemon)) == len(daemon.cut), f"it tells {told_faults(daemon)}")
+    must({it[1] for it in told_faults(daemon)} == {"no such file or folder"}, f"it tells {told_faults(daemon)}")
+    must(closing.status == 0, f"it ended {closing}")
+    for it in journals(moved) + journals(machine.journals):
+        must_play(machine.simulator, it.text, it.path)
+
+
+def limited(most):
+    """No file may have more bytes than these. A write behind that is refused where the signal is ignored."""
+    signal.signal(signal.SIGXFSZ, signal.SIG_IGN)
+    resource.setrlimit(resource.RLIMIT_FSIZE, (most, most))
+
+
+def a_file_that_takes_no_more(machine):
+    """Up to there it is played; it is told once, when its life ends, and the daemon answers as ever."""
+    daemon, peer = machine.daemon(1, members=ROWS, tick_ms=MINUTE, journal=60), machine.socket()
+    daemon.may_be_cut = True
+    daemon.start(preexec_fn=lambda: limited(FEW_BYTES))
+    number = filled(daemon, peer, 2)
+    pinged(peer, daemon, number)
+    time.sleep(0.2)
+    closing, files = daemon.stop(), journals(machine.journals)
+    must(daemon.cut == [0, 1], f"the lives {daemon.cut} are cut")
+    said = told_faults(daemon)
+    must(said == [(it.path, "the file would be too large") for it in files[:2]], f"it tells {said}")
+    must([it.entries for it in daemon.lives] == [60, 60] and closing.entries >= 1, f"its lives are {daemon.lives}")
+    for it in files:
+        must(len(it.text) <= FEW_BYTES and told(front(it.text)), f"{it.path} has {len(it.text)} bytes")
+        must_play(machine.simulator, front(it.text), it.path)
+    must(len(files[0].text) > FEW_BYTES // 2 and told(files[2].text), "files have less than they might")
+
+
+def a_disk_that_is_full(machine):
+    """Nothing more is written into that file, also where there is room again; the next life's file is whole."""
+    words = ["mount", "-t", "tmpfs", "-o", "size=64k,mode=700", "tmpfs", machine.journals]
+    if os.getuid() != 0 or subprocess.run(words, capture_output=True, timeout=SECONDS).returncode:
+        print("  not tried, since no file system may be mounted here")
+        return
+    try:
+        full_and_empty(machine)
+    finally:
+        subprocess.run(["umount", "-l", machine.journals], timeout=SECONDS)
+
+
+def full_and_empty(machine):
+    ballast, peer = f"{machine.journals}/ballast", machine.socket()
+    daemon = machine.daemon(1, members=ROWS, tick_ms=MINUTE, journal=100)
+    daemon.may_be_cut = True
+    daemon.start()
+    pinged(peer, daemon, 1)
+    until(lambda: front(journals(machine.journals)[0].text), "the first call stands in its file")
+    try:
+        with open(ballast, "wb", buffering=0) as file:
+            while True:
+                file.write(bytes(1_024))
+    except OSError:
+        pass
+    for number in range(2, 80):
+        pinged(peer, daemon, number)
+    time.sleep(0.3)
+    before = journals(machine.journals)[0].text
+    os.remove(ballast)
+    number = filled(daemon, peer, 1, 80)
+    must(journals(machine.journals)[0].text == before, "it is written into a file that had failed")
+    pinged(peer, daemon, number)
+    closing, files = daemon.stop(), journals(machine.journals)
+    must(daemon.cut == [0] and told_faults(daemon) == [(files[0].path, "no space is left")], f"it tells {told_faults(daemon)}")
+    must(0 < len(told(front(before))) < 79, "the disk wasn't full")
+    must(len(told(files[1].text)) == closing.entries, "the next life's file isn't whole")
+    must_play(machine.simulator, front(before), files[0].path)
+    must_play(machine.simulator, files[1].text, files[1].path)
+
+
+class Talk:
+    """A conversation with a daemon whose lives are short and whose first tick is a minute away: what it is answered is the same
+    whenever it is held. It ends each part by a ping; where that or what came before met a full journal, by another."""
+
+    def __init__(self, machine, id, how, **values):
+        self.peer, self.numbers, self.heard, self.lives = machine.socket(), itertools.count(1_000), [], 0
+        self.at = f"127.0.0.1:{self.peer.getsockname()[1]}"
+        members = [(5, self.at), (6, self.at)]
+        self.daemon = machine.daemon(id, members=members, tick_ms=MINUTE, journal=9, seed=SEED, **values)
+        self.daemon.may_be_cut = True
+        self.daemon.start(**how)
+
+    def send(self, *texts):
+        for it in texts:
+            self.peer.sendto(it, self.daemon.address)
+        self.end_of_part()
+
+    def end_of_part(self):
+        """Hears what comes up to the ack of a ping. What a life was answered before its end comes before that of the next one."""
+        while True:
+            number, me = next(self.numbers), self.daemon.id
+            self.peer.sendto(datagram(PING, 5, 5, me, number), self.daemon.address)
+            until(lambda: self.is_heard(number) or self.daemon.lives_so_far() > self.lives, f"ping {number} is answered")
+            if self.daemon.lives_so_far() == self.lives:
+                return
+            self.lives = self.daemon.lives_so_far()
+
+    def is_heard(self, number):
+        """Hears one datagram, if it is there: whether it is that ack. The daemon's own id is another one in each conversation."""
+        if not select.select([self.peer], [], [], 0.02)[0]:
+            return False
+        kind, _, initiator, _, found = fields(self.peer.recv(100))
+        self.heard += [] if found >= 1_000 else [(kind, initiator, found)]
+        return found == number
+
+    def ask(self, line):
+        """Where the journal was full the line is lost, and its answer says so."""
+        self.heard.append(self.daemon.ask(line).replace(self.at.encode(), b"AT"))
+        self.end_of_part()
+
+
+def talked(machine, id, how=None, **values):
+    """All that a daemon answers and sends, and what its lives tell."""
+    it = Talk(machine, id, how or {}, **values)
+    for number in range(1, 13):
+        it.send(datagram(PING, 5, 5, id, number), datagram(REQUEST, 5, 5, 6, number))
+        it.send(datagram(ACK, 6, 5, 6, number), b"none")
+        it.ask(b"join %d %s\n" % (number + 100, it.at.encode()) if number % 3 else b"remove 6\njoin 6 %s\n" % it.at.encode())
+        it.ask(b"gap 5\nlist\n")
+    return it.heard, it.daemon.lives_so_far(), it.daemon.stop(), it.daemon.lives
+
+
+def probed(machine, id, how=None, **values):
+    """Whom a daemon probes in some lives, with which numbers: nobody answers, so each is judged in its turn."""
+    peer = machine.socket()
+    at = f"127.0.0.1:{peer.getsockname()[1]}"
+    members, times = [(it, at) for it in range(20, 32)], {"k": 2, "rtt": 1, "period": 3, "tick_ms": 10}
+    daemon = machine.daemon(id, members=members, journal=14, seed=SEED, **times, **values)
+    daemon.may_be_cut = True
+    daemon.start(**(how or {}))
+    sent = [fields(peer.recv(100)) for _ in range(30)]
+    until(lambda: all(it == "failed" for it in daemon.states().values()), "all are judged")
+    table = {it: row.state for it, row in daemon.table().items()}
+    must(daemon.stop().status == 0, "it ended otherwise")
+    return [(kind, target, number) for kind, _, _, target, number in sent], table
+
+
+def the_same_whatever_fails(machine):
+    """What a daemon without files answers, sends and judges, one with files does, and one whose files can't be made or written."""
+    file, few = f"{machine.folder}/file", {"preexec_fn": lambda: limited(FEW_BYTES // 2)}
+    with open(file, "w"):
+        pass
+    kinds = [{"journal_dir": None}, {}, {"journal_dir": f"{machine.folder}/none"}, {"journal_dir": file}, {"how": few}]
+    for play in (talked, probed):
+        # The ids differ, so that files of the same second have other names.
+        found = [play(machine, id, **it) for id, it in enumerate(kinds, 11 if play is talked else 41)]
+        for it, kind in zip(found[1:], kinds[1:]):
+            must(it == found[0], f"with {kind} {play.__name__} is {it}, and without files {found[0]}")
+        must(len(found[0][0]) >= 30, f"there is little to compare: {found[0]}")
+
+
+def two_in_one_folder(machine):
+    """Daemons of two ids, of whom each has files of its own, and leaves those of the other."""
+    peer, both = machine.socket(), [machine.started(id, tick_ms=MINUTE, journal=3, journal_keep=2) for id in (1, 11)]
+    for it in both:
+        filled(it, peer, 4)
+    for it in both:
+        it.stop()
+        files = journals(machine.journals, it.id)
+        must(len(files) == 2 and files[-1].life >= 4, f"of member {it.id} there stay {files}")
+
+
+def twice_in_one_second(machine):
+    """Two daemons of one id that start in one second: of their first files one is made, and the other daemon goes on without."""
+    for _ in range(TRIES):
+        time.sleep(1.02 - time.time() % 1)
+        both = [machine.daemon(1, control=f"{machine.folder}/{it}.sock", tick_ms=MINUTE, journal=3) for it in "ab"]
+        for it, name in zip(both, "ab"):
+            it.control, it.file, it.may_be_cut = f"{machine.folder}/{name}.sock", f"{machine.folder}/{name}.toml", True
+            it.write()
+            it.launch()
+        for it in both:
+            pinged(machine.socket(), it.ready(), 1)
+        ended = [(it.stop(), it.cut, told_faults(it)) for it in both]
+        files = journals(machine.journals)
+        if len(files) == 1:
+            break
+        for it in files:
+            os.remove(it.path)
+    must(len(files) == 1, "they never start in one second")
+    must(sorted(it[1] for it in ended) == [[], [0]], f"their lives are cut so: {ended}")
+    must([it[2] for it in ended if it[1]] == [[(files[0].path, "it exists already")]], f"they tell {ended}")
+    must(all(it[0] == (0, "stopped", 1, 0, 0, 0, 0) for it in ended) and len(told(files[0].text)) == 1, f"they ended {ended}")
+
+
+JOURNAL_FAULTS = [
+    in_one_folder(it)
+    for it in (
+        a_file_that_is_there,
+        something_else_is_there,
+        folders_that_take_nothing,
+        a_folder_of_others,
+        no_thread_for_the_writer,
+        a_folder_that_goes,
+        a_file_that_takes_no_more,
+        a_disk_that_is_full,
+        the_same_whatever_fails,
+        two_in_one_folder,
+        twice_in_one_second,
+    )
+]

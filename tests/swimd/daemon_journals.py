@@ -1,0 +1,340 @@
+"""Journal files of daemons: a file for each life, what stands in it and since when, and which of them stay."""
+
+import datetime
+import itertools
+import os
+import random
+import re
+import stat
+import subprocess
+import sys
+import threading
+import time
+
+from tests.support.daemons import ACK, ONE_ARENA, PING, SECONDS, TIME, datagram, fields, memory_of, must, until
+from tests.support.documents import code_in
+from tests.support.journals import front, in_one_folder, journals, must_play, must_play_fronts, told, written
+from tests.swimd.daemon_groups import MOST_GROWTH, Answerer
+
+MINUTE = 60_000
+ROWS = [(102, "10.0.0.2:7000"), (103, "10.0.0.3:7000")]
+TICKS = {"k": 1, "rtt": 1, "period": 4, "tick_ms": 10}
+# What a call may take to its file, and how far a comment's time may be off.
+SOON, OFF = 0.5, 2.0
+# What was answered so long before a daemon is killed stands in a file, in nine of ten, as several work here at once; and in all.
+MOSTLY_BEFORE, BEFORE = 0.2, 0.5
+KILLED, AT_ONCE = 50, 5
+LIVES = 40
+
+
+def pinged(peer, daemon, number):
+    """Sends a ping, takes what comes up to its ack, and says what a file has to tell of the ping."""
+    text, wanted = datagram(PING, 9, 9, daemon.id, number), (ACK, daemon.id, 9, daemon.id, number)
+    peer.sendto(text, daemon.address)
+    until(lambda: fields(peer.recv(100)) == wanted, f"ping {number} is answered")
+    return b"hear 127.0.0.1:%d %s\n" % (peer.getsockname()[1], text.hex().encode())
+
+
+def filled(daemon, peer, lives, first=1):
+    """Sends pings until so many lives have ended: the one that meets a full journal is in no life, and isn't answered."""
+    numbers = itertools.count(first)
+    peer.settimeout(0.2)
+
+    def are_over():
+        peer.sendto(datagram(PING, 9, 9, daemon.id, next(numbers)), daemon.address)
+        try:
+            peer.recv(100)
+        except OSError:
+            pass
+        return daemon.lives_so_far() >= lives
+
+    until(are_over, f"{lives} lives", 3 * SECONDS)
+    peer.settimeout(SECONDS)
+    return next(numbers)
+
+
+def must_be_told(daemon, closing, files):
+    """Each life that isn't told as cut has one file, which holds as many answers as the line of the life tells entries."""
+    entries = dict(enumerate([*(it.entries for it in daemon.lives), closing.entries]))
+    wanted = {life: count for life, count in entries.items() if life not in daemon.cut}
+    found = {it.life: len(told(it.text)) for it in files if it.life not in daemon.cut}
+    # Where a life that is full is told to stop, the last line is of none.
+    is_none = closing.entries == 0 and len(daemon.lives) not in found
+    unlike = [(it, wanted.get(it), found.get(it)) for it in {*wanted, *found} if wanted.get(it) != found.get(it)]
+    must(unlike == [] or (is_none and unlike == [(len(daemon.lives), 0, None)]), f"lives with their entries, and those of files: {unlike[:9]}")
+    must(len({it.seconds for it in files}) == 1, f"the lives of one daemon began at {[it.seconds for it in files][:20]}")
+
+
+def header(daemon, members, life, last):
+    """The lines that stand in front, after the configuration and what is known when the life begins."""
+    it = daemon.values
+    numbers = [it["id"], it["k"], it["rtt"], it["period"], last, it["journal"]]
+    rows = [f"row {id} {at}" for id, at in members]
+    return ["journal 1", "open " + " ".join(map(str, numbers)), *rows, f"seed {it['seed']} {life}"]
+
+
+def each_life_has_a_file(machine):
+    """Of its name, its owner's alone whatever the mask, with the header of its life, and played without a difference."""
+    for id, mask in enumerate((0, 0o022, 0o077), 1):
+        before, peer = int(time.time()), machine.socket()
+        how = {"preexec_fn": lambda: os.umask(mask)}
+        daemon = machine.started(id, how=how, members=ROWS[: id - 1], last=7, tick_ms=MINUTE, journal=5)
+        after = int(time.time())
+        filled(daemon, peer, 3)
+        closing, files = daemon.stop(), journals(machine.journals, id)
+        must_be_told(daemon, closing, files)
+        for it in files:
+            must(stat.S_IMODE(os.stat(it.path).st_mode) == 0o600, f"with mask {mask:o} {it.path} has another mode")
+            must(before <= it.seconds <= after, f"{it.path} is of a start between {before} and {after}")
+            must(it.header == header(daemon, daemon.members, it.life, 7), f"{it.path} begins with {it.header}")
+            ran = subprocess.run([machine.simulator, it.path], capture_output=True, timeout=SECONDS)
+            must((ran.returncode, ran.stderr) == (0, b""), f"{it.path} is played with status {ran.returncode}, {ran.stderr!r}")
+            must_play(machine.simulator, re.sub(rb"^#.*\n", b"", it.text, flags=re.MULTILINE), f"{it.path} without comments")
+
+
+def each_kind_of_call_is_told(machine):
+    """Ticks, datagrams, joins and removals, also refused ones, in their order; what makes no entry isn't told."""
+    daemon, peer = machine.started(members=ROWS, tick_ms=MINUTE), machine.socket()
+    lines = [pinged(peer, daemon, 1)]
+    peer.sendto(b"none", daemon.address)
+    lines.append(pinged(peer, daemon, 2))
+    answers = daemon.ask(b"join 4 10.0.0.4:7000\njoin 102 1.2.3.4:5\nremove 4\nremove 9\nlist\ngap 102\nfault\n")
+    closing, (file,) = daemon.stop(), journals(machine.journals)
+    place = re.match(rb"(joined \d)\nrefused 2\nremoved\nrefused 4\n", answers)
+    must(place, f"the lines are answered {answers!r}")
+    asked = [b"join 4 10.0.0.4:7000\n", b"join 102 1.2.3.4:5\n", b"remove 4\n", b"remove 9\n"]
+    wanted = [*zip(lines, [b"sent"] * 2), *zip(asked, [place[1], b"refused 2", b"removed", b"refused 4"])]
+    calls = b"".join(b"%s= %d %s\n" % (line, at, answer) for at, (line, answer) in enumerate(wanted))
+    must(file.text.endswith(calls) and file.text.count(b"\n= ") == len(wanted), f"the file is {file.text!r}")
+    must(closing == (0, "stopped", len(wanted), 0, 0, 1, 0), f"it ended {closing}")
+
+
+def a_life_begins_with_what_was_left(machine):
+    """The rows of a file tell who was up or failed when its life began, and the opening the last number that was used."""
+    third = Answerer(machine.socket(), 3, lambda *_: True)
+    silent = machine.socket().getsockname()[1]
+    daemon = machine.started(members=[(2, silent), (3, third.port)], **{**TICKS, "k": 0, "tick_ms": 30}, journal=60)
+    until(lambda: daemon.lives_so_far() >= 3, "three lives")
+    state = daemon.table()[2].state
+    closing, files = daemon.stop(), journals(machine.journals)
+    must_be_told(daemon, closing, files)
+    must(re.fullmatch(r"failed [12]", state), f"a member that never answers is {state}")
+    rows = [(2, f"127.0.0.1:{silent} {state}"), (3, f"127.0.0.1:{third.port}")]
+    last = 0
+    for it in files:
+        wanted = header(daemon, rows if it.life else [(2, f"127.0.0.1:{silent}"), (3, f"127.0.0.1:{third.port}")], it.life, last)
+        must(sorted(it.header) == sorted(wanted), f"life {it.life} begins with {it.header}, and not {wanted}")
+        last = max([last, *(int(number) for number in re.findall(rb"^= \d+ started .* (\d+)$", it.text, re.MULTILINE))])
+        must_play(machine.simulator, it.text, it.path)
+
+
+def comments_tell_the_time(machine):
+    """Behind the first line the program, its version and the time; behind each started period the seconds, and nowhere else."""
+    member, arrivals = machine.socket(), {}
+    began = time.time()
+    daemon = machine.started(members=[(2, member.getsockname()[1])], k=0, rtt=1, period=3, tick_ms=100)
+    while time.time() < began + 3:
+        number = fields(member.recv(100))[4]
+        arrivals[number] = time.time()
+        member.sendto(datagram(ACK, 2, 1, 2, number), daemon.address)
+    daemon.stop()
+    lines = journals(machine.journals)[0].text.decode().splitlines()
+    version = subprocess.run([machine.program, "--version"], capture_output=True, text=True, timeout=SECONDS).stdout.strip()
+    found = re.fullmatch(rf"# {re.escape(version)} ({TIME.decode()})", lines[1])
+    must(found, f"behind the first line stands {lines[1]!r}, and the version is {version!r}")
+    at = datetime.datetime.strptime(found[1], "%Y-%m-%dT%H:%M:%S.%fZ").replace(tzinfo=datetime.timezone.utc).timestamp()
+    must(abs(at - began) < OFF, f"the file is of {at}, and the daemon began at {began}")
+    started = [at for at, line in enumerate(lines) if re.match(r"= \d+ started", line)]
+    must({at for at, line in enumerate(lines) if line.startswith("#")} == {1, *(at + 1 for at in started)}, "comments stand elsewhere")
+    times = {int(lines[at].split()[-1]): int(lines[at + 1][2:]) for at in started}
+    off = [times[number] - at for number, at in arrivals.items()]
+    must(len(off) >= 5 and all(abs(it) < OFF for it in off), f"the times of periods are off by {off}")
+
+
+def a_call_is_soon_in_its_file(machine):
+    """While the daemon goes on, and the next tick is a minute away."""
+    daemon, peer, longest = machine.started(members=ROWS, tick_ms=MINUTE), machine.socket(), 0.0
+    for number in range(1, 11):
+        line = pinged(peer, daemon, number)
+        began = time.monotonic()
+        written(machine.journals, line + b"= %d sent\n" % (2 * number - 2), SOON)
+        must(daemon.ask(b"remove 9\n") == b"refused 4\n", "it doesn't go on")
+        written(machine.journals, b"remove 9\n= %d refused 4\n" % (2 * number - 1), SOON)
+        longest = max(longest, time.monotonic() - began)
+    print(f"  two calls are in their file within {longest * 1000:.0f} milliseconds")
+    must(daemon.stop().entries == 20, "it made other entries")
+
+
+def a_player_of_ones_own(machine):
+    """The program that stands in docs/CHECKING.md plays the files of such a daemon, and refuses each with another answer in it."""
+    player, other = f"{machine.folder}/player.py", f"{machine.folder}/other.swim"
+    with open(player, "w") as file:
+        file.write(code_in("CHECKING.md"))
+    daemon = machine.started(members=[(2, machine.socket().getsockname()[1])], k=0, rtt=1, period=3, tick_ms=5, journal=30)
+    until(lambda: daemon.lives_so_far() >= 2, "two lives")
+    daemon.stop()
+    for it in journals(machine.journals):
+        with open(other, "wb") as file:
+            file.write(it.text.replace(b" quiet\n", b" heard\n", 1))
+        ran = [subprocess.run([sys.executable, player, path], capture_output=True, timeout=SECONDS) for path in (it.path, other)]
+        statuses = [one.returncode for one in ran]
+        must(statuses == [0, int(b" quiet\n" in it.text)], f"{it.path} is played with the statuses {statuses}: {ran}")
+
+
+class Pinger(threading.Thread):
+    """Pings a daemon that lives and dies, and notes when each ping was answered."""
+
+    def __init__(self, machine, daemon):
+        super().__init__(daemon=True)
+        self.socket, self.daemon_pinged, self.answered, self.is_over = machine.socket(), daemon, {}, False
+        self.socket.settimeout(0.05)
+
+    def run(self):
+        for number in range(1, 10**6):
+            if self.is_over:
+                return
+            text = datagram(PING, 9, 9, self.daemon_pinged.id, number)
+            self.socket.sendto(text, self.daemon_pinged.address)
+            try:
+                while fields(self.socket.recv(100))[4] != number:
+                    pass
+                self.answered[text.hex()] = time.monotonic()
+            except OSError:
+                pass
+            time.sleep(0.002)
+
+
+def killed_at_once(machine, ids, r):
+    """Kills each of these at a moment of its own: by its id the pings that it answered, with the seconds before that."""
+    daemons = [machine.daemon(id, members=ROWS, journal=r.choice([5, 40, 1_000]), **TICKS) for id in ids]
+    pingers = {it.id: Pinger(machine, it) for it in daemons}
+    for it in daemons:
+        it.launch()
+    for it in daemons:
+        it.ready()
+        pingers[it.id].start()
+    began, ages = time.monotonic(), {}
+    for moment, daemon in sorted(((r.uniform(0.2, 0.8), it) for it in daemons), key=lambda it: it[0]):
+        time.sleep(max(0.0, began + moment - time.monotonic()))
+        at = time.monotonic()
+        daemon.kill()
+        ages[daemon.id] = {text: at - when for text, when in list(pingers[daemon.id].answered.items())}
+    for it in pingers.values():
+        it.is_over = True
+        it.join(SECONDS)
+    return ages
+
+
+def killed_at_any_moment(machine):
+    """What was answered some time before stands in a file, and each file is played up to its last answer."""
+    r, count, latest = random.Random(time.time_ns()), 0, []
+    for first in range(1, KILLED, AT_ONCE):
+        for id, ages in killed_at_once(machine, list(range(first, first + AT_ONCE)), r).items():
+            files = [it.text for it in journals(machine.journals, id)]
+            there = set(re.findall(r"^hear \S+ ([0-9a-f]+)\n= \d+ sent\n", b"".join(files).decode(), re.MULTILINE))
+            latest.append(max((age for text, age in ages.items() if text not in there), default=0.0))
+            must(all(front(it) for it in files[:-1]), "a life that ended left a file without an answer")
+            count += len(there & set(ages))
+    files = [it for it in journals(machine.journals) if front(it.text)]
+    must_play_fronts(machine.simulator, files[:: max(1, len(files) // 100)])
+    late = [it for it in latest if it >= MOSTLY_BEFORE]
+    print(f"  of {KILLED} daemons that were killed {len(files)} files are left, with {count} pings; lacking since {max(latest):.2f} s at most")
+    must(count > KILLED and max(latest) < BEFORE, f"calls lack that were answered {max(latest):.2f} seconds before")
+    must(len(late) <= KILLED // 10, f"calls lack that were answered so many seconds before: {late}")
+
+
+def lies_in(machine, name, make):
+    path = f"{machine.journals}/{name}"
+    make(path)
+    return path
+
+
+def a_file(path):
+    with open(path, "w") as file:
+        file.write("kept")
+
+
+def the_newest_files_stay(machine):
+    """As many as are to stay, those of earlier starts among them; older ones go as a life begins."""
+    names = [f"{id}-{seconds}-{life}.swim" for id in (1, 2, 11) for seconds, life in ((5, 0), (5, 3), (40, 2), (40, 10))]
+    others = ["1-5.swim", "1-5-0", "1-5-0.swim.old", "01-5-0.swim", "1-05-0.swim", "1-5-0.swimx", "x1-5-0.swim", "-1-5-0.swim"]
+    others += ["1-5-0.swim\n", "\n1-5-0.swim", "\udcff-5-0.swim", "+1-5-0.swim", " 1-5-0.swim", "1-5-0.swim ", "0-5-0.swim", ".swim"]
+    others += ["1-5-0-0.swim", "1--0.swim", "1-5-18446744073709551616.swim", "1-5-0.swim" + "x" * 200, "1" * 250]
+    for keep, stay in ((1, []), (2, [(40, 10)]), (4, [(5, 3), (40, 2), (40, 10)]), (0, None), (None, None)):
+        for it in (*names, *others):
+            lies_in(machine, it, a_file)
+        values = {} if keep is None else {"journal_keep": keep}
+        daemon = machine.started(1, tick_ms=MINUTE, journal=9, **{"journal_keep": 16, **values})
+        daemon.stop()
+        found = [(it.seconds, it.life) for it in journals(machine.journals, 1) if os.path.basename(it.path) not in others]
+        old = [(5, 0), (5, 3), (40, 2), (40, 10)] if stay is None else stay
+        must(found[:-1] == old and found[-1][0] > 40, f"with {keep} there stay {found}, and not {old} and a new one")
+        kept = [it for it in (*names[4:], *others) if not os.path.exists(f"{machine.journals}/{it}")]
+        must(not kept, f"with {keep} these are gone: {kept}")
+        for it in os.listdir(machine.journals):
+            os.remove(f"{machine.journals}/{it}")
+
+
+def sixteen_stay_by_themselves(machine):
+    """Where nothing is said of it. In each life there is its own file beside the newest that ended."""
+    daemon, peer = machine.daemon(1, tick_ms=MINUTE, journal=2), machine.socket()
+    del daemon.values["journal_keep"]
+    daemon.write()
+    daemon.start()
+    filled(daemon, peer, 20)
+    daemon.stop()
+    lives = [it.life for it in journals(machine.journals)]
+    must(lives == list(range(lives[-1] - 15, lives[-1] + 1)) and lives[-1] >= 20, f"there stay the files of the lives {lives}")
+
+
+def what_is_no_file_stays(machine):
+    """Folders, links, pipes and sockets of such names are no files of this member: they stay, and hinder nothing."""
+    target = lies_in(machine, "target", a_file)
+    odd = {"1-3-0.swim": os.mkdir, "1-3-1.swim": lambda it: os.symlink(target, it), "1-3-2.swim": os.mkfifo}
+    odd["1-3-3.swim"] = lambda it: os.symlink(f"{machine.journals}/nowhere", it)
+    for name, make in odd.items():
+        lies_in(machine, name, make)
+    for life in range(5):
+        lies_in(machine, f"1-4-{life}.swim", a_file)
+    daemon, peer = machine.started(tick_ms=MINUTE, journal=2, journal_keep=2), machine.socket()
+    filled(daemon, peer, 4)
+    daemon.stop()
+    gone = [it for it in (*odd, "target") if not os.path.lexists(f"{machine.journals}/{it}")]
+    must(not gone, f"these are gone: {gone}")
+    files = [it for it in journals(machine.journals) if it.seconds > 3]
+    must([it.life for it in files] == [4, 5] or [it.life for it in files] == [3, 4], f"there stay {[it[1:] for it in files]}")
+
+
+def many_lives_quickly(machine):
+    """No file is lost, no descriptor stays open, and memory doesn't grow."""
+    peer, how = machine.socket(), {"env": {**os.environ, **ONE_ARENA}}
+    for id, limit in ((1, 1), (2, 10)):
+        daemon = machine.started(id, how=how, members=ROWS, tick_ms=MINUTE, journal=limit)
+        number, found = 1, []
+        for lives in (LIVES // 2, LIVES):
+            number = filled(daemon, peer, lives, number)
+            daemon.table()
+            found.append((len(os.listdir(f"/proc/{daemon.child.pid}/fd")), memory_of(daemon)))
+        closing = daemon.stop()
+        files = journals(machine.journals, id)
+        must_be_told(daemon, closing, files)
+        must(found[0][0] == found[1][0], f"with journals of {limit} descriptors were {found[0][0]}, and are {found[1][0]}")
+        must(found[1][1] < found[0][1] + MOST_GROWTH, f"with journals of {limit} memory was {found[0][1]:,}, and is {found[1][1]:,}")
+
+
+JOURNALS = [
+    in_one_folder(it)
+    for it in (
+        each_life_has_a_file,
+        each_kind_of_call_is_told,
+        a_life_begins_with_what_was_left,
+        comments_tell_the_time,
+        a_call_is_soon_in_its_file,
+        a_player_of_ones_own,
+        killed_at_any_moment,
+        the_newest_files_stay,
+        sixteen_stay_by_themselves,
+        what_is_no_file_stays,
+        many_lives_quickly,
+    )
+]
