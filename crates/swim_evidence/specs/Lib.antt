@@ -1,2 +1,5 @@
 pub mod Evidence
 pub mod Trail
+pub mod Confirming
+pub mod Verdicts
+pub mod Following

@@ -48,3 +48,12 @@ pub enum Finding {
     /// An ack came of a member that had been judged failed at the end of the period that it was for.
     Late(Stray),
 }
+
+/// What the confirmed entries of a journal tell.
+#[derive(Debug, Drop)]
+pub struct Found {
+    /// How many periods began.
+    pub periods: usize,
+    /// What was found, in order.
+    pub findings: Vec<Finding>,
+}

@@ -6,7 +6,7 @@ ghost use Rattle.swim_history.specs.Setting.{Setting};
 ghost use Rattle.swim_evidence.specs.Evidence.{evidence, is_judged, is_probed, late, of_probed, probing_by, stray_in};
 ghost use Rattle.swim_evidence.specs.Trail.{Follows};
 
-use crate::found::{Ask, Evidence, Finding, Stray};
+use crate::found::{Ask, Evidence, Finding, Found, Stray};
 use std::alloc::{AllocError, Global};
 use swim_history::{Call, DropReason, Entry, Opening, Probe, Reply};
 use swim_wire::Id;
@@ -58,6 +58,17 @@ impl Trail {
             }
             Reply::Dropped(DropReason::Stray) => self.note_stray(place, entry.call),
             _ => Ok(()),
+        }
+    }
+
+    /// What was found.
+    pub fn into_found(self) -> Found
+        ensures findings { result.findings.items ≡ self.findings.items }
+        ensures periods { result.periods ≡ length self.judged.items }
+    {
+        Found {
+            periods: self.judged.len(),
+            findings: self.findings,
         }
     }
 

@@ -1,22 +1,20 @@
 //! A journal, gone through from its oldest entry.
 
-ghost use Rattle.std.specs.Prelude.{◌≡◌, IfOk, reverse, take};
-ghost use Rattle.swim_evidence.specs.Evidence.{findings};
+ghost use Rattle.std.specs.Prelude.{◌≡◌, IfOk, length, reverse, take};
+ghost use Rattle.swim_evidence.specs.Evidence.{findings, judged_by_starts};
 
-use crate::found::Finding;
+use crate::found::Found;
 use crate::trails::Trail;
 use std::alloc::{AllocError, Global};
 use swim_history::Journal;
 
 /// What the first entries of a journal tell of judgements, in order: so many, `confirmed`, or all that there are. What
 /// later ones tell is left out. `Err` only where memory was refused.
-pub fn findings_of(
-    alloc: Global,
-    journal: &Journal,
-    confirmed: u32,
-) -> Result<Vec<Finding>, AllocError>
-    ensures { IfOk result (λ found. found.items
+pub fn findings_of(alloc: Global, journal: &Journal, confirmed: u32) -> Result<Found, AllocError>
+    ensures findings { IfOk result (λ found. found.findings.items
         ≡ findings journal.now.opening (reverse (take confirmed (reverse journal.now.past)))) }
+    ensures periods { IfOk result (λ found. found.periods
+        ≡ length (judged_by_starts (reverse (take confirmed (reverse journal.now.past))))) }
 {
     let mut trail = Trail::new(alloc, journal.opening());
     for place in 0..confirmed.min(journal.len()) {
@@ -24,5 +22,5 @@ pub fn findings_of(
             trail.note(place, entry)?;
         }
     }
-    Ok(trail.findings)
+    Ok(trail.into_found())
 }

@@ -1,0 +1,42 @@
+//! Which entries of a journal file are confirmed: behind whose calls the file tells what they were answered.
+
+ghost use Rattle.std.specs.Prelude.{◌≡◌, ◌+◌, ◌==◌, Some, None, if◌then◌else◌};
+ghost use Rattle.swim_evidence.specs.Confirming.{unanswered, confirmed_with};
+
+/// What the lines of a journal file have confirmed so far. Lines are counted from 1, and entries from 0.
+#[derive(Clone, Copy, Debug, Default, PartialEq, Eq)]
+pub struct Confirmations {
+    /// How many entries are confirmed, from the first on.
+    pub confirmed: u32,
+    /// The line of the last call, where no line told its answer so far.
+    pub waiting: Option<u32>,
+    /// The line of the first call that another followed before its answer was told.
+    pub missed: Option<u32>,
+}
+
+impl Confirmations {
+    /// The line of that number was a call.
+    pub fn call(&mut self, line: u32)
+        ensures confirmed { self.new.confirmed ≡ self.old.confirmed }
+        ensures waiting { self.new.waiting ≡ Some line }
+        ensures missed { self.new.missed ≡ unanswered self.old.missed self.old.waiting }
+    {
+        if self.missed.is_none() {
+            self.missed = self.waiting;
+        }
+        self.waiting = Some(line);
+    }
+
+    /// A line told rightly what the entry at that place was answered, which is the newest. An entry that is confirmed
+    /// again changes nothing, and none is confirmed behind one that isn't.
+    pub fn answer(&mut self, place: u32)
+        ensures confirmed { self.new.confirmed ≡ confirmed_with self.old.confirmed place }
+        ensures waiting { self.new.waiting ≡ (if place == self.old.confirmed then None else self.old.waiting) }
+        ensures missed { self.new.missed ≡ self.old.missed }
+    {
+        if place == self.confirmed {
+            self.confirmed = self.confirmed.saturating_add(1);
+            self.waiting = None;
+        }
+    }
+}

@@ -1,0 +1,59 @@
+//! What a journal file comes to that was played.
+
+ghost use Rattle.std.specs.Prelude.{◌≡◌, ◌⊎◌, ◌↔◌, ℕ, IsTrue, Some, None};
+ghost use Rattle.swim_evidence.specs.Verdicts.{IsWhole, IsCut};
+
+use crate::confirming::Confirmations;
+
+/// What a journal file comes to.
+#[derive(Clone, Copy, Debug, PartialEq, Eq)]
+pub enum Verdict<F> {
+    /// Each call's answer stands in it as it was played, and it ends with a whole line.
+    Whole,
+    /// The same up to its last confirmed entry, behind which it ends in the midst.
+    Cut,
+    /// The call of this line has no answer, though another call follows.
+    Missed(u32),
+    /// It has this fault.
+    Faulty(F),
+}
+
+/// The verdict on a file that was played, up to its first fault if it has one. `is_cut` says whether it ends in the
+/// midst of a line or of its header.
+pub fn verdict_on<F: Copy>(
+    fault: Option<F>,
+    is_cut: bool,
+    confirmations: &Confirmations,
+) -> Verdict<F>
+    // It is whole exactly where nothing is wrong,
+    ensures whole { (result ≡ Verdict.Whole) ↔ IsWhole fault is_cut confirmations.now }
+
+    // and cut exactly where nothing is wrong but its end.
+    ensures cut { (result ≡ Verdict.Cut) ↔ IsCut fault is_cut confirmations.now }
+
+    // A call without an answer stands before the fault that ended the run.
+    ensures missed { (line : ℕ) → (result ≡ Verdict.Missed line) ↔ (confirmations.now.missed ≡ Some line) }
+    ensures faulty { (met : F) → (result ≡ Verdict.Faulty met)
+        ↔ ((confirmations.now.missed ≡ None) × (fault ≡ Some met)) }
+{
+    if let Some(line) = confirmations.missed {
+        return Verdict::Missed(line);
+    }
+    match fault {
+        Some(met) => Verdict::Faulty(met),
+        None if is_cut || confirmations.waiting.is_some() => Verdict::Cut,
+        None => Verdict::Whole,
+    }
+}
+
+impl<F> Verdict<F> {
+    /// Whether nothing speaks against the file.
+    pub fn is_good(&self) -> bool
+        ensures { IsTrue result ↔ ((self.now ≡ Verdict.Whole) ⊎ (self.now ≡ Verdict.Cut)) }
+    {
+        match self {
+            Verdict::Whole | Verdict::Cut => true,
+            Verdict::Missed(_) | Verdict::Faulty(_) => false,
+        }
+    }
+}
