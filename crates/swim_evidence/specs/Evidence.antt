@@ -11,10 +11,11 @@ use Rattle.swim_history.specs.declared.replies.DropReason.TheVariants.{Stray as 
 use Rattle.swim_history.specs.declared.entries.Entry.{Entry}
 use Rattle.swim_history.specs.Setting.{Setting}
 use Rattle.swim_history.specs.Events.{is_start, probe_in, judged_in}
+use Rattle.swim_history.specs.declared.journals.Judged.{Judged}
 use Rattle.swim_evidence.specs.declared.found.Ask.{Ask}
 use Rattle.swim_evidence.specs.declared.found.Stray.{Stray}
 use Rattle.swim_evidence.specs.declared.found.Finding.{Finding}
-use Rattle.swim_evidence.specs.declared.found.Finding.TheVariants.{Judged, Other, Late}
+use Rattle.swim_evidence.specs.declared.found.Finding.TheVariants.{Judged as AsJudged, Other, Late}
 use Rattle.swim_evidence.specs.declared.trails.Probing.{Probing}
 
 -- a start at that place, where it probed
@@ -79,7 +80,7 @@ late judged last (Some stray) =
 -- and who was probed
 abbrev pub evidence : ℕ → Option Ask → List Stray → Option ℕ → Option Probing → List Finding
 evidence place ask strays (Some m) (Some p) =
-    Judged (record { member = m; number = p.probe.number; probed = p.place; ask = ask; judged = place })
+    AsJudged (record { member = m; number = p.probe.number; probed = p.place; ask = ask; judged = place })
     ∷ map Other strays
 evidence place ask strays judged p = []
 
@@ -92,3 +93,12 @@ found_in o h call reply = late (judged_by_starts h) o.last (stray_in (length h) 
 abbrev pub findings : Setting → List Entry → List Finding
 findings o [] = []
 findings o (e ∷ before) = findings o before ++ found_in o before e.call e.reply
+
+-- the judgements that are told
+abbrev pub told_in : Finding → List Judged
+told_in (AsJudged evidence) = record { member = evidence.member; number = evidence.number } ∷ []
+told_in finding = []
+
+abbrev pub judgements_told : List Finding → List Judged
+judgements_told [] = []
+judgements_told (finding ∷ more) = told_in finding ++ judgements_told more

@@ -4,6 +4,7 @@ ghost use Rattle.std.specs.Prelude.{◌≡◌, ◌↔◌, IsTrue, None};
 ghost use Rattle.swim_evidence.specs.Following.{Follows, NextDraw, NextLife};
 
 use swim_history::{Opening, Row};
+use thiserror::Error;
 
 /// From what a life draws orders and places.
 #[derive(Clone, Copy, Debug, PartialEq, Eq)]
@@ -24,23 +25,24 @@ pub struct Heading {
 }
 
 /// In what a life isn't the one that follows another. The first that applies is told.
-#[derive(Clone, Copy, Debug, PartialEq, Eq)]
+#[derive(Clone, Copy, Debug, PartialEq, Eq, Error)]
 pub enum Break {
-    /// It is another member's.
+    #[error("it is another member's")]
     Member,
-    /// Another number of relays is asked.
+    #[error("another number of relays is asked")]
     Relays,
-    /// The timeout or the period has other ticks.
+    #[error("the timeout or the period is another")]
     Timing,
-    /// The members that are known aren't those that the other life left, or one is in another state.
+    /// Members, their addresses, their states or their order.
+    #[error("the members aren't those that were left")]
     Rows,
-    /// The last period number isn't the one that the other life used last.
+    #[error("the last period number isn't the one that was left")]
     Last,
-    /// The journal may have another number of entries.
+    #[error("the journal may have another number of entries")]
     Limit,
-    /// It draws from another seed.
+    #[error("the seed is another")]
     Seed,
-    /// Its number isn't the next.
+    #[error("its life isn't the next")]
     Life,
 }
 

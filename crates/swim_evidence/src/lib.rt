@@ -9,7 +9,7 @@ mod trails;
 mod verdicts;
 mod walking;
 
-pub use confirming::Confirmations;
+pub use confirming::{Confirmations, Missed};
 pub use following::{Break, Draw, Heading, first_break};
 pub use found::{Ask, Evidence, Finding, Found, Stray};
 pub use verdicts::{Verdict, verdict_on};

@@ -1,9 +1,10 @@
 //! What a journal file comes to that was played.
 
-ghost use Rattle.std.specs.Prelude.{◌≡◌, ◌⊎◌, ◌↔◌, ℕ, IsTrue, Some, None};
+ghost use Rattle.std.specs.Prelude.{◌≡◌, ◌⊎◌, ◌↔◌, IsTrue, Some, None};
+ghost use Rattle.swim_evidence.specs.declared.confirming.Missed.{Missed as Call};
 ghost use Rattle.swim_evidence.specs.Verdicts.{IsWhole, IsCut};
 
-use crate::confirming::Confirmations;
+use crate::confirming::{Confirmations, Missed};
 
 /// What a journal file comes to.
 #[derive(Clone, Copy, Debug, PartialEq, Eq)]
@@ -12,8 +13,8 @@ pub enum Verdict<F> {
     Whole,
     /// The same up to its last confirmed entry, behind which it ends in the midst.
     Cut,
-    /// The call of this line has no answer, though another call follows.
-    Missed(u32),
+    /// This call has no answer, though another call follows.
+    Missed(Missed),
     /// It has this fault.
     Faulty(F),
 }
@@ -32,12 +33,12 @@ pub fn verdict_on<F: Copy>(
     ensures cut { (result ≡ Verdict.Cut) ↔ IsCut fault is_cut confirmations.now }
 
     // A call without an answer stands before the fault that ended the run.
-    ensures missed { (line : ℕ) → (result ≡ Verdict.Missed line) ↔ (confirmations.now.missed ≡ Some line) }
+    ensures missed { (call : Call) → (result ≡ Verdict.Missed call) ↔ (confirmations.now.missed ≡ Some call) }
     ensures faulty { (met : F) → (result ≡ Verdict.Faulty met)
         ↔ ((confirmations.now.missed ≡ None) × (fault ≡ Some met)) }
 {
-    if let Some(line) = confirmations.missed {
-        return Verdict::Missed(line);
+    if let Some(call) = confirmations.missed {
+        return Verdict::Missed(call);
     }
     match fault {
         Some(met) => Verdict::Faulty(met),

@@ -1,7 +1,8 @@
 //! A journal, gone through from its oldest entry.
 
 ghost use Rattle.std.specs.Prelude.{◌≡◌, IfOk, length, reverse, take};
-ghost use Rattle.swim_evidence.specs.Evidence.{findings, judged_by_starts};
+ghost use Rattle.swim_evidence.specs.Evidence.{findings, judged_by_starts, judgements_told};
+ghost use Rattle.swim_history.specs.Judgement.{judgements};
 
 use crate::found::Found;
 use crate::trails::Trail;
@@ -13,6 +14,10 @@ use swim_history::Journal;
 pub fn findings_of(alloc: Global, journal: &Journal, confirmed: u32) -> Result<Found, AllocError>
     ensures findings { IfOk result (λ found. found.findings.items
         ≡ findings journal.now.opening (reverse (take confirmed (reverse journal.now.past)))) }
+
+    // These judgements are all that there are, each by the rule.
+    ensures judgements { IfOk result (λ found. judgements_told found.findings.items
+        ≡ judgements journal.now.opening (reverse (take confirmed (reverse journal.now.past)))) }
     ensures periods { IfOk result (λ found. found.periods
         ≡ length (judged_by_starts (reverse (take confirmed (reverse journal.now.past))))) }
 {

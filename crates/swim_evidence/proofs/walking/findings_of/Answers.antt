@@ -1,7 +1,12 @@
-use Rattle.std.proofs.Common.{◌≡◌, ◌+◌, ◌<◌, ◌∷◌, length, reverse, take, arith, sym, ap, ◌∙◌, inl, inr}
-use Rattle.std.proofs.lemmas.List.{length-reverse, length-take}
+use Rattle.std.proofs.Common.{List, min, subst, ◌≡◌, ◌+◌, ◌<◌, ◌∷◌, length, reverse, take, arith, sym, ap, ◌∙◌, inl, inr}
+use Rattle.std.proofs.lemmas.List.{reverse-reverse, length-reverse, length-take}
+use Rattle.std.proofs.lemmas.Grind.{common_steps}
 use Rattle.std.proofs.lemmas.Option.{get_or_from_slice_get, slice_get_cases}
-use Rattle.swim_history.specs.Laws.InOrder.{past_more}
+use Rattle.swim_history.specs.Laws.InOrder.{past_more, run_so_far}
+use Rattle.swim_history.specs.declared.entries.Entry.{Entry}
+use Rattle.swim_history.specs.Run.{IsRun}
+use Rattle.swim_evidence.specs.Evidence.{findings, judgements_told}
+use Rattle.swim_evidence.proofs.Told.{judgements_are_told}
 use Rattle.swim_evidence.proofs.walking.findings_of.Goals as goal
 use Rattle.swim_evidence.proofs.walking.findings_of.Goals.{in-Some+in_ok-note, in_default}
 
@@ -24,3 +29,17 @@ loop-place-preserved c =
             | inr past ↦ absurd (omega (arith, there, past.0))
           ]
     ]
+
+pub returns-clause-judgements : goal.returns-clause-judgements
+returns-clause-judgements c =
+    let o = c.args.journal.now.opening in
+    let entries = reverse c.args.journal.now.past in
+    let first = reverse (take c.args.confirmed entries) in
+    let place : c.loop-place.place ≡ min c.args.confirmed (length entries) =
+    rw (length-reverse c.args.journal.now.past) (omega (arith, c.loop-place-test.false, c.loop-place.auto.place-end, c.min-place-end.ensures, c.len.ensures.value)) in
+    let all : take c.loop-place.place entries ≡ take c.args.confirmed entries =
+    ap (λ i. take i entries) place ∙ grind (arith, common_steps) in
+    let found : c.into_found.result.findings.items ≡ findings o first =
+    c.into_found.ensures.findings ∙ (c.loop-place.invariant.findings ∙ ap (λ (h : List Entry). findings o (reverse h)) all) in
+    let run : IsRun o first = run_so_far o entries c.args.confirmed (subst (λ (h : List Entry). IsRun o h) (sym (reverse-reverse c.args.journal.now.past)) c.len.ensures.run) in
+    ap judgements_told found ∙ judgements_are_told o first c.len.ensures.limits run
