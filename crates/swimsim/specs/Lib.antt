@@ -2,3 +2,4 @@ pub mod Options
 pub mod Meanings
 pub mod Named
 pub mod Differences
+pub mod Verifying

@@ -8,6 +8,7 @@ use crate::hearing::Messages;
 use crate::naming::Namer;
 use crate::notes::NoteTaker;
 use crate::overhearing::Overheard;
+use crate::whole_lines::WholeLines;
 use crate::wording::Worded;
 use std::fs::File;
 use std::io::{self, ErrorKind, Read, Stdin, Stdout, Write};
@@ -32,11 +33,13 @@ impl Read for Script {
 /// The bytes of a script, with a note of what each line tells.
 type Noted<'a> = Overheard<ReadSource<Script>, NoteTaker<'a>>;
 
-/// A script, as it lies there, or byte by byte with notes of its lines and of what is heard in them.
+/// A script, as it lies there, or byte by byte with notes of its lines and of what is heard in them, or whole line by
+/// whole line.
 #[derive(Drop)]
 pub enum Input<'a> {
     Plain(Script),
     Overheard(Overheard<Noted<'a>, Messages<'a>>),
+    Whole(WholeLines<'a>),
 }
 
 impl<'a> Read for Input<'a> {
@@ -44,6 +47,7 @@ impl<'a> Read for Input<'a> {
         match self {
             Input::Plain(script) => script.read(buf),
             Input::Overheard(script) => read_byte(script, buf),
+            Input::Whole(lines) => lines.read(buf),
         }
     }
 }
@@ -65,13 +69,15 @@ fn read_byte<R: Source>(script: &mut R, buf: &mut [u8]) -> io::Result<usize>
     }
 }
 
-/// Standard output, for answers as they are, or with datagrams in words, with names behind numbers, or with both.
+/// Standard output, for answers as they are, or with datagrams in words, with names behind numbers, or with both; or
+/// nothing that takes them.
 #[derive(Drop)]
 pub enum Output<'a> {
     Plain(Stdout),
     Decoded(Worded<Decoder<'a>, WriteSink<Stdout>>),
     Named(Worded<Namer<'a>, WriteSink<Stdout>>),
     Both(Worded<Decoder<'a>, Worded<Namer<'a>, WriteSink<Stdout>>>),
+    Nowhere,
 }
 
 impl<'a> Write for Output<'a> {
@@ -81,6 +87,7 @@ impl<'a> Write for Output<'a> {
             Output::Decoded(output) => put_all(output, buf),
             Output::Named(output) => put_all(output, buf),
             Output::Both(output) => put_all(output, buf),
+            Output::Nowhere => Ok(buf.len()),
         }
     }
 
@@ -90,6 +97,7 @@ impl<'a> Write for Output<'a> {
             Output::Decoded(output) => hand_on(output),
             Output::Named(output) => hand_on(output),
             Output::Both(output) => hand_on(output),
+            Output::Nowhere => Ok(()),
         }
     }
 }

@@ -21,10 +21,14 @@ mod notes;
 mod options;
 mod overhearing;
 mod reasons;
+mod reports;
 mod showing;
 mod spelling;
 mod summaries;
 mod tallies;
+mod verifying;
+mod whole_lines;
+mod witness;
 mod wording;
 
 use anyhow::Result;
@@ -37,7 +41,7 @@ use files::{Input, Output, Script};
 use hearing::Messages;
 use naming::Namer;
 use notes::{NoteTaker, Notes, Told};
-use options::{Options, read_options, refuse_bytes};
+use options::{Options, read_options, refuse_bytes, refuse_mixed};
 use overhearing::Overheard;
 use std::alloc::AllocError;
 use std::cell::{Cell, RefCell};
@@ -50,6 +54,7 @@ use swim_history::Journal;
 use swim_script::{FaultKind, ScriptFault, Session};
 use swim_wire::{Message, ReadSource, Sink, WriteSink};
 use tallies::Tally;
+use verifying::verify;
 use wording::Worded;
 
 fn main(rt: HostRuntime) -> ExitCode {
@@ -72,6 +77,8 @@ fn begin(rt: &HostRuntime) -> Result<ExitCode> {
         Err(error) => return Err(error.into()),
     };
     match read_options(rt.alloc(), words.as_slice()) {
+        Ok(options) if options.is_mixed() => tell(rt, &refuse_mixed(rt.alloc())?),
+        Ok(options) if !options.verify.is_empty() => verify(rt, options.verify.as_slice()),
         Ok(options) => match options.script {
             Some(path) if path != "-" => Ok(play_file(rt, path, &options)),
             _ => Ok(play(rt, Script::Standard(rt.stdin()), &options)),

@@ -1,8 +1,10 @@
 //! The words of the command line.
 
-ghost use Rattle.std.specs.Prelude.{◌≡◌, IfOk, codes, false, map, option_map};
+ghost use Rattle.std.specs.Prelude.{◌≡◌, ◌↔◌, [], IfOk, IsTrue, codes, false, map, option_map};
+ghost use Rattle.std.specs.Option.{unwrap_or};
 ghost use Rattle.clap.specs.Words.{FailsBy, app_of, fault_of, kind_of, rule_of};
 ghost use Rattle.swimsim.specs.Options.{TellsFlag, command_line, flag_in, flag_rule, script_in, script_rule, value_in};
+ghost use Rattle.swimsim.specs.Options.{IsMixed, values_in, values_rule};
 ghost use Rattle.swimsim.specs.Options.{value_rule};
 
 use clap::error::ErrorKind;
@@ -23,6 +25,22 @@ pub struct Options<'a> {
     pub timeline: Option<&'a str>,
     /// Whether the picture is written over whatever stands there.
     pub force: bool,
+    /// The paths of journal files that are verified; none where a script is played.
+    pub verify: Vec<&'a str>,
+}
+
+impl<'a> Options<'a> {
+    /// Whether files are to be verified, and something else is asked beside that.
+    pub fn is_mixed(&self) -> bool
+        ensures { IsTrue result ↔ IsMixed self.now }
+    {
+        !self.verify.is_empty()
+            && (self.script.is_some()
+                || self.decode
+                || self.explain
+                || self.timeline.is_some()
+                || self.force)
+    }
 }
 
 /// Reads the words of the command line, of which the first is the program's name. Where they ask for help or the
@@ -38,17 +56,31 @@ pub fn read_options<'a, S: AsStr>(alloc: Global, words: &'a [S]) -> Result<Optio
         ≡ value_in (codes "timeline") (map S.text words.entry.now)) }
     ensures force { IfOk result (λ options. TellsFlag options.force
         (flag_in (codes "force") (map S.text words.entry.now))) }
+    ensures verify { IfOk result (λ options. map (λ path. path.now) options.verify.items
+        ≡ values_in (codes "verify") (map S.text words.entry.now)) }
     ensures refused { FailsBy (fault_of command_line (map S.text words.entry.now)) result }
 {
     let command = command_line(alloc)?;
     let matches = command.try_get_matches_from(words)?;
+    let verify = copied(alloc, matches.get_strs("verify"))?;
     Ok(Options {
         script: matches.get_str("FILE"),
         decode: matches.get_flag("decode"),
         explain: matches.get_flag("explain"),
         timeline: matches.get_str("timeline"),
         force: matches.get_flag("force"),
+        verify,
     })
+}
+
+/// The paths, of which there are none where the words give none.
+fn copied<'a>(alloc: Global, paths: Option<&[&'a str]>) -> Result<Vec<&'a str>, AllocError>
+    ensures { IfOk result (λ copy. copy.items ≡ unwrap_or (option_map (λ all. all.now) paths.entry) []) }
+{
+    match paths {
+        Some(paths) => Vec::from_slice(alloc, paths),
+        None => Ok(Vec::new(alloc)),
+    }
 }
 
 /// The answer to words of which one is no text.
@@ -57,6 +89,17 @@ pub fn refuse_bytes(alloc: Global) -> Result<Error, AllocError>
 {
     let mut command = command_line(alloc)?;
     command.error(ErrorKind::InvalidValue, "a word is not UTF-8")
+}
+
+/// The answer to words that ask to verify files, and for something else beside that.
+pub fn refuse_mixed(alloc: Global) -> Result<Error, AllocError>
+    ensures { IfOk result (λ answer. kind_of answer ≡ ErrorKind.ArgumentConflict) }
+{
+    let mut command = command_line(alloc)?;
+    command.error(
+        ErrorKind::ArgumentConflict,
+        "--verify stands beside journal files alone",
+    )
 }
 
 /// What the program takes on its command line.
@@ -85,7 +128,8 @@ fn command_line<'a>(alloc: Global) -> Result<Command<'a>, AllocError>
         .arg(decode)?
         .arg(explain)?
         .arg(timeline(alloc))?
-        .arg(force)
+        .arg(force)?
+        .arg(verify(alloc))
 }
 
 /// The one word that is no option.
@@ -116,4 +160,18 @@ fn timeline<'a>(alloc: Global) -> Arg<'a>
         .long("timeline")
         .value_name("FILE")
         .help("Draws the run into FILE, as SVG")
+}
+
+/// The journal files that are verified.
+fn verify<'a>(alloc: Global) -> Arg<'a>
+    ensures rule { rule_of result ≡ values_rule (codes "verify") }
+    ensures local { result.global ≡ false }
+{
+    Arg::new(alloc, "verify")
+        .long("verify")
+        .value_name("FILE")
+        .num_args(1..)
+        .help(
+            "Verifies journal files, lives of a daemon in their order, and tells the evidence of judgements",
+        )
 }

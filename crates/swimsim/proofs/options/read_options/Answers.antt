@@ -1,6 +1,7 @@
-use Rattle.std.proofs.Common.{ap, ◌∙◌, ◌≡◌, map, codes, sym, subst}
-use Rattle.clap.specs.Words.{App, HasKind, fault_of, first_of, found_of, is_simple, is_simple_and_free, matches_of, one_of, one_text}
-use Rattle.clap.proofs.WalkLemmas.{first_value-rows, one_text-rows}
+use Rattle.std.proofs.Common.{ap, ◌∙◌, ◌≡◌, ℕ, List, [], Option, Some, None, Bor, map, codes, refl, sym, subst}
+use Rattle.std.specs.Option.{option_map, unwrap_or}
+use Rattle.clap.specs.Words.{App, HasKind, all_of, fault_of, first_of, found_of, is_simple, is_simple_and_free, matches_of, one_of, one_text}
+use Rattle.clap.proofs.WalkLemmas.{first_value-rows, one_text-rows, raw_values-rows}
 use Rattle.swimsim.specs.Options.{command_line}
 use Rattle.swimsim.proofs.CommandLine.{is_simple_line, is_free_line, passed_on}
 use Rattle.swimsim.proofs.options.read_options.Goals as goal
@@ -52,6 +53,20 @@ returns-clause-force g c =
     = one_text-rows (found_of c.in_ok-matches.matches) (codes "force")
     ∙ ap (one_of (codes "force")) (rows ∙ ap (λ (a : App). matches_of a words) c.in_ok-command.ensures) in
     (λ e. c.get_flag-3.ensures.none (written ∙ e), λ e. c.get_flag-3.ensures.value (written ∙ e), λ e. c.get_flag-3.ensures.other (written ∙ e))
+
+-- the texts of the values, of which there are none where there is no option
+texts_of : (values : Option (Bor (List (Bor (List ℕ))))) → map (λ v. v.now) (unwrap_or (option_map (λ all. all.now) values) [])
+    ≡ unwrap_or (option_map (λ all. map (λ v. v.now) all.now) values) []
+texts_of None = refl
+texts_of (Some all) = refl
+
+pub returns-clause-verify : goal.returns-clause-verify
+returns-clause-verify g c =
+    let words = map g.S.AsStr.text c.args.words.now in
+    let rows = (c.in_ok-matches.ensures.matches (ap is_simple c.in_ok-command.ensures ∙ is_simple_line)).0 in
+    ap (map (λ v. v.now)) c.in_ok-verify.ensures ∙ (texts_of c.get_strs.result
+    ∙ ap (λ (values : Option (List (List ℕ))). unwrap_or values []) (c.get_strs.ensures ∙ (raw_values-rows (found_of c.in_ok-matches.matches) (codes "verify")
+    ∙ ap (all_of (codes "verify")) (rows ∙ ap (λ (a : App). matches_of a words) c.in_ok-command.ensures))))
 
 pub returns-clause-refused : goal.returns-clause-refused
 returns-clause-refused g c =

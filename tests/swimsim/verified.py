@@ -1,0 +1,269 @@
+"""Journal files that `swimsim --verify` is given, with what it has to tell of them, worked out by hand from docs/FORMATS.md.
+
+In the histories below member 1 asks one relay (in `two_relays` two, in `one_member` none is there), waits one tick for an ack, and has
+periods of three ticks. No order is told, so that members 2 and 3 are probed in turn, and the first of them that may be asked is the relay.
+"""
+
+import os
+import subprocess
+import tempfile
+from typing import NamedTuple
+
+from tests.swimsim.cases import SECONDS, difference
+
+FIRST = "journal 1\n"
+ROWS = ["row 2 10.0.0.2:7000\n", "row 3 10.0.0.3:7000\n"]
+HEAD = [FIRST, "open 1 1 1 3 0 1000\n", *ROWS]
+SEED = "0" * 64
+
+
+def ack(member, number):
+    """An ack of that member for a probe of member 1 in the period of that number."""
+    return f"hear 10.0.0.{member}:7000 53570103{member:08x}00000001{member:08x}{number:016x}\n"
+
+
+def told(*calls):
+    """The lines of calls, each with its answer behind it."""
+    return [line for place, (call, answer) in enumerate(calls) for line in (call, f"= {place} {answer}\n")]
+
+
+TICK = "tick\n"
+STARTED, ASKED, QUIET = (TICK, "started judged - probe 2 1"), (TICK, "asked 2 1 by 3"), (TICK, "quiet")
+JUDGED = (TICK, "started judged 2 probe 3 2")
+WHOLE = [*HEAD, *told(STARTED, ASKED, QUIET, JUDGED)]
+EVIDENCE = "judged 2 in period 1: probed at entry 0, relays 3 asked at entry 1, no ack of period 1 until entry 3\n"
+TELLS = "a: entries 4 confirmed 4 periods 2 judged 1\n" + EVIDENCE
+
+
+class Verified(NamedTuple):
+    """Files by their names, in their order, and the status with what is written."""
+
+    name: str
+    files: list
+    status: int
+    stdout: str
+    stderr: str = ""
+
+
+def one(name, lines, status, stdout, stderr=""):
+    return Verified(name, [("a", "".join(lines))], status, stdout, stderr)
+
+
+def judgements():
+    """Evidence of each kind."""
+    yield one("a judgement", WHOLE, 0, TELLS)
+    yield one("no call", HEAD, 0, "a: entries 0 confirmed 0 periods 0 judged 0\n")
+    heard = told(STARTED, (ack(2, 1), "heard"), QUIET, QUIET, (TICK, "started judged - probe 3 2"))
+    yield one("an ack in time", [*HEAD, *heard], 0, "a: entries 5 confirmed 5 periods 2 judged 0\n")
+    late = told(STARTED, ASKED, QUIET, JUDGED, (ack(2, 1), "dropped 6"), (ack(2, 1), "dropped 6"))
+    tells = "a: entries 6 confirmed 6 periods 2 judged 1\n" + EVIDENCE
+    tells += "ack of 2 for period 1 at entry 4: too late\nack of 2 for period 1 at entry 5: too late\n"
+    yield one("an ack that came too late, twice", [*HEAD, *late], 0, tells)
+    strays = [(ack(2, 9), "dropped 6"), (ack(3, 1), "dropped 6")]
+    others = told(STARTED, strays[0], ASKED, QUIET, strays[1], JUDGED, (ack(2, 9), "dropped 6"), (ack(3, 1), "dropped 6"))
+    tells = "a: entries 8 confirmed 8 periods 2 judged 1\n"
+    tells += "judged 2 in period 1: probed at entry 0, relays 3 asked at entry 2, no ack of period 1 until entry 5\n"
+    tells += "ack of 2 for period 9 at entry 1: another period\n"
+    yield one("acks for another period, and of another member", [*HEAD, *others], 0, tells)
+    early = [(TICK, "started judged 2 probe 3 2"), (ack(3, 1), "dropped 6"), (TICK, "asked 3 2 by -"), QUIET, (TICK, "started judged 3 probe -")]
+    tells = "a: entries 8 confirmed 8 periods 3 judged 2\n" + EVIDENCE
+    tells += "judged 3 in period 2: probed at entry 3, no relays asked at entry 5, no ack of period 2 until entry 7\n"
+    tells += "ack of 3 for period 1 at entry 4: another period\n"
+    yield one("a second judgement, without relays", [*HEAD, *told(STARTED, ASKED, QUIET, *early)], 0, tells)
+    three = [FIRST, "open 1 2 1 3 0 1000\n", *ROWS, "row 4 10.0.0.4:7000\n", *told(STARTED, (TICK, "asked 2 1 by 3,4"), QUIET, JUDGED)]
+    tells = "a: entries 4 confirmed 4 periods 2 judged 1\n" + EVIDENCE.replace("relays 3 ", "relays 3, 4 ")
+    yield one("two relays", three, 0, tells)
+    again = ("join 2 10.0.0.2:7000\n", "joined 1")
+    joined = [STARTED, ASKED, QUIET, JUDGED, again, (ack(2, 1), "dropped 6")]
+    tells = "a: entries 6 confirmed 6 periods 2 judged 1\n" + EVIDENCE + "ack of 2 for period 1 at entry 5: too late\n"
+    yield one("too late, and listed again", [*HEAD, *told(*joined)], 0, tells)
+
+
+def times():
+    """The time of a probe stands right behind the line of its start, and is a number and nothing else."""
+    at = lambda comment: [*HEAD, *WHOLE[4:6], *comment, *WHOLE[6:]]
+    timed = TELLS.replace("entry 0,", "entry 0 (1764072000),")
+    yield one("a time", at(["# 1764072000\n"]), 0, timed)
+    for comment in ("#1764072000\n", "# 01764072000\n", "# 1764072000 \n", "# about 1764072000\n", "#\n", "# 18446744073709551616\n"):
+        yield one(f"no time: {comment!r}", at([comment]), 0, TELLS)
+    yield one("no time: a line between", at(["\n", "# 1764072000\n"]), 0, TELLS)
+    yield one("no time: behind another line", [*HEAD, *WHOLE[4:8], "# 1764072000\n", *WHOLE[8:]], 0, TELLS)
+    yield one("a time of the start that judged", [*WHOLE, "# 1764072003\n"], 0, TELLS)
+    yield one("the daemon's first comment", [FIRST, "# swimd 1.0 2025-11-25T12:00:00.000Z\n", *WHOLE[1:]], 0, TELLS)
+
+
+def differences():
+    """Lines of WHOLE that are missing, or stand twice: the lines are counted from 1, and the calls are lines 5, 7, 9 and 11."""
+    fault = lambda line, text: f"swimsim: a: line {line}: {text}\n"
+    unanswered = lambda line, entry: fault(line, f"no answer stands behind the call of entry {entry}")
+    foreign = "swimsim: a: it is no journal file: its first line isn't `journal 1`\n"
+    tells = lambda entries, confirmed, periods: f"a: entries {entries} confirmed {confirmed} periods {periods} judged 0\n"
+    dropped = {
+        1: ("", foreign),
+        2: (tells(0, 0, 0), fault(2, "word, before entry 0")),
+        3: (tells(1, 0, 0), fault(5, "differs, before entry 0")),
+        4: (tells(2, 1, 1), fault(7, "differs, behind entry 0")),
+        5: (tells(0, 0, 0), fault(5, "word, before entry 0")),
+        6: (tells(4, 0, 0), unanswered(5, 0)),
+        7: (tells(1, 1, 1), fault(7, "differs, behind entry 0")),
+        8: (tells(4, 1, 1), unanswered(7, 1)),
+        9: (tells(2, 2, 1), fault(9, "differs, behind entry 1")),
+        10: (tells(4, 2, 1), unanswered(9, 2)),
+        11: (tells(3, 3, 1), fault(11, "differs, behind entry 2")),
+    }
+    for line, (stdout, stderr) in dropped.items():
+        yield one(f"line {line} is missing", WHOLE[: line - 1] + WHOLE[line:], 1, stdout, stderr)
+    twice = {
+        1: (tells(0, 0, 0), fault(2, "word, before entry 0")),
+        2: (tells(0, 0, 0), fault(3, "word, before entry 0")),
+        3: (tells(0, 0, 0), fault(2, "opening 5, before entry 0")),
+        4: (tells(0, 0, 0), fault(2, "opening 5, before entry 0")),
+        5: (tells(2, 0, 0), unanswered(5, 0)),
+        7: (tells(3, 1, 1), unanswered(7, 1)),
+        9: (tells(4, 2, 1), unanswered(9, 2)),
+        11: (tells(5, 3, 1), unanswered(11, 3)),
+    }
+    for line, (stdout, stderr) in twice.items():
+        yield one(f"line {line} stands twice", WHOLE[:line] + WHOLE[line - 1 :], 1, stdout, stderr)
+    for line in (6, 8, 10, 12):
+        yield one(f"the answer of line {line} stands twice", WHOLE[:line] + WHOLE[line - 1 :], 0, TELLS)
+    wire = [*HEAD, *told(STARTED), "hear 10.0.0.2:7000 53\n", *told(STARTED, ASKED)[2:]]
+    yield one("bytes that are no datagram have no answer", wire, 1, tells(2, 2, 1), unanswered(7, 1))
+    full = [line.replace(" 1000\n", " 1\n") for line in HEAD] + [*told(STARTED), TICK, TICK]
+    yield one("a full journal has no answer", full, 1, tells(1, 1, 1), unanswered(7, 1))
+    shown = [*HEAD, "table\n", *WHOLE[4:6], "gap 2\n", "table\n", *WHOLE[6:]]
+    yield one("a table and a gap are no calls", shown, 0, TELLS)
+    long = "#" * 2_049
+    yield one("a line that is too long", [*WHOLE, long, "\n"], 1, TELLS, fault(13, "long, behind entry 3"))
+    yield one("a last line that is too long", [*WHOLE, long], 1, TELLS, fault(13, "long, behind entry 3"))
+    yield one("another first line", ["journal 2\n", *WHOLE[1:]], 1, "", foreign)
+    yield one("another first line, cut", ["journal 2"], 1, "", foreign)
+    yield one("a script", WHOLE[1:4] + [TICK], 1, "", foreign)
+
+
+LIFE = f"row 2 10.0.0.2:7000\nseed {SEED} 0\n"
+ALONE = told(STARTED, (TICK, "asked 2 1 by -"), QUIET, (TICK, "started judged 2 probe -"))
+NEXT = "row 2 10.0.0.2:7000 failed 1\n"
+ONE = "".join([FIRST, "open 1 1 1 3 0 4\n", LIFE, *ALONE])
+TWO = "".join([FIRST, "open 1 1 1 3 2 4\n", NEXT, f"seed {SEED} 1\n", *told((TICK, "started judged - probe -"))])
+ONE_TELLS = "one: entries 4 confirmed 4 periods 2 judged 1\n"
+ONE_TELLS += "judged 2 in period 1: probed at entry 0, no relays asked at entry 1, no ack of period 1 until entry 3\n"
+TWO_TELLS = "two: entries 1 confirmed 1 periods 1 judged 0\n"
+
+
+def lives():
+    """Files of one daemon, whose second life goes on from what the first left."""
+    both = lambda one, two: [("one", one), ("two", two)]
+    yield Verified("two lives", both(ONE, TWO), 0, ONE_TELLS + TWO_TELLS)
+    swapped = "swimsim: one: does not follow two: the members aren't those that were left\n"
+    yield Verified("two lives, swapped", both(ONE, TWO)[::-1], 1, TWO_TELLS + ONE_TELLS, swapped)
+    breaks = {
+        "it is another member's": ("open 1 1", "open 9 1"),
+        "another number of relays is asked": ("open 1 1", "open 1 2"),
+        "the timeout or the period is another": ("1 3 2 4", "1 4 2 4"),
+        "the members aren't those that were left": (" failed 1", " failed 2"),
+        "the last period number isn't the one that was left": ("1 3 2 4", "1 3 3 4"),
+        "the journal may have another number of entries": ("1 3 2 4", "1 3 2 5"),
+        "the seed is another": ("seed 0", "seed 1"),
+        "its life isn't the next": (f"{SEED} 1", f"{SEED} 2"),
+    }
+    for why, (old, new) in breaks.items():
+        stderr = f"swimsim: two: does not follow one: {why}\n"
+        yield Verified(f"two lives: {why}", both(ONE, TWO.replace(old, new, 1)), 1, ONE_TELLS + TWO_TELLS, stderr)
+    address = TWO.replace("10.0.0.2:7000", "10.0.0.2:7001")
+    stderr = "swimsim: two: does not follow one: the members aren't those that were left\n"
+    yield Verified("two lives: an address", both(ONE, address), 1, ONE_TELLS + TWO_TELLS, stderr)
+    unseeded = TWO.replace(f"seed {SEED} 1\n", "")
+    yield Verified("two lives, one without a seed", both(ONE, unseeded), 0, ONE_TELLS + TWO_TELLS)
+    header = "".join(TWO.splitlines(True)[:4])
+    empty = "two: entries 0 confirmed 0 periods 0 judged 0\n"
+    yield Verified("a second life without a call", both(ONE, header), 0, ONE_TELLS + empty)
+    stderr = "swimsim: two: does not follow one: its life isn't the next\n"
+    yield Verified("another second life without a call", both(ONE, header.replace(f"{SEED} 1", f"{SEED} 7")), 1, ONE_TELLS + empty, stderr)
+    yield Verified("a second life whose header is cut", both(ONE, header[: header.index("row")]), 0, ONE_TELLS + empty)
+    yield Verified("the same, in the midst of a line", both(ONE, header[: header.index("seed") + 9]), 0, ONE_TELLS + empty + "cut before entry 0\n")
+    cut = ONE_TELLS.splitlines(True)[0].replace("4 confirmed 4 periods 2 judged 1", "4 confirmed 3 periods 1 judged 0")
+    stderr = "swimsim: two: does not follow one: what one left isn't known, as it isn't whole\n"
+    shorter = "".join(ONE.splitlines(True)[:-1])
+    yield Verified("a first life that is cut", both(shorter, TWO), 1, cut + "cut behind entry 2\n" + TWO_TELLS, stderr)
+    yield Verified("a second life that is cut", both(ONE, TWO + "ti"), 0, ONE_TELLS + TWO_TELLS + "cut behind entry 0\n")
+
+
+def expected_of_front(text):
+    """What a front of WHOLE, with times, tells: calls are `tick` lines, and lines of answers are told rightly."""
+    whole = text[: text.rfind("\n") + 1]
+    lines = whole.splitlines()
+    answers = [line.split() for line in lines if line.startswith("= ")]
+    starts = [words for words in answers if words[2] == "started"]
+    judged = [words for words in starts if words[4] != "-"]
+    calls = lines.count("tick")
+    opened = any(line.startswith("open ") for line in lines)
+    stdout = f"a: entries {calls} confirmed {len(answers)} periods {len(starts)} judged {len(judged)}\n"
+    if judged:
+        stdout += EVIDENCE.replace("entry 0,", "entry 0 (1764072000),")
+    if text != whole or calls > len(answers) or not opened:
+        stdout += f"cut behind entry {len(answers) - 1}\n" if answers else "cut before entry 0\n"
+    return stdout
+
+
+def cuts():
+    """A file, cut at each byte."""
+    text = "".join([*WHOLE[:6], "# 1764072000\n", *WHOLE[6:], "# 1764072003\n"])
+    for count in range(len(text) + 1):
+        yield one(f"cut behind {count} bytes", [text[:count]], 0, expected_of_front(text[:count]))
+
+
+CASES = [judgements, times, differences, lives, cuts]
+
+
+def verified(program, case):
+    """What isn't as expected of files that are verified."""
+    with tempfile.TemporaryDirectory() as folder:
+        for name, text in case.files:
+            with open(f"{folder}/{name}", "w", encoding="ascii") as file:
+                file.write(text)
+        words = [os.path.abspath(program), "--verify", *(name for name, _ in case.files)]
+        ran = subprocess.run(words, cwd=folder, capture_output=True, timeout=SECONDS)
+    said = [] if ran.returncode == case.status else [f"status {ran.returncode}, and not {case.status}"]
+    said += difference("standard output", case.stdout.encode(), ran.stdout)
+    return said + difference("standard error", case.stderr.encode(), ran.stderr)
+
+
+def verified_with_other_digits(program):
+    """Each digit of WHOLE, changed to each other: it is told, or nothing that is told changes."""
+    text, said = "".join(WHOLE), []
+    for at in (at for at, byte in enumerate(text) if byte.isdigit()):
+        for other in "0123456789".replace(text[at], ""):
+            said += same_or_told(program, text[:at] + other + text[at + 1 :])
+    return said
+
+
+def same_or_told(program, text):
+    ran = subprocess.run([program, "--verify", "-"], input=text.encode(), capture_output=True, timeout=SECONDS)
+    is_told = ran.returncode == 1 and ran.stderr.startswith(b"swimsim: -: ")
+    is_same = ran.returncode == 0 and ran.stdout == TELLS.replace("a:", "-:", 1).encode() and not ran.stderr
+    return [] if is_told or is_same else [f"{text!r}: status {ran.returncode}, {ran.stdout!r} and {ran.stderr!r}"]
+
+
+def verified_with_other_words(program):
+    """`--verify` stands beside files alone, of which there is one at least, and which can be opened."""
+    said = []
+    for words in (["--verify"], ["--verify", "a", "--decode"], ["--explain", "--verify", "a"], ["--verify", "a", "--", "b"], ["--force", "--verify", "a"]):
+        ran = subprocess.run([program, *words], capture_output=True, timeout=SECONDS)
+        if ran.returncode != 2 or ran.stdout or not ran.stderr.startswith(b"error: "):
+            said.append(f"{words}: {ran}")
+    ran = subprocess.run([program, "--verify", "/nowhere", "/"], capture_output=True, timeout=SECONDS)
+    lines = ran.stderr.splitlines()
+    named = len(lines) == 2 and all(line.startswith(b"swimsim: " + path + b": ") for line, path in zip(lines, (b"/nowhere", b"/")))
+    if ran.returncode != 1 or ran.stdout or not named:
+        said.append(f"files that can't be opened: {ran}")
+    ran = subprocess.run([program, "--verify", "-"], input="".join(WHOLE).encode(), capture_output=True, timeout=SECONDS)
+    return said + difference("of standard input", TELLS.replace("a:", "-:", 1).encode(), ran.stdout)
+
+
+def verified_cases():
+    for make in CASES:
+        for case in make():
+            yield f"verified: {make.__name__}: {case.name}", lambda program, case=case: verified(program, case)
+    for attempt in (verified_with_other_digits, verified_with_other_words):
+        yield attempt.__name__, attempt
