@@ -1,4 +1,4 @@
-"""Journal files of daemons: which there are, what stands in them, and whether swimsim plays them."""
+"""Journal files of daemons: which there are, what stands in them, and whether swimsim plays and verifies them."""
 
 import functools
 import os
@@ -64,21 +64,31 @@ def must_play(simulator, text, what):
     must((ran.returncode, ran.stderr) == (0, b""), f"swimsim plays {what} with status {ran.returncode}, {ran.stderr!r}")
 
 
-def must_play_fronts(simulator, files):
-    """Each is played up to its last answer. What comes behind that may be cut off by the end of a daemon."""
-    parts = [(front(it.text), it.path) for it in files]
+def must_verify(simulator, *files):
+    """Nothing speaks against them, one after the other, and each answer that stands in them is confirmed."""
+    paths = [it.path for it in files]
+    ran = subprocess.run([simulator, "--verify", *paths], stdout=subprocess.PIPE, stderr=subprocess.PIPE, timeout=SECONDS)
+    must((ran.returncode, ran.stderr) == (0, b""), f"swimsim verifies {paths} with status {ran.returncode}, {ran.stderr!r}")
+    for it in files:
+        confirmed = b"%s: entries %%d confirmed %d periods" % (it.path.encode(), len(told(front(it.text))))
+        found = re.search(re.escape(confirmed).replace(rb"%d", rb"\d+"), ran.stdout)
+        must(found, f"{it.path} is told as {ran.stdout[:1_000]!r}")
+
+
+def must_verify_each(simulator, files):
+    """Each is verified by itself, up to its last answer. What comes behind that may be cut off by the end of a daemon."""
     with ThreadPoolExecutor(LANES) as pool:
-        list(pool.map(lambda it: must_play(simulator, *it), [it for it in parts if it[0]]))
+        list(pool.map(lambda it: must_verify(simulator, it), [it for it in files if front(it.text)]))
 
 
-def must_play_all(machine):
-    """Plays what the daemons of a machine wrote, which are ended before."""
+def must_verify_all(machine):
+    """Verifies what the daemons of a machine wrote, which are ended before."""
     for it in machine.daemons:
         it.kill()
     if machine.simulator:
         folders, half = [machine.journals, *(it.path for it in os.scandir(machine.journals) if it.is_dir())], MOST_PLAYED // 2
         files = [file for folder in folders for file in journals(folder)]
-        must_play_fronts(machine.simulator, files if len(files) <= MOST_PLAYED else files[:half] + files[-half:])
+        must_verify_each(machine.simulator, files if len(files) <= MOST_PLAYED else files[:half] + files[-half:])
 
 
 def in_one_folder(test):

@@ -13,7 +13,7 @@ import time
 
 from tests.support.daemons import ACK, ONE_ARENA, PING, SECONDS, TIME, datagram, fields, memory_of, must, until
 from tests.support.documents import code_in
-from tests.support.journals import front, in_one_folder, journals, must_play, must_play_fronts, told, written
+from tests.support.journals import front, in_one_folder, journals, must_play, must_verify, must_verify_each, told, written
 from tests.swimd.daemon_groups import MOST_GROWTH, Answerer
 
 MINUTE = 60_000
@@ -126,6 +126,9 @@ def a_life_begins_with_what_was_left(machine):
         must(sorted(it.header) == sorted(wanted), f"life {it.life} begins with {it.header}, and not {wanted}")
         last = max([last, *(int(number) for number in re.findall(rb"^= \d+ started .* (\d+)$", it.text, re.MULTILINE))])
         must_play(machine.simulator, it.text, it.path)
+    must_verify(machine.simulator, *files)
+    swapped = subprocess.run([machine.simulator, "--verify", files[1].path, files[0].path], capture_output=True, timeout=SECONDS)
+    must(swapped.returncode == 1 and b"does not follow" in swapped.stderr, f"two lives that are swapped: {swapped}")
 
 
 def comments_tell_the_time(machine):
@@ -236,7 +239,7 @@ def killed_at_any_moment(machine):
             must(all(front(it) for it in files[:-1]), "a life that ended left a file without an answer")
             count += len(there & set(ages))
     files = [it for it in journals(machine.journals) if front(it.text)]
-    must_play_fronts(machine.simulator, files[:: max(1, len(files) // 100)])
+    must_verify_each(machine.simulator, files[:: max(1, len(files) // 100)])
     late = [it for it in latest if it >= MOSTLY_BEFORE]
     print(f"  of {KILLED} daemons that were killed {len(files)} files are left, with {count} pings; lacking since {max(latest):.2f} s at most")
     must(count > KILLED and max(latest) < BEFORE, f"calls lack that were answered {max(latest):.2f} seconds before")
