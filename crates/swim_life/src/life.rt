@@ -102,7 +102,7 @@ pub fn run_life<
     closed(rt, node, ended, fourth)
 }
 
-/// The seats of the three workers.
+/// The seats of the three workers that call the node.
 #[derive(Drop)]
 struct Workers<N: Naming> {
     first: Held<N, 0>,

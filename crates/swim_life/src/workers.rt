@@ -1,4 +1,4 @@
-//! The receiver and the ticker, two of the three workers of a life. Each worker has a seat of the node for itself. It
+//! The receiver and the ticker, two of the workers of a life. Each worker has a seat of the node for itself. It
 //! reads the shared flag once a turn, then asks its gate once, and sets the flag when it ends.
 
 ghost use Rattle.std.specs.Prelude.{◌≤◌, length};
