@@ -1,6 +1,6 @@
 //! What a journal file comes to that was played.
 
-ghost use Rattle.std.specs.Prelude.{◌≡◌, ◌⊎◌, ◌↔◌, IsTrue, Some, None};
+ghost use Rattle.std.specs.Prelude.{◌≡◌, ◌↔◌, Some, None};
 ghost use Rattle.swim_evidence.specs.declared.confirming.Missed.{Missed as Call};
 ghost use Rattle.swim_evidence.specs.Verdicts.{IsWhole, IsCut};
 
@@ -44,17 +44,5 @@ pub fn verdict_on<F: Copy>(
         Some(met) => Verdict::Faulty(met),
         None if is_cut || confirmations.waiting.is_some() => Verdict::Cut,
         None => Verdict::Whole,
-    }
-}
-
-impl<F> Verdict<F> {
-    /// Whether nothing speaks against the file.
-    pub fn is_good(&self) -> bool
-        ensures { IsTrue result ↔ ((self.now ≡ Verdict.Whole) ⊎ (self.now ≡ Verdict.Cut)) }
-    {
-        match self {
-            Verdict::Whole | Verdict::Cut => true,
-            Verdict::Missed(_) | Verdict::Faulty(_) => false,
-        }
     }
 }
