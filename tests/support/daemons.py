@@ -59,6 +59,11 @@ class Closing(NamedTuple):
     refused: int
 
 
+def lives_in(text):
+    """The lives that lines of a text tell of."""
+    return [Life(*map(int, it[:6])) for it in LIFE.findall(text)]
+
+
 class Row(NamedTuple):
     peer: str
     state: str
@@ -288,12 +293,11 @@ class Daemon:
         must(found, f"the closing line of member {self.id} is {stdout[-1_000:]!r}")
         self.told = stderr
         must(but_for_notices(stderr) == b"", f"member {self.id} writes {stderr!r} on standard error")
-        lines = LIFE.findall(found[1])
-        self.lives = [Life(*map(int, it[:6])) for it in lines]
+        self.lives = lives_in(found[1])
         must(len(self.lives) == found[1].count(b"\n"), f"lines of lives that are none: {found[1][:1_000]!r}")
         numbers = [it.number for it in self.lives]
         must(numbers == list(range(len(numbers))), f"the lives of member {self.id} are numbered {numbers[:20]}")
-        self.cut = [number for number, it in enumerate([*(it[6] for it in lines), found[8]]) if it]
+        self.cut = [number for number, it in enumerate([*(it[6] for it in LIFE.findall(found[1])), found[8]]) if it]
         must(self.may_be_cut or not self.cut, f"the lives {self.cut[:20]} of member {self.id} are told as cut: {stderr[-1_000:]!r}")
         return Closing(self.child.returncode, found[2].decode(), *map(int, found.groups()[2:7]))
 
