@@ -238,6 +238,16 @@ def verified_with_other_digits(program):
     return said
 
 
+def verified_with_moved_lines(program):
+    """Each line of WHOLE, moved to each other place: it is told, or nothing that is told changes."""
+    said = []
+    for at in range(len(WHOLE)):
+        others = WHOLE[:at] + WHOLE[at + 1 :]
+        for place in (it for it in range(len(WHOLE)) if it != at):
+            said += same_or_told(program, "".join([*others[:place], WHOLE[at], *others[place:]]))
+    return said
+
+
 def same_or_told(program, text):
     ran = subprocess.run([program, "--verify", "-"], input=text.encode(), capture_output=True, timeout=SECONDS)
     is_told = ran.returncode == 1 and ran.stderr.startswith(b"swimsim: -: ")
@@ -265,5 +275,5 @@ def verified_cases():
     for make in CASES:
         for case in make():
             yield f"verified: {make.__name__}: {case.name}", lambda program, case=case: verified(program, case)
-    for attempt in (verified_with_other_digits, verified_with_other_words):
+    for attempt in (verified_with_other_digits, verified_with_moved_lines, verified_with_other_words):
         yield attempt.__name__, attempt
