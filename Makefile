@@ -60,6 +60,7 @@ bench:
 	@tests/bench/swimsim
 	@tests/bench/node
 	@tests/bench/swimd
+	@tests/bench/journals
 
 install:
 	@set -e; simulator='$(SWIMSIM)'; test -n "$$simulator" || simulator=$$(tests/support/build swimsim); \

@@ -1,4 +1,4 @@
-"""What a run of a program costs: processor time, the time that passes, memory and instructions."""
+"""What a run of a program costs: processor time, the time that passes, memory and instructions. What a daemon's pings take."""
 
 import filecmp
 import os
@@ -31,6 +31,18 @@ def run(words, script=os.devnull, output=os.devnull):
     if child.returncode:
         raise BenchFault(f"{' '.join(words)} ended with status {child.returncode} on {os.path.basename(script)}")
     return Cost(usage.ru_utime + usage.ru_stime, passed, usage.ru_maxrss * 1024)
+
+
+def pinged(pinger, address, window, count):
+    """Seconds that so many pings of member 1 took. One sender can't keep the least responder busy, two can."""
+    words = [pinger, address, "1", str(window), str(count), "1" if window == 1 else "2"]
+    ran = subprocess.run(words, capture_output=True, text=True, timeout=300)
+    if ran.returncode:
+        raise BenchFault(f"the pinger ended with status {ran.returncode}: {ran.stderr}")
+    seconds, lost = ran.stdout.split()
+    if int(lost) > count // 100:
+        raise BenchFault(f"{lost} of {count} pings were not answered")
+    return float(seconds)
 
 
 def least(runs, rounds):
