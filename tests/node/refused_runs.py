@@ -7,12 +7,13 @@ import subprocess
 
 from tests.generators.cut_scripts import answers
 from tests.support.daemons import PING, PORTS_TRIED, DaemonFault, Machine, PortTaken, datagram, fields, first_line_of, must, until
+from tests.support.journals import front, journals, must_play, told
 from tests.generators.growing_scripts import joined
 from tests.node.refusing import REFUSED, Ran
 from tests.swimd.worked_configs import BELOW, is_as
 
 AS_EVER, NO_MEMORY, NOT_KEPT, NOT_BEGUN = "as ever", "a call without memory", "a line that isn't kept", "nothing was done"
-NOT_COMPARED = "an answer that isn't compared"
+NOT_COMPARED, CUT = "an answer that isn't compared", "a journal that is cut"
 MEMORY = re.compile(rb"line (\d+): memory\n")
 DIFFERS = re.compile(rb"line (\d+): differs\n")
 EVENTS = ("tick", "hear ", "join ", "remove ", "table", "gap ")
@@ -201,21 +202,22 @@ def lines_wanted(join, remove):
     return [join, two, *([three] if join != "no memory" else []), ".", removed, *after, ".", "stopping"]
 
 
-def how_it_runs(refuser, program, number):
-    """How a daemon ends whose request of that number is refused, and what isn't as it has to be. None where it asked for less."""
-    with Machine(program) as machine:
+def how_it_runs(refuser, programs, number):
+    """How a daemon ends whose request of that number is refused, and what isn't as it has to be. None where it asked for less. Where
+    there is a simulator, too, the daemon writes a journal file."""
+    with Machine(*programs) as machine:
         daemon = machine.daemon(1, members=[(2, "10.0.0.2:7000")], tick_ms=60_000)
         daemon.launch(env={**os.environ, "LD_PRELOAD": refuser.library, "REFUSE": str(number)})
         until(lambda: daemon.child.poll() is not None or daemon.answers(), "it runs or ends")
         found = asked(daemon, machine.socket()) if daemon.child.poll() is None else None
         stdout, stderr = daemon.child.communicate(timeout=20)
-    ran = Ran(stdout, first_line_of(stderr.replace(REFUSED, b"", 1)), daemon.child.returncode)
-    if ran.stderr == b"bind listen\n":
-        raise PortTaken(f"port {daemon.port} is taken")
-    if not found:
-        must(REFUSED in stderr, f"it ended without a refusal: {ran}")
-        return NOT_BEGUN, [] if must_not_begin(ran) else [f"request {number}: {ran}"]
-    ending = goes_on(ran, *found, number)
+        ran = Ran(stdout, first_line_of(stderr.replace(REFUSED, b"", 1)), daemon.child.returncode)
+        if ran.stderr == b"bind listen\n":
+            raise PortTaken(f"port {daemon.port} is taken")
+        if not found:
+            must(REFUSED in stderr, f"it ended without a refusal: {ran}")
+            return NOT_BEGUN, [] if must_not_begin(ran) else [f"request {number}: {ran}"]
+        ending = goes_on(ran, *found, number, machine)
     return ending if REFUSED in stderr or ending != (AS_EVER, []) else None
 
 
@@ -224,24 +226,36 @@ def must_not_begin(ran):
     return ran.status == 4 and ran.stderr in (b"no memory\n", b"no place\n") and ran.stdout in lines
 
 
-def goes_on(ran, ack, lines, number):
+def goes_on(ran, ack, lines, number, machine):
     join = "no memory" if lines[0] == "no memory" else "joined N"
     remove = "no memory" if "no memory" in lines[1:] else "removed"
     lost = [ack is None, join == "no memory", remove == "no memory"].count(True)
     wanted = lines_wanted(join, remove)
     good = [re.sub(r"^joined [01]$", "joined N", it) for it in lines] == wanted and lost <= 1
-    closing = f"ended stopped entries {3 - lost} judged 0 unsent 0 wire 0 refused {lost}\n".encode()
-    good = good and ran == (closing, b"", 0)
-    return NO_MEMORY if lost else AS_EVER, [] if good else [f"request {number}: {ack}, {lines}, {ran}"]
+    closing = f"ended stopped entries {3 - lost} judged 0 unsent 0 wire 0 refused {lost}".encode()
+    is_cut = machine.simulator and ran.stdout.endswith(b" journal cut\n")
+    good = good and ran == (closing + (b" journal cut\n" if is_cut else b"\n"), b"", 0)
+    good = good and (not machine.simulator or is_written(machine, 3 - lost, is_cut))
+    way = NO_MEMORY if lost else CUT if is_cut else AS_EVER
+    return way, [] if good else [f"request {number}: {ack}, {lines}, {ran}"]
 
 
-def of_a_daemon(refuser, program, pool):
-    """Either a daemon doesn't begin, and says `no memory`; or one call has no memory, is counted, and changes nothing; or it runs
-    as ever."""
+def is_written(machine, entries, is_cut):
+    """Whether the journal's file holds as many entries as the life had, or where that is cut, not more. What it holds is played."""
+    texts = [it.text for it in journals(f"{machine.journals}/0")]
+    for it in texts:
+        must_play(machine.simulator, front(it), "what is there of it")
+    counts = [len(told(it)) for it in texts]
+    return counts == [entries] or (is_cut and sum(counts) <= entries and len(counts) <= 1)
+
+
+def of_a_daemon(refuser, pool, *programs):
+    """Either a daemon doesn't begin, and says `no memory`; or one call has no memory, is counted, and changes nothing; or its file is
+    told as cut, and holds a front of its journal; or it runs as ever."""
 
     def tried(number, ports=PORTS_TRIED):
         try:
-            return how_it_runs(refuser, program, number)
+            return how_it_runs(refuser, programs, number)
         except PortTaken as fault:
             return tried(number, ports - 1) if ports > 1 else (NOT_BEGUN, [f"request {number}: {fault}"])
         except (DaemonFault, OSError, subprocess.SubprocessError, LookupError) as fault:

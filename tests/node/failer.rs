@@ -1,0 +1,122 @@
+//! Has one call of the system fail in the program that it is loaded into before all else. The variable FAIL says which: its name and
+//! which one of that name, counted from 0, as `read 3`. That call does nothing and is answered an error of input and output, and
+//! `failed` is written to standard error then. Calls on standard error aren't counted. Where the variable PIECES is set, a read from
+//! standard input takes at most so many bytes.
+#![no_std]
+
+use core::ffi::{CStr, c_char, c_int, c_long, c_void};
+use core::panic::PanicInfo;
+use core::sync::atomic::{AtomicI64, Ordering::SeqCst};
+
+unsafe extern "C" {
+    fn syscall(number: c_long, ...) -> c_long;
+    fn getenv(name: *const c_char) -> *const c_char;
+    fn atol(text: *const c_char) -> c_long;
+    fn __errno_location() -> *mut c_int;
+}
+
+const READ: c_long = 0;
+const WRITE: c_long = 1;
+const WRITEV: c_long = 20;
+const SENDTO: c_long = 44;
+const RECVFROM: c_long = 45;
+const SENDMSG: c_long = 46;
+const FDATASYNC: c_long = 75;
+const ACCEPT4: c_long = 288;
+
+const INPUT_OUTPUT: c_int = 5;
+const STANDARD_INPUT: c_int = 0;
+const STANDARD_ERROR: c_int = 2;
+const UNREAD: i64 = i64::MIN;
+
+/// How many calls of the name that fails are left until the one that does.
+static LEFT: AtomicI64 = AtomicI64::new(UNREAD);
+
+/// What stands behind a name and a space in the variable FAIL, if it is that name.
+fn place_of(name: &CStr) -> Option<i64> {
+    let given = unsafe { getenv(c"FAIL".as_ptr()) };
+    if given.is_null() {
+        return None;
+    }
+    let rest = unsafe { CStr::from_ptr(given) }.to_bytes().strip_prefix(name.to_bytes())?.strip_prefix(b" ")?;
+    Some(unsafe { atol(rest.as_ptr().cast()) }.into())
+}
+
+/// Whether this call of that name is the one that fails.
+fn fails(name: &CStr, file: c_int) -> bool {
+    let Some(place) = place_of(name).filter(|_| file != STANDARD_ERROR) else {
+        return false;
+    };
+    let _is_first = LEFT.compare_exchange(UNREAD, place, SeqCst, SeqCst);
+    if LEFT.fetch_sub(1, SeqCst) != 0 {
+        return false;
+    }
+    let said = b"failed\n";
+    unsafe {
+        syscall(WRITE, STANDARD_ERROR, said.as_ptr(), said.len());
+        *__errno_location() = INPUT_OUTPUT;
+    }
+    true
+}
+
+#[unsafe(no_mangle)]
+pub extern "C" fn read(file: c_int, bytes: *mut c_void, count: usize) -> isize {
+    if fails(c"read", file) {
+        return -1;
+    }
+    let pieces = unsafe { getenv(c"PIECES".as_ptr()) };
+    let most = if file == STANDARD_INPUT && !pieces.is_null() { unsafe { atol(pieces) as usize } } else { count };
+    unsafe { syscall(READ, file, bytes, count.min(most)) as isize }
+}
+
+#[unsafe(no_mangle)]
+pub extern "C" fn write(file: c_int, bytes: *const c_void, count: usize) -> isize {
+    if fails(c"write", file) { -1 } else { unsafe { syscall(WRITE, file, bytes, count) as isize } }
+}
+
+#[unsafe(no_mangle)]
+pub extern "C" fn fdatasync(file: c_int) -> c_int {
+    if fails(c"fdatasync", file) { -1 } else { unsafe { syscall(FDATASYNC, file) as c_int } }
+}
+
+#[unsafe(no_mangle)]
+pub extern "C" fn recvfrom(file: c_int, bytes: *mut c_void, count: usize, flags: c_int, from: *mut c_void, length: *mut c_int) -> isize {
+    if fails(c"recvfrom", file) { -1 } else { unsafe { syscall(RECVFROM, file, bytes, count, flags, from, length) as isize } }
+}
+
+#[unsafe(no_mangle)]
+pub extern "C" fn recv(file: c_int, bytes: *mut c_void, count: usize, flags: c_int) -> isize {
+    let none: *mut c_void = core::ptr::null_mut();
+    if fails(c"recv", file) { -1 } else { unsafe { syscall(RECVFROM, file, bytes, count, flags, none, none) as isize } }
+}
+
+#[unsafe(no_mangle)]
+pub extern "C" fn sendto(file: c_int, bytes: *const c_void, count: usize, flags: c_int, to: *const c_void, length: c_int) -> isize {
+    if fails(c"sendto", file) { -1 } else { unsafe { syscall(SENDTO, file, bytes, count, flags, to, length) as isize } }
+}
+
+#[unsafe(no_mangle)]
+pub extern "C" fn send(file: c_int, bytes: *const c_void, count: usize, flags: c_int) -> isize {
+    let none: *const c_void = core::ptr::null();
+    if fails(c"send", file) { -1 } else { unsafe { syscall(SENDTO, file, bytes, count, flags, none, 0) as isize } }
+}
+
+#[unsafe(no_mangle)]
+pub extern "C" fn sendmsg(file: c_int, message: *const c_void, flags: c_int) -> isize {
+    if fails(c"sendmsg", file) { -1 } else { unsafe { syscall(SENDMSG, file, message, flags) as isize } }
+}
+
+#[unsafe(no_mangle)]
+pub extern "C" fn writev(file: c_int, parts: *const c_void, count: c_int) -> isize {
+    if fails(c"writev", file) { -1 } else { unsafe { syscall(WRITEV, file, parts, count) as isize } }
+}
+
+#[unsafe(no_mangle)]
+pub extern "C" fn accept4(file: c_int, from: *mut c_void, length: *mut c_int, flags: c_int) -> c_int {
+    if fails(c"accept4", file) { -1 } else { unsafe { syscall(ACCEPT4, file, from, length, flags) as c_int } }
+}
+
+#[panic_handler]
+fn stop(_: &PanicInfo) -> ! {
+    loop {}
+}
