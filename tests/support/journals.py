@@ -64,6 +64,13 @@ def must_play(simulator, text, what):
     must((ran.returncode, ran.stderr) == (0, b""), f"swimsim plays {what} with status {ran.returncode}, {ran.stderr!r}")
 
 
+def must_play_alike(simulator, reference, file):
+    """Up to its last answer the reference, which shares no code with what wrote and what plays it, plays it as swimsim does."""
+    ran = [subprocess.run([it], input=front(file.text), capture_output=True, timeout=SECONDS) for it in (simulator, reference)]
+    found, wanted = ((it.returncode, it.stderr, it.stdout) for it in ran)
+    must(found[:2] == (0, b"") and found == wanted, f"swimsim plays {file.path} as {found}, and the reference as {wanted}"[:2_000])
+
+
 def must_verify(simulator, *files):
     """Nothing speaks against them, one after the other, and each answer that stands in them is confirmed."""
     paths = [it.path for it in files]
@@ -75,10 +82,16 @@ def must_verify(simulator, *files):
         must(found, f"{it.path} is told as {ran.stdout[:1_000]!r}")
 
 
-def must_verify_each(simulator, files):
+def must_verify_each(simulator, files, reference=None):
     """Each is verified by itself, up to its last answer. What comes behind that may be cut off by the end of a daemon."""
+
+    def verify(file):
+        must_verify(simulator, file)
+        if reference:
+            must_play_alike(simulator, reference, file)
+
     with ThreadPoolExecutor(LANES) as pool:
-        list(pool.map(lambda it: must_verify(simulator, it), [it for it in files if front(it.text)]))
+        list(pool.map(verify, [it for it in files if front(it.text)]))
 
 
 def must_verify_all(machine):
@@ -88,7 +101,8 @@ def must_verify_all(machine):
     if machine.simulator:
         folders, half = [machine.journals, *(it.path for it in os.scandir(machine.journals) if it.is_dir())], MOST_PLAYED // 2
         files = [file for folder in folders for file in journals(folder)]
-        must_verify_each(machine.simulator, files if len(files) <= MOST_PLAYED else files[:half] + files[-half:])
+        played = files if len(files) <= MOST_PLAYED else files[:half] + files[-half:]
+        must_verify_each(machine.simulator, played, machine.reference)
 
 
 def in_one_folder(test):
