@@ -4,6 +4,7 @@ mod lives;
 mod long_journals;
 mod members;
 mod periods;
+mod refusals;
 mod requests;
 mod steps;
 

@@ -3,7 +3,7 @@
 use super::*;
 use swim_history::{Choice, Entry, Journal};
 
-fn entry(seat: u8, number: u32, call: Call, reply: Reply, choice: Choice) -> Entry {
+pub(super) fn entry(seat: u8, number: u32, call: Call, reply: Reply, choice: Choice) -> Entry {
     Entry {
         seat,
         number,

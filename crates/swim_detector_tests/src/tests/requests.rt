@@ -3,23 +3,23 @@ use super::*;
 use swim_history::DropReason;
 
 // Member 2's request to ping member 3 in its period of that number, and member 3's ack.
-fn request(number: u64) -> Call {
+pub(super) fn request(number: u64) -> Call {
     Call::Hear(message(Kind::PingReq, 2, 2, 3, number), at(2))
 }
 
-fn ack(number: u64) -> Call {
+pub(super) fn ack(number: u64) -> Call {
     Call::Hear(message(Kind::Ack, 3, 2, 3, number), at(3))
 }
 
 // The ping of member 3 for the request, and the ack that is forwarded to member 2.
-fn pinged(number: u64) -> Reply {
+pub(super) fn pinged(number: u64) -> Reply {
     Reply::Send {
         peer: at(3),
         message: message(Kind::Ping, 1, 2, 3, number),
     }
 }
 
-fn forwarded(number: u64) -> Reply {
+pub(super) fn forwarded(number: u64) -> Reply {
     Reply::Send {
         peer: at(2),
         message: message(Kind::Ack, 1, 2, 3, number),
