@@ -2,6 +2,7 @@
 
 ghost use Rattle.std.specs.Prelude.{◌≡◌, None};
 
+use crate::alarms::Alarm;
 use crate::journal_files::JournalFile;
 use crate::notices::Notice;
 use crate::old_files::{Stamp, others_in, path_of, removed};
@@ -17,7 +18,8 @@ use swim_life::{Past, Shelf, Terms};
 use swim_wire::{Id, Sink};
 
 /// The folder in which a daemon makes a file for each of its lives, if it does. Each is new and its owner's alone. At a
-/// life's beginning old files of this member are removed. What fails is told among the notices.
+/// life's beginning old files of this member are removed. That a file can't be made is told among the notices, and that one
+/// can't be written any more by the alarm, which each file has in its turn.
 #[derive(Drop)]
 pub struct Folder<'r, R> {
     rt: &'r R,
@@ -25,17 +27,26 @@ pub struct Folder<'r, R> {
     files: JournalFiles,
     me: Id,
     began: u64,
+    alarm: Option<Alarm>,
 }
 
 impl<'r, R> Folder<'r, R> {
     /// The folder of this member's files, whose daemon began so many seconds after 1970.
-    pub fn new(rt: &'r R, alloc: Global, files: JournalFiles, me: Id, began: u64) -> Folder<'r, R> {
+    pub fn new(
+        rt: &'r R,
+        alloc: Global,
+        files: JournalFiles,
+        me: Id,
+        began: u64,
+        alarm: Alarm,
+    ) -> Folder<'r, R> {
         Folder {
             rt,
             alloc,
             files,
             me,
             began,
+            alarm: Some(alarm),
         }
     }
 }
@@ -82,7 +93,7 @@ impl<'r, R: Files<File = File> + Net + Clock> Shelf<JournalFile<'r, R>> for Fold
             life: number,
         };
         let path = path_of(dir.as_str(), self.me, stamp);
-        match make(self.rt, path.as_str()) {
+        let file = match make(self.rt, path.as_str()) {
             Ok(file) => {
                 remove_old(
                     self.rt,
@@ -92,36 +103,29 @@ impl<'r, R: Files<File = File> + Net + Clock> Shelf<JournalFile<'r, R>> for Fold
                     stamp,
                     self.files.keep,
                 );
-                Some(JournalFile::new(self.rt, Some(file)))
+                Some(file)
             }
             Err(fault) => {
                 let notice = Notice::unwritten(self.rt, path.as_str(), fault.kind());
                 notice.tell(self.rt, self.alloc, notices);
-                Some(JournalFile::new(self.rt, None))
+                None
             }
-        }
+        };
+        Some(JournalFile::new(self.rt, self.alloc, path, self.alarm.take(), file))
     }
 
     #[tactic(auto, using(swim_life::specs::Notices::no_notices))]
     fn close<F: Sink>(
         &mut self,
         _terms: Terms,
-        number: u64,
+        _number: u64,
         _past: &Past,
         writer: JournalFile<'r, R>,
-        notices: &mut F,
+        _notices: &mut F,
     ) -> bool {
         let mut writer = writer;
         let is_kept = writer.keep();
-        if let (Some(fault), Some(dir)) = (writer.fault(), &self.files.dir) {
-            let stamp = Stamp {
-                began: self.began,
-                life: number,
-            };
-            let path = path_of(dir.as_str(), self.me, stamp);
-            let notice = Notice::unwritten(self.rt, path.as_str(), fault);
-            notice.tell(self.rt, self.alloc, notices);
-        }
+        self.alarm = writer.into_alarm();
         is_kept
     }
 }
