@@ -1,4 +1,6 @@
 pub mod LifeFiles
 pub mod Living
+pub mod Posting
+pub mod Sent
 pub mod Told
 pub mod Written

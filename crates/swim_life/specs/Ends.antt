@@ -1,11 +1,8 @@
 -- How a life ends, and what its workers counted.
-use Rattle.std.specs.Prelude.{◌≡◌, ℕ, ◌+◌, ◌-◌, ◌^◌, ◌≤◌, Bool, nat_lt, if◌then◌else◌, List, codes, min}
-use Rattle.std.specs.Prelude.{Option, Some, None, Result, Ok, Err}
+use Rattle.std.specs.Prelude.{ℕ, ◌+◌, ◌-◌, ◌^◌, Bool, nat_lt, if◌then◌else◌, List, codes, min, Option, Some, None}
 use Rattle.swim_control.specs.declared.connections.Stand.{Stand}
 use Rattle.swim_control.specs.declared.connections.Stand.TheVariants.{Ended}
 use Rattle.swim_control.specs.declared.serving.Served.TheVariants as served
-use Rattle.swim_node.specs.declared.receipts.CallFault.{CallFault}
-use Rattle.swim_node.specs.declared.receipts.CallFault.TheVariants as faults
 use Rattle.swim_life.specs.declared.counts.Counts.{Counts}
 use Rattle.swim_life.specs.declared.counts.Why.{Why}
 use Rattle.swim_life.specs.declared.counts.Why.TheVariants.{JournalFull, NoMemory, Socket, Stopped}
@@ -48,17 +45,3 @@ together one other = record {
   wire = both one.wire other.wire;
   refused = both one.refused other.refused;
 }
-
--- so many of these datagrams, and no more, couldn't be sent
-abbrev pub AreSent : ℕ → Counts → Counts → Type 0
-AreSent count old new =
-    (unsent : ℕ) × (unsent ≤ count) × (new ≡ record old { unsent = both old.unsent unsent })
-
--- what a worker does about the answer to a call: it sends the datagrams of the reply, of which there are so many,
--- counts what couldn't be sent and what got no reply, and ends where the journal is full, but for nothing else
-abbrev pub IsFinished : {A : Type 0} → Result A CallFault → (A → ℕ) → Counts → Option Why → Counts → Type 0
-IsFinished (Ok receipt) count old end new = (end ≡ None) × AreSent (count receipt) old new
-IsFinished (Err (faults.Wire fault)) count old end new = (end ≡ None) × (new ≡ record old { wire = both old.wire 1 })
-IsFinished (Err faults.NoMemory) count old end new =
-    (end ≡ None) × (new ≡ record old { refused = both old.refused 1 })
-IsFinished (Err faults.JournalFull) count old end new = (end ≡ Some JournalFull) × (new ≡ old)

@@ -2,9 +2,11 @@ pub mod Desk
 pub mod Draws
 pub mod Endings
 pub mod Ends
+pub mod Finished
 pub mod Gates
 pub mod Lives
 pub mod Notices
 pub mod Pacing
 pub mod Places
+pub mod Posts
 pub mod Written

@@ -4,10 +4,10 @@ ghost use Rattle.std.specs.Prelude.{◌≡◌, ◌⊎◌, ◌↔◌, ◌+◌, �
 ghost use Rattle.std.specs.Option.{unwrap_or};
 ghost use Rattle.swim_life.specs.Ends.{why_at};
 
-use crate::counts::{Counts, Faults, Why};
+use crate::counts::{Faults, Why};
 use crate::gates::{Door, Knock};
 use crate::halls::Hall;
-use crate::holding::{Ended, Held};
+use crate::holding::{Held, Left};
 use crate::node_desk::NodeDesk;
 use std::alloc::Global;
 use std::sync::Wait;
@@ -29,7 +29,7 @@ pub(crate) fn control<N: Naming, H: Wait + Drop, R: Wait, D: Door + Drop>(
     held: Held<N, 2>,
     viewer: Viewer<N>,
     hall: &mut Hall<D>,
-) -> Ended<N, 2> {
+) -> Left<N, 2> {
     let mut desk = NodeDesk::new(node, held, viewer);
     let end = serve_on(rt, alloc, over, &mut desk, hall);
     over.store(true, Ordering::SeqCst);
@@ -57,20 +57,17 @@ fn serve_on<N: Naming, H: Wait + Drop, R: Wait, D: Door + Drop>(
 }
 
 /// What the controller hands back that ended so, or whose life was over: it was told to stop where that is why it ended.
-/// What its desk refused for want of memory is all that it counts.
-fn left<N: Naming, H: Wait + Drop>(desk: NodeDesk<N, H, 2>, end: Option<Why>) -> Ended<N, 2>
+fn left<N: Naming, H: Wait + Drop>(desk: NodeDesk<N, H, 2>, end: Option<Why>) -> Left<N, 2>
     ensures why { result.why ≡ unwrap_or end Why.Stopped }
     ensures stopped { (result.is_stopped ≡ true) ↔ (end ≡ Some Why.Stopped) }
-    ensures counts { result.counts ≡ record { unsent = 0; wire = 0; refused = desk.entry.refused } }
+    ensures refused { result.refused ≡ desk.entry.refused }
 {
     let (held, refused) = desk.leave();
-    let mut counts = Counts::none();
-    counts.refused = refused;
-    Ended {
+    Left {
         held,
         why: end.unwrap_or(Why::Stopped),
         is_stopped: end == Some(Why::Stopped),
-        counts,
+        refused,
     }
 }
 

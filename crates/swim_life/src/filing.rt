@@ -5,7 +5,7 @@ ghost use Rattle.swim_life.specs.Lives.{IsDrawnLife};
 ghost use Rattle.swim_life.specs.Notices.{Notices};
 ghost use Rattle.swim_life.specs.Written.{IsFile};
 
-use crate::gates::{Door, Line, Pace, Shelf};
+use crate::gates::{Door, Line, Pace, Post, Shelf};
 use crate::halls::Hall;
 use crate::lives::{Lived, Past, Terms, chooser_of, live, live_recorded};
 use std::alloc::Global;
@@ -21,7 +21,8 @@ use swim_wire::Sink;
 #[tactic(auto, using(crate::specs::Notices::notices_both, crate::proofs::LifeFiles::drawn_with_cut))]
 pub(crate) fn live_next<
     R: Threads + Wait + Sync,
-    L: Line + Sync,
+    O: Post + Drop + Send,
+    L: Line + Send,
     P: Pace + Send,
     D: Door + Drop,
     V: Sink + Drop + Send,
@@ -34,7 +35,8 @@ pub(crate) fn live_next<
     opening: Opening,
     terms: Terms,
     number: u64,
-    line: &L,
+    line: &mut L,
+    post: &O,
     pace: &mut P,
     hall: &mut Hall<D>,
     shelf: &mut S,
@@ -46,10 +48,10 @@ pub(crate) fn live_next<
         (F.written notices.new, F.failures notices.new) }
 {
     let Some(writer) = shelf.open(number, notices) else {
-        return live_unfiled(rt, alloc, opening, terms, number, line, pace, hall);
+        return live_unfiled(rt, alloc, opening, terms, number, line, post, pace, hall);
     };
     match live_filed(
-        rt, alloc, opening, terms, number, line, pace, hall, writer, pause,
+        rt, alloc, opening, terms, number, line, post, pace, hall, writer, pause,
     ) {
         Ok(lived) => Ok(put_back(shelf, terms, number, lived, notices)),
         Err(fault) => Err(fault),
@@ -58,20 +60,37 @@ pub(crate) fn live_next<
 
 /// The life of this number, whose journal is written nowhere.
 #[tactic(auto, using(crate::proofs::LifeFiles::drawn_life))]
-fn live_unfiled<R: Threads + Wait + Sync, L: Line + Sync, P: Pace + Send, D: Door + Drop>(
+fn live_unfiled<
+    R: Threads + Wait + Sync,
+    O: Post + Drop + Send,
+    L: Line + Send,
+    P: Pace + Send,
+    D: Door + Drop,
+>(
     rt: &R,
     alloc: Global,
     opening: Opening,
     terms: Terms,
     number: u64,
-    line: &L,
+    line: &mut L,
+    post: &O,
     pace: &mut P,
     hall: &mut Hall<D>,
 ) -> Result<Past, OpenFault>
     ensures { IfOk result (IsDrawnLife opening terms.limit terms.seed number) }
 {
     let chooser = chooser_of(terms, number);
-    match live(rt, alloc, opening, chooser, terms.limit, line, pace, hall) {
+    match live(
+        rt,
+        alloc,
+        opening,
+        chooser,
+        terms.limit,
+        line,
+        post,
+        pace,
+        hall,
+    ) {
         Ok(past) => Ok(past),
         Err(fault) => Err(fault),
     }
@@ -103,7 +122,8 @@ fn put_back<V: Sink + Drop, S: Shelf<V>, F: Sink>(
 #[tactic(auto, using(crate::proofs::LifeFiles::drawn_life, crate::proofs::LifeFiles::drawn_with_cut, crate::proofs::LifeFiles::whole_file, crate::proofs::LifeFiles::cut_file))]
 fn live_filed<
     R: Threads + Wait + Sync,
-    L: Line + Sync,
+    O: Post + Drop + Send,
+    L: Line + Send,
     P: Pace + Send,
     D: Door + Drop,
     V: Sink + Drop + Send,
@@ -114,7 +134,8 @@ fn live_filed<
     opening: Opening,
     terms: Terms,
     number: u64,
-    line: &L,
+    line: &mut L,
+    post: &O,
     pace: &mut P,
     hall: &mut Hall<D>,
     writer: V,
@@ -126,7 +147,7 @@ fn live_filed<
 {
     let mut writer = writer;
     if !put_header(&mut writer, &opening, terms.limit, &terms.seed, number) {
-        return match live_unfiled(rt, alloc, opening, terms, number, line, pace, hall) {
+        return match live_unfiled(rt, alloc, opening, terms, number, line, post, pace, hall) {
             Ok(past) => Ok(Lived {
                 past: with_cut(past, true),
                 writer,
@@ -143,6 +164,7 @@ fn live_filed<
         chooser,
         terms.limit,
         line,
+        post,
         pace,
         hall,
         writer,

@@ -5,6 +5,7 @@
 ghost use Rattle.std.specs.Prelude.{◌≡◌, ℕ, List, Option, IfSome};
 ghost use Rattle.swim_life.specs.Gates.{FitsInto};
 ghost use Rattle.swim_life.specs.Notices.{Notices};
+ghost use Rattle.swim_life.specs.Posts.{Grows, IsFresh};
 ghost use Rattle.swim_life.specs.Written.{IsFile};
 ghost use Rattle.swim_wire.specs.Streams.{one_more};
 
@@ -23,14 +24,29 @@ pub enum Got {
     Fault,
 }
 
-/// Where datagrams come in and go out. Workers share it.
+/// Where datagrams come in. The receiver has it for itself.
 pub trait Line {
     /// The next datagram, which is put at the front of the buffer.
-    fn receive<R: Wait>(&self, rt: &R, bytes: &mut [u8]) -> Got
+    fn receive<R: Wait>(&mut self, rt: &R, bytes: &mut [u8]) -> Got
         ensures { FitsInto result bytes.new };
+}
+
+/// Where a worker's datagrams go out. Each worker that sends has one of its own.
+pub trait Post {
+    ghost use Rattle.std.specs.Prelude.{[], ◌∷◌, List, Option};
+    ghost use Rattle.swim_life.specs.Posts.{Posted};
+
+    // what was handed to it so far, oldest first, where that is known
+    ghost posted: { Self → Option (List Posted) };
+
+    /// A post of the same line, to which nothing was handed yet.
+    fn fresh(&self) -> Self
+        ensures { IsFresh (posted result) };
 
     /// Sends a datagram. `false` where that failed.
-    fn send<R: Wait>(&self, rt: &R, bytes: &[u8], to: Peer) -> bool;
+    fn send<R: Wait>(&mut self, rt: &R, bytes: &[u8], to: Peer) -> bool
+        ensures { Grows (posted self.old) (posted self.new)
+            (record { bytes = bytes.now; to = to; is_taken = result } ∷ []) };
 }
 
 /// What a pace gave.

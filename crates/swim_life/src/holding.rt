@@ -2,7 +2,9 @@
 
 ghost use Rattle.std.specs.Prelude.{◌≡◌, [], ◌∷◌};
 
-use crate::counts::{Counts, Why};
+use crate::counts::Why;
+use crate::gates::Post;
+use crate::senders::Sender;
 use swim_node::{Naming, Seat};
 
 /// The four seats of a node, in order.
@@ -34,11 +36,21 @@ pub(crate) struct Held<N: Naming, const SEAT: u8> {
     pub(crate) ghost is: { seat.number ≡ SEAT },
 }
 
-/// What a worker hands back: its seat, why it ended, whether it was told to stop, and what it counted.
+/// What a worker that sends hands back: its seat with its post and its counts, why it ended, and whether it was told to
+/// stop.
 #[derive(Drop)]
-pub(crate) struct Ended<N: Naming, const SEAT: u8> {
+pub(crate) struct Ended<N: Naming, O: Post + Drop, const SEAT: u8> {
+    pub(crate) sender: Sender<N, O, SEAT>,
+    pub(crate) why: Why,
+    pub(crate) is_stopped: bool,
+}
+
+/// What the controller hands back: its seat, why it ended, whether it was told to stop, and how many of its calls were refused
+/// for want of memory.
+#[derive(Drop)]
+pub(crate) struct Left<N: Naming, const SEAT: u8> {
     pub(crate) held: Held<N, SEAT>,
     pub(crate) why: Why,
     pub(crate) is_stopped: bool,
-    pub(crate) counts: Counts,
+    pub(crate) refused: u64,
 }

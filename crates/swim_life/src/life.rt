@@ -1,19 +1,22 @@
 //! A life: a node with its workers, from its opening to its close.
 
-ghost use Rattle.std.specs.Prelude.{◌≡◌, ◌≤◌, ◌||◌, [], ◌∷◌, length, true};
+ghost use Rattle.std.specs.Prelude.{◌≡◌, ◌≤◌, ◌||◌, [], ◌∷◌, length, true, box_value};
 ghost use Rattle.swim_wire.specs.Streams.{Puts};
 ghost use Rattle.swim_history.specs.Changes.{changes};
 ghost use Rattle.swim_node.specs.Following.{filings_of};
-ghost use Rattle.swim_node.specs.Seats.{AreTheSeats};
+ghost use Rattle.swim_node.specs.Seats.{AreNew, AreTheSeats};
 ghost use Rattle.swim_node.specs.OneHistory.{IsOneHistory};
 ghost use Rattle.swim_journal.specs.Journals.{calls_text, AreReadBack};
-ghost use Rattle.swim_life.specs.Ends.{together, why_of};
+ghost use Rattle.swim_life.specs.Ends.{both, why_of};
+ghost use Rattle.swim_life.specs.Posts.{HavePosted, IsFresh};
 
 use crate::counts::Why;
-use crate::gates::{Door, Line, Pace};
+use crate::gates::{Door, Line, Pace, Post};
 use crate::halls::Hall;
 use crate::holding::{Held, Seats};
+use crate::posts::Posts;
 use crate::recording::{Recorded, close_recorded};
+use crate::senders::Sender;
 use crate::threads::{Controlling, Hearing, Over, Recording, Ticking, work_at_once};
 use std::alloc::Global;
 use std::sync::Wait;
@@ -27,7 +30,7 @@ use swim_wire::Sink;
 
 /// What a life leaves behind.
 #[derive(Drop)]
-pub struct Life<N: PageNaming, W: Sink + Drop> {
+pub struct Life<N: PageNaming, O: Post + Drop, W: Sink + Drop> {
     /// Why it ended: the gravest reason of its workers.
     pub why: Why,
     /// Whether a worker was told to stop, whatever else it ended for.
@@ -36,6 +39,8 @@ pub struct Life<N: PageNaming, W: Sink + Drop> {
     pub journal: Journal,
     /// The node's four seats, in order.
     pub seats: Seats<N>,
+    /// What its receiver and its ticker sent by.
+    pub posts: Posts<O>,
     /// Datagrams that couldn't be sent. The counts stop at 2^64-1.
     pub unsent: u64,
     /// Datagrams that came and were none of this protocol.
@@ -58,12 +63,14 @@ pub struct Life<N: PageNaming, W: Sink + Drop> {
 /// the node.
 ///
 /// Whatever came, and in whatever order, the journal is one run of the detector that holds the calls of the four seats,
-/// and what was written is its text, or where the sink failed a front of it.
+/// and what was written is its text, or where the sink failed a front of it. What the posts were handed are the datagrams of
+/// the replies that stand in the journal, each once, in order, and those that a post didn't take are counted.
 pub fn run_life<
     N: PageNaming + Send + Sync,
+    O: Post + Drop + Send,
     H: Wait + Drop + Send,
     R: Threads + Wait + Sync,
-    L: Line + Sync,
+    L: Line + Send,
     P: Pace + Send,
     D: Door + Drop,
     W: Sink + Drop + Send,
@@ -74,13 +81,16 @@ pub fn run_life<
     node: Node<N, Seeded, H>,
     seats: [Seat<N>; 4],
     viewers: [Viewer<N>; 4],
-    line: &L,
+    line: &mut L,
+    posts: Posts<O>,
     pace: &mut P,
     hall: &mut Hall<D>,
     writer: W,
     pause: &mut Q,
-) -> Life<N, W>
-    requires seats { AreTheSeats seats }
+) -> Life<N, O, W>
+    requires seats { AreNew seats }
+    requires hearing { IsFresh (O.posted (box_value posts.hearing)) }
+    requires ticking { IsFresh (O.posted (box_value posts.ticking)) }
     requires page { W.written writer ≡ N.page }
     ensures opening { result.journal.opening ≡ N.opening }
     ensures within { length result.journal.past ≤ N.limit }
@@ -92,9 +102,11 @@ pub fn run_life<
     ensures written { Puts N.page (W.written result.writer)
         (calls_text (filings_of result.journal.past)) result.is_whole }
     ensures back { result.is_whole ≡ true → AreReadBack (filings_of result.journal.past) }
+    ensures posted { HavePosted N.opening result.journal.past (O.posted (box_value result.posts.hearing))
+        (O.posted (box_value result.posts.ticking)) result.unsent }
 {
     let (viewer, _others) = apart(viewers);
-    let (workers, fourth) = held(seats);
+    let (workers, fourth) = held(seats, posts);
     let scribe = Scribe::new(alloc, &node, writer);
     let ended = work(
         rt, alloc, &node, line, pace, hall, workers, viewer, scribe, pause,
@@ -102,22 +114,27 @@ pub fn run_life<
     closed(rt, node, ended, fourth)
 }
 
-/// The seats of the three workers that call the node.
+/// The three workers that call the node, each with its seat.
 #[derive(Drop)]
-struct Workers<N: Naming> {
-    first: Held<N, 0>,
-    second: Held<N, 1>,
+struct Workers<N: Naming, O: Post + Drop> {
+    first: Sender<N, O, 0>,
+    second: Sender<N, O, 1>,
     third: Held<N, 2>,
 }
 
-/// The workers' seats, and the fourth.
-fn held<N: Naming>(seats: [Seat<N>; 4]) -> (Workers<N>, Held<N, 3>)
-    requires { AreTheSeats seats }
+/// The workers with their seats, and the fourth seat.
+fn held<N: Naming, O: Post + Drop>(
+    seats: [Seat<N>; 4],
+    posts: Posts<O>,
+) -> (Workers<N, O>, Held<N, 3>)
+    requires seats { AreNew seats }
+    requires hearing { IsFresh (O.posted (box_value posts.hearing)) }
+    requires ticking { IsFresh (O.posted (box_value posts.ticking)) }
 {
     let [first, second, third, fourth] = seats;
     let workers = Workers {
-        first: Held { seat: first },
-        second: Held { seat: second },
+        first: Sender::new(Held { seat: first }, posts.hearing),
+        second: Sender::new(Held { seat: second }, posts.ticking),
         third: Held { seat: third },
     };
     (workers, Held { seat: fourth })
@@ -132,9 +149,10 @@ fn apart<N: Naming>(viewers: [Viewer<N>; 4]) -> (Viewer<N>, [Viewer<N>; 3]) {
 /// Runs the workers of a node.
 fn work<
     N: PageNaming + Send + Sync,
+    O: Post + Drop + Send,
     H: Wait + Drop + Send,
     R: Threads + Wait + Sync,
-    L: Line + Sync,
+    L: Line + Send,
     P: Pace + Send,
     D: Door + Drop,
     W: Sink + Drop + Send,
@@ -143,26 +161,25 @@ fn work<
     rt: &R,
     alloc: Global,
     node: &Node<N, Seeded, H>,
-    line: &L,
+    line: &mut L,
     pace: &mut P,
     hall: &mut Hall<D>,
-    workers: Workers<N>,
+    workers: Workers<N, O>,
     viewer: Viewer<N>,
     scribe: Scribe<N, W>,
     pause: &mut Q,
-) -> Over<N, W> {
+) -> Over<N, O, W> {
     let over = AtomicBool::new(false);
     let hearing = Hearing {
         node,
         over: &over,
+        sender: workers.first,
         line,
-        held: workers.first,
     };
     let ticking = Ticking {
         node,
         over: &over,
-        line,
-        held: workers.second,
+        sender: workers.second,
         pace,
     };
     let controlling = Controlling {
@@ -189,18 +206,20 @@ fn given_back<N: Naming>(
     third: Held<N, 2>,
     fourth: Held<N, 3>,
 ) -> [Seat<N>; 4]
-    ensures { AreTheSeats result }
+    ensures values { result ≡ first.seat ∷ second.seat ∷ third.seat ∷ fourth.seat ∷ [] }
+    ensures seats { AreTheSeats result }
 {
     [first.seat, second.seat, third.seat, fourth.seat]
 }
 
 /// Closes the node after its workers have ended.
-fn closed<N: PageNaming, H: Wait + Drop, R: Wait, W: Sink + Drop>(
+#[tactic(auto, using(crate::proofs::Sent::closed_posted))]
+fn closed<N: PageNaming, O: Post + Drop, H: Wait + Drop, R: Wait, W: Sink + Drop>(
     rt: &R,
     node: Node<N, Seeded, H>,
-    ended: Over<N, W>,
+    ended: Over<N, O, W>,
     fourth: Held<N, 3>,
-) -> Life<N, W>
+) -> Life<N, O, W>
     ensures opening { result.journal.opening ≡ N.opening }
     ensures within { length result.journal.past ≤ N.limit }
     ensures seats { let s = result.seats in AreTheSeats (s.first ∷ s.second ∷ s.third ∷ s.fourth ∷ []) }
@@ -211,10 +230,14 @@ fn closed<N: PageNaming, H: Wait + Drop, R: Wait, W: Sink + Drop>(
     ensures written { Puts N.page (W.written result.writer)
         (calls_text (filings_of result.journal.past)) result.is_whole }
     ensures back { result.is_whole ≡ true → AreReadBack (filings_of result.journal.past) }
+    ensures posted { HavePosted N.opening result.journal.past (O.posted (box_value result.posts.hearing))
+        (O.posted (box_value result.posts.ticking)) result.unsent }
     ensures why { result.why ≡ why_of ended.first.why ended.second.why ended.third.why ended.all_began }
     ensures stopped { result.is_stopped ≡ (ended.first.is_stopped || ended.second.is_stopped || ended.third.is_stopped) }
-    ensures counts { together (together ended.first.counts ended.second.counts) ended.third.counts
-        ≡ record { unsent = result.unsent; wire = result.wire; refused = result.refused } }
+    ensures unsent { result.unsent ≡ both ended.first.sender.counts.unsent ended.second.sender.counts.unsent }
+    ensures wire { result.wire ≡ both ended.first.sender.counts.wire ended.second.sender.counts.wire }
+    ensures refused { result.refused ≡ both (both ended.first.sender.counts.refused ended.second.sender.counts.refused)
+        ended.third.refused }
 {
     let Over {
         first,
@@ -230,8 +253,10 @@ fn closed<N: PageNaming, H: Wait + Drop, R: Wait, W: Sink + Drop>(
     };
     let why = first.why.or(second.why).or(third.why).or(began);
     let is_stopped = first.is_stopped | second.is_stopped | third.is_stopped;
-    let counts = first.counts.and(second.counts).and(third.counts);
-    let seats = given_back(first.held, second.held, third.held, fourth);
+    let (hearer, hearing, heard) = first.sender.leave();
+    let (giver, ticking, ticked) = second.sender.leave();
+    let counts = heard.and(ticked);
+    let seats = given_back(hearer, giver, third.held, fourth);
     let Recorded {
         journal,
         seats,
@@ -243,9 +268,10 @@ fn closed<N: PageNaming, H: Wait + Drop, R: Wait, W: Sink + Drop>(
         is_stopped,
         journal,
         seats,
+        posts: Posts { hearing, ticking },
         unsent: counts.unsent,
         wire: counts.wire,
-        refused: counts.refused,
+        refused: counts.refused.saturating_add(third.refused),
         writer,
         is_whole,
     }

@@ -12,10 +12,11 @@ ghost use Rattle.swim_life.specs.Written.{IsWritten};
 use crate::counts::Why;
 use crate::endings::{STOPPED, put_ended, put_life};
 use crate::filing::{live_next, with_cut};
-use crate::gates::{Door, Herald, Line, Pace, Shelf};
+use crate::gates::{Door, Herald, Line, Pace, Post, Shelf};
 use crate::halls::Hall;
 use crate::life::run_life;
 use crate::nowhere::{Never, Nowhere};
+use crate::posts::Posts;
 use std::alloc::Global;
 use std::marker::Brand;
 use std::sync::Wait;
@@ -86,7 +87,8 @@ pub enum LivesEnd {
 /// Nothing of a file changes what a node answers.
 pub fn run_lives<
     R: Threads + Wait + Sync,
-    L: Line + Sync,
+    O: Post + Drop + Send,
+    L: Line + Send,
     P: Pace + Send,
     D: Door + Drop,
     V: Sink + Drop + Send,
@@ -100,7 +102,8 @@ pub fn run_lives<
     alloc: Global,
     opening: Opening,
     terms: Terms,
-    line: &L,
+    line: &mut L,
+    post: &O,
     pace: &mut P,
     hall: &mut Hall<D>,
     shelf: &mut S,
@@ -119,8 +122,8 @@ pub fn run_lives<
     let mut number: u64 = 0;
     for _life in rt.forever() {
         herald.begins(number, notices);
-        let past = match live_next::<R, L, P, D, V, S, Q, F>(
-            rt, alloc, opening, terms, number, line, pace, hall, shelf, pause, notices,
+        let past = match live_next::<R, O, L, P, D, V, S, Q, F>(
+            rt, alloc, opening, terms, number, line, post, pace, hall, shelf, pause, notices,
         ) {
             Ok(past) => past,
             Err(fault) => return end_without(fault),
@@ -193,13 +196,20 @@ fn end_without(fault: OpenFault) -> LivesEnd
 /// the node gets no memory (`NoMemory`), or no reader of its member table (`NoPlace`). What its journal holds was drawn
 /// from the chooser. It is written nowhere.
 #[tactic(auto, using(crate::proofs::LifeFiles::life_with_cut, crate::proofs::LifeFiles::was_drawn_with_cut))]
-pub fn live<R: Threads + Wait + Sync, L: Line + Sync, P: Pace + Send, D: Door + Drop>(
+pub fn live<
+    R: Threads + Wait + Sync,
+    O: Post + Drop + Send,
+    L: Line + Send,
+    P: Pace + Send,
+    D: Door + Drop,
+>(
     rt: &R,
     alloc: Global,
     opening: Opening,
     chooser: Seeded,
     limit: u32,
-    line: &L,
+    line: &mut L,
+    post: &O,
     pace: &mut P,
     hall: &mut Hall<D>,
 ) -> Result<Past, OpenFault>
@@ -210,7 +220,7 @@ pub fn live<R: Threads + Wait + Sync, L: Line + Sync, P: Pace + Send, D: Door + 
     let writer = Nowhere::new();
     let mut pause = Never {};
     match live_recorded(
-        rt, alloc, opening, chooser, limit, line, pace, hall, writer, &mut pause,
+        rt, alloc, opening, chooser, limit, line, post, pace, hall, writer, &mut pause,
     ) {
         Ok(lived) => Ok(with_cut(lived.past, false)),
         Err(fault) => Err(fault),
@@ -222,7 +232,8 @@ pub fn live<R: Threads + Wait + Sync, L: Line + Sync, P: Pace + Send, D: Door + 
 /// a front of the text of the journal's calls.
 pub fn live_recorded<
     R: Threads + Wait + Sync,
-    L: Line + Sync,
+    O: Post + Drop + Send,
+    L: Line + Send,
     P: Pace + Send,
     D: Door + Drop,
     W: Sink + Drop + Send,
@@ -233,7 +244,8 @@ pub fn live_recorded<
     opening: Opening,
     chooser: Seeded,
     limit: u32,
-    line: &L,
+    line: &mut L,
+    post: &O,
     pace: &mut P,
     hall: &mut Hall<D>,
     writer: W,
@@ -246,8 +258,8 @@ pub fn live_recorded<
     let Ok(parts) = Parts::make(alloc, limit) else {
         return Err(OpenFault::NoMemory);
     };
-    live_so::<Brand, R, L, P, D, W, Q>(
-        rt, alloc, parts, opening, chooser, limit, line, pace, hall, writer, pause,
+    live_so::<Brand, R, O, L, P, D, W, Q>(
+        rt, alloc, parts, opening, chooser, limit, line, post, pace, hall, writer, pause,
     )
 }
 
@@ -256,7 +268,8 @@ pub fn live_recorded<
 fn live_so<
     N: PageNaming + Send + Sync,
     R: Threads + Wait + Sync,
-    L: Line + Sync,
+    O: Post + Drop + Send,
+    L: Line + Send,
     P: Pace + Send,
     D: Door + Drop,
     W: Sink + Drop + Send,
@@ -268,7 +281,8 @@ fn live_so<
     opening: Opening,
     chooser: Seeded,
     limit: u32,
-    line: &L,
+    line: &mut L,
+    post: &O,
     pace: &mut P,
     hall: &mut Hall<D>,
     writer: W,
@@ -283,11 +297,14 @@ fn live_so<
     ensures drawn { IfOk result (λ lived. N.drawn lived.past.journal.past) }
     ensures written { IfOk result (λ lived. IsWritten N.page (W.written lived.writer) lived.past) }
 {
+    let Ok(posts) = Posts::of(alloc, post) else {
+        return Err(OpenFault::NoMemory);
+    };
     match Node::<N, Seeded, &R>::open(alloc, rt, parts, opening, chooser, limit) {
         Ok(opened) => {
             let (node, seats, viewers) = opened;
             let life = run_life(
-                rt, alloc, node, seats, viewers, line, pace, hall, writer, pause,
+                rt, alloc, node, seats, viewers, line, posts, pace, hall, writer, pause,
             );
             let past = Past {
                 why: life.why,

@@ -3,10 +3,11 @@
 ghost use denote.Param.Send.{IsSend, IsSync};
 
 use crate::controlling::control;
-use crate::gates::{Door, Line, Pace};
+use crate::gates::{Door, Line, Pace, Post};
 use crate::halls::Hall;
-use crate::holding::{Ended, Held};
+use crate::holding::{Ended, Held, Left};
 use crate::recording::write_along;
+use crate::senders::Sender;
 use crate::workers::{receive, tick};
 use std::alloc::Global;
 use std::sync::Wait;
@@ -20,20 +21,19 @@ use swim_wire::Sink;
 
 /// What the receiver takes into its thread.
 #[derive(Drop)]
-pub(crate) struct Hearing<'n, 'o, 'l, N: Naming, C: Chooser, H: Wait + Drop, L> {
+pub(crate) struct Hearing<'n, 'o, 'l, N: Naming, O: Post + Drop, C: Chooser, H: Wait + Drop, L> {
     pub(crate) node: &'n Node<N, C, H>,
     pub(crate) over: &'o AtomicBool,
-    pub(crate) line: &'l L,
-    pub(crate) held: Held<N, 0>,
+    pub(crate) sender: Sender<N, O, 0>,
+    pub(crate) line: &'l mut L,
 }
 
 /// What the ticker takes into its thread.
 #[derive(Drop)]
-pub(crate) struct Ticking<'n, 'o, 'l, 'p, N: Naming, C: Chooser, H: Wait + Drop, L, P> {
+pub(crate) struct Ticking<'n, 'o, 'p, N: Naming, O: Post + Drop, C: Chooser, H: Wait + Drop, P> {
     pub(crate) node: &'n Node<N, C, H>,
     pub(crate) over: &'o AtomicBool,
-    pub(crate) line: &'l L,
-    pub(crate) held: Held<N, 1>,
+    pub(crate) sender: Sender<N, O, 1>,
     pub(crate) pace: &'p mut P,
 }
 
@@ -68,45 +68,44 @@ pub(crate) struct Recording<
 
 /// What the workers hand back, and whether each of those that call the node was started.
 #[derive(Drop)]
-pub(crate) struct Over<N: PageNaming, W: Sink + Drop> {
-    pub(crate) first: Ended<N, 0>,
-    pub(crate) second: Ended<N, 1>,
-    pub(crate) third: Ended<N, 2>,
+pub(crate) struct Over<N: PageNaming, O: Post + Drop, W: Sink + Drop> {
+    pub(crate) first: Ended<N, O, 0>,
+    pub(crate) second: Ended<N, O, 1>,
+    pub(crate) third: Left<N, 2>,
     pub(crate) all_began: bool,
     pub(crate) scribe: Scribe<N, W>,
 }
 
-fn run_hearing<'n, 'o, 'l, N: Naming, C: Chooser, H: Wait + Drop, L: Line, R: Wait>(
+fn run_hearing<'n, 'o, 'l, N: Naming, O: Post + Drop, C: Chooser, H: Wait + Drop, L: Line, R: Wait>(
     rt: &R,
-    it: Hearing<'n, 'o, 'l, N, C, H, L>,
-) -> Ended<N, 0> {
+    it: Hearing<'n, 'o, 'l, N, O, C, H, L>,
+) -> Ended<N, O, 0> {
     let Hearing {
         node,
         over,
+        sender,
         line,
-        held,
     } = it;
-    receive(rt, node, over, line, held)
+    receive(rt, node, over, sender, line)
 }
 
-fn run_ticking<'n, 'o, 'l, 'p, N: Naming, C: Chooser, H: Wait + Drop, L: Line, P: Pace, R: Wait>(
+fn run_ticking<'n, 'o, 'p, N: Naming, O: Post + Drop, C: Chooser, H: Wait + Drop, P: Pace, R: Wait>(
     rt: &R,
-    it: Ticking<'n, 'o, 'l, 'p, N, C, H, L, P>,
-) -> Ended<N, 1> {
+    it: Ticking<'n, 'o, 'p, N, O, C, H, P>,
+) -> Ended<N, O, 1> {
     let Ticking {
         node,
         over,
-        line,
-        held,
+        sender,
         pace,
     } = it;
-    tick(rt, node, over, line, held, pace)
+    tick(rt, node, over, sender, pace)
 }
 
 fn run_controlling<'n, 'o, 'd, N: Naming, H: Wait + Drop, D: Door + Drop, R: Wait>(
     rt: &R,
     it: Controlling<'n, 'o, 'd, N, H, D>,
-) -> Ended<N, 2> {
+) -> Left<N, 2> {
     let Controlling {
         alloc,
         node,
@@ -150,9 +149,10 @@ fn tell(over: &AtomicBool, is_missing: bool) {
 /// missed, since what is left of the journal is written once the life is over.
 pub(crate) fn work_at_once<
     N: PageNaming + Send + Sync,
+    O: Post + Drop + Send,
     H: Wait + Drop + Send,
     R: Threads + Wait + Sync,
-    L: Line + Sync,
+    L: Line + Send,
     P: Pace + Send,
     D: Door + Drop,
     W: Sink + Drop + Send,
@@ -160,17 +160,17 @@ pub(crate) fn work_at_once<
 >(
     rt: &R,
     over: &AtomicBool,
-    hearing: Hearing<N, Seeded, H, L>,
-    ticking: Ticking<N, Seeded, H, L, P>,
+    hearing: Hearing<N, O, Seeded, H, L>,
+    ticking: Ticking<N, O, Seeded, H, P>,
     controlling: Controlling<N, H, D>,
     recording: Recording<N, Seeded, H, W, Q>,
-) -> Over<N, W> {
+) -> Over<N, O, W> {
     thread::scope(
         thread::scope_env(),
         rt,
-        move |scope| -> Over<N, W>
-            requires { IsSync R.row × IsSync L.row × IsSend P.row × IsSend N.row × IsSync N.row × IsSend H.row
-                × IsSend W.row × IsSend Q.row }
+        move |scope| -> Over<N, O, W>
+            requires { IsSync R.row × IsSend L.row × IsSend O.row × IsSend P.row × IsSend N.row × IsSync N.row
+                × IsSend H.row × IsSend W.row × IsSend Q.row }
         {
             let first = scope.spawn(move || run_hearing(rt, hearing));
             tell(over, first.is_err());

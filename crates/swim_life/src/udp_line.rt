@@ -1,8 +1,9 @@
 //! The line of a daemon: a UDP socket.
 
+ghost use Rattle.std.specs.Prelude.{None};
 ghost use Rattle.swim_life.specs.Gates.{FitsInto};
 
-use crate::gates::{Got, Line};
+use crate::gates::{Got, Line, Post};
 use std::io;
 use std::io::ErrorKind;
 use std::net::{Ipv4Addr, Net, SocketAddr, SocketAddrV4, UdpSocket};
@@ -32,8 +33,9 @@ impl UdpLine {
     }
 }
 
-impl Line for UdpLine {
-    fn receive<R: Wait>(&self, _rt: &R, bytes: &mut [u8]) -> Got
+// The workers share the socket, so each has a reference to it.
+impl<'s> Line for &'s UdpLine {
+    fn receive<R: Wait>(&mut self, _rt: &R, bytes: &mut [u8]) -> Got
         ensures { FitsInto result bytes.new }
     {
         match self.socket.recv_from(bytes) {
@@ -47,8 +49,16 @@ impl Line for UdpLine {
             },
         }
     }
+}
 
-    fn send<R: Wait>(&self, _rt: &R, bytes: &[u8], to: Peer) -> bool {
+impl<'s> Post for &'s UdpLine {
+    ghost posted = { λ s. None };
+
+    fn fresh(&self) -> &'s UdpLine {
+        *self
+    }
+
+    fn send<R: Wait>(&mut self, _rt: &R, bytes: &[u8], to: Peer) -> bool {
         match self.socket.send_to(bytes, to_address(to)) {
             Ok(count) => count == bytes.len(),
             Err(_) => false,

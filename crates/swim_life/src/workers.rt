@@ -1,72 +1,69 @@
 //! The receiver and the ticker, two of the workers of a life. Each worker has a seat of the node for itself. It
 //! reads the shared flag once a turn, then asks its gate once, and sets the flag when it ends.
 
-ghost use Rattle.std.specs.Prelude.{◌≤◌, length};
-ghost use Rattle.swim_history.specs.Sends.{sends_of};
-ghost use Rattle.swim_life.specs.Ends.{IsFinished};
+ghost use Rattle.std.specs.Prelude.{◌≡◌, ◌↔◌, true, Some};
+ghost use Rattle.std.specs.Option.{unwrap_or};
 
-use crate::counts::{Counts, Faults, Why};
-use crate::gates::{Beat, Got, Line, Pace};
-use crate::holding::{Ended, Held};
+use crate::counts::{Faults, Why};
+use crate::gates::{Beat, Got, Line, Pace, Post};
+use crate::holding::Ended;
+use crate::senders::Sender;
 use std::sync::Wait;
 use std::sync::atomic::{AtomicBool, Ordering};
-use swim_history::{Opening, sends};
-use swim_node::{CallFault, Naming, Node, Receipt};
+use swim_node::{Naming, Node};
 use swim_targets::Chooser;
-use swim_wire::{Message, Peer, encode};
 
 /// As many bytes as are taken of a datagram: more than one of the protocol has, so that one that is too long is seen to
 /// be.
 const BUFFER_BYTES: usize = 64;
 
 /// The receiver: hears the datagrams of the line.
-pub(crate) fn receive<N: Naming, C: Chooser, H: Wait + Drop, R: Wait, L: Line>(
+pub(crate) fn receive<N: Naming, O: Post + Drop, C: Chooser, H: Wait + Drop, R: Wait, L: Line>(
     rt: &R,
     node: &Node<N, C, H>,
     over: &AtomicBool,
-    line: &L,
-    held: Held<N, 0>,
-) -> Ended<N, 0> {
-    let mut held = held;
-    let mut counts = Counts::none();
+    sender: Sender<N, O, 0>,
+    line: &mut L,
+) -> Ended<N, O, 0> {
+    let mut sender = sender;
+    let end = hear_on(rt, node, over, &mut sender, line);
+    over.store(true, Ordering::SeqCst);
+    ended(sender, end)
+}
+
+/// Hears until the life is over (`None`), or until the receiver ends, and why.
+fn hear_on<N: Naming, O: Post + Drop, C: Chooser, H: Wait + Drop, R: Wait, L: Line>(
+    rt: &R,
+    node: &Node<N, C, H>,
+    over: &AtomicBool,
+    sender: &mut Sender<N, O, 0>,
+    line: &mut L,
+) -> Option<Why> {
     let mut faults = Faults::none();
-    let mut why = Why::Stopped;
-    let mut is_stopped = false;
     for _turn in rt.forever() {
         if over.load(Ordering::SeqCst) {
-            break;
+            return None;
         }
-        let end = hear_next(rt, node, line, &mut held, &mut counts, &mut faults);
-        if let Some(end) = end {
-            why = end;
-            is_stopped = end == Why::Stopped;
-            break;
+        if let Some(end) = hear_next(rt, node, sender, &mut faults, line) {
+            return Some(end);
         }
     }
-    over.store(true, Ordering::SeqCst);
-    Ended {
-        held,
-        why,
-        is_stopped,
-        counts,
-    }
+    unreachable!()
 }
 
 /// A turn of the receiver; why it ends, if it does.
-fn hear_next<N: Naming, C: Chooser, H: Wait + Drop, R: Wait, L: Line>(
+fn hear_next<N: Naming, O: Post + Drop, C: Chooser, H: Wait + Drop, R: Wait, L: Line>(
     rt: &R,
     node: &Node<N, C, H>,
-    line: &L,
-    held: &mut Held<N, 0>,
-    counts: &mut Counts,
+    sender: &mut Sender<N, O, 0>,
     faults: &mut Faults,
+    line: &mut L,
 ) -> Option<Why> {
     let mut bytes = [0u8; BUFFER_BYTES];
     match line.receive(rt, &mut bytes) {
         Got::Datagram(count, source) => {
             faults.clear();
-            let answer = node.hear(rt, &mut held.seat, &bytes[..count], source);
-            finish(rt, line, node.opening(), answer, counts)
+            sender.hear(rt, node, &bytes[..count], source)
         }
         Got::Idle => {
             faults.clear();
@@ -77,93 +74,64 @@ fn hear_next<N: Naming, C: Chooser, H: Wait + Drop, R: Wait, L: Line>(
 }
 
 /// The ticker: gives the ticks of the pace.
-pub(crate) fn tick<N: Naming, C: Chooser, H: Wait + Drop, R: Wait, L: Line, P: Pace>(
+pub(crate) fn tick<N: Naming, O: Post + Drop, C: Chooser, H: Wait + Drop, R: Wait, P: Pace>(
     rt: &R,
     node: &Node<N, C, H>,
     over: &AtomicBool,
-    line: &L,
-    held: Held<N, 1>,
+    sender: Sender<N, O, 1>,
     pace: &mut P,
-) -> Ended<N, 1> {
-    let mut held = held;
-    let mut counts = Counts::none();
-    let mut why = Why::Stopped;
-    let mut is_stopped = false;
-    for _turn in rt.forever() {
-        if over.load(Ordering::SeqCst) {
-            break;
-        }
-        let end = match pace.next(rt) {
-            Beat::Tick => tick_once(rt, node, line, &mut held, &mut counts),
-            Beat::Idle => None,
-            Beat::Stop => Some(Why::Stopped),
-        };
-        if let Some(end) = end {
-            why = end;
-            is_stopped = end == Why::Stopped;
-            break;
-        }
-    }
+) -> Ended<N, O, 1> {
+    let mut sender = sender;
+    let end = tick_on(rt, node, over, &mut sender, pace);
     over.store(true, Ordering::SeqCst);
-    Ended {
-        held,
-        why,
-        is_stopped,
-        counts,
-    }
+    ended(sender, end)
 }
 
-/// A tick; why the ticker ends, if it does.
-fn tick_once<N: Naming, C: Chooser, H: Wait + Drop, R: Wait, L: Line>(
+/// Ticks until the life is over (`None`), or until the ticker ends, and why.
+fn tick_on<N: Naming, O: Post + Drop, C: Chooser, H: Wait + Drop, R: Wait, P: Pace>(
     rt: &R,
     node: &Node<N, C, H>,
-    line: &L,
-    held: &mut Held<N, 1>,
-    counts: &mut Counts,
+    over: &AtomicBool,
+    sender: &mut Sender<N, O, 1>,
+    pace: &mut P,
 ) -> Option<Why> {
-    let answer = node.tick(rt, &mut held.seat);
-    finish(rt, line, node.opening(), answer, counts)
+    for _turn in rt.forever() {
+        if over.load(Ordering::SeqCst) {
+            return None;
+        }
+        if let Some(end) = tick_next(rt, node, sender, pace) {
+            return Some(end);
+        }
+    }
+    unreachable!()
 }
 
-/// Sends the datagrams of a reply, after the lock was given back; or counts why there is no reply. Why the worker ends,
-/// if it does.
-fn finish<N: Naming, R: Wait, L: Line>(
+/// A turn of the ticker; why it ends, if it does.
+fn tick_next<N: Naming, O: Post + Drop, C: Chooser, H: Wait + Drop, R: Wait, P: Pace>(
     rt: &R,
-    line: &L,
-    opening: &Opening,
-    answer: Result<Receipt<N>, CallFault>,
-    counts: &mut Counts,
-) -> Option<Why>
-    ensures { IsFinished answer (λ receipt. length (sends_of receipt.reply opening.now)) counts.old result counts.new }
-{
-    match answer {
-        Ok(receipt) => {
-            let messages = sends(&receipt.reply, opening);
-            let unsent = send_each(rt, line, messages.as_slice());
-            counts.unsent = counts.unsent.saturating_add(unsent);
-            None
-        }
-        Err(CallFault::Wire(_)) => {
-            counts.wire = counts.wire.saturating_add(1);
-            None
-        }
-        Err(CallFault::NoMemory) => {
-            counts.refused = counts.refused.saturating_add(1);
-            None
-        }
-        Err(CallFault::JournalFull) => Some(Why::JournalFull),
+    node: &Node<N, C, H>,
+    sender: &mut Sender<N, O, 1>,
+    pace: &mut P,
+) -> Option<Why> {
+    match pace.next(rt) {
+        Beat::Tick => sender.tick(rt, node),
+        Beat::Idle => None,
+        Beat::Stop => Some(Why::Stopped),
     }
 }
 
-/// Sends datagrams. How many couldn't be sent.
-fn send_each<R: Wait, L: Line>(rt: &R, line: &L, messages: &[(Peer, Message)]) -> u64
-    ensures { result ≤ length messages.now }
+/// What a worker hands back that ended so, or whose life was over: it was told to stop where that is why it ended.
+fn ended<N: Naming, O: Post + Drop, const SEAT: u8>(
+    sender: Sender<N, O, SEAT>,
+    end: Option<Why>,
+) -> Ended<N, O, SEAT>
+    ensures sender { result.sender ≡ sender }
+    ensures why { result.why ≡ unwrap_or end Why.Stopped }
+    ensures stopped { (result.is_stopped ≡ true) ↔ (end ≡ Some Why.Stopped) }
 {
-    let mut unsent = 0u64;
-    for (peer, message) in messages {
-        if !line.send(rt, &encode(message), *peer) {
-            unsent = unsent.saturating_add(1);
-        }
+    Ended {
+        sender,
+        why: end.unwrap_or(Why::Stopped),
+        is_stopped: end == Some(Why::Stopped),
     }
-    unsent
 }

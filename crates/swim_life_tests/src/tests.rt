@@ -14,7 +14,7 @@ use std::sync::Wait;
 use std::test::*;
 use std::thread::Threads;
 use swim_history::{Journal, Opening, Probe, Reply};
-use swim_life::{Hall, Line, Pace, Past, Why, live};
+use swim_life::{Hall, Line, Pace, Past, Post, Why, live};
 use swim_targets::Seeded;
 use swim_wire::{Id, Peer};
 
@@ -41,14 +41,31 @@ fn chooser() -> Seeded {
 }
 
 // A life to whose door nobody comes.
-fn live_alone<R: Threads + Wait + Clock + Sync + Copy + Drop, L: Line + Sync, P: Pace + Send>(
+fn live_alone<
+    R: Threads + Wait + Clock + Sync + Copy + Drop,
+    O: Post + Drop + Send,
+    L: Line + Send,
+    P: Pace + Send,
+>(
     rt: &R,
     alloc: Global,
     opening: Opening,
     limit: u32,
-    line: &L,
+    line: &mut L,
+    post: &O,
     pace: &mut P,
 ) -> Option<Past> {
     let mut hall = Hall::new(alloc, NoDoor { clock: *rt });
-    live(rt, alloc, opening, chooser(), limit, line, pace, &mut hall).ok()
+    live(
+        rt,
+        alloc,
+        opening,
+        chooser(),
+        limit,
+        line,
+        post,
+        pace,
+        &mut hall,
+    )
+    .ok()
 }

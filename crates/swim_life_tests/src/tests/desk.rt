@@ -100,7 +100,8 @@ fn an_operator_is_answered(rt: HostRuntime) -> Result<(), Fail> {
         opening,
         chooser(),
         1000,
-        &line,
+        &mut &line,
+        &&line,
         &mut pace,
         &mut hall,
     )

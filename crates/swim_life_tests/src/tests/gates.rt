@@ -12,7 +12,7 @@ use std::sync::Wait;
 use std::sync::atomic::{AtomicBool, AtomicU32, Ordering};
 use std::thread;
 use std::time::Duration;
-use swim_life::{Beat, Door, Got, Herald, Knock, Line, Pace};
+use swim_life::{Beat, Door, Got, Herald, Knock, Line, Pace, Post};
 use swim_wire::{Byte, Look, Page, Peer, Polled, Sink, Source, Text};
 
 /// How many turns a gate waits for another. After that it gives up, and the test's signals stay unset.
@@ -76,8 +76,8 @@ pub struct PingLine<'s, K: Clock + Drop> {
     pub was_given: AtomicBool,
 }
 
-impl<'s, K: Clock + Drop> Line for PingLine<'s, K> {
-    fn receive<R: Wait>(&self, _rt: &R, bytes: &mut [u8]) -> Got
+impl<'l, 's, K: Clock + Drop> Line for &'l PingLine<'s, K> {
+    fn receive<R: Wait>(&mut self, _rt: &R, bytes: &mut [u8]) -> Got
         ensures { FitsInto result bytes.new }
     {
         let turn = self.signals.receives.fetch_add(1, Ordering::SeqCst);
@@ -100,8 +100,16 @@ impl<'s, K: Clock + Drop> Line for PingLine<'s, K> {
             None => Got::Fault,
         }
     }
+}
 
-    fn send<R: Wait>(&self, _rt: &R, bytes: &[u8], to: Peer) -> bool {
+impl<'l, 's, K: Clock + Drop> Post for &'l PingLine<'s, K> {
+    ghost posted = { λ post. None };
+
+    fn fresh(&self) -> &'l PingLine<'s, K> {
+        *self
+    }
+
+    fn send<R: Wait>(&mut self, _rt: &R, bytes: &[u8], to: Peer) -> bool {
         if bytes == &ACK[..] && to == at(2) {
             set(&self.signals.is_acked);
         }

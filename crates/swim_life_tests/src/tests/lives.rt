@@ -1,3 +1,4 @@
+ghost use Rattle.std.specs.Prelude.{None};
 ghost use Rattle.swim_life.specs.Gates.{FitsInto};
 
 use super::gates::{
@@ -5,7 +6,7 @@ use super::gates::{
 };
 use super::*;
 use std::sync::atomic::{AtomicBool, Ordering};
-use swim_life::{Beat, Got, Hall, LivesEnd, Never, NoShelf, Terms, run_lives};
+use swim_life::{Beat, Got, Hall, LivesEnd, Never, NoShelf, Post, Terms, run_lives};
 use swim_wire::Page;
 
 pub fn line<'s, K: Clock + Drop>(clock: K, signals: &'s Signals, faults: u32) -> PingLine<'s, K> {
@@ -48,7 +49,8 @@ fn workers_at_once(rt: HostRuntime) -> Result<(), Fail> {
         opening,
         chooser(),
         1000,
-        &line,
+        &mut &line,
+        &&line,
         &mut pace,
         &mut hall,
     )
@@ -67,7 +69,15 @@ fn fifteen_faults(rt: HostRuntime) -> Result<(), Fail> {
     let signals = Signals::new(true);
     let line = line(rt, &signals, 15);
     let mut pace = pace(rt, &signals.is_acked, 0);
-    let past = live_alone(&rt, rt.alloc(), opening, 1000, &line, &mut pace);
+    let past = live_alone(
+        &rt,
+        rt.alloc(),
+        opening,
+        1000,
+        &mut &line,
+        &&line,
+        &mut pace,
+    );
     assert_ended(&rt, past, Why::Stopped, 1, 0);
     assert!(rt; is_set(&signals.is_acked));
     Ok(())
@@ -81,7 +91,15 @@ fn a_failed_send(rt: HostRuntime) -> Result<(), Fail> {
     let mut line = line(rt, &signals, 15);
     line.is_sending = false;
     let mut pace = pace(rt, &signals.is_acked, 0);
-    let past = live_alone(&rt, rt.alloc(), opening, 1000, &line, &mut pace);
+    let past = live_alone(
+        &rt,
+        rt.alloc(),
+        opening,
+        1000,
+        &mut &line,
+        &&line,
+        &mut pace,
+    );
     assert_ended(&rt, past, Why::Stopped, 1, 1);
     Ok(())
 }
@@ -93,7 +111,15 @@ fn sixteen_faults(rt: HostRuntime) -> Result<(), Fail> {
     let signals = Signals::new(true);
     let line = line(rt, &signals, 16);
     let mut pace = pace(rt, &signals.is_failing, 0);
-    let past = live_alone(&rt, rt.alloc(), opening, 1000, &line, &mut pace);
+    let past = live_alone(
+        &rt,
+        rt.alloc(),
+        opening,
+        1000,
+        &mut &line,
+        &&line,
+        &mut pace,
+    );
     assert_ended(&rt, past, Why::Socket, 0, 0);
     assert_eq!(rt; signals.receives.load(Ordering::SeqCst), 16);
     Ok(())
@@ -106,7 +132,7 @@ fn a_full_journal(rt: HostRuntime) -> Result<(), Fail> {
     let signals = Signals::new(false);
     let line = line(rt, &signals, 0);
     let mut pace = pace(rt, &signals.is_stopping, 5);
-    let past = live_alone(&rt, rt.alloc(), opening, 2, &line, &mut pace);
+    let past = live_alone(&rt, rt.alloc(), opening, 2, &mut &line, &&line, &mut pace);
     assert_ended(&rt, past, Why::JournalFull, 2, 0);
     Ok(())
 }
@@ -134,7 +160,8 @@ fn two_lives(rt: HostRuntime) -> Result<(), Fail> {
         rt.alloc(),
         opening,
         terms,
-        &line,
+        &mut &line,
+        &&line,
         &mut pace,
         &mut hall,
         &mut NoShelf {},
@@ -175,7 +202,8 @@ fn live_with_faults<R: Threads + Wait + Clock + Send + Sync + Copy + Drop>(
         opening,
         chooser(),
         1000,
-        &line,
+        &mut &line,
+        &&line,
         &mut pace,
         &mut hall,
     )
@@ -211,8 +239,8 @@ struct LateLine<'f, 'g, K: Clock + Drop> {
     was_given: &'g AtomicBool,
 }
 
-impl<'f, 'g, K: Clock + Drop> Line for LateLine<'f, 'g, K> {
-    fn receive<R: Wait>(&self, _rt: &R, bytes: &mut [u8]) -> Got
+impl<'l, 'f, 'g, K: Clock + Drop> Line for &'l LateLine<'f, 'g, K> {
+    fn receive<R: Wait>(&mut self, _rt: &R, bytes: &mut [u8]) -> Got
         ensures { FitsInto result bytes.new }
     {
         pause(&self.clock);
@@ -228,8 +256,16 @@ impl<'f, 'g, K: Clock + Drop> Line for LateLine<'f, 'g, K> {
             None => Got::Fault,
         }
     }
+}
 
-    fn send<R: Wait>(&self, _rt: &R, _bytes: &[u8], _to: Peer) -> bool {
+impl<'l, 'f, 'g, K: Clock + Drop> Post for &'l LateLine<'f, 'g, K> {
+    ghost posted = { λ post. None };
+
+    fn fresh(&self) -> &'l LateLine<'f, 'g, K> {
+        *self
+    }
+
+    fn send<R: Wait>(&mut self, _rt: &R, _bytes: &[u8], _to: Peer) -> bool {
         true
     }
 }
@@ -291,7 +327,8 @@ fn a_stop_at_a_full_journal(rt: HostRuntime) -> Result<(), Fail> {
         rt.alloc(),
         opening,
         terms,
-        &line,
+        &mut &line,
+        &&line,
         &mut pace,
         &mut hall,
         &mut NoShelf {},

@@ -1,3 +1,4 @@
+ghost use Rattle.std.specs.Prelude.{None};
 ghost use Rattle.swim_life.specs.Gates.{FitsInto};
 
 use super::gates::{StopPace, TURNS, is_set, pause, set};
@@ -5,7 +6,7 @@ use super::*;
 use std::net::{Net, UdpSocket};
 use std::sync::atomic::AtomicBool;
 use std::thread::join;
-use swim_life::{Beat, Got, UdpLine};
+use swim_life::{Beat, Got, Post, UdpLine};
 
 // A socket of this machine that tells when the receiver asked again after a datagram.
 #[derive(Drop)]
@@ -15,22 +16,32 @@ struct WatchedLine {
     has_asked_again: AtomicBool,
 }
 
-impl Line for WatchedLine {
-    fn receive<R: Wait>(&self, rt: &R, bytes: &mut [u8]) -> Got
+impl<'l> Line for &'l WatchedLine {
+    fn receive<R: Wait>(&mut self, rt: &R, bytes: &mut [u8]) -> Got
         ensures { FitsInto result bytes.new }
     {
         if is_set(&self.has_heard) {
             set(&self.has_asked_again);
         }
-        let got = self.line.receive(rt, bytes);
+        let mut line = &self.line;
+        let got = line.receive(rt, bytes);
         if matches!(got, Got::Datagram(..)) {
             set(&self.has_heard);
         }
         got
     }
+}
 
-    fn send<R: Wait>(&self, rt: &R, bytes: &[u8], to: Peer) -> bool {
-        self.line.send(rt, bytes, to)
+impl<'l> Post for &'l WatchedLine {
+    ghost posted = { λ post. None };
+
+    fn fresh(&self) -> &'l WatchedLine {
+        *self
+    }
+
+    fn send<R: Wait>(&mut self, rt: &R, bytes: &[u8], to: Peer) -> bool {
+        let mut line = &self.line;
+        line.send(rt, bytes, to)
     }
 }
 
@@ -143,7 +154,7 @@ fn ticking<R: Threads + Wait + Clock + Send + Sync + Copy + Drop>(
         ticks: 0,
         turns: 0,
     };
-    live_alone(rt, alloc, opening, 1000, line, &mut pace)
+    live_alone(rt, alloc, opening, 1000, &mut &*line, &line, &mut pace)
 }
 
 // The life of the second, which ends after the first's.
@@ -160,5 +171,5 @@ fn answering<R: Threads + Wait + Clock + Send + Sync + Copy + Drop>(
         ticks: 0,
         turns: 0,
     };
-    live_alone(rt, alloc, opening, 1000, line, &mut pace)
+    live_alone(rt, alloc, opening, 1000, &mut &*line, &line, &mut pace)
 }

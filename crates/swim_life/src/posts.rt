@@ -1,0 +1,28 @@
+//! The posts of a life: what its two workers that send hand their datagrams to.
+
+ghost use Rattle.std.specs.Prelude.{IfOk, box_value};
+ghost use Rattle.swim_life.specs.Posts.{IsFresh};
+
+use crate::gates::Post;
+use std::alloc::{AllocError, Global};
+
+/// The posts of a life's receiver and ticker, each of which sends by one of its own. They stand in boxes, since nothing is
+/// known of their size.
+#[derive(Drop)]
+pub struct Posts<O: Post + Drop> {
+    pub hearing: Box<O>,
+    pub ticking: Box<O>,
+}
+
+impl<O: Post + Drop> Posts<O> {
+    /// Two posts of the line that this one is of, to which nothing was handed yet.
+    pub fn of(alloc: Global, post: &O) -> Result<Posts<O>, AllocError>
+        ensures hearing { IfOk result (λ posts. IsFresh (O.posted (box_value posts.hearing))) }
+        ensures ticking { IfOk result (λ posts. IsFresh (O.posted (box_value posts.ticking))) }
+    {
+        Ok(Posts {
+            hearing: Box::new(alloc, post.fresh())?,
+            ticking: Box::new(alloc, post.fresh())?,
+        })
+    }
+}
