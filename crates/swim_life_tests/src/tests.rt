@@ -4,6 +4,7 @@ mod desk;
 mod files;
 mod gates;
 mod lives;
+mod posts;
 mod two;
 
 use crate::tests::gates::NoDoor;
