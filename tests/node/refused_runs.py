@@ -14,6 +14,8 @@ from tests.swimd.worked_configs import BELOW, is_as
 
 AS_EVER, NO_MEMORY, NOT_KEPT, NOT_BEGUN = "as ever", "a call without memory", "a line that isn't kept", "nothing was done"
 NOT_COMPARED, CUT = "an answer that isn't compared", "a journal that is cut"
+PASSED = b"\ntest result: ok\n"
+PASSED_REFUSED = b"a call was refused\n" + PASSED
 MEMORY = re.compile(rb"line (\d+): memory\n")
 DIFFERS = re.compile(rb"line (\d+): differs\n")
 EVENTS = ("tick", "hear ", "join ", "remove ", "table", "gap ")
@@ -25,10 +27,13 @@ NO_PROGRAM = re.compile(rb"(swimsim|error): out of memory\n")
 
 
 def of_a_test(refuser, words):
-    """The test passes, whatever was refused: it says itself what has to hold."""
-    yield AS_EVER, [] if refuser.run(words).status == 0 else ["it fails without a refusal"]
+    """The test passes, whatever was refused: it says itself what has to hold. It writes a line where a call that it names was
+    refused, and nothing else."""
+    ran = refuser.run(words)
+    yield AS_EVER, [] if ran == (PASSED, b"", 0) else [f"without a refusal: {ran}"]
     for number, ran in refuser.refusals(words):
-        yield AS_EVER, [f"request {number}: {ran}"] if ran.status else []
+        way = NO_MEMORY if ran.stdout == PASSED_REFUSED else AS_EVER
+        yield way, [] if ran in ((PASSED, b"", 0), (PASSED_REFUSED, b"", 0)) else [f"request {number}: {ran}"]
 
 
 # A script, and what is written where its first tick is refused: the others are those of a script with one tick less.

@@ -7,6 +7,7 @@ mod draws;
 mod following;
 mod gaps;
 mod limits;
+mod plans;
 mod refusals;
 mod replays;
 mod soak;

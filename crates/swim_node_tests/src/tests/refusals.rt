@@ -1,32 +1,148 @@
 //! Calls that are refused memory. tests/node/refusals runs these with one request for memory refused, the first, the
-//! second and so on; else none is.
+//! second and so on; else none is. Whatever is refused changes nothing, and made again it is answered as where none was
+//! refused. Where a test met a refusal of what it names, it writes a line.
 
 ghost use Rattle.std.specs.Prelude.{◌≡◌, IfOk, List};
 ghost use Rattle.swim_history.specs.declared.entries.Entry.{Entry};
 
+use super::plans::*;
 use super::steps::make;
 use super::*;
 
-// Whatever is refused, and where, the same call made again is answered, and the journal has each call once.
-#[test]
-fn a_refusal_changes_nothing(rt: HostRuntime) -> Result<(), Fail> {
-    if !open_and_call(rt, rt.alloc())? {
-        assert!(rt; open_and_call(rt, rt.alloc())?);
+fn tell(rt: &HostRuntime, refused: bool) -> Result<(), Fail> {
+    if refused {
+        println!(rt; "a call was refused")?;
     }
     Ok(())
 }
 
-// Whether the node was opened.
-fn open_and_call<R: Wait + Abort + Copy + Drop>(rt: R, alloc: Global) -> Result<bool, Fail> {
-    Ok(called_again::<Brand, R>(rt, alloc, parts_of_8(alloc)?, opening(1)?))
+#[test]
+fn parts_are_made_again(rt: HostRuntime) -> Result<(), Fail> {
+    let refused = Parts::make(rt.alloc(), 8).is_err();
+    assert!(rt; !refused || Parts::make(rt.alloc(), 8).is_ok());
+    tell(&rt, refused)
 }
 
-fn parts_of_8(alloc: Global) -> Result<Parts, Fail>
-    ensures { IfOk result (λ parts. parts.limit ≡ 8) }
+// Parts, opening and chooser are made anew, equal to the first.
+#[test]
+fn a_node_is_opened_again(rt: HostRuntime) -> Result<(), Fail> {
+    let plan = Plan {
+        limit: 8,
+        entries: 0,
+        changing: &[],
+        listening: &[],
+        full: &[],
+        rows: &[up(2), up(3)],
+    };
+    let opened = open_and_call(rt, rt.alloc(), &plan)?.is_some();
+    assert!(rt; opened || open_and_call(rt, rt.alloc(), &plan)? == Some(false));
+    tell(&rt, !opened)
+}
+
+#[test]
+fn ticks_are_made_again(rt: HostRuntime) -> Result<(), Fail> {
+    let (ticks, rows) = (four_ticks(), [failed(2, 1), up(3)]);
+    let plan = Plan {
+        limit: 8,
+        entries: 4,
+        changing: &[],
+        listening: &ticks,
+        full: &[],
+        rows: &rows,
+    };
+    tell(&rt, make_again(rt, rt.alloc(), &plan)?)
+}
+
+#[test]
+fn a_relayed_ack_is_heard_again(rt: HostRuntime) -> Result<(), Fail> {
+    let (heard, rows) = (relayed_ack(), [up(2), up(3)]);
+    let plan = Plan {
+        limit: 8,
+        entries: 3,
+        changing: &[],
+        listening: &heard,
+        full: &[],
+        rows: &rows,
+    };
+    tell(&rt, make_again(rt, rt.alloc(), &plan)?)
+}
+
+#[test]
+fn a_join_is_made_again(rt: HostRuntime) -> Result<(), Fail> {
+    let (joined, started) = ([join_of_5()], [probe_after_change(5)]);
+    let rows = [up(2), up(3), up(5)];
+    let plan = Plan {
+        limit: 8,
+        entries: 2,
+        changing: &joined,
+        listening: &started,
+        full: &[],
+        rows: &rows,
+    };
+    tell(&rt, make_again(rt, rt.alloc(), &plan)?)
+}
+
+#[test]
+fn a_removal_is_made_again(rt: HostRuntime) -> Result<(), Fail> {
+    let (removed, started) = ([removal_of_2()], [probe_after_change(3)]);
+    let plan = Plan {
+        limit: 8,
+        entries: 2,
+        changing: &removed,
+        listening: &started,
+        full: &[],
+        rows: &[up(3)],
+    };
+    tell(&rt, make_again(rt, rt.alloc(), &plan)?)
+}
+
+// Whatever is refused: each call is answered that the journal is full.
+#[test]
+fn a_full_journal_is_told_without_memory(rt: HostRuntime) -> Result<(), Fail> {
+    let [first, second, _, _] = four_ticks();
+    let (ticks, rows) = ([first, second], [up(2), up(3)]);
+    let plan = Plan {
+        limit: 2,
+        entries: 2,
+        changing: &[],
+        listening: &ticks,
+        full: &each_call(),
+        rows: &rows,
+    };
+    tell(&rt, make_again(rt, rt.alloc(), &plan)?)
+}
+
+// Whether a call was refused. Where no node was opened, as memory was refused to that, one is opened in a second try.
+fn make_again<R: Wait + Abort + Copy + Drop>(
+    rt: R,
+    alloc: Global,
+    plan: &Plan,
+) -> Result<bool, Fail> {
+    match open_and_call(rt, alloc, plan)? {
+        Some(refused) => Ok(refused),
+        None => {
+            assert!(rt; open_and_call(rt, alloc, plan)? == Some(false));
+            Ok(false)
+        }
+    }
+}
+
+// Whether a call was refused. None where no node was opened.
+fn open_and_call<R: Wait + Abort + Copy + Drop>(
+    rt: R,
+    alloc: Global,
+    plan: &Plan,
+) -> Result<Option<bool>, Fail> {
+    let parts = parts_of(alloc, plan.limit)?;
+    Ok(called_again::<Brand, R>(rt, alloc, parts, opening(1)?, plan.limit, plan))
+}
+
+fn parts_of(alloc: Global, limit: u32) -> Result<Parts, Fail>
+    ensures { IfOk result (λ parts. parts.limit ≡ limit) }
 {
-    match Parts::make(alloc, 8) {
+    match Parts::make(alloc, limit) {
         Ok(parts) => Ok(parts),
-        Err(_) => Ok(Parts::make(alloc, 8)?),
+        Err(_) => Ok(Parts::make(alloc, limit)?),
     }
 }
 
@@ -35,96 +151,153 @@ fn called_again<N: Naming, R: Wait + Abort + Copy + Drop>(
     alloc: Global,
     parts: Parts,
     opening: Opening,
-) -> bool
+    limit: u32,
+    plan: &Plan,
+) -> Option<bool>
     requires parts { parts ≡ record { limit = N.limit; ledgers = N.ledgers; log = N.log; cells = N.cells } }
     requires opening { opening ≡ N.opening }
-    requires limit { N.limit ≡ 8 }
+    requires limit { limit ≡ N.limit }
     requires drawn { (h : List Entry) → N.drawn h }
 {
-    match Node::<N, Scripted, R>::open(alloc, rt, parts, opening, no_script(alloc), 8) {
+    match Node::<N, Scripted, R>::open(alloc, rt, parts, opening, no_script(alloc), limit) {
         Ok(opened) => {
-            let (node, seats, readers) = opened;
-            drop(readers);
-            call_and_close(&rt, node, callers_of(seats));
-            true
+            let (node, seats, viewers) = opened;
+            let callers = callers_of(seats);
+            Some(call_and_close(&rt, node, callers, two_by_two(viewers), plan))
         }
-        Err(_) => false,
+        Err(fault) => {
+            assert_eq!(rt; fault, OpenFault::NoMemory);
+            None
+        }
     }
 }
 
+// The third seat changes, then the first one listens, and at last it meets a full journal.
 fn call_and_close<N: Naming, R: Wait + Abort + Copy + Drop>(
     rt: &R,
     node: Node<N, Scripted, R>,
     callers: Four<Seat<N>>,
-)
+    viewers: Four<Viewer<N>>,
+    plan: &Plan,
+) -> bool
     requires listening { (callers.0.0.number ≡ 0) × (callers.0.1.number ≡ 1) }
     requires changing { (callers.1.0.number ≡ 2) × (callers.1.1.number ≡ 3) }
 {
-    let ((first, second), others) = callers;
-    let first = answer_all(rt, &node, first, &four_calls());
-    let (journal, callers) = close(rt, node, ((first, second), others));
+    let ((first, second), (third, fourth)) = callers;
+    let ((other, viewer), others) = viewers;
+    drop((other, others));
+    let (third, viewer, changing) = answer_all(rt, &node, third, viewer, plan.changing);
+    let (first, viewer, listening) = answer_all(rt, &node, first, viewer, plan.listening);
+    let (first, viewer) = meet_full(rt, &node, first, viewer, plan);
+    assert_listed(rt, viewer, plan.rows);
+    let (journal, callers) = close(rt, node, ((first, second), (third, fourth)));
     drop(callers);
-    assert_changed(rt, &journal);
+    assert_journal(rt, &journal, plan);
+    changing || listening
 }
 
-fn assert_changed<R: Abort>(rt: &R, journal: &Journal) {
-    let rows = [up(2), up(4)];
-    assert_eq!(rt; journal.len(), 4);
-    assert!(rt; journal.rows().as_slice() == rows.as_slice());
-}
-
-// A period begins with a probe of member 2, which acks it; member 4 joins, and member 3 is removed.
-fn four_calls() -> [(Call, Reply); 4] {
-    let probe = Probe {
-        target: id(2),
-        peer: at(2),
-        number: 1,
-    };
-    let started = Reply::Started {
-        judged: None,
-        probe: Some(probe),
-    };
-    [
-        (Call::Tick, started),
-        (Call::Hear(message(Kind::Ack, 1, 2, 1), at(2)), Reply::Heard),
-        (Call::Join(id(4), at(4)), Reply::Joined { place: 2 }),
-        (Call::Remove(id(3)), Reply::Removed),
-    ]
-}
-
+// Whether one of the calls was refused.
 fn answer_all<N: Naming, R: Wait + Abort + Copy + Drop>(
     rt: &R,
     node: &Node<N, Scripted, R>,
     seat: Seat<N>,
-    calls: &[(Call, Reply)],
-) -> Seat<N>
-    ensures { result.number ≡ seat.number }
+    viewer: Viewer<N>,
+    calls: &[Kept],
+) -> (Seat<N>, Viewer<N>, bool)
+    ensures { result.0.number ≡ seat.number }
 {
-    let mut seat = seat;
-    for (call, expected) in calls {
-        answer(rt, node, &mut seat, call, expected);
+    let (mut seat, mut viewer, mut refused) = (seat, viewer, false);
+    for place in 0..calls.len() {
+        let (before, wanted) = (&calls[..place], &calls[place]);
+        refused = answer(rt, node, &mut seat, &mut viewer, before, wanted) || refused;
     }
-    seat
+    (seat, viewer, refused)
 }
 
-// The call is answered so, at once or after one refusal, which leaves the seat as it was.
+// The call is answered so, at once or after one refusal, which leaves the seat's calls and the table as they were.
 fn answer<N: Naming, R: Wait + Abort + Copy + Drop>(
     rt: &R,
     node: &Node<N, Scripted, R>,
     seat: &mut Seat<N>,
-    call: &Call,
-    expected: &Reply,
-)
+    viewer: &mut Viewer<N>,
+    before: &[Kept],
+    wanted: &Kept,
+) -> bool
     ensures { seat.new.number ≡ seat.old.number }
 {
-    let count = seat.calls().len();
-    let mut answered = make(rt, node, seat, call);
-    if matches!(answered, Err(CallFault::NoMemory)) {
-        assert_eq!(rt; seat.calls().len(), count);
-        answered = make(rt, node, seat, call);
+    let rows = listed(rt, viewer);
+    let answered = make(rt, node, seat, &wanted.call);
+    let refused = matches!(answered, Err(CallFault::NoMemory));
+    if refused {
+        assert_calls(rt, seat, before);
+        assert!(rt; listed(rt, viewer).as_slice() == rows.as_slice());
+        let again = make(rt, node, seat, &wanted.call);
+        assert_receipt(rt, again, viewer, wanted);
+    } else {
+        assert_receipt(rt, answered, viewer, wanted);
     }
-    match answered {
-        Ok(receipt) => assert!(rt; receipt.reply == *expected),
+    refused
+}
+
+fn assert_receipt<N: Naming, R: Abort>(
+    rt: &R,
+    answer: Result<Receipt<N>, CallFault>,
+    viewer: &mut Viewer<N>,
+    wanted: &Kept,
+) {
+    match answer {
+        Ok(receipt) => {
+            assert_eq!(rt;
+                (receipt.position, receipt.number),
+                (wanted.position, wanted.number)
+            );
+            assert_eq!(rt; receipt.call, wanted.call);
+            assert_eq!(rt; &receipt.reply, &wanted.reply);
+            viewer.learn(&receipt.news);
+        }
         Err(_) => panic!(rt; "a receipt"),
+    }
+}
+
+// Each of the calls that meet a full journal is told so, and changes nothing.
+fn meet_full<N: Naming, R: Wait + Abort + Copy + Drop>(
+    rt: &R,
+    node: &Node<N, Scripted, R>,
+    seat: Seat<N>,
+    viewer: Viewer<N>,
+    plan: &Plan,
+) -> (Seat<N>, Viewer<N>)
+    ensures { result.0.number ≡ seat.number }
+{
+    let (mut seat, mut viewer) = (seat, viewer);
+    for call in plan.full {
+        let answer = make(rt, node, &mut seat, call);
+        assert!(rt; matches!(answer, Err(CallFault::JournalFull)));
+        assert_calls(rt, &seat, plan.listening);
+        assert!(rt; listed(rt, &mut viewer).as_slice() == plan.rows);
+    }
+    (seat, viewer)
+}
+
+fn listed<N: Naming, R: Abort>(rt: &R, viewer: &mut Viewer<N>) -> Table {
+    match viewer.list() {
+        Some(table) => table,
+        None => panic!(rt; "a list"),
+    }
+}
+
+fn assert_listed<N: Naming, R: Abort>(rt: &R, viewer: Viewer<N>, rows: &[Row]) {
+    let mut viewer = viewer;
+    assert!(rt; listed(rt, &mut viewer).as_slice() == rows);
+    assert!(rt; listed(rt, &mut viewer).as_slice() == rows);
+}
+
+// The seat was answered these calls, and no more.
+fn assert_calls<N: Naming, R: Abort>(rt: &R, seat: &Seat<N>, wanted: &[Kept]) {
+    let calls = seat.calls();
+    assert_eq!(rt; calls.len(), wanted.len());
+    for place in 0..calls.len() {
+        let kept = &calls[place];
+        assert!(rt; wanted.get(place).is_some_and(|it| is_same(kept, it)));
     }
 }
