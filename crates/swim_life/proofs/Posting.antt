@@ -17,7 +17,9 @@ grows_none (Some old) = sym (append-nil old)
 
 pub grows_both : {A : Type 0} (old mid new : Option (List A)) (xs ys : List A) → Grows old mid xs → Grows mid new ys →
     Grows old new (xs ++ ys)
-grows_both None mid new xs ys p q = tt
+grows_both None None None xs ys p q = tt
+grows_both None None (Some z) xs ys p q = absurd q
+grows_both None (Some y) new xs ys p q = absurd p
 grows_both (Some x) None new xs ys p q = absurd p
 grows_both (Some x) (Some y) None xs ys p q = absurd q
 grows_both (Some x) (Some y) (Some z) xs ys p q = q ∙ ap (λ l. l ++ ys) p ∙ append_assoc x xs ys

@@ -19,9 +19,10 @@ pub record Posted : Type 0 where
   pub to : Address
   pub is_taken : Bool
 
--- a list grew by these, where it is known
+-- a list grew by these, where it is known; what isn't known stays so
 abbrev pub Grows : {A : Type 0} → Option (List A) → Option (List A) → List A → Type 0
-Grows None new more = Unit {0}
+Grows None None more = Unit {0}
+Grows None (Some new) more = ⊥
 Grows (Some old) None more = ⊥
 Grows (Some old) (Some new) more = new ≡ old ++ more
 
