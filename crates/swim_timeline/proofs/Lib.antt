@@ -1,2 +1,4 @@
 pub mod Oldest
 pub mod Within
+pub mod Starting
+pub mod Periods

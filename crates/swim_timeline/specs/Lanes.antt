@@ -1,6 +1,6 @@
--- The lanes of a history: the members that ever stood in the member table, ascending by id, each with the address that
--- it had last.
-use Rattle.std.specs.Prelude.{ℕ, List, [], ◌∷◌}
+-- The lanes of a picture: the members that stood in the member table when it begins, and those that joined from then on,
+-- ascending by id, each with the address that it had last.
+use Rattle.std.specs.Prelude.{ℕ, nat_lt, List, [], ◌∷◌, if◌then◌else◌}
 use Rattle.std.specs.Ordering.{nat_cmp}
 use Rattle.std.specs.BTreeMap.{insert_entry}
 use Rattle.swim_wire.specs.Address.{Address}
@@ -10,7 +10,7 @@ use Rattle.swim_history.specs.declared.replies.Reply.{Reply}
 use Rattle.swim_history.specs.declared.replies.Reply.TheVariants.{Joined}
 use Rattle.swim_history.specs.declared.rows.Row.{Row}
 use Rattle.swim_history.specs.declared.entries.Entry.{Entry}
-use Rattle.swim_history.specs.Setting.{Setting}
+use Rattle.swim_history.specs.Clock.{ticks}
 
 abbrev pub Lanes : Type 0
 Lanes = List (ℕ × Address)
@@ -28,6 +28,9 @@ abbrev pub lanes_then : Lanes → Call → Reply → Lanes
 lanes_then lanes (Join id peer) (Joined place) = with_lane lanes id peer
 lanes_then lanes call reply = lanes
 
-abbrev pub lanes : Setting → List Entry → Lanes
-lanes o [] = with_rows [] o.rows
-lanes o (e ∷ before) = lanes_then (lanes o before) e.call e.reply
+-- these lanes, and those of who joined from that tick on
+abbrev pub lanes_from : ℕ → Lanes → List Entry → Lanes
+lanes_from first lanes [] = lanes
+lanes_from first lanes (e ∷ before) =
+    if nat_lt (ticks (e ∷ before)) first then lanes
+    else lanes_then (lanes_from first lanes before) e.call e.reply

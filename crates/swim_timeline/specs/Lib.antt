@@ -1,3 +1,4 @@
 pub mod Marks
 pub mod Lanes
 pub mod Shown
+pub mod Spans

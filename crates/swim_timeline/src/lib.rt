@@ -1,6 +1,7 @@
 //! The picture of a run, as an SVG: what happened to each member at which tick.
 #![tactic(auto)]
 
+mod beginnings;
 mod clock;
 mod drawing;
 mod lanes;
@@ -8,10 +9,13 @@ mod marks;
 mod rows;
 mod scale;
 mod shown;
+mod spans;
 mod style;
 mod timeline;
 
+pub use beginnings::Beginning;
 pub use lanes::Lanes;
 pub use marks::{Mark, MarkKind};
 pub use shown::{Shown, show};
-pub use timeline::{MOST_PERIODS, put_timeline};
+pub use spans::{MOST_PERIODS, PERIODS_ASIDE, Span, View};
+pub use timeline::put_timeline;

@@ -27,9 +27,10 @@ const NARROWEST_TICK: u64 = 16;
 
 const NARROWEST_PERIOD: u64 = 96;
 
-/// The scale of a picture that shows so many ticks and lanes.
+/// The scale of a picture that shows so many ticks and lanes, behind some ticks that it leaves out.
 #[derive(Clone, Copy)]
 pub(crate) struct Scale {
+    before: u32,
     ticks: u32,
     period: u32,
     last: u64,
@@ -44,9 +45,10 @@ pub(crate) struct Scale {
 }
 
 impl Scale {
-    /// The scale for so many ticks of a run, with so many lanes below a head of that height.
-    pub(crate) fn new(opening: &Opening, ticks: u32, lanes: usize, top: u16) -> Scale {
+    /// The scale for so many ticks of a run, behind so many others, with so many lanes below a head of that height.
+    pub(crate) fn new(opening: &Opening, before: u32, ticks: u32, lanes: usize, top: u16) -> Scale {
         Scale {
+            before,
             ticks,
             period: opening.period(),
             last: opening.last(),
@@ -65,7 +67,14 @@ impl Scale {
     pub(crate) fn at(&self, tick: u32) -> u64
         ensures { result < 2 ^ 55 }
     {
-        LEFT + u64::from(tick) * self.period_width / u64::from(self.period)
+        LEFT + self.width_of(tick.saturating_sub(self.before))
+    }
+
+    /// How wide so many ticks are.
+    fn width_of(&self, ticks: u32) -> u64
+        ensures { result < 2 ^ 54 }
+    {
+        u64::from(ticks) * self.period_width / u64::from(self.period)
     }
 
     /// Where an ack stands that came after a tick and before the next.
@@ -101,7 +110,7 @@ impl Scale {
     pub(crate) fn right(&self) -> u64
         ensures { result < 2 ^ 56 }
     {
-        self.at(self.ticks) + self.period_width / u64::from(self.period)
+        LEFT + self.width_of(self.ticks) + self.width_of(1)
     }
 
     /// The upper edge of a lane, counted from 0 at the first.
@@ -155,10 +164,11 @@ impl Scale {
     {
         let before = number.checked_sub(self.last)?.checked_sub(1)?;
         let tick = before.checked_mul(u64::from(self.period))?.checked_add(1)?;
-        if tick > u64::from(self.ticks) {
+        let shown = tick.checked_sub(u64::from(self.before))?;
+        if shown == 0 || shown > u64::from(self.ticks) {
             return None;
         }
-        Some(self.at(tick as u32))
+        Some(LEFT + self.width_of(shown as u32))
     }
 
     /// How many periods are shown, the last of which may be unfinished.
@@ -166,14 +176,18 @@ impl Scale {
         self.ticks.div_ceil(self.period)
     }
 
-    /// The tick with which a period starts, counted from 0 at the first.
+    /// The tick with which a period starts, counted from 0 at the first that is shown.
     pub(crate) fn starting_tick(&self, period: u32) -> u32 {
-        period.saturating_mul(self.period).saturating_add(1)
+        period
+            .saturating_mul(self.period)
+            .saturating_add(self.before)
+            .saturating_add(1)
     }
 
-    /// The number of a period, counted from 0 at the first.
+    /// The number of a period, counted from 0 at the first that is shown.
     pub(crate) fn number(&self, period: u32) -> u64 {
-        self.last.saturating_add(1 + u64::from(period))
+        let before = u64::from(self.before / self.period);
+        self.last.saturating_add(before + 1 + u64::from(period))
     }
 }
 

@@ -1,44 +1,51 @@
 //! What a picture shows of a run that may be too long for it.
 
-ghost use Rattle.std.specs.Prelude.{◌<◌, ◌^◌, ◌∷◌, List, IfOk, OnOk};
+ghost use Rattle.std.specs.Prelude.{◌≡◌, ◌<◌, ◌^◌, ◌∷◌, List, IfOk, OnOk};
 ghost use Rattle.swim_history.specs.declared.entries.Entry.{Entry};
 ghost use Rattle.swim_history.specs.Clock.{number_at};
-ghost use Rattle.swim_timeline.specs.Shown.{Shows};
+ghost use Rattle.swim_timeline.specs.Shown.{Draws, Shows};
 
+use crate::beginnings::{Beginning, begin_at};
 use crate::clock::{number_at, ticks_with};
 use crate::lanes::{Lanes, add_lane, lanes_of};
 use crate::marks::{Mark, add_marks};
+use crate::spans::Span;
 use std::alloc::{AllocError, Global};
 use swim_history::{Entry, Journal, Opening};
 
-/// What a picture shows of a run: all that happened within some number of ticks.
+/// What a picture shows of a run: all that happened within some ticks.
 #[derive(Drop)]
 pub struct Shown {
+    /// What lies before the first of these ticks.
+    pub before: Beginning,
     /// How many ticks the whole run has.
     pub ticks: u32,
-    /// How many of its entries are shown, the oldest ones.
+    /// How many of its entries are shown or lie before those that are, the oldest ones.
     pub entries: u32,
-    /// What happened in them, oldest first.
+    /// What happened in those that are shown, oldest first.
     pub marks: Vec<Mark>,
-    /// Each member that stood in the member table by their end, with the address that it had last.
+    /// Each member that stood in the member table as they begin, or joined in them, with the address that it had last.
     pub lanes: Lanes,
 }
 
-/// What a picture of so many ticks, `most`, shows of a journal: the oldest entries, up to the tick after that. `Err`
+/// What a picture of these ticks shows of a journal: the entries from the first tick on, up to the tick behind the last. `Err`
 /// only where memory was refused.
-pub fn show(alloc: Global, journal: &Journal, most: u32) -> Result<Shown, AllocError>
-    ensures { IfOk result (λ shown. Shows journal.now.opening journal.now.past most shown) }
+pub fn show(alloc: Global, journal: &Journal, span: Span) -> Result<Shown, AllocError>
+    ensures { IfOk result (λ shown. Shows journal.now.opening journal.now.past span.first span.until shown) }
 {
     let opening = journal.opening();
+    let before = begin_at(journal, span.first);
+    let lanes = lanes_of(alloc, before.rows.as_slice())?;
     let mut shown = Shown {
+        before,
         ticks: 0,
         entries: 0,
         marks: Vec::new(alloc),
-        lanes: lanes_of(alloc, opening.rows())?,
+        lanes,
     };
     for place in 0..journal.len() {
         if let Some(entry) = journal.entry(place) {
-            shown.note(opening, most, &entry)?;
+            shown.note(opening, span, &entry)?;
         }
     }
     Ok(shown)
@@ -46,20 +53,25 @@ pub fn show(alloc: Global, journal: &Journal, most: u32) -> Result<Shown, AllocE
 
 impl Shown {
     /// Takes one more entry of the run.
-    fn note(&mut self, opening: &Opening, most: u32, entry: &Entry) -> Result<(), AllocError>
+    fn note(&mut self, opening: &Opening, span: Span, entry: &Entry) -> Result<(), AllocError>
         requires ticks { self.old.ticks < u32.MAX }
         requires entries { self.old.entries < u32.MAX }
         requires number { number_at opening.now.last opening.now.period self.old.ticks < 2 ^ 64 }
-        ensures { (h : List Entry) → Shows opening.now h most self.old →
-            OnOk result (Shows opening.now (entry.now ∷ h) most self.new) }
+        ensures before { OnOk result (self.new.before ≡ self.old.before) }
+        ensures drawn { (h : List Entry) → Draws opening.now h span.first span.until self.old →
+            OnOk result (Draws opening.now (entry.now ∷ h) span.first span.until self.new) }
     {
         let ended = number_at(opening, self.ticks);
         self.ticks = ticks_with(self.ticks, entry);
-        if self.ticks <= most {
-            self.entries += 1;
-            add_lane(&mut self.lanes, entry)?;
-            add_marks(&mut self.marks, self.ticks, ended, entry)?;
+        if u64::from(self.ticks) > span.until {
+            return Ok(());
         }
+        self.entries += 1;
+        if self.ticks < span.first {
+            return Ok(());
+        }
+        add_lane(&mut self.lanes, entry)?;
+        add_marks(&mut self.marks, self.ticks, ended, entry)?;
         Ok(())
     }
 }

@@ -1,48 +1,50 @@
 //! The picture of a journal.
 
-ghost use Rattle.std.specs.Prelude.{◌≡◌, ◌-◌, length, IfOk, OnErr};
+ghost use Rattle.std.specs.Prelude.{◌≡◌, ◌-◌, min, length, IfOk, OnErr};
 ghost use Rattle.swim_wire.specs.Streams.{failures_if};
 ghost use Rattle.swim_history.specs.Clock.{ticks};
-ghost use Rattle.swim_timeline.specs.Shown.{Shows, within};
+ghost use Rattle.swim_timeline.specs.Shown.{Shows, before_tick, within};
 
 use crate::drawing::gaps::draw_gaps;
-use crate::drawing::head::{Cut, draw_head, head_height};
+use crate::drawing::head::{Cut, Left, draw_head, head_height};
 use crate::drawing::lines::{draw_lanes, draw_lines};
 use crate::drawing::marks::draw_marks;
 use crate::drawing::ruler::draw_ruler;
-use crate::scale::Scale;
+use crate::scale::{LEFT, Scale};
 use crate::shown::{Shown, show};
+use crate::spans::Span;
 use std::alloc::{AllocError, Global};
 use swim_history::Journal;
 use swim_wire::{Id, Sink};
 
-/// How many periods a picture shows at the most.
-pub const MOST_PERIODS: u32 = 400;
-
-/// Puts the picture of a journal, and answers whether the writer took all of it. The picture is an SVG that stands
-/// alone: a lane for each member, and from left to right what happened to it at which tick. Of a run of more than
-/// [`MOST_PERIODS`] periods it shows the first ones, and says how much it leaves out. `Err` only where memory was
-/// refused; then nothing was put.
+/// Puts the picture of these ticks of a journal, and answers whether the writer took all of it. The picture is an SVG that
+/// stands alone: a lane for each member, and from left to right what happened to it at which tick. It says how much of
+/// the run it leaves out. `Err` only where memory was refused; then nothing was put.
 pub fn put_timeline<W: Sink>(
     alloc: Global,
     journal: &Journal,
+    span: Span,
     writer: &mut W,
 ) -> Result<bool, AllocError>
     ensures failures { IfOk result (λ done. W.failures writer.new ≡ failures_if (W.failures writer.old) done) }
     ensures refused { OnErr result (writer.new ≡ writer.old) }
 {
-    let text = timeline(alloc, journal)?;
+    let text = timeline(alloc, journal, span)?;
     Ok(writer.put(text.as_str().as_bytes()))
 }
 
 /// The text of the picture.
-fn timeline(alloc: Global, journal: &Journal) -> Result<String, AllocError> {
-    let most = MOST_PERIODS * journal.opening().period();
-    let shown = show(alloc, journal, most)?;
+fn timeline(alloc: Global, journal: &Journal, span: Span) -> Result<String, AllocError> {
+    let shown = show(alloc, journal, span)?;
     let members: Vec<Id> = shown.lanes.keys().copied().collect(alloc)?;
-    let cut = cut_of(journal, &shown, most);
-    let ticks = shown.ticks - cut.ticks;
-    let scale = Scale::new(journal.opening(), ticks, members.len(), head_height(&cut));
+    let cut = cut_of(journal, &shown, span);
+    let ticks = shown
+        .ticks
+        .saturating_sub(cut.before.ticks)
+        .saturating_sub(cut.behind.ticks);
+    let opening = journal.opening();
+    let height = head_height(&cut);
+    let scale = Scale::new(opening, cut.before.ticks, ticks, members.len(), height);
     let mut text = String::new(alloc);
     draw_head(&mut text, journal, &shown, &cut, &scale)?;
     draw_body(
@@ -57,15 +59,24 @@ fn timeline(alloc: Global, journal: &Journal) -> Result<String, AllocError> {
     Ok(text)
 }
 
-/// What a picture of so many ticks leaves out.
-fn cut_of(journal: &Journal, shown: &Shown, most: u32) -> Cut
-    requires { Shows journal.now.opening journal.now.past most shown.now }
-    ensures ticks { result.ticks ≡ ticks journal.now.past - most }
-    ensures entries { result.entries ≡ length journal.now.past - length (within most journal.now.past) }
+/// What a picture of these ticks leaves out.
+fn cut_of(journal: &Journal, shown: &Shown, span: Span) -> Cut
+    requires { Shows journal.now.opening journal.now.past span.first span.until shown.now }
+    ensures ticks_before { result.before.ticks ≡ min (ticks journal.now.past) (span.first - 1) }
+    ensures entries_before { result.before.entries ≡ length (before_tick span.first journal.now.past) }
+    ensures ticks_behind { result.behind.ticks ≡ ticks journal.now.past - span.until }
+    ensures entries_behind { result.behind.entries ≡ length journal.now.past - length (within span.until journal.now.past) }
 {
+    let ticks = u64::from(shown.ticks).saturating_sub(span.until);
     Cut {
-        ticks: shown.ticks.saturating_sub(most),
-        entries: journal.len().saturating_sub(shown.entries),
+        before: Left {
+            ticks: shown.ticks.min(span.first.saturating_sub(1)),
+            entries: shown.before.entries,
+        },
+        behind: Left {
+            ticks: ticks as u32,
+            entries: journal.len().saturating_sub(shown.entries),
+        },
     }
 }
 
@@ -77,7 +88,7 @@ fn draw_body(
     members: &[Id],
     scale: &Scale,
 ) -> Result<(), AllocError> {
-    let rows = journal.opening().rows();
+    let rows = shown.before.rows.as_slice();
     let marks = shown.marks.as_slice();
     text.push_str("<g aria-hidden=\"true\">\n")?;
     draw_lanes(text, &shown.lanes, scale)?;
@@ -90,13 +101,20 @@ fn draw_body(
     text.push_str("</g>\n")
 }
 
-/// A line where the rest of the run is cut off, if it is, and the end of the text.
+/// A line where the run is cut, on each side where it is, and the end of the text.
 fn draw_end(text: &mut String, cut: &Cut, scale: &Scale) -> Result<(), AllocError> {
-    if !cut.is_none() {
-        let x = scale.right();
-        let top = scale.top();
-        let bottom = scale.bottom();
-        write!(text, "<path class=\"cut\" d=\"M{x} {top}V{bottom}\"/>\n")?;
+    if !cut.before.is_none() {
+        draw_cut(text, LEFT, scale)?;
+    }
+    if !cut.behind.is_none() {
+        draw_cut(text, scale.right(), scale)?;
     }
     text.push_str("</svg>\n")
+}
+
+/// A line where the run is cut.
+fn draw_cut(text: &mut String, x: u64, scale: &Scale) -> Result<(), AllocError> {
+    let top = scale.top();
+    let bottom = scale.bottom();
+    write!(text, "<path class=\"cut\" d=\"M{x} {top}V{bottom}\"/>\n")
 }

@@ -1,8 +1,8 @@
 use std::test::Fail;
 use swim_detector::Recorder;
-use swim_history::{Call, Journal, Opening};
+use swim_history::{Call, Journal, Opening, RowState};
 use swim_targets::Scripted;
-use swim_timeline::{Mark, MarkKind, put_timeline, show};
+use swim_timeline::{Mark, MarkKind, Span, View, put_timeline, show};
 use swim_wire::{Id, Kind, Message, Page, Peer, PeriodNumber};
 
 fn id(value: u32) -> Result<Id, Fail> {
@@ -60,6 +60,10 @@ fn journal(rt: HostRuntime) -> Result<Journal, Fail> {
     Ok(recorder.into_journal())
 }
 
+fn span(first: u32, until: u64) -> Span {
+    Span { first, until }
+}
+
 fn places(rt: HostRuntime, marks: &[Mark]) -> Result<Vec<(u32, u32)>, Fail> {
     let mut places = Vec::new(rt.alloc());
     for mark in marks {
@@ -70,7 +74,7 @@ fn places(rt: HostRuntime, marks: &[Mark]) -> Result<Vec<(u32, u32)>, Fail> {
 
 #[test]
 fn each_kind_has_its_mark(rt: HostRuntime) -> Result<(), Fail> {
-    let shown = show(rt.alloc(), &journal(rt)?, 10)?;
+    let shown = show(rt.alloc(), &journal(rt)?, span(0, 10))?;
     assert_eq!(rt; (shown.ticks, shown.entries), (7, 10));
     assert_eq!(rt; shown.lanes.len(), 4);
     let wanted = [
@@ -101,21 +105,56 @@ fn each_kind_has_its_mark(rt: HostRuntime) -> Result<(), Fail> {
 
 #[test]
 fn a_long_run_is_cut_behind_a_tick(rt: HostRuntime) -> Result<(), Fail> {
-    let shown = show(rt.alloc(), &journal(rt)?, 4)?;
+    let shown = show(rt.alloc(), &journal(rt)?, span(0, 4))?;
     assert_eq!(rt; (shown.ticks, shown.entries), (7, 7));
     assert_eq!(rt; shown.marks.len(), 6);
+    Ok(())
+}
+
+// Members 2 and 3 were probed before, and 5 has come and gone. What is left of ticks 5 to 6 is an ask.
+#[test]
+fn a_later_part_begins_with_the_table_of_then(rt: HostRuntime) -> Result<(), Fail> {
+    let shown = show(rt.alloc(), &journal(rt)?, span(5, 6))?;
+    assert_eq!(rt; (shown.before.entries, shown.entries), (7, 9));
+    assert_eq!(rt; (shown.before.rows.len(), shown.lanes.len()), (3, 3));
+    let wanted = [(5, 3)];
+    assert_eq!(rt;
+        places(rt, shown.marks.as_slice())?.as_slice(),
+        wanted.as_slice()
+    );
+    let shown = show(rt.alloc(), &journal(rt)?, span(8, 20))?;
+    assert_eq!(rt; shown.before.rows[1].state, RowState::Failed(9));
+    assert!(rt; shown.marks.is_empty());
+    Ok(())
+}
+
+// Periods 8, 9 and 10 began at ticks 1, 4 and 7. Member 3 was judged at the end of period 9, which is the second one: so
+// the periods round it begin with period 8, and end with 14.
+#[test]
+fn a_view_is_of_periods_that_began(rt: HostRuntime) -> Result<(), Fail> {
+    let journal = journal(rt)?;
+    assert_eq!(rt; Span::of(&journal, View::Start)?, Some(span(0, 1200)));
+    assert_eq!(rt; Span::of(&journal, View::From(7))?, None);
+    assert_eq!(rt; Span::of(&journal, View::From(8))?, Some(span(1, 1200)));
+    assert_eq!(rt; Span::of(&journal, View::From(10))?, Some(span(7, 1206)));
+    assert_eq!(rt; Span::of(&journal, View::From(11))?, None);
+    assert_eq!(rt;
+        Span::of(&journal, View::Around(id(3)?))?,
+        Some(span(1, 21))
+    );
+    assert_eq!(rt; Span::of(&journal, View::Around(id(4)?))?, None);
     Ok(())
 }
 
 #[test]
 fn an_empty_run_has_its_lanes(rt: HostRuntime) -> Result<(), Fail> {
     let journal = Journal::new(rt.alloc(), opening()?);
-    let shown = show(rt.alloc(), &journal, 10)?;
+    let shown = show(rt.alloc(), &journal, span(0, 10))?;
     assert_eq!(rt; (shown.ticks, shown.entries), (0, 0));
     assert!(rt; shown.marks.is_empty());
     assert_eq!(rt; shown.lanes.len(), 3);
     let mut page = Page::new(rt.alloc());
-    assert!(rt; put_timeline(rt.alloc(), &journal, &mut page)?);
+    assert!(rt; put_timeline(rt.alloc(), &journal, span(0, 10), &mut page)?);
     assert!(rt; page.text().starts_with(b"<svg xmlns="));
     assert!(rt; page.text().ends_with(b"</svg>\n"));
     Ok(())
@@ -125,6 +164,6 @@ fn an_empty_run_has_its_lanes(rt: HostRuntime) -> Result<(), Fail> {
 fn tells_what_was_not_written(rt: HostRuntime) -> Result<(), Fail> {
     let journal = Journal::new(rt.alloc(), opening()?);
     let mut page = Page::failing_after(rt.alloc(), Some(0), None);
-    assert!(rt; !put_timeline(rt.alloc(), &journal, &mut page)?);
+    assert!(rt; !put_timeline(rt.alloc(), &journal, span(0, 10), &mut page)?);
     Ok(())
 }

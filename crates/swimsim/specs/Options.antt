@@ -1,11 +1,15 @@
 -- The words of the command line.
-use Rattle.std.specs.Prelude.{◌≡◌, ◌⊎◌, ◌<◌, List, [], length, Option, Some, None, IsSome, Bool, codes, true, false}
+use Rattle.std.specs.Prelude.{◌≡◌, ◌⊎◌, ℕ, ◌-◌, ◌^◌, ◌<◌, List, [], length, Option, Some, None, IsSome, Bool, codes, true, false}
 use Rattle.std.specs.Option.{unwrap_or}
+use Rattle.std.specs.Str.Parse.{IsNumeral, digits_value, without_leading_plus}
 use Rattle.swimsim.specs.declared.options.Options.{Options}
 use Rattle.clap.specs.Words.{App, Rule, all_of, Shape, Text, first_of, matches_of, new_app, new_rule, one_of, with_rule}
 use Rattle.clap.specs.Lexer.{usize_max}
 use Rattle.clap.specs.Simple.{on_top}
 use Rattle.clap.specs.declared.builder.ArgAction.TheVariants.{SetTrue}
+use Rattle.clap.specs.declared.builder.value_parser.ValueParser.TheVariants.{Unsigned}
+use Rattle.swim_timeline.specs.declared.spans.View.{View}
+use Rattle.swim_timeline.specs.declared.spans.View.TheVariants.{Start, From, Around}
 
 -- the path of the script
 abbrev pub script_rule : Rule
@@ -22,20 +26,30 @@ versioned s = record s { has_version = true }
 abbrev pub value_rule : Text → Rule
 value_rule name = record (new_rule name) { long = Some name; value_names = 1 }
 
+-- an option that takes a number from 1 up to that
+abbrev pub number_rule : Text → ℕ → Rule
+number_rule name most = record (value_rule name) { parser = Some (Unsigned 1 most) }
+
 -- an option that takes one value or more
 abbrev pub values_rule : Text → Rule
 values_rule name = record (value_rule name) { range = Some (record { start_inclusive = 1; end_inclusive = usize_max }) }
 
--- of a script: at most one word that is no option, the flags, and the option of a value
+-- of a script: at most one word that is no option, two flags, and the picture
 abbrev pub script_line : App
 script_line =
-    with_rule (with_rule (with_rule (with_rule (with_rule (on_top versioned (new_app (codes "swimsim"))) script_rule)
-    (flag_rule (codes "decode"))) (flag_rule (codes "explain"))) (value_rule (codes "timeline"))) (flag_rule (codes "force"))
+    with_rule (with_rule (with_rule (with_rule (on_top versioned (new_app (codes "swimsim"))) script_rule)
+    (flag_rule (codes "decode"))) (flag_rule (codes "explain"))) (value_rule (codes "timeline"))
+
+-- of the picture: with which period it begins, or round whose judgement it lies, and whether it is written over anything
+abbrev pub picture_line : App
+picture_line =
+    with_rule (with_rule (with_rule script_line (number_rule (codes "from") (2 ^ 64 - 1))) (number_rule (codes "around") (2 ^ 32 - 1)))
+    (flag_rule (codes "force"))
 
 -- these and the journal files to be verified, beside what clap gives each program that has a version, `--help` and
 -- `--version`
 abbrev pub command_line : App
-command_line = with_rule script_line (values_rule (codes "verify"))
+command_line = with_rule picture_line (values_rule (codes "verify"))
 
 -- the path of the script that the words name, if any
 abbrev pub script_in : List Text → Option Text
@@ -58,8 +72,27 @@ abbrev pub TellsFlag : Bool → Option Text → Type 0
 TellsFlag flag written = (written ≡ None → flag ≡ false) × (written ≡ Some (codes "true") → flag ≡ true)
     × (written ≡ Some (codes "false") → flag ≡ false)
 
+-- the number is that of the text, where that is one from 1 up to below the limit
+abbrev pub TellsNumber : ℕ → Option ℕ → Option Text → Type 0
+TellsNumber limit number written = (written ≡ None → number ≡ None) × ((text : Text) → written ≡ Some text
+    → IsNumeral 10 (without_leading_plus text) → 0 < digits_value 10 (without_leading_plus text)
+    → digits_value 10 (without_leading_plus text) < limit → number ≡ Some (digits_value 10 (without_leading_plus text)))
+
+-- which periods the picture shows
+abbrev pub view_of : Option ℕ → Option ℕ → View
+view_of (Some number) around = From number
+view_of None (Some member) = Around member
+view_of None None = Start
+
+-- something of a picture is asked that stands beside no picture, or both from a period on and round a judgement
+abbrev pub IsUnplaced : Options → Type 0
+IsUnplaced options = (IsSome options.from ⊎ IsSome options.around) × (options.timeline ≡ None)
+
+abbrev pub IsTwofold : Options → Type 0
+IsTwofold options = IsSome options.from × IsSome options.around
+
 -- files are to be verified, and something else is asked beside that
 abbrev pub IsMixed : Options → Type 0
 IsMixed options = (0 < length options.verify.items)
     × (IsSome options.script ⊎ (options.decode ≡ true) ⊎ (options.explain ≡ true) ⊎ IsSome options.timeline
-    ⊎ (options.force ≡ true))
+    ⊎ IsSome options.from ⊎ IsSome options.around ⊎ (options.force ≡ true))

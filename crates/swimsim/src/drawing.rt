@@ -1,12 +1,12 @@
 //! The picture of a run, in a file.
 
 use crate::options::Options;
-use anyhow::{Result, anyhow};
+use anyhow::{Error, Result, anyhow};
 use std::fs::File;
 use std::io::{Read, Seek};
 use std::process::ExitCode;
 use swim_history::Journal;
-use swim_timeline::put_timeline;
+use swim_timeline::{Span, View, put_timeline};
 use swim_wire::{Sink, Words, WriteSink};
 
 /// What the first two lines of a picture begin with.
@@ -28,7 +28,7 @@ pub fn draw_at(
     let Some(path) = options.timeline else {
         return code;
     };
-    match draw(rt, path, options.force, journal) {
+    match draw(rt, path, options, journal) {
         Ok(()) => code,
         Err(error) => {
             let _ = eprintln!(rt; "swimsim: {path}: {error}");
@@ -37,20 +37,40 @@ pub fn draw_at(
     }
 }
 
-fn draw(rt: &HostRuntime, path: &str, is_forced: bool, journal: Option<&Journal>) -> Result<()> {
+fn draw(
+    rt: &HostRuntime,
+    path: &str,
+    options: &Options<'_>,
+    journal: Option<&Journal>,
+) -> Result<()> {
     let Some(journal) = journal else {
         return Err(anyhow!("there is no event to be drawn"));
     };
-    let file = if is_forced {
+    let Some(span) = Span::of(journal, options.view())? else {
+        return Err(nothing_shown(options.view()));
+    };
+    let file = if options.force {
         File::create(rt, path)?
     } else {
         open_unless_lost(rt, path)?
     };
     let mut writer = WriteSink::new(file);
-    if put_timeline(rt.alloc(), journal, &mut writer)? && writer.flush() {
+    if put_timeline(rt.alloc(), journal, span, &mut writer)? && writer.flush() {
         Ok(())
     } else {
         Err(anyhow!("the picture can't be written"))
+    }
+}
+
+/// Why there is nothing to be drawn of a run that has an event.
+fn nothing_shown(view: View) -> Error {
+    match view {
+        View::Start => anyhow!("there is no event to be drawn"),
+        View::From(number) => anyhow!("the run has no period {number}"),
+        View::Around(member) => {
+            let id = member.get();
+            anyhow!("member {id} was not judged in this run")
+        }
     }
 }
 

@@ -41,7 +41,7 @@ use files::{Input, Output, Script};
 use hearing::Messages;
 use naming::Namer;
 use notes::{NoteTaker, Notes, Told};
-use options::{Options, read_options, refuse_bytes, refuse_mixed};
+use options::{Options, read_options, refuse_bytes, refuse_mixed, refuse_twofold, refuse_unplaced};
 use overhearing::Overheard;
 use std::alloc::AllocError;
 use std::cell::{Cell, RefCell};
@@ -78,6 +78,8 @@ fn begin(rt: &HostRuntime) -> Result<ExitCode> {
     };
     match read_options(rt.alloc(), words.as_slice()) {
         Ok(options) if options.is_mixed() => tell(rt, &refuse_mixed(rt.alloc())?),
+        Ok(options) if options.is_unplaced() => tell(rt, &refuse_unplaced(rt.alloc())?),
+        Ok(options) if options.is_twofold() => tell(rt, &refuse_twofold(rt.alloc())?),
         Ok(options) if !options.verify.is_empty() => verify(rt, options.verify.as_slice()),
         Ok(options) => match options.script {
             Some(path) if path != "-" => Ok(play_file(rt, path, &options)),

@@ -1,16 +1,19 @@
 //! The words of the command line.
 
-ghost use Rattle.std.specs.Prelude.{◌≡◌, ◌↔◌, [], IfOk, IsTrue, codes, false, map, option_map};
+ghost use Rattle.std.specs.Prelude.{◌≡◌, ◌↔◌, ◌<◌, ◌-◌, ◌^◌, ℕ, [], None, Some, IfOk, IsTrue, codes, false, map, option_map};
 ghost use Rattle.std.specs.Option.{unwrap_or};
 ghost use Rattle.clap.specs.Words.{FailsBy, app_of, fault_of, kind_of, rule_of};
 ghost use Rattle.swimsim.specs.Options.{TellsFlag, command_line, flag_in, flag_rule, script_in, script_rule, value_in};
-ghost use Rattle.swimsim.specs.Options.{IsMixed, values_in, values_rule};
-ghost use Rattle.swimsim.specs.Options.{value_rule};
+ghost use Rattle.swimsim.specs.Options.{IsMixed, IsTwofold, IsUnplaced, TellsNumber, number_rule};
+ghost use Rattle.swimsim.specs.Options.{value_rule, values_in, values_rule, view_of};
 
+use clap::builder::ValueParser;
 use clap::error::ErrorKind;
 use clap::{Arg, ArgAction, Command, Error};
 use std::alloc::{AllocError, Global};
 use std::convert::AsStr;
+use swim_timeline::View;
+use swim_wire::Id;
 
 /// What the words of the command line ask for.
 #[derive(Debug, Drop)]
@@ -23,6 +26,10 @@ pub struct Options<'a> {
     pub explain: bool,
     /// The path of a picture of the run; `None` where none is wanted.
     pub timeline: Option<&'a str>,
+    /// The period with which the picture begins; `None` where no period is named.
+    pub from: Option<u64>,
+    /// The member round whose last judgement the picture lies; `None` where none is named.
+    pub around: Option<Id>,
     /// Whether the picture is written over whatever stands there.
     pub force: bool,
     /// The paths of journal files that are verified; none where a script is played.
@@ -39,7 +46,34 @@ impl<'a> Options<'a> {
                 || self.decode
                 || self.explain
                 || self.timeline.is_some()
+                || self.from.is_some()
+                || self.around.is_some()
                 || self.force)
+    }
+
+    /// Whether a part of a picture is asked for, and no picture.
+    pub fn is_unplaced(&self) -> bool
+        ensures { IsTrue result ↔ IsUnplaced self.now }
+    {
+        (self.from.is_some() || self.around.is_some()) && self.timeline.is_none()
+    }
+
+    /// Whether two parts of a picture are asked for.
+    pub fn is_twofold(&self) -> bool
+        ensures { IsTrue result ↔ IsTwofold self.now }
+    {
+        self.from.is_some() && self.around.is_some()
+    }
+
+    /// Which periods the picture shows.
+    pub fn view(&self) -> View
+        ensures { result ≡ view_of self.now.from self.now.around }
+    {
+        match (self.from, self.around) {
+            (Some(number), _) => View::From(number),
+            (None, Some(member)) => View::Around(member),
+            (None, None) => View::Start,
+        }
     }
 }
 
@@ -54,6 +88,10 @@ pub fn read_options<'a, S: AsStr>(alloc: Global, words: &'a [S]) -> Result<Optio
         (flag_in (codes "explain") (map S.text words.entry.now))) }
     ensures timeline { IfOk result (λ options. option_map (λ path. path.now) options.timeline
         ≡ value_in (codes "timeline") (map S.text words.entry.now)) }
+    ensures from { IfOk result (λ options. TellsNumber (2 ^ 64) options.from
+        (flag_in (codes "from") (map S.text words.entry.now))) }
+    ensures around { IfOk result (λ options. TellsNumber (2 ^ 32) options.around
+        (flag_in (codes "around") (map S.text words.entry.now))) }
     ensures force { IfOk result (λ options. TellsFlag options.force
         (flag_in (codes "force") (map S.text words.entry.now))) }
     ensures verify { IfOk result (λ options. map (λ path. path.now) options.verify.items
@@ -68,9 +106,19 @@ pub fn read_options<'a, S: AsStr>(alloc: Global, words: &'a [S]) -> Result<Optio
         decode: matches.get_flag("decode"),
         explain: matches.get_flag("explain"),
         timeline: matches.get_str("timeline"),
+        from: matches.get_one("from"),
+        around: id_of(matches.get_one("around")),
         force: matches.get_flag("force"),
         verify,
     })
+}
+
+/// The id of a number, if there is one that is not 0.
+fn id_of(number: Option<u32>) -> Option<Id>
+    ensures none { number ≡ None → result ≡ None }
+    ensures some { (n : ℕ) → number ≡ Some n → 0 < n → result ≡ Some n }
+{
+    Id::new(number?)
 }
 
 /// The paths, of which there are none where the words give none.
@@ -102,6 +150,28 @@ pub fn refuse_mixed(alloc: Global) -> Result<Error, AllocError>
     )
 }
 
+/// The answer to words that ask for a part of a picture, and for no picture.
+pub fn refuse_unplaced(alloc: Global) -> Result<Error, AllocError>
+    ensures { IfOk result (λ answer. kind_of answer ≡ ErrorKind.MissingRequiredArgument) }
+{
+    let mut command = command_line(alloc)?;
+    command.error(
+        ErrorKind::MissingRequiredArgument,
+        "--from and --around stand beside --timeline FILE",
+    )
+}
+
+/// The answer to words that ask for two parts of a picture.
+pub fn refuse_twofold(alloc: Global) -> Result<Error, AllocError>
+    ensures { IfOk result (λ answer. kind_of answer ≡ ErrorKind.ArgumentConflict) }
+{
+    let mut command = command_line(alloc)?;
+    command.error(
+        ErrorKind::ArgumentConflict,
+        "--from and --around don't stand beside each other",
+    )
+}
+
 /// What the program takes on its command line.
 fn command_line<'a>(alloc: Global) -> Result<Command<'a>, AllocError>
     ensures { IfOk result (λ command. app_of command ≡ command_line) }
@@ -128,6 +198,8 @@ fn command_line<'a>(alloc: Global) -> Result<Command<'a>, AllocError>
         .arg(decode)?
         .arg(explain)?
         .arg(timeline(alloc))?
+        .arg(from(alloc))?
+        .arg(around(alloc))?
         .arg(force)?
         .arg(verify(alloc))
 }
@@ -160,6 +232,32 @@ fn timeline<'a>(alloc: Global) -> Arg<'a>
         .long("timeline")
         .value_name("FILE")
         .help("Draws the run into FILE, as SVG")
+}
+
+/// With which period the picture begins.
+fn from<'a>(alloc: Global) -> Arg<'a>
+    ensures rule { rule_of result ≡ number_rule (codes "from") (2 ^ 64 - 1) }
+    ensures local { result.global ≡ false }
+{
+    Arg::new(alloc, "from")
+        .long("from")
+        .value_name("P")
+        .value_parser(ValueParser::Unsigned(1, u64::MAX))
+        .help("Begins the picture with period P")
+}
+
+/// Round whose judgement the picture lies.
+fn around<'a>(alloc: Global) -> Arg<'a>
+    ensures rule { rule_of result ≡ number_rule (codes "around") (2 ^ 32 - 1) }
+    ensures local { result.global ≡ false }
+{
+    Arg::new(alloc, "around")
+        .long("around")
+        .value_name("ID")
+        .value_parser(ValueParser::Unsigned(1, u64::from(u32::MAX)))
+        .help(
+            "Draws the period at whose end member ID was judged last, five before it and five behind it",
+        )
 }
 
 /// The journal files that are verified.

@@ -39,11 +39,25 @@ const LEGEND: [(&str, &str); 10] = [
 /// What of a run a picture leaves out.
 #[derive(Clone, Copy)]
 pub(crate) struct Cut {
+    pub before: Left,
+    pub behind: Left,
+}
+
+impl Cut {
+    /// Whether nothing is left out.
+    pub(crate) fn is_none(&self) -> bool {
+        self.before.is_none() && self.behind.is_none()
+    }
+}
+
+/// What is left out on one side of a picture.
+#[derive(Clone, Copy)]
+pub(crate) struct Left {
     pub ticks: u32,
     pub entries: u32,
 }
 
-impl Cut {
+impl Left {
     /// Whether nothing is left out.
     pub(crate) fn is_none(&self) -> bool {
         self.entries == 0
@@ -155,12 +169,23 @@ fn write_cut(text: &mut String, cut: &Cut) -> Result<(), AllocError> {
     if cut.is_none() {
         return Ok(());
     }
-    let ticks = cut.ticks;
-    let entries = cut.entries;
-    write!(
-        text,
-        " Cut: the last {ticks} ticks, and {entries} entries, are left out."
-    )
+    text.push_str(" Cut:")?;
+    write_left(text, "first", &cut.before)?;
+    if !cut.before.is_none() && !cut.behind.is_none() {
+        text.push_str(" and")?;
+    }
+    write_left(text, "last", &cut.behind)?;
+    text.push_str(" are left out.")
+}
+
+/// What is left out on one side, where something is.
+fn write_left(text: &mut String, side: &str, left: &Left) -> Result<(), AllocError> {
+    if left.is_none() {
+        return Ok(());
+    }
+    let ticks = left.ticks;
+    let entries = left.entries;
+    write!(text, " the {side} {ticks} ticks, and {entries} entries,")
 }
 
 fn put_legend(text: &mut String, y: u64) -> Result<(), AllocError>

@@ -1,7 +1,9 @@
 use Rattle.std.proofs.Common.{reverse, take}
-use Rattle.swim_timeline.specs.Shown.{Shows}
+use Rattle.swim_timeline.specs.Shown.{Begins, Draws}
 use Rattle.swim_timeline.proofs.shown.show.Given as goal
 
--- what is shown of the entries so far
+-- what is drawn of the entries so far
 abbrev pub invariant-loop-place : goal.invariant-loop-place
-invariant-loop-place l = Shows l.journal.opening (reverse (take l.place (reverse l.journal.past))) l.most l.shown
+invariant-loop-place l =
+    Begins l.journal.opening l.journal.past l.span.first l.shown.before
+    × Draws l.journal.opening (reverse (take l.place (reverse l.journal.past))) l.span.first l.span.until l.shown

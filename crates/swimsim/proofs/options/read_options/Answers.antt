@@ -1,6 +1,7 @@
-use Rattle.std.proofs.Common.{ap, ◌∙◌, ◌≡◌, ℕ, List, [], Option, Some, None, Bor, map, codes, refl, sym, subst}
+use Rattle.std.proofs.Common.{ap, ◌∙◌, ◌≡◌, ℕ, ◌^◌, ◌<◌, List, [], Option, Some, None, Result, Ok, Err, Bor, map, codes, refl, sym, subst}
 use Rattle.std.specs.Option.{option_map, unwrap_or}
-use Rattle.clap.specs.Words.{App, HasKind, all_of, fault_of, first_of, found_of, is_simple, is_simple_and_free, matches_of, one_of, one_text}
+use Rattle.std.specs.Str.Parse.{ExplainsUnsignedError, HasUnsignedDigitsIfOk, IsNumeral, ParsesUnsigned, digits_value, without_leading_plus}
+use Rattle.clap.specs.Words.{App, HasKind, ReadsOne, all_of, fault_of, first_of, found_of, is_simple, is_simple_and_free, matches_of, one_of, one_text}
 use Rattle.clap.proofs.WalkLemmas.{first_value-rows, one_text-rows, raw_values-rows}
 use Rattle.swimsim.specs.Options.{command_line}
 use Rattle.swimsim.proofs.CommandLine.{is_simple_line, is_free_line, passed_on}
@@ -44,6 +45,39 @@ returns-clause-timeline g c =
     let rows = (c.in_ok-matches.ensures.matches (ap is_simple c.in_ok-command.ensures ∙ is_simple_line)).0 in
     c.get_str-2.ensures ∙ (first_value-rows (found_of c.in_ok-matches.matches) (codes "timeline")
     ∙ ap (first_of (codes "timeline")) (rows ∙ ap (λ (a : App). matches_of a words) c.in_ok-command.ensures))
+
+-- what is read of the text of a number
+number_is : (E : Type 0) (gives : List ℕ → Result ℕ E → Type 0) (bits : ℕ) (text : List ℕ) (number : Option ℕ) →
+    ((t : List ℕ) (r : Result ℕ E) → gives t r → ParsesUnsigned bits 10 t r) → ReadsOne gives text number →
+    IsNumeral 10 (without_leading_plus text) → digits_value 10 (without_leading_plus text) < 2 ^ bits →
+    number ≡ Some (digits_value 10 (without_leading_plus text))
+number_is E gives bits text None parses read numeral fits = absurd (parses text (Err read.0) read.1 (numeral, fits))
+number_is E gives bits text (Some n) parses read numeral fits = ap Some (parses text (Ok n) read).1
+
+pub returns-clause-from : goal.returns-clause-from
+returns-clause-from g c =
+    let words = map g.S.AsStr.text c.args.words.now in
+    let rows = (c.in_ok-matches.ensures.matches (ap is_simple c.in_ok-command.ensures ∙ is_simple_line)).0 in
+    let written : one_text (found_of c.in_ok-matches.matches) (codes "from") ≡ one_of (codes "from") (matches_of command_line words)
+    = one_text-rows (found_of c.in_ok-matches.matches) (codes "from")
+    ∙ ap (one_of (codes "from")) (rows ∙ ap (λ (a : App). matches_of a words) c.in_ok-command.ensures) in (
+      λ e. c.get_one.ensures.none (written ∙ e),
+      λ text e numeral positive fits. number_is _ (λ bs r. ParsesUnsigned 64 10 bs r × ExplainsUnsignedError 10 bs r × HasUnsignedDigitsIfOk bs r) 64 text c.get_one.result
+          (λ t r g. g.0) (c.get_one.ensures.value text (written ∙ e)) numeral fits,
+    )
+
+pub returns-clause-around : goal.returns-clause-around
+returns-clause-around g c =
+    let words = map g.S.AsStr.text c.args.words.now in
+    let rows = (c.in_ok-matches.ensures.matches (ap is_simple c.in_ok-command.ensures ∙ is_simple_line)).0 in
+    let written : one_text (found_of c.in_ok-matches.matches) (codes "around") ≡ one_of (codes "around") (matches_of command_line words)
+    = one_text-rows (found_of c.in_ok-matches.matches) (codes "around")
+    ∙ ap (one_of (codes "around")) (rows ∙ ap (λ (a : App). matches_of a words) c.in_ok-command.ensures) in (
+      λ e. c.id_of.ensures.none (c.get_one-2.ensures.none (written ∙ e)),
+      λ text e numeral positive fits. c.id_of.ensures.some (digits_value 10 (without_leading_plus text))
+          (number_is _ (λ bs r. ParsesUnsigned 32 10 bs r × ExplainsUnsignedError 10 bs r × HasUnsignedDigitsIfOk bs r) 32 text c.get_one-2.result
+          (λ t r g. g.0) (c.get_one-2.ensures.value text (written ∙ e)) numeral fits) positive,
+    )
 
 pub returns-clause-force : goal.returns-clause-force
 returns-clause-force g c =

@@ -1,7 +1,15 @@
-use Rattle.std.proofs.Common.{refl}
-use Rattle.swim_timeline.proofs.Within.{shows_more}
+use Rattle.std.proofs.Common.{refl, arith}
+use Rattle.swim_timeline.proofs.Within.{draws_before, draws_more}
 use Rattle.swim_timeline.proofs.shown.Shown.note.Goals as goal
 
-pub returns-in_ok-add_marks : goal.returns-in_ok-add_marks
-returns-in_ok-add_marks c =
-    λ h shows. shows_more c.args.opening.now h c.args.entry.now c.args.most c.args.self.now _ c.number_at-ended.result shows (c.ticks_with-self.ensures h shows.ticks) c.if-self-most.true refl c.number_at-ended.ensures c.in_ok-add_marks.ensures c.in_ok-add_lane.ensures
+pub returns-then-self-span-clause-drawn : goal.returns-then-self-span-clause-drawn
+returns-then-self-span-clause-drawn c = λ h draws.
+    draws_before c.args.opening.now h c.args.entry.now c.args.span.first c.args.span.until c.args.self.now _ draws
+    (c.ticks_with-self.ensures h draws.ticks) (omega (arith, c.if-from-span.false, c.from.ensures)) c.if-self-span.true
+    refl refl refl refl
+
+pub returns-clause-drawn : goal.returns-clause-drawn
+returns-clause-drawn c = λ h draws.
+    draws_more c.args.opening.now h c.args.entry.now c.args.span.first c.args.span.until c.args.self.now _ c.number_at-ended.result draws
+    (c.ticks_with-self.ensures h draws.ticks) (omega (arith, c.if-from-span.false, c.from.ensures)) c.if-self-span.false
+    refl refl c.number_at-ended.ensures c.in_ok-add_marks.ensures c.in_ok-add_lane.ensures
