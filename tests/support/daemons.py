@@ -192,23 +192,12 @@ def rest_of(connection):
         return rest
 
 
-def lying_in(stream):
-    """What lies in a pipe by now."""
-    found = b""
-    while select.select([stream], [], [], 0)[0]:
-        more = os.read(stream.fileno(), 65_536)
-        if not more:
-            break
-        found += more
-    return found
-
-
 class Daemon:
     """A daemon with its folder. What isn't given of its configuration is that of a group on one fast machine."""
 
     def __init__(self, program, folder, id, port, members=(), **values):
         self.program, self.id, self.port, self.child = program, id, port, None
-        self.read, self.lives, self.told, self.said = b"", [], b"", b""
+        self.read, self.lives, self.told = b"", [], b""
         # The lives that are told as cut, and whether any may be. In a folder of its own journal files are put aside before a start:
         # those of one second have the same names.
         self.cut, self.may_be_cut, self.has_own_folder = [], False, False
@@ -230,7 +219,7 @@ class Daemon:
             os.remove(self.control)
         if self.has_own_folder:
             put_aside(self.values["journal_dir"])
-        self.read, self.said, words = b"", b"", [self.program, "run", "--config", self.file, *words]
+        self.read, words = b"", [self.program, "run", "--config", self.file, *words]
         streams = {"stdin": subprocess.DEVNULL, "stdout": subprocess.PIPE, "stderr": subprocess.PIPE, **how}
         self.child = subprocess.Popen(words, **streams, bufsize=0)
 
@@ -302,7 +291,7 @@ class Daemon:
             raise DaemonFault(f"member {self.id} has not ended after {seconds} seconds") from None
         found = LIVES_AND_CLOSING.fullmatch(self.read + stdout)
         must(found, f"the closing line of member {self.id} is {stdout[-1_000:]!r}")
-        self.told = stderr = self.said + stderr
+        self.told = stderr
         must(but_for_notices(stderr) == b"", f"member {self.id} writes {stderr!r} on standard error")
         self.lives = lives_in(found[1])
         must(len(self.lives) == found[1].count(b"\n"), f"lines of lives that are none: {found[1][:1_000]!r}")
@@ -314,13 +303,12 @@ class Daemon:
 
     def lives_so_far(self):
         """How many lives it told of by now."""
-        self.read += lying_in(self.child.stdout)
+        while select.select([self.child.stdout], [], [], 0)[0]:
+            more = os.read(self.child.stdout.fileno(), 65_536)
+            if not more:
+                break
+            self.read += more
         return self.read.count(b"\n")
-
-    def told_so_far(self):
-        """What it told people by now."""
-        self.said += lying_in(self.child.stderr)
-        return self.said
 
     def kill(self):
         """Ends it without a word, as a machine that fails does."""

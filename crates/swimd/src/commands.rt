@@ -7,7 +7,6 @@ ghost use Rattle.swimd.specs.Details.{Explains};
 ghost use Rattle.swimd.specs.Outcomes.{outcome_text};
 ghost use Rattle.swimd.specs.Words.{IsAsked};
 
-use crate::alarms::Alarm;
 use crate::ask::ask;
 use crate::checking::check;
 use crate::daemon;
@@ -29,15 +28,7 @@ pub fn command<
     S: Source,
     W: Sink,
     F: Sink,
->(
-    rt: &R,
-    alloc: Global,
-    words: &[&str],
-    reader: &mut S,
-    writer: &mut W,
-    faults: &mut F,
-    alarm: Alarm,
-) -> u8
+>(rt: &R, alloc: Global, words: &[&str], reader: &mut S, writer: &mut W, faults: &mut F) -> u8
     ensures { Commanded (IsAsked (map (λ word. word.now) words.now))
         (record {
           left = S.left reader.old;
@@ -51,16 +42,7 @@ pub fn command<
         }) result }
 {
     let mut details = Details::new();
-    let outcome = carry_out(
-        rt,
-        alloc,
-        words,
-        reader,
-        writer,
-        faults,
-        alarm,
-        &mut details,
-    );
+    let outcome = carry_out(rt, alloc, words, reader, writer, faults, &mut details);
     tell(outcome, &details, faults)
 }
 
@@ -78,7 +60,6 @@ fn carry_out<
     reader: &mut S,
     writer: &mut W,
     faults: &mut F,
-    alarm: Alarm,
     details: &mut Details,
 ) -> Outcome
     requires { details.old ≡ [] }
@@ -98,7 +79,7 @@ fn carry_out<
     match read_words(alloc, words) {
         Ok(Asked::Check) => check(alloc, reader, writer, faults, details),
         Ok(Asked::Run(file, is_quiet)) => daemon::run(
-            rt, alloc, file, is_quiet, writer, faults, alarm, details,
+            rt, alloc, file, is_quiet, writer, faults, details,
         ),
         Ok(Asked::Ask(request)) => ask_for(rt, &request, reader, writer, details),
         Ok(Asked::Help(text)) => help(text.as_bytes(), writer),

@@ -5,7 +5,6 @@ ghost use Rattle.swim_life.specs.Notices.{Notices};
 ghost use Rattle.swimd.specs.Daemon.{IsConfiguration, IsNoConfiguration, IsNoDoor, MayWarn, Runs, Starts, outcome_of};
 ghost use Rattle.swimd.specs.Details.{Explains};
 
-use crate::alarms::Alarm;
 use crate::checking::warn;
 use crate::details::{Details, words_of};
 use crate::folders::Folder;
@@ -30,7 +29,7 @@ const WRITE_MS: u32 = 50;
 
 /// Runs the daemon of a configuration file, and writes how its lives ended. What stands in the way of a start is told in
 /// the details. Among the faults stands what the configuration is warned of, and then, while it runs, notices; where it is
-/// quiet, only that a stale socket was removed. That a journal file can't be written any more is told by the alarm.
+/// quiet, only that a stale socket was removed.
 pub fn run<R: Files<File = File> + Net + Clock + Threads + Wait + Sync, W: Sink, F: Sink>(
     rt: &R,
     alloc: Global,
@@ -38,7 +37,6 @@ pub fn run<R: Files<File = File> + Net + Clock + Threads + Wait + Sync, W: Sink,
     is_quiet: bool,
     writer: &mut W,
     faults: &mut F,
-    alarm: Alarm,
     details: &mut Details,
 ) -> Outcome
     requires { details.old ≡ [] }
@@ -49,7 +47,7 @@ pub fn run<R: Files<File = File> + Net + Clock + Threads + Wait + Sync, W: Sink,
     match configuration(rt, alloc, path, details) {
         Ok(config) => {
             warn_at_once(rt, alloc, &config, faults);
-            start(rt, alloc, config, is_quiet, writer, faults, alarm, details)
+            start(rt, alloc, config, is_quiet, writer, faults, details)
         }
         Err(outcome) => outcome,
     }
@@ -114,7 +112,6 @@ fn start<R: Files<File = File> + Net + Clock + Threads + Wait + Sync, W: Sink, F
     is_quiet: bool,
     writer: &mut W,
     faults: &mut F,
-    alarm: Alarm,
     details: &mut Details,
 ) -> Outcome
     requires { details.old ≡ [] }
@@ -141,15 +138,17 @@ fn start<R: Files<File = File> + Net + Clock + Threads + Wait + Sync, W: Sink, F
     let mut herald = Announcer::new(rt, alloc, is_quiet);
     let terms = terms_of(&config);
     let opening = config.opening;
-    let mut shelf = Folder::new(rt, alloc, config.files, opening.me(), seconds(rt), alarm);
+    let mut shelf = Folder::new(rt, alloc, config.files, opening.me(), seconds(rt));
     let mut pause = SleepingPace::new(rt, WRITE_MS);
+    let mut hearing = &line;
+    let sending = &line;
     let end = run_lives(
         rt,
         alloc,
         opening,
         terms,
-        &mut &line,
-        &&line,
+        &mut hearing,
+        &sending,
         &mut pace,
         &mut hall,
         &mut shelf,

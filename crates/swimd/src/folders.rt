@@ -2,7 +2,6 @@
 
 ghost use Rattle.std.specs.Prelude.{◌≡◌, None};
 
-use crate::alarms::Alarm;
 use crate::journal_files::JournalFile;
 use crate::notices::Notice;
 use crate::old_files::{Stamp, others_in, path_of, removed};
@@ -18,8 +17,7 @@ use swim_life::{Past, Shelf, Terms};
 use swim_wire::{Id, Sink};
 
 /// The folder in which a daemon makes a file for each of its lives, if it does. Each is new and its owner's alone. At a
-/// life's beginning old files of this member are removed. That a file can't be made is told among the notices, and that one
-/// can't be written any more by the alarm, which each file has in its turn.
+/// life's beginning old files of this member are removed. What fails is told among the notices.
 #[derive(Drop)]
 pub struct Folder<'r, R> {
     rt: &'r R,
@@ -27,26 +25,17 @@ pub struct Folder<'r, R> {
     files: JournalFiles,
     me: Id,
     began: u64,
-    alarm: Option<Alarm>,
 }
 
 impl<'r, R> Folder<'r, R> {
     /// The folder of this member's files, whose daemon began so many seconds after 1970.
-    pub fn new(
-        rt: &'r R,
-        alloc: Global,
-        files: JournalFiles,
-        me: Id,
-        began: u64,
-        alarm: Alarm,
-    ) -> Folder<'r, R> {
+    pub fn new(rt: &'r R, alloc: Global, files: JournalFiles, me: Id, began: u64) -> Folder<'r, R> {
         Folder {
             rt,
             alloc,
             files,
             me,
             began,
-            alarm: Some(alarm),
         }
     }
 }
@@ -93,7 +82,7 @@ impl<'r, R: Files<File = File> + Net + Clock> Shelf<JournalFile<'r, R>> for Fold
             life: number,
         };
         let path = path_of(dir.as_str(), self.me, stamp);
-        let file = match make(self.rt, path.as_str()) {
+        match make(self.rt, path.as_str()) {
             Ok(file) => {
                 remove_old(
                     self.rt,
@@ -103,29 +92,36 @@ impl<'r, R: Files<File = File> + Net + Clock> Shelf<JournalFile<'r, R>> for Fold
                     stamp,
                     self.files.keep,
                 );
-                Some(file)
+                Some(JournalFile::new(self.rt, Some(file)))
             }
             Err(fault) => {
                 let notice = Notice::unwritten(self.rt, path.as_str(), fault.kind());
                 notice.tell(self.rt, self.alloc, notices);
-                None
+                Some(JournalFile::new(self.rt, None))
             }
-        };
-        Some(JournalFile::new(self.rt, self.alloc, path, self.alarm.take(), file))
+        }
     }
 
     #[tactic(auto, using(swim_life::specs::Notices::no_notices))]
     fn close<F: Sink>(
         &mut self,
         _terms: Terms,
-        _number: u64,
+        number: u64,
         _past: &Past,
         writer: JournalFile<'r, R>,
-        _notices: &mut F,
+        notices: &mut F,
     ) -> bool {
         let mut writer = writer;
         let is_kept = writer.keep();
-        self.alarm = writer.into_alarm();
+        if let (Some(fault), Some(dir)) = (writer.fault(), &self.files.dir) {
+            let stamp = Stamp {
+                began: self.began,
+                life: number,
+            };
+            let path = path_of(dir.as_str(), self.me, stamp);
+            let notice = Notice::unwritten(self.rt, path.as_str(), fault);
+            notice.tell(self.rt, self.alloc, notices);
+        }
         is_kept
     }
 }

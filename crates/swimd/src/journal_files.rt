@@ -3,14 +3,10 @@
 ghost use Rattle.std.specs.Prelude.{◌≡◌, None};
 ghost use Rattle.swim_wire.specs.Streams.{failures_if};
 
-use crate::alarms::Alarm;
 use crate::comments::comment_behind;
-use crate::old_files::FilePath;
 use arrayvec::ArrayVec;
-use std::alloc::Global;
 use std::fs::{File, OpenFile};
 use std::io::{ErrorKind, Write};
-use std::net::Net;
 use std::rt::Clock;
 use swim_wire::Sink;
 
@@ -21,46 +17,36 @@ const HELD_BYTES: usize = 16_384;
 const FRONT_BYTES: usize = 32;
 
 /// A journal file, as long as the system takes what is written. It holds back what it is given until it is flushed. Once a
-/// write has failed that is told by its alarm, at once, and it takes nothing more. It adds comments for people: behind its
-/// first line the program with its version and the time, and behind each line of a started period the seconds since 1970. No
-/// contract knows its bytes.
+/// write has failed it takes nothing more, and knows why. It adds comments for people: behind its first line the program
+/// with its version and the time, and behind each line of a started period the seconds since 1970. No contract knows its
+/// bytes.
 #[derive(Drop)]
-pub struct JournalFile<'r, R> {
-    rt: &'r R,
-    alloc: Global,
-    path: FilePath,
-    alarm: Option<Alarm>,
+pub struct JournalFile<'r, K> {
+    clock: &'r K,
     file: Option<File>,
     held: ArrayVec<u8, HELD_BYTES>,
     // As much as is looked at of the line that isn't at its end yet.
     front: ArrayVec<u8, FRONT_BYTES>,
     failures: u64,
+    fault: Option<ErrorKind>,
 }
 
-impl<'r, R: Net + Clock> JournalFile<'r, R> {
-    /// A new file at this path; without one, it takes nothing.
-    pub fn new(
-        rt: &'r R,
-        alloc: Global,
-        path: FilePath,
-        alarm: Option<Alarm>,
-        file: Option<File>,
-    ) -> JournalFile<'r, R> {
+impl<'r, K: Clock> JournalFile<'r, K> {
+    /// A new file; without one, it takes nothing.
+    pub fn new(clock: &'r K, file: Option<File>) -> JournalFile<'r, K> {
         JournalFile {
-            rt,
-            alloc,
-            path,
-            alarm,
+            clock,
             file,
             held: ArrayVec::new(),
             front: ArrayVec::new(),
             failures: 0,
+            fault: None,
         }
     }
 
-    /// Its alarm, for the next file.
-    pub fn into_alarm(self) -> Option<Alarm> {
-        self.alarm
+    /// Why the system refused a write, if it did.
+    pub fn fault(&self) -> Option<ErrorKind> {
+        self.fault
     }
 
     /// Has the system keep for good what was written, and answers whether it does.
@@ -93,14 +79,12 @@ impl<'r, R: Net + Clock> JournalFile<'r, R> {
         }
     }
 
-    /// Lets go of the file for this reason, and tells it.
+    /// Lets go of the file for this reason.
     fn give_up(&mut self, fault: ErrorKind) -> bool
         ensures { self.new.failures ≡ self.old.failures }
     {
+        self.fault = Some(fault);
         self.file = None;
-        if let Some(alarm) = &mut self.alarm {
-            alarm.tell(self.rt, self.alloc, self.path.as_str(), fault);
-        }
         false
     }
 
@@ -133,7 +117,7 @@ impl<'r, R: Net + Clock> JournalFile<'r, R> {
         if !text.ends_with(b"\n") {
             return true;
         }
-        let comment = comment_behind(self.rt, self.front.as_slice());
+        let comment = comment_behind(self.clock, self.front.as_slice());
         self.front.clear();
         self.take(comment.as_str().as_bytes())
     }
@@ -149,7 +133,7 @@ impl<'r, R: Net + Clock> JournalFile<'r, R> {
     }
 }
 
-impl<'r, R: Net + Clock> Sink for JournalFile<'r, R> {
+impl<'r, K: Clock> Sink for JournalFile<'r, K> {
     ghost written = { λ f. None };
 
     ghost failures = { λ f. f.failures };

@@ -1,7 +1,6 @@
 //! The failure detector of one group member as a daemon, and a test of its configuration.
 #![tactic(auto)]
 
-mod alarms;
 mod answers;
 mod ask;
 mod askers;
@@ -19,7 +18,6 @@ mod outcomes;
 mod sockets;
 mod words;
 
-use alarms::Alarm;
 use details::Details;
 use outcomes::Outcome;
 use std::alloc::{AllocError, Global};
@@ -33,7 +31,6 @@ fn main(rt: HostRuntime) -> ExitCode {
     let mut reader = ReadSource::new(rt.stdin());
     let mut writer = WriteSink::new(rt.stdout());
     let mut faults = WriteSink::new(rt.stderr());
-    let alarm = Alarm::new(rt.stderr());
     let alloc = rt.alloc();
     let status = match words_given(&rt) {
         Ok(texts) => match words_in(alloc, texts.as_slice()) {
@@ -44,7 +41,6 @@ fn main(rt: HostRuntime) -> ExitCode {
                 &mut reader,
                 &mut writer,
                 &mut faults,
-                alarm,
             ),
             Err(_) => commands::tell(
                 Outcome::Refused(ConfigFault::NoMemory),

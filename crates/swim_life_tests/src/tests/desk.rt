@@ -1,7 +1,7 @@
 ghost use Rattle.std.specs.Prelude.{None};
 
 use super::gates::{Signals, is_set, pause, set};
-use super::lives::{assert_ended, line, pace};
+use super::lives::{assert_ended, line, pace, post};
 use super::*;
 use arrayvec::ArrayVec;
 use std::sync::atomic::{AtomicBool, Ordering};
@@ -83,7 +83,8 @@ impl<'s> Sink for Expecting<'s> {
 fn an_operator_is_answered(rt: HostRuntime) -> Result<(), Fail> {
     let opening = opening()?;
     let signals = Signals::new(false);
-    let line = line(rt, &signals, 0);
+    let mut line = line(rt, &signals, 0);
+    let post = post(&signals);
     let is_answered = AtomicBool::new(false);
     let is_left = AtomicBool::new(false);
     let mut pace = pace(rt, &is_left, 0);
@@ -100,8 +101,8 @@ fn an_operator_is_answered(rt: HostRuntime) -> Result<(), Fail> {
         opening,
         chooser(),
         1000,
-        &mut &line,
-        &&line,
+        &mut line,
+        &post,
         &mut pace,
         &mut hall,
     )

@@ -91,6 +91,22 @@ impl Shelf<File> for Player {
     }
 }
 
+// A post that takes whatever it is handed.
+#[derive(Drop)]
+struct TakingPost {}
+
+impl Post for TakingPost {
+    ghost posted = { λ post. None };
+
+    fn fresh(&self) -> TakingPost {
+        TakingPost {}
+    }
+
+    fn send<R: Wait>(&mut self, _rt: &R, _bytes: &[u8], _to: Peer) -> bool {
+        true
+    }
+}
+
 // Two lives of two entries each, with files that take so many bytes: what was told of them, and what was played.
 fn live_twice<R: Threads + Wait + Clock + Send + Sync + Copy + Drop>(
     rt: R,
@@ -101,7 +117,7 @@ fn live_twice<R: Threads + Wait + Clock + Send + Sync + Copy + Drop>(
     let opening = Opening::check(id(1), 0, 1, 3, &rows, 0).map_err(|_| "an opening")?;
     let signals = Signals::new(false);
     let is_told = AtomicBool::new(true);
-    let line = line(rt, &signals, 0);
+    let mut line = line(rt, &signals, 0);
     let mut pace = pace(rt, &is_told, 5);
     let mut hall = Hall::new(alloc, NoDoor { clock: rt });
     let mut shelf = Player {
@@ -123,8 +139,8 @@ fn live_twice<R: Threads + Wait + Clock + Send + Sync + Copy + Drop>(
         alloc,
         opening,
         terms,
-        &mut &line,
-        &&line,
+        &mut line,
+        &TakingPost {},
         &mut pace,
         &mut hall,
         &mut shelf,

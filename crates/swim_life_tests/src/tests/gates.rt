@@ -66,17 +66,16 @@ pub fn pause<K: Clock>(clock: &K) {
 }
 
 /// A line with one datagram, the ping, after so many faults, of which it tells the last. It holds the ping back until
-/// the list was answered, and is idle before and after it. Sends of it succeed or fail.
+/// the list was answered, and is idle before and after it.
 #[derive(Drop)]
 pub struct PingLine<'s, K: Clock + Drop> {
     pub clock: K,
     pub signals: &'s Signals,
     pub faults: u32,
-    pub is_sending: bool,
-    pub was_given: AtomicBool,
+    pub was_given: bool,
 }
 
-impl<'l, 's, K: Clock + Drop> Line for &'l PingLine<'s, K> {
+impl<'s, K: Clock + Drop> Line for PingLine<'s, K> {
     fn receive<R: Wait>(&mut self, _rt: &R, bytes: &mut [u8]) -> Got
         ensures { FitsInto result bytes.new }
     {
@@ -88,10 +87,10 @@ impl<'l, 's, K: Clock + Drop> Line for &'l PingLine<'s, K> {
             return Got::Fault;
         }
         pause(&self.clock);
-        if !is_set(&self.signals.is_listed) || is_set(&self.was_given) {
+        if !is_set(&self.signals.is_listed) || self.was_given {
             return if turn < TURNS { Got::Idle } else { Got::Fault };
         }
-        set(&self.was_given);
+        self.was_given = true;
         match bytes.get_mut(..24) {
             Some(front) => {
                 front.copy_from_slice(&PING);
@@ -102,11 +101,21 @@ impl<'l, 's, K: Clock + Drop> Line for &'l PingLine<'s, K> {
     }
 }
 
-impl<'l, 's, K: Clock + Drop> Post for &'l PingLine<'s, K> {
+/// A post that tells that the ack was sent. Its sends succeed or fail.
+#[derive(Drop)]
+pub struct AckPost<'s> {
+    pub signals: &'s Signals,
+    pub is_sending: bool,
+}
+
+impl<'s> Post for AckPost<'s> {
     ghost posted = { λ post. None };
 
-    fn fresh(&self) -> &'l PingLine<'s, K> {
-        *self
+    fn fresh(&self) -> AckPost<'s> {
+        AckPost {
+            signals: self.signals,
+            is_sending: self.is_sending,
+        }
     }
 
     fn send<R: Wait>(&mut self, _rt: &R, bytes: &[u8], to: Peer) -> bool {

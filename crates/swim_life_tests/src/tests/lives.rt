@@ -2,7 +2,7 @@ ghost use Rattle.std.specs.Prelude.{None};
 ghost use Rattle.swim_life.specs.Gates.{FitsInto};
 
 use super::gates::{
-    Counter, NoDoor, OneDoor, PING, PingLine, Signals, StopPace, TURNS, is_set, pause, set,
+    AckPost, Counter, NoDoor, OneDoor, PING, PingLine, Signals, StopPace, TURNS, is_set, pause, set,
 };
 use super::*;
 use std::sync::atomic::{AtomicBool, Ordering};
@@ -14,8 +14,14 @@ pub fn line<'s, K: Clock + Drop>(clock: K, signals: &'s Signals, faults: u32) ->
         clock,
         signals,
         faults,
+        was_given: false,
+    }
+}
+
+pub fn post<'s>(signals: &'s Signals) -> AckPost<'s> {
+    AckPost {
+        signals,
         is_sending: true,
-        was_given: AtomicBool::new(false),
     }
 }
 
@@ -34,7 +40,8 @@ pub fn pace<'s, K: Clock + Drop>(clock: K, signal: &'s AtomicBool, ticks: u32) -
 fn workers_at_once(rt: HostRuntime) -> Result<(), Fail> {
     let opening = opening()?;
     let signals = Signals::new(false);
-    let line = line(rt, &signals, 0);
+    let mut line = line(rt, &signals, 0);
+    let post = post(&signals);
     let mut pace = pace(rt, &signals.is_stopping, 0);
     let door = OneDoor {
         clock: rt,
@@ -49,8 +56,8 @@ fn workers_at_once(rt: HostRuntime) -> Result<(), Fail> {
         opening,
         chooser(),
         1000,
-        &mut &line,
-        &&line,
+        &mut line,
+        &post,
         &mut pace,
         &mut hall,
     )
@@ -67,17 +74,10 @@ fn workers_at_once(rt: HostRuntime) -> Result<(), Fail> {
 fn fifteen_faults(rt: HostRuntime) -> Result<(), Fail> {
     let opening = opening()?;
     let signals = Signals::new(true);
-    let line = line(rt, &signals, 15);
+    let mut line = line(rt, &signals, 15);
+    let post = post(&signals);
     let mut pace = pace(rt, &signals.is_acked, 0);
-    let past = live_alone(
-        &rt,
-        rt.alloc(),
-        opening,
-        1000,
-        &mut &line,
-        &&line,
-        &mut pace,
-    );
+    let past = live_alone(&rt, rt.alloc(), opening, 1000, &mut line, &post, &mut pace);
     assert_ended(&rt, past, Why::Stopped, 1, 0);
     assert!(rt; is_set(&signals.is_acked));
     Ok(())
@@ -89,17 +89,10 @@ fn a_failed_send(rt: HostRuntime) -> Result<(), Fail> {
     let opening = opening()?;
     let signals = Signals::new(true);
     let mut line = line(rt, &signals, 15);
-    line.is_sending = false;
+    let mut post = post(&signals);
+    post.is_sending = false;
     let mut pace = pace(rt, &signals.is_acked, 0);
-    let past = live_alone(
-        &rt,
-        rt.alloc(),
-        opening,
-        1000,
-        &mut &line,
-        &&line,
-        &mut pace,
-    );
+    let past = live_alone(&rt, rt.alloc(), opening, 1000, &mut line, &post, &mut pace);
     assert_ended(&rt, past, Why::Stopped, 1, 1);
     Ok(())
 }
@@ -109,17 +102,10 @@ fn a_failed_send(rt: HostRuntime) -> Result<(), Fail> {
 fn sixteen_faults(rt: HostRuntime) -> Result<(), Fail> {
     let opening = opening()?;
     let signals = Signals::new(true);
-    let line = line(rt, &signals, 16);
+    let mut line = line(rt, &signals, 16);
+    let post = post(&signals);
     let mut pace = pace(rt, &signals.is_failing, 0);
-    let past = live_alone(
-        &rt,
-        rt.alloc(),
-        opening,
-        1000,
-        &mut &line,
-        &&line,
-        &mut pace,
-    );
+    let past = live_alone(&rt, rt.alloc(), opening, 1000, &mut line, &post, &mut pace);
     assert_ended(&rt, past, Why::Socket, 0, 0);
     assert_eq!(rt; signals.receives.load(Ordering::SeqCst), 16);
     Ok(())
@@ -130,9 +116,10 @@ fn sixteen_faults(rt: HostRuntime) -> Result<(), Fail> {
 fn a_full_journal(rt: HostRuntime) -> Result<(), Fail> {
     let opening = opening()?;
     let signals = Signals::new(false);
-    let line = line(rt, &signals, 0);
+    let mut line = line(rt, &signals, 0);
+    let post = post(&signals);
     let mut pace = pace(rt, &signals.is_stopping, 5);
-    let past = live_alone(&rt, rt.alloc(), opening, 2, &mut &line, &&line, &mut pace);
+    let past = live_alone(&rt, rt.alloc(), opening, 2, &mut line, &post, &mut pace);
     assert_ended(&rt, past, Why::JournalFull, 2, 0);
     Ok(())
 }
@@ -145,7 +132,8 @@ fn two_lives(rt: HostRuntime) -> Result<(), Fail> {
     let opening = Opening::check(id(1), 0, 1, 3, &rows, 0).map_err(|_| "an opening")?;
     let signals = Signals::new(false);
     let is_told = AtomicBool::new(true);
-    let line = line(rt, &signals, 0);
+    let mut line = line(rt, &signals, 0);
+    let post = post(&signals);
     let mut pace = pace(rt, &is_told, 5);
     let mut hall = Hall::new(rt.alloc(), NoDoor { clock: rt });
     let mut page = Page::new(rt.alloc());
@@ -160,8 +148,8 @@ fn two_lives(rt: HostRuntime) -> Result<(), Fail> {
         rt.alloc(),
         opening,
         terms,
-        &mut &line,
-        &&line,
+        &mut line,
+        &post,
         &mut pace,
         &mut hall,
         &mut NoShelf {},
@@ -187,7 +175,8 @@ fn live_with_faults<R: Threads + Wait + Clock + Send + Sync + Copy + Drop>(
     is_alone: bool,
 ) -> Option<Past> {
     let mut line = line(*rt, signals, 0);
-    line.was_given = AtomicBool::new(true);
+    line.was_given = true;
+    let post = post(signals);
     let mut pace = pace(*rt, &signals.is_failing, 0);
     let door = OneDoor {
         clock: *rt,
@@ -202,8 +191,8 @@ fn live_with_faults<R: Threads + Wait + Clock + Send + Sync + Copy + Drop>(
         opening,
         chooser(),
         1000,
-        &mut &line,
-        &&line,
+        &mut line,
+        &post,
         &mut pace,
         &mut hall,
     )
@@ -239,7 +228,7 @@ struct LateLine<'f, 'g, K: Clock + Drop> {
     was_given: &'g AtomicBool,
 }
 
-impl<'l, 'f, 'g, K: Clock + Drop> Line for &'l LateLine<'f, 'g, K> {
+impl<'f, 'g, K: Clock + Drop> Line for LateLine<'f, 'g, K> {
     fn receive<R: Wait>(&mut self, _rt: &R, bytes: &mut [u8]) -> Got
         ensures { FitsInto result bytes.new }
     {
@@ -255,18 +244,6 @@ impl<'l, 'f, 'g, K: Clock + Drop> Line for &'l LateLine<'f, 'g, K> {
             }
             None => Got::Fault,
         }
-    }
-}
-
-impl<'l, 'f, 'g, K: Clock + Drop> Post for &'l LateLine<'f, 'g, K> {
-    ghost posted = { λ post. None };
-
-    fn fresh(&self) -> &'l LateLine<'f, 'g, K> {
-        *self
-    }
-
-    fn send<R: Wait>(&mut self, _rt: &R, _bytes: &[u8], _to: Peer) -> bool {
-        true
     }
 }
 
@@ -303,7 +280,9 @@ fn a_stop_at_a_full_journal(rt: HostRuntime) -> Result<(), Fail> {
     let opening = Opening::check(id(1), 0, 1, 3, &rows, 0).map_err(|_| "an opening")?;
     let is_full = AtomicBool::new(false);
     let was_given = AtomicBool::new(false);
-    let line = LateLine {
+    let signals = Signals::new(true);
+    let post = post(&signals);
+    let mut line = LateLine {
         clock: rt,
         is_full: &is_full,
         was_given: &was_given,
@@ -327,8 +306,8 @@ fn a_stop_at_a_full_journal(rt: HostRuntime) -> Result<(), Fail> {
         rt.alloc(),
         opening,
         terms,
-        &mut &line,
-        &&line,
+        &mut line,
+        &post,
         &mut pace,
         &mut hall,
         &mut NoShelf {},

@@ -48,7 +48,8 @@ impl KeepingPost {
             bytes,
             to,
             is_taken,
-        })
+        })?;
+        Ok(())
     }
 }
 
@@ -163,7 +164,7 @@ fn live_by<
 fn assert_acked<R: Abort>(rt: &R, sheets: &[Sheet]) {
     match sheets {
         [ack] => {
-            assert!(rt; *ack.bytes.as_slice() == ACK);
+            assert!(rt; ack.bytes.as_slice() == ACK.as_slice());
             assert!(rt; ack.to == at(2) && ack.is_taken);
         }
         _ => panic!(rt; "an ack"),
