@@ -1,6 +1,6 @@
 use std::test::Fail;
 use swim_detector::Recorder;
-use swim_history::{Call, Journal, Opening, RowState};
+use swim_history::{Call, Journal, Opening, Row, RowState};
 use swim_targets::Scripted;
 use swim_timeline::{Mark, MarkKind, Span, View, put_timeline, show};
 use swim_wire::{Id, Kind, Message, Page, Peer, PeriodNumber};
@@ -72,6 +72,13 @@ fn places(rt: HostRuntime, marks: &[Mark]) -> Result<Vec<(u32, u32)>, Fail> {
     Ok(places)
 }
 
+fn state_at(rows: &[Row], place: usize) -> Option<RowState> {
+    match rows.get(place) {
+        Some(row) => Some(row.state),
+        None => None,
+    }
+}
+
 #[test]
 fn each_kind_has_its_mark(rt: HostRuntime) -> Result<(), Fail> {
     let shown = show(rt.alloc(), &journal(rt)?, span(0, 10))?;
@@ -123,7 +130,10 @@ fn a_later_part_begins_with_the_table_of_then(rt: HostRuntime) -> Result<(), Fai
         wanted.as_slice()
     );
     let shown = show(rt.alloc(), &journal(rt)?, span(8, 20))?;
-    assert_eq!(rt; shown.before.rows[1].state, RowState::Failed(9));
+    assert_eq!(rt;
+        state_at(shown.before.rows.as_slice(), 1),
+        Some(RowState::Failed(9))
+    );
     assert!(rt; shown.marks.is_empty());
     Ok(())
 }
