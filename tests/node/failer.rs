@@ -17,10 +17,8 @@ unsafe extern "C" {
 
 const READ: c_long = 0;
 const WRITE: c_long = 1;
-const WRITEV: c_long = 20;
 const SENDTO: c_long = 44;
 const RECVFROM: c_long = 45;
-const SENDMSG: c_long = 46;
 const FDATASYNC: c_long = 75;
 const ACCEPT4: c_long = 288;
 
@@ -99,16 +97,6 @@ pub extern "C" fn sendto(file: c_int, bytes: *const c_void, count: usize, flags:
 pub extern "C" fn send(file: c_int, bytes: *const c_void, count: usize, flags: c_int) -> isize {
     let none: *const c_void = core::ptr::null();
     if fails(c"send", file) { -1 } else { unsafe { syscall(SENDTO, file, bytes, count, flags, none, 0) as isize } }
-}
-
-#[unsafe(no_mangle)]
-pub extern "C" fn sendmsg(file: c_int, message: *const c_void, flags: c_int) -> isize {
-    if fails(c"sendmsg", file) { -1 } else { unsafe { syscall(SENDMSG, file, message, flags) as isize } }
-}
-
-#[unsafe(no_mangle)]
-pub extern "C" fn writev(file: c_int, parts: *const c_void, count: c_int) -> isize {
-    if fails(c"writev", file) { -1 } else { unsafe { syscall(WRITEV, file, parts, count) as isize } }
 }
 
 #[unsafe(no_mangle)]

@@ -223,8 +223,8 @@ class Clock(threading.Thread):
             self.late.append((now, now - began - 0.01))
 
     def lateness(self, since, until):
-        """The most that it was late in that time."""
-        return max((late for at, late in list(self.late) if since <= at - late and at <= until + 2 * LATE), default=0.0)
+        """The most that it was late in that time, or in a sleep that reached into it."""
+        return max((late for at, late in list(self.late) if since <= at and at - late <= until), default=0.0)
 
 
 def killed_at_once(machine, ids, r):
