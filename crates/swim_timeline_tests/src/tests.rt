@@ -1,3 +1,4 @@
+use std::process::Abort;
 use std::test::Fail;
 use swim_detector::Recorder;
 use swim_history::{Call, Journal, Opening, Row, RowState};
@@ -64,14 +65,6 @@ fn span(first: u32, until: u64) -> Span {
     Span { first, until }
 }
 
-fn places(rt: HostRuntime, marks: &[Mark]) -> Result<Vec<(u32, u32)>, Fail> {
-    let mut places = Vec::new(rt.alloc());
-    for mark in marks {
-        places.push((mark.tick, mark.member.get()))?;
-    }
-    Ok(places)
-}
-
 fn state_at(rows: &[Row], place: usize) -> Option<RowState> {
     match rows.get(place) {
         Some(row) => Some(row.state),
@@ -84,7 +77,7 @@ fn each_kind_has_its_mark(rt: HostRuntime) -> Result<(), Fail> {
     let shown = show(rt.alloc(), &journal(rt)?, span(0, 10))?;
     assert_eq!(rt; (shown.ticks, shown.entries), (7, 10));
     assert_eq!(rt; shown.lanes.len(), 4);
-    let wanted = [
+    let places = [
         (1, 2),
         (2, 2),
         (2, 2),
@@ -96,18 +89,42 @@ fn each_kind_has_its_mark(rt: HostRuntime) -> Result<(), Fail> {
         (7, 4),
     ];
     let marks = shown.marks.as_slice();
-    assert_eq!(rt; places(rt, marks)?.as_slice(), wanted.as_slice());
-    assert_eq!(rt; marks.len(), 9);
-    assert_eq!(rt; marks[0].kind, MarkKind::Probed(8));
-    assert!(rt; matches!(&marks[1].kind, MarkKind::Asked(8, relays) if relays.len() == 1));
-    assert_eq!(rt; marks[2].kind, MarkKind::Heard(8));
-    assert_eq!(rt; marks[3].kind, MarkKind::Joined);
-    assert_eq!(rt; marks[4].kind, MarkKind::Removed);
-    assert_eq!(rt; marks[5].kind, MarkKind::Probed(9));
-    assert!(rt; matches!(&marks[6].kind, MarkKind::Asked(9, relays) if relays.len() == 1));
-    assert_eq!(rt; marks[7].kind, MarkKind::Judged(9));
-    assert_eq!(rt; marks[8].kind, MarkKind::Probed(10));
+    assert_places(&rt, marks, &places);
+    assert!(rt; is_ask(kind_at(marks, 1), 8));
+    assert!(rt; is_ask(kind_at(marks, 6), 9));
+    let kinds = [
+        (0, MarkKind::Probed(8)),
+        (2, MarkKind::Heard(8)),
+        (3, MarkKind::Joined),
+        (4, MarkKind::Removed),
+        (5, MarkKind::Probed(9)),
+        (7, MarkKind::Judged(9)),
+        (8, MarkKind::Probed(10)),
+    ];
+    for (place, kind) in &kinds {
+        assert_eq!(rt; kind_at(marks, *place), Some(kind));
+    }
     Ok(())
+}
+
+// The ticks and members of these marks.
+fn assert_places<R: Abort>(rt: &R, marks: &[Mark], wanted: &[(u32, u32)]) {
+    assert_eq!(rt; marks.len(), wanted.len());
+    for (mark, place) in marks.iter().zip(wanted) {
+        assert_eq!(rt; (mark.tick, mark.member.get()), *place);
+    }
+}
+
+fn kind_at(marks: &[Mark], place: usize) -> Option<&MarkKind> {
+    match marks.get(place) {
+        Some(mark) => Some(&mark.kind),
+        None => None,
+    }
+}
+
+// Whether one relay was asked at the timeout of this period.
+fn is_ask(kind: Option<&MarkKind>, number: u64) -> bool {
+    matches!(kind, Some(MarkKind::Asked(asked, relays)) if *asked == number && relays.len() == 1)
 }
 
 #[test]
@@ -124,11 +141,7 @@ fn a_later_part_begins_with_the_table_of_then(rt: HostRuntime) -> Result<(), Fai
     let shown = show(rt.alloc(), &journal(rt)?, span(5, 6))?;
     assert_eq!(rt; (shown.before.entries, shown.entries), (7, 9));
     assert_eq!(rt; (shown.before.rows.len(), shown.lanes.len()), (3, 3));
-    let wanted = [(5, 3)];
-    assert_eq!(rt;
-        places(rt, shown.marks.as_slice())?.as_slice(),
-        wanted.as_slice()
-    );
+    assert_places(&rt, shown.marks.as_slice(), &[(5, 3)]);
     let shown = show(rt.alloc(), &journal(rt)?, span(8, 20))?;
     assert_eq!(rt;
         state_at(shown.before.rows.as_slice(), 1),
@@ -139,21 +152,27 @@ fn a_later_part_begins_with_the_table_of_then(rt: HostRuntime) -> Result<(), Fai
 }
 
 // Periods 8, 9 and 10 began at ticks 1, 4 and 7. Member 3 was judged at the end of period 9, which is the second one: so
-// the periods round it begin with period 8, and end with 14.
+// the periods round it begin with period 8, and end with 14. Member 4 wasn't judged.
 #[test]
 fn a_view_is_of_periods_that_began(rt: HostRuntime) -> Result<(), Fail> {
+    let wanted = [
+        (View::Start, Some(span(0, 1200))),
+        (View::From(7), None),
+        (View::From(8), Some(span(1, 1200))),
+        (View::From(10), Some(span(7, 1206))),
+        (View::From(11), None),
+        (View::Around(id(3)?), Some(span(1, 21))),
+        (View::Around(id(4)?), None),
+    ];
     let journal = journal(rt)?;
-    assert_eq!(rt; Span::of(&journal, View::Start)?, Some(span(0, 1200)));
-    assert_eq!(rt; Span::of(&journal, View::From(7))?, None);
-    assert_eq!(rt; Span::of(&journal, View::From(8))?, Some(span(1, 1200)));
-    assert_eq!(rt; Span::of(&journal, View::From(10))?, Some(span(7, 1206)));
-    assert_eq!(rt; Span::of(&journal, View::From(11))?, None);
-    assert_eq!(rt;
-        Span::of(&journal, View::Around(id(3)?))?,
-        Some(span(1, 21))
-    );
-    assert_eq!(rt; Span::of(&journal, View::Around(id(4)?))?, None);
+    for (view, span) in wanted {
+        assert_view(&rt, &journal, view, span);
+    }
     Ok(())
+}
+
+fn assert_view<R: Abort>(rt: &R, journal: &Journal, view: View, wanted: Option<Span>) {
+    assert_eq!(rt; Span::of(journal, view), Ok(wanted));
 }
 
 #[test]
