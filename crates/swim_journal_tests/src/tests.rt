@@ -8,7 +8,7 @@ use std::sync::Wait;
 use std::test::*;
 use swim_history::Opening;
 use swim_journal::*;
-use swim_node::{Naming, Node, Parts, Seat};
+use swim_node::{CallFault, Naming, Node, Parts, Seat};
 use swim_script::{Session, run};
 use swim_targets::Seeded;
 use swim_wire::{Id, Kind, Message, Page, Peer, PeriodNumber, Text, encode};
@@ -100,27 +100,35 @@ fn write_calls<N: PageNaming, R: Wait + Abort + Copy + Drop>(
     requires page { Some page.text ≡ N.page }
 {
     let chooser = Seeded::life([7; 32], 5);
-    let Ok(opened) = Node::<N, Seeded, R>::open(alloc, rt, parts, opening, chooser, 2000) else {
-        return Err(Fail::new("a node"));
-    };
-    let (node, seats, viewers) = opened;
-    drop(viewers);
-    let (hears, ticks, changes) = callers_of(seats);
-    let mut hears = hears;
-    let mut ticks = ticks;
-    let mut changes = changes;
-    let mut scribe = Scribe::new(alloc, &node, page);
-    make_calls(&rt, &node, &mut hears, &mut ticks, &mut changes)?;
-    let is_first_part = scribe.step(&rt, &node);
-    assert!(rt; !is_first_part);
-    tick_often(&rt, &node, &mut ticks)?;
-    let is_second_part = scribe.step(&rt, &node);
-    assert!(rt; is_second_part);
-    scribe.finish(&rt, &node);
+    match Node::<N, Seeded, R>::open(alloc, rt, parts, opening, chooser, 2000) {
+        Ok(opened) => {
+            let (node, seats, viewers) = opened;
+            drop(viewers);
+            let scribe = Scribe::new(alloc, &node, page);
+            Ok(written(&rt, &node, callers_of(seats), scribe))
+        }
+        Err(_) => Err(Fail::new("a node")),
+    }
+}
+
+// The text of 1,506 calls, which are written down in three steps.
+fn written<N: PageNaming, R: Wait + Abort + Copy + Drop>(
+    rt: &R,
+    node: &Node<N, Seeded, R>,
+    callers: (Seat<N>, Seat<N>, Seat<N>),
+    scribe: Scribe<N, Page>,
+) -> Page {
+    let (mut hears, mut ticks, mut changes) = callers;
+    let mut scribe = scribe;
+    assert!(rt; make_calls(rt, node, &mut hears, &mut ticks, &mut changes).is_ok());
+    assert!(rt; !scribe.step(rt, node));
+    assert!(rt; tick_often(rt, node, &mut ticks).is_ok());
+    assert!(rt; scribe.step(rt, node));
+    scribe.finish(rt, node);
     let (follower, page, is_whole) = scribe.into_parts();
     assert!(rt; is_whole);
     assert_eq!(rt; follower.len(), 1506);
-    Ok(page)
+    page
 }
 
 // The calls of `WORKED`, by three seats.
@@ -130,7 +138,7 @@ fn make_calls<N: PageNaming, R: Wait + Copy + Drop>(
     hears: &mut Seat<N>,
     ticks: &mut Seat<N>,
     changes: &mut Seat<N>,
-) -> Result<(), Fail> {
+) -> Result<(), CallFault> {
     let ping = Message {
         kind: Kind::Ping,
         sender: id(2),
@@ -151,7 +159,7 @@ fn tick_often<N: PageNaming, R: Wait + Copy + Drop>(
     rt: &R,
     node: &Node<N, Seeded, R>,
     ticks: &mut Seat<N>,
-) -> Result<(), Fail> {
+) -> Result<(), CallFault> {
     for _ in 0..1500 {
         let _answered = node.tick(rt, ticks)?;
     }
