@@ -1,2 +1,3 @@
 pub mod ToldReasons
 pub mod CommandLine
+pub mod Moving

@@ -3,3 +3,4 @@ pub mod Meanings
 pub mod Named
 pub mod Differences
 pub mod Verifying
+pub mod WholeLines

@@ -10,6 +10,7 @@ use crate::notes::NoteTaker;
 use crate::overhearing::Overheard;
 use crate::whole_lines::WholeLines;
 use crate::wording::Worded;
+use std::cell::RefCell;
 use std::fs::File;
 use std::io::{self, ErrorKind, Read, Stdin, Stdout, Write};
 use swim_wire::{Byte, ReadSource, Sink, Source, WriteSink};
@@ -33,13 +34,13 @@ impl Read for Script {
 /// The bytes of a script, with a note of what each line tells.
 type Noted<'a> = Overheard<ReadSource<Script>, NoteTaker<'a>>;
 
-/// A script, as it lies there, or byte by byte with notes of its lines and of what is heard in them, or whole line by
-/// whole line.
+/// A script, as it lies there, or byte by byte with notes of its lines and of what is heard in them, or its whole lines
+/// alone.
 #[derive(Drop)]
 pub enum Input<'a> {
     Plain(Script),
     Overheard(Overheard<Noted<'a>, Messages<'a>>),
-    Whole(WholeLines<'a>),
+    Whole(&'a RefCell<WholeLines>),
 }
 
 impl<'a> Read for Input<'a> {
@@ -47,8 +48,18 @@ impl<'a> Read for Input<'a> {
         match self {
             Input::Plain(script) => script.read(buf),
             Input::Overheard(script) => read_byte(script, buf),
-            Input::Whole(lines) => lines.read(buf),
+            Input::Whole(lines) => read_lines(lines, buf),
         }
+    }
+}
+
+/// Reads whole lines, which nobody else reads meanwhile.
+fn read_lines(lines: &RefCell<WholeLines>, buf: &mut [u8]) -> io::Result<usize>
+    ensures { ReadsAtMost result buf.new }
+{
+    match lines.try_borrow_mut() {
+        Ok(mut lines) => lines.read(buf),
+        Err(_) => Err(io::Error::from(ErrorKind::Other)),
     }
 }
 

@@ -160,15 +160,14 @@ fn play<'a>(rt: &HostRuntime, path: &'a str) -> io::Result<Played<'a>> {
     } else {
         Script::File(open(rt, path)?)
     };
-    let witness = RefCell::new(Witness::new(rt.alloc()));
+    let lines = RefCell::new(WholeLines::new(rt.alloc(), script));
     let mut session = Session::new(rt.alloc());
-    let lines = WholeLines::new(rt.alloc(), script, &witness);
-    let outcome = play_between(&mut session, Input::Whole(lines), Output::Nowhere);
+    let outcome = play_between(&mut session, Input::Whole(&lines), Output::Nowhere);
     Ok(Played {
         path,
         outcome,
         journal: session.into_journal(),
-        witness: witness.into_inner(),
+        witness: lines.into_inner().into_witness(outcome),
     })
 }
 

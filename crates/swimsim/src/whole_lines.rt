@@ -1,32 +1,38 @@
 //! The whole lines of a journal file.
 
-ghost use Rattle.std.specs.Prelude.{◌≡◌, ◌≤◌, length};
+ghost use Rattle.std.specs.Prelude.{◌≡◌, ◌<◌, ◌≤◌, None, false, length};
+ghost use Rattle.std.specs.Io.{StartsWith};
+ghost use Rattle.std.specs.Io.KnownBytes.{Consumes};
+ghost use Rattle.swim_wire.specs.Lines.{has_feed};
 ghost use Rattle.swimsim.specs.Verifying.{end_at, is_front};
+ghost use Rattle.swimsim.specs.WholeLines.{EndsBy, EndsIfMet, Moves};
 
 use crate::files::Script;
 use crate::witness::{FileEnd, Witness};
 use arrayvec::ArrayVec;
+use memchr::memrchr;
 use std::alloc::Global;
-use std::cell::RefCell;
 use std::io::{self, ErrorKind, Read};
-use swim_script::LINE_BYTES;
-use swim_wire::{LineEnd, Page, ReadSource, next_short_line};
+use swim_script::{LINE_BYTES, ScriptFault};
+use swim_wire::{Byte, LineEnd, ReadSource, Source};
 
 /// The first line of a journal file.
 const MARK: &[u8; 9] = b"journal 1";
 
-/// Reads a journal file line by line, and none that has no line feed. Each line that is read is noted by the witness as
-/// soon as more is wanted: where lines are played one by one, it was carried out by then.
+/// How many bytes of lines are held: what may stand before a line feed that wasn't read yet, and what a source reads at once.
+const HELD_BYTES: usize = 8192;
+
+/// Reads a journal file, and gives its lines that have a line feed, as many at once as can be had without waiting. Those
+/// that were given are noted by the witness as soon as more is wanted: they were carried out by then.
 ///
 /// Behind a header without a call it gives a line `table`, so that the opening is looked at.
 #[derive(Drop)]
-pub struct WholeLines<'a> {
+pub struct WholeLines {
     source: ReadSource<Script>,
-    unsent: Page,
-    line: ArrayVec<u8, LINE_BYTES>,
+    lines: ArrayVec<u8, HELD_BYTES>,
     given: usize,
     stage: Stage,
-    witness: &'a RefCell<Witness>,
+    witness: Witness,
 }
 
 /// What is being given.
@@ -34,35 +40,43 @@ pub struct WholeLines<'a> {
 enum Stage {
     /// Nothing so far.
     Begun,
-    /// A line of the file.
-    Line,
+    /// Lines of the file.
+    Lines,
     /// The line behind a header.
     Closing,
     /// Nothing more.
     Over,
 }
 
-impl<'a> WholeLines<'a> {
+impl WholeLines {
     /// The lines of that file, of which nothing was read.
-    pub fn new(alloc: Global, file: Script, witness: &'a RefCell<Witness>) -> WholeLines<'a> {
+    pub fn new(alloc: Global, file: Script) -> WholeLines {
         WholeLines {
             source: ReadSource::new(file),
-            unsent: Page::new(alloc),
-            line: ArrayVec::new(),
+            lines: ArrayVec::new(),
             given: 0,
             stage: Stage::Begun,
-            witness,
+            witness: Witness::new(alloc),
         }
     }
 
-    /// Goes on to the next line.
+    /// What the lines tell that were carried out, where they were played with that outcome: those before the line of a
+    /// fault.
+    pub fn into_witness(mut self, outcome: Result<(), ScriptFault>) -> Witness {
+        if let (Stage::Lines, Err(fault)) = (self.stage, outcome) {
+            let before = fault.line.saturating_sub(1);
+            let count = before.saturating_sub(self.witness.lines);
+            self.witness
+                .note_lines(self.lines.as_slice(), count as usize);
+        }
+        self.witness
+    }
+
+    /// Goes on to the next lines.
     fn advance(&mut self) -> io::Result<()> {
-        let Ok(mut witness) = self.witness.try_borrow_mut() else {
-            return Err(io::Error::from(ErrorKind::Other));
-        };
         let is_first = self.stage == Stage::Begun;
-        if self.stage == Stage::Line {
-            witness.note(self.line.as_slice());
+        if self.stage == Stage::Lines {
+            self.witness.note_lines(self.lines.as_slice(), usize::MAX);
         }
         if self.stage == Stage::Closing {
             self.stage = Stage::Over;
@@ -71,29 +85,106 @@ impl<'a> WholeLines<'a> {
             return Ok(());
         }
         self.given = 0;
-        let mut reads = u32::MAX;
-        let met = next_short_line(
-            &mut self.source,
-            &mut self.unsent,
-            &mut self.line,
-            &mut reads,
-        );
-        let end = end_at(met, is_first, self.line.as_slice());
-        witness.end = end;
+        let met = take_lines(&mut self.source, &mut self.lines);
+        let end = end_at(met, is_first, first_line(self.lines.as_slice()));
+        self.witness.end = end;
+        self.stage = self.stage_at(end);
         if end == FileEnd::Failed {
-            self.stage = Stage::Over;
             return Err(io::Error::from(ErrorKind::Other));
         }
-        self.stage = if end == FileEnd::Unmet {
-            Stage::Line
-        } else if witness.is_in_header() && end != FileEnd::Long {
-            self.line.clear();
-            let _fits = self.line.try_extend_from_slice(b"table");
-            Stage::Closing
-        } else {
-            Stage::Over
-        };
+        if self.stage == Stage::Closing {
+            self.lines.clear();
+            let _fits = self.lines.try_extend_from_slice(b"table\n");
+        }
         Ok(())
+    }
+
+    /// What is given next, where the file was met to end so.
+    fn stage_at(&self, end: FileEnd) -> Stage {
+        match end {
+            FileEnd::Unmet => Stage::Lines,
+            FileEnd::Whole | FileEnd::Cut if self.witness.is_in_header() => Stage::Closing,
+            _ => Stage::Over,
+        }
+    }
+}
+
+/// Takes the lines that are ready, at least one, and answers what ended the last of them: a line feed, but for a line
+/// that has none, which is then the only one.
+fn take_lines<R: Source>(reader: &mut R, lines: &mut ArrayVec<u8, HELD_BYTES>) -> LineEnd
+    ensures bytes { Consumes (R.left reader.old) (R.left reader.new) lines.new.items }
+    ensures ends { EndsBy result lines.new.items }
+{
+    lines.clear();
+    while lines.len() <= LINE_BYTES {
+        if let Some(end) = take_part(reader, lines) {
+            return end;
+        }
+    }
+    LineEnd::Long
+}
+
+/// Takes the bytes that are ready up to the last line feed, or all of them if they have none, and answers what ended the
+/// last line if anything did.
+fn take_part<R: Source>(reader: &mut R, lines: &mut ArrayVec<u8, HELD_BYTES>) -> Option<LineEnd>
+    requires room { length lines.old.items ≤ LINE_BYTES }
+    requires unended { has_feed lines.old.items ≡ false }
+    ensures bytes { Moves (R.left reader.old) (R.left reader.new) lines.old.items lines.new.items }
+    ensures ends { EndsIfMet result lines.new.items }
+    ensures grows { result ≡ None → length lines.old.items < length lines.new.items }
+{
+    if reader.ready().is_empty() {
+        return take_byte(reader, lines);
+    }
+    let ready = reader.ready();
+    let most = ready.len().min(lines.remaining_capacity());
+    let (part, met) = last_ended(&ready[..most]);
+    let count = part.len();
+    let _fits = lines.try_extend_from_slice(part);
+    reader.skip(count);
+    met
+}
+
+/// The bytes up to the last line feed, which ends them, or all of them where there is none.
+fn last_ended(bytes: &[u8]) -> (&[u8], Option<LineEnd>)
+    ensures front { StartsWith bytes.now result.0.now }
+    ensures some { 0 < length bytes.now → 0 < length result.0.now }
+    ensures ends { EndsIfMet result.1 result.0.now }
+{
+    match memrchr(b'\n', bytes) {
+        Some(last) => (&bytes[..last + 1], Some(LineEnd::Feed)),
+        None => (bytes, None),
+    }
+}
+
+/// Takes one byte, for which it may wait, and answers what ended the line if anything did.
+fn take_byte<R: Source>(reader: &mut R, lines: &mut ArrayVec<u8, HELD_BYTES>) -> Option<LineEnd>
+    requires room { length lines.old.items ≤ LINE_BYTES }
+    requires unended { has_feed lines.old.items ≡ false }
+    ensures bytes { Moves (R.left reader.old) (R.left reader.new) lines.old.items lines.new.items }
+    ensures ends { EndsIfMet result lines.new.items }
+    ensures grows { result ≡ None → length lines.old.items < length lines.new.items }
+{
+    match reader.byte() {
+        Byte::One(byte) => {
+            lines.push(byte);
+            if byte == b'\n' {
+                Some(LineEnd::Feed)
+            } else {
+                None
+            }
+        }
+        Byte::End if lines.is_empty() => Some(LineEnd::Over),
+        Byte::End => Some(LineEnd::Unended),
+        Byte::Fault => Some(LineEnd::Failed),
+    }
+}
+
+/// The first of some lines, without its line feed.
+fn first_line(lines: &[u8]) -> &[u8] {
+    match lines.iter().position(|byte| *byte == b'\n') {
+        Some(end) => &lines[..end],
+        None => lines,
     }
 }
 
@@ -122,36 +213,30 @@ fn is_front(line: &[u8]) -> bool
     line == front
 }
 
-impl<'a> Read for WholeLines<'a> {
+impl Read for WholeLines {
     fn read(&mut self, buf: &mut [u8]) -> io::Result<usize> {
         if buf.is_empty() {
             return Ok(0);
         }
-        if self.stage == Stage::Begun || self.given > self.line.len() {
+        if self.stage == Stage::Begun || self.given >= self.lines.len() {
             self.advance()?;
         }
         if self.stage == Stage::Over {
             return Ok(0);
         }
-        let count = give(self.line.as_slice(), self.given, buf);
+        let count = give(self.lines.as_slice(), self.given, buf);
         self.given = self.given.saturating_add(count);
         Ok(count)
     }
 }
 
-/// Writes what comes next of a line, and its line feed behind it where there is room, and answers how many bytes those
-/// are; so many, `given`, were written before.
-fn give(line: &[u8], given: usize, buf: &mut [u8]) -> usize
+/// Writes what comes next of some lines, as much as there is room for, and answers how many bytes those are; so many,
+/// `given`, were written before.
+fn give(lines: &[u8], given: usize, buf: &mut [u8]) -> usize
     ensures { result ≤ length buf.new }
 {
-    let rest = line.get(given..).unwrap_or_default();
+    let rest = lines.get(given..).unwrap_or_default();
     let count = rest.len().min(buf.len());
     buf[..count].copy_from_slice(&rest[..count]);
-    match buf.get_mut(count) {
-        Some(byte) => {
-            *byte = b'\n';
-            count + 1
-        }
-        None => count,
-    }
+    count
 }

@@ -54,19 +54,28 @@ impl Witness {
         }
     }
 
+    /// These lines came next, each with its line feed, and so many of them, from the first on, were carried out.
+    pub fn note_lines(&mut self, lines: &[u8], count: usize) {
+        let Some(lines) = lines.strip_suffix(b"\n") else {
+            return;
+        };
+        for line in lines.split(|byte| *byte == b'\n').take(count) {
+            self.note(line);
+        }
+    }
+
     /// The next line was carried out, which is given without its line feed.
-    pub fn note(&mut self, line: &[u8]) {
+    fn note(&mut self, line: &[u8]) {
         self.lines = self.lines.saturating_add(1);
         let started = self.started.take();
-        if let Some(comment) = line.strip_prefix(b"# ") {
-            self.note_time(started, comment);
-            return;
+        match line {
+            [b'=', b' ', told @ ..] => self.note_answer(Words::new(told)),
+            [b'#', b' ', comment @ ..] => self.note_time(started, comment),
+            _ => self.note_command(Words::new(line)),
         }
-        if let Some(told) = line.strip_prefix(b"= ") {
-            self.note_answer(Words::new(told));
-            return;
-        }
-        let mut words = Words::new(line);
+    }
+
+    fn note_command(&mut self, mut words: Words<'_>) {
         match words.next().and_then(|text| first_word(text)) {
             Some(Word::Tick | Word::Hear | Word::Join | Word::Remove) => {
                 self.confirmations.call(self.lines);
