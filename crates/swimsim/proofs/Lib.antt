@@ -1,3 +1,4 @@
 pub mod ToldReasons
 pub mod CommandLine
-pub mod Moving
+pub mod Feeds
+pub mod Digits

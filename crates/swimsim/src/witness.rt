@@ -1,5 +1,8 @@
 //! What the lines of a journal file tell beside the run.
 
+ghost use Rattle.std.specs.Prelude.{◌≡◌, ℕ, ◌<◌, ◌^◌, decimal};
+
+use memchr::memchr;
 use std::alloc::{AllocError, Global};
 use std::collections::BTreeMap;
 use swim_evidence::{Confirmations, Draw, Heading};
@@ -56,11 +59,13 @@ impl Witness {
 
     /// These lines came next, each with its line feed, and so many of them, from the first on, were carried out.
     pub fn note_lines(&mut self, lines: &[u8], count: usize) {
-        let Some(lines) = lines.strip_suffix(b"\n") else {
-            return;
-        };
-        for line in lines.split(|byte| *byte == b'\n').take(count) {
-            self.note(line);
+        let mut rest = lines;
+        for _ in 0..count {
+            let Some(end) = memchr(b'\n', rest) else {
+                return;
+            };
+            self.note(&rest[..end]);
+            rest = &rest[end + 1..];
         }
     }
 
@@ -69,19 +74,19 @@ impl Witness {
         self.lines = self.lines.saturating_add(1);
         let started = self.started.take();
         match line {
-            [b'=', b' ', told @ ..] => self.note_answer(Words::new(told)),
+            [b'=', b' ', told @ ..] => self.note_answer(told),
             [b'#', b' ', comment @ ..] => self.note_time(started, comment),
-            _ => self.note_command(Words::new(line)),
+            _ => self.note_command(line),
         }
     }
 
-    fn note_command(&mut self, mut words: Words<'_>) {
-        match words.next().and_then(|text| first_word(text)) {
+    fn note_command(&mut self, line: &[u8]) {
+        let (word, _) = cut_word(line);
+        match first_word(word) {
             Some(Word::Tick | Word::Hear | Word::Join | Word::Remove) => {
                 self.confirmations.call(self.lines);
             }
-            Some(Word::Open) => self.note_heading(Word::Open, &mut words),
-            Some(Word::Seed) => self.note_heading(Word::Seed, &mut words),
+            Some(word @ (Word::Open | Word::Seed)) => self.note_heading(word, line),
             _ => {}
         }
     }
@@ -100,22 +105,23 @@ impl Witness {
         }
     }
 
-    fn note_answer(&mut self, mut words: Words<'_>) {
-        let place = words
-            .next()
-            .and_then(|text| read_number(text, u64::from(u32::MAX)));
-        let Some(place) = place else {
+    /// What was told is the place of the newest entry and its answer, rightly.
+    fn note_answer(&mut self, told: &[u8]) {
+        let (digits, answer) = cut_word(told);
+        let place = self.confirmations.confirmed;
+        if number_in(digits) != u64::from(place) {
             return;
-        };
-        let place = place as u32;
-        if place == self.confirmations.confirmed && words.next() == Some(b"started") {
+        }
+        if answer.starts_with(b" started ") {
             self.started = Some(place);
         }
         self.confirmations.answer(place);
     }
 
-    fn note_heading(&mut self, word: Word, words: &mut Words<'_>) {
-        match read_command(Form::Journal, word, words) {
+    fn note_heading(&mut self, word: Word, line: &[u8]) {
+        let mut words = Words::new(line);
+        let _first = words.next();
+        match read_command(Form::Journal, word, &mut words) {
             Ok(Some(Command::Open(arguments))) => {
                 self.heading = Some(Heading {
                     limit: arguments.limit,
@@ -130,4 +136,24 @@ impl Witness {
             _ => {}
         }
     }
+}
+
+/// What stands before the first space, and what stands from there on.
+fn cut_word(text: &[u8]) -> (&[u8], &[u8]) {
+    match text.iter().position(|byte| *byte == b' ') {
+        Some(end) => text.split_at(end),
+        None => (text, &[]),
+    }
+}
+
+/// The number that digits tell, or 2^64-1 where they tell more.
+fn number_in(digits: &[u8]) -> u64
+    ensures { (n : ℕ) → n < 2 ^ 64 → digits.now ≡ decimal n → result ≡ n }
+{
+    let mut number = 0u64;
+    for digit in digits {
+        let value = digit.saturating_sub(b'0');
+        number = number.saturating_mul(10).saturating_add(u64::from(value));
+    }
+    number
 }

@@ -1,7 +1,7 @@
 use Rattle.std.proofs.Common.{◌≡◌, ◌∷◌, [], ◌++◌, take, get_or, ap, ◌∙◌}
 use Rattle.std.proofs.lemmas.Bool.{eqb-true}
 use Rattle.std.proofs.lemmas.List.{take_more}
-use Rattle.swimsim.proofs.Moving.{no_feed}
+use Rattle.swimsim.proofs.Feeds.{no_feed}
 use Rattle.swimsim.proofs.whole_lines.last_ended.Goals as goal
 
 pub returns-in-Some-clause-ends : goal.returns-in-Some-clause-ends

@@ -1,7 +1,7 @@
 use Rattle.std.proofs.Common.{◌≡◌, ◌++◌, sym, subst, arith}
 use Rattle.std.proofs.lemmas.Grind.{common_steps}
 use Rattle.swimsim.specs.WholeLines.{EndsIfMet}
-use Rattle.swimsim.proofs.Moving.{ends_joined}
+use Rattle.swimsim.proofs.Feeds.{ends_joined}
 use Rattle.swimsim.proofs.whole_lines.take_part.Goals as goal
 
 pub returns-clause-ends : goal.returns-clause-ends

@@ -1,28 +1,11 @@
--- Bytes that are taken part by part.
-use Rattle.std.proofs.Common.{◌≡◌, ℕ, suc, ◌==◌, ◌||◌, Bool, true, false, List, [], ◌∷◌, ◌++◌, length, Option, Some, None, refl, sym, ap, ◌∙◌, append_assoc, append-nil, arith}
+-- Where bytes have a line feed.
+use Rattle.std.proofs.Common.{◌≡◌, ℕ, suc, ◌==◌, ◌||◌, Bool, true, false, List, [], ◌∷◌, ◌++◌, length, Option, Some, None, refl, sym, ap, ◌∙◌, append_assoc, arith}
 use Rattle.memchr.specs.Find.{Nowhere, Passes, is_byte}
 use Rattle.swim_wire.specs.Lines.{has_feed}
-use Rattle.std.specs.Io.KnownBytes.{Keeps}
-use Rattle.std.proofs.KnownBytes.{Consumes-nil, Consumes-trans}
-use Rattle.swim_wire.specs.Streams.{kept_consumes}
 use Rattle.swim_wire.specs.Cutting.{has_feed_then}
 use Rattle.swim_wire.specs.declared.short_lines.LineEnd.{LineEnd}
 use Rattle.swim_wire.specs.declared.short_lines.LineEnd.TheVariants.{Feed}
-use Rattle.swimsim.specs.WholeLines.{EndsIfMet, Moves}
-
-pub moves_none : (o n : Option (List ℕ)) (held : List ℕ) → Keeps o n → Moves o n held held
-moves_none o n held kept = record {
-  part = [];
-  puts = sym (append-nil held);
-  takes = kept_consumes o n n [] kept (Consumes-nil n);
-}
-
-pub moves_both : (o m n : Option (List ℕ)) (a b c : List ℕ) → Moves o m a b → Moves m n b c → Moves o n a c
-moves_both o m n a b c p q = record {
-  part = p.part ++ q.part;
-  puts = q.puts ∙ (ap (λ l. l ++ q.part) p.puts ∙ append_assoc a p.part q.part);
-  takes = Consumes-trans o m n p.part q.part p.takes q.takes;
-}
+use Rattle.swimsim.specs.WholeLines.{EndsIfMet}
 
 -- where no byte is a line feed
 pub no_feed : (bytes : List ℕ) → Nowhere (Passes (is_byte 10) bytes) 0 (length bytes) → has_feed bytes ≡ false

@@ -7,8 +7,8 @@ use Rattle.swim_history.specs.declared.entries.Entry.{Entry}
 use Rattle.swim_history.specs.Run.{IsRun}
 use Rattle.swim_evidence.specs.Evidence.{findings, judgements_told}
 use Rattle.swim_evidence.proofs.Told.{judgements_are_told}
-use Rattle.swim_evidence.proofs.walking.findings_of.Goals as goal
-use Rattle.swim_evidence.proofs.walking.findings_of.Goals.{in-Some+in_ok-note, in_default}
+use Rattle.swim_evidence.proofs.walking.walk.Goals as goal
+use Rattle.swim_evidence.proofs.walking.walk.Goals.{in-Some+in_ok-note, in_default}
 
 pub loop-place-preserved : goal.loop-place-preserved
 loop-place-preserved c =
