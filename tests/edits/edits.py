@@ -59,3 +59,23 @@ def read_pairs(text):
 def edits_of(folder):
     """The paths of the edits in a folder, by name."""
     return sorted(str(it) for it in Path(folder).glob("*.edit"))
+
+
+def in_rooms(paths, texts, size):
+    """These edits of a crate, about so many a room: those of one function stand in one room, since they are tried in turn."""
+    by_function, share = {}, len(paths) / max(1, round(len(paths) / size))
+    for path in paths:
+        by_function.setdefault(function_of(path, texts), []).append(path)
+    rooms = [[]] if paths else []
+    for group in by_function.values():
+        rooms += [[]] * (len(rooms[-1]) >= share)
+        rooms[-1] = [*rooms[-1], *group]
+    return rooms
+
+
+def function_of(path, texts):
+    """The one function that an edit changes, or None; a bad edit is told when it is tried."""
+    try:
+        return Edit(path, texts).function
+    except BadEdit:
+        return None
