@@ -39,7 +39,13 @@ is_left page new past false cut put back = record { text = rw cut put; back = λ
 pub life_with_cut : (opening : Setting) (limit : ℕ) (past new : Past) (cut : Bool) → new ≡ record past { is_cut = cut } →
     IsLife opening limit past → IsLife opening limit new
 life_with_cut opening limit past new cut same is = subst (λ p. IsLife opening limit p) (sym same)
-    (record { opening = is.opening; within = is.within; seats = is.seats; history = is.history })
+    (record {
+      opening = is.opening;
+      within = is.within;
+      seats = is.seats;
+      the_seats = is.the_seats;
+      history = is.history;
+    })
 
 pub was_drawn_with_cut : (opening : Setting) (chooser : ChaCha) (past new : Past) (cut : Bool) → new ≡ record past { is_cut = cut } →
     WasDrawn DrawsOrder DrawsPlace opening chooser past.journal.past → WasDrawn DrawsOrder DrawsPlace opening chooser new.journal.past

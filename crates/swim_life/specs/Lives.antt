@@ -7,7 +7,7 @@ use Rattle.swim_history.specs.Setting.{Setting}
 use Rattle.swim_node.specs.declared.receipts.OpenFault.{OpenFault}
 use Rattle.swim_node.specs.declared.receipts.OpenFault.TheVariants as faults
 use Rattle.swim_node.specs.OneHistory.{IsOneHistory}
-use Rattle.swim_node.specs.Seats.{Seated}
+use Rattle.swim_node.specs.Seats.{Seated, AreTheSeats}
 use Rattle.swim_targets.specs.Draws.{DrawsOrder, DrawsPlace, of_seed}
 use Rattle.swim_life.specs.declared.counts.Why.{Why}
 use Rattle.swim_life.specs.declared.counts.Why.TheVariants as whys
@@ -17,12 +17,13 @@ use Rattle.swim_life.specs.declared.lives.Past.{Past}
 use Rattle.swim_life.specs.Draws.{WasDrawn}
 use Rattle.swim_life.specs.Endings.{TellsLife, TellsText, Written, stopped_text}
 
--- a life from this opening: its journal is one history, with the calls of some four seats, and has at most so many
--- entries
+-- a life from this opening: its journal is one history, with the calls of the four seats of a node, and has at most so
+-- many entries
 pub record IsLife (first : Setting) (limit : ℕ) (past : Past) : Type 0 where
   pub opening : past.journal.opening ≡ first
   pub within : length past.journal.past ≤ limit
   pub seats : List Seated
+  pub the_seats : AreTheSeats seats
   pub history : IsOneHistory first past.journal.past seats (changes first past.journal.past)
 
 -- what the life after these begins with
