@@ -1,5 +1,5 @@
 -- How a life ends, and what its workers counted.
-use Rattle.std.specs.Prelude.{ℕ, ◌+◌, ◌-◌, ◌^◌, Bool, nat_lt, if◌then◌else◌, List, codes, min, Option, Some, None}
+use Rattle.std.specs.Prelude.{ℕ, ◌+◌, ◌-◌, ◌^◌, Bool, nat_lt, if◌then◌else◌, List, codes, min, Option, Some, None, Result, Ok, Err}
 use Rattle.swim_control.specs.declared.connections.Stand.{Stand}
 use Rattle.swim_control.specs.declared.connections.Stand.TheVariants.{Ended}
 use Rattle.swim_control.specs.declared.serving.Served.TheVariants as served
@@ -27,6 +27,17 @@ abbrev pub why_at : Stand → Option Why
 why_at (Ended served.Stopped) = Some Stopped
 why_at (Ended served.JournalFull) = Some JournalFull
 why_at stand = None
+
+-- and for no other reason
+abbrev pub IsOfConnection : Why → Type 0
+IsOfConnection Stopped = Unit {0}
+IsOfConnection JournalFull = Unit {0}
+IsOfConnection why = ⊥
+
+-- why a worker ends, if it does
+abbrev pub end_of : {A : Type 0} → Result A Why → Option Why
+end_of (Ok value) = None
+end_of (Err why) = Some why
 
 -- a reason's words
 abbrev pub why_text : Why → List ℕ

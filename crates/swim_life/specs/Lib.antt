@@ -1,7 +1,9 @@
+pub mod Calling
 pub mod Desk
 pub mod Draws
 pub mod Endings
 pub mod Ends
+pub mod Faults
 pub mod Finished
 pub mod Gates
 pub mod Lives
@@ -9,4 +11,5 @@ pub mod Notices
 pub mod Pacing
 pub mod Places
 pub mod Posts
+pub mod Turns
 pub mod Written

@@ -1,8 +1,9 @@
 //! The controller, the third of a life's workers: it serves the connections of a hall, each in its turn.
 
-ghost use Rattle.std.specs.Prelude.{◌≡◌, ◌⊎◌, ◌↔◌, ◌+◌, ◌-◌, ◌^◌, ◌<◌, ◌≤◌, min, true, false, Some, Ok, Err};
+ghost use Rattle.std.specs.Prelude.{◌≡◌, ◌↔◌, true, Some, IfErr};
 ghost use Rattle.std.specs.Option.{unwrap_or};
-ghost use Rattle.swim_life.specs.Ends.{why_at};
+ghost use Rattle.swim_life.specs.Ends.{IsOfConnection, end_of, why_at};
+ghost use Rattle.swim_life.specs.Faults.{AsksDoor, ServesNext, ShutsOut};
 
 use crate::counts::{Faults, Why};
 use crate::gates::{Door, Knock};
@@ -79,7 +80,10 @@ fn serve_next<N: Naming, H: Wait + Drop, R: Wait, D: Door + Drop>(
     desk: &mut NodeDesk<N, H, 2>,
     faults: &mut Faults,
     hall: &mut Hall<D>,
-) -> Option<Why> {
+) -> Option<Why>
+    ensures { ServesNext hall.old.connections (D.faults hall.old.door) faults.old.in_a_row result
+        (D.faults hall.new.door) faults.new.in_a_row }
+{
     let is_there = match let_in(rt, alloc, faults, hall) {
         Ok(is_there) => is_there,
         Err(why) => return Some(why),
@@ -101,7 +105,10 @@ fn let_in<R: Wait, D: Door + Drop>(
     alloc: Global,
     faults: &mut Faults,
     hall: &mut Hall<D>,
-) -> Result<bool, Why> {
+) -> Result<bool, Why>
+    ensures { AsksDoor hall.old.connections (D.faults hall.old.door) faults.old.in_a_row (end_of result)
+        (D.faults hall.new.door) faults.new.in_a_row }
+{
     if hall.connections.is_full() {
         return Ok(false);
     }
@@ -116,25 +123,22 @@ fn let_in<R: Wait, D: Door + Drop>(
             faults.clear();
             Ok(false)
         }
-        Knock::Fault => shut_out(faults, hall.connections.len()),
+        Knock::Fault => match shut_out(faults, hall.connections.len()) {
+            Some(why) => Err(why),
+            None => Ok(false),
+        },
     }
 }
 
 /// What comes of a fault of the door while so many connections are open. Each of them has descriptors of the system, so
 /// while there are some it may be that no other is left: the fault doesn't count then, and the door is asked again.
-fn shut_out(faults: &mut Faults, connections: usize) -> Result<bool, Why>
-    ensures some { 0 < connections → (result ≡ Ok false) × (faults.new ≡ faults.old) }
-    ensures none { connections ≡ 0 → ((result ≡ Ok false) ⊎ (result ≡ Err Why.Socket))
-        × ((result ≡ Err Why.Socket) ↔ (16 ≤ faults.new.in_a_row)) }
-    ensures count { connections ≡ 0 → faults.new.in_a_row ≡ min (faults.old.in_a_row + 1) (2 ^ 32 - 1) }
+fn shut_out(faults: &mut Faults, connections: usize) -> Option<Why>
+    ensures { ShutsOut connections faults.old.in_a_row result faults.new.in_a_row }
 {
     if connections > 0 {
-        return Ok(false);
+        return None;
     }
-    match faults.more() {
-        Some(why) => Err(why),
-        None => Ok(false),
-    }
+    faults.more()
 }
 
 /// Turns of each connection, round after round while something comes of one: whether something came, or why the
@@ -145,7 +149,10 @@ fn serve_rounds<N: Naming, H: Wait + Drop, R: Wait, D: Door + Drop>(
     alloc: Global,
     desk: &mut NodeDesk<N, H, 2>,
     hall: &mut Hall<D>,
-) -> Result<bool, Why> {
+) -> Result<bool, Why>
+    ensures ends { IfErr result IsOfConnection }
+    ensures door { D.faults hall.new.door ≡ D.faults hall.old.door }
+{
     let now = hall.door.now();
     for round in 0..ROUNDS {
         if !serve_each(rt, alloc, now, desk, hall)? {
@@ -163,7 +170,10 @@ fn serve_each<N: Naming, H: Wait + Drop, R: Wait, D: Door + Drop>(
     now: u64,
     desk: &mut NodeDesk<N, H, 2>,
     hall: &mut Hall<D>,
-) -> Result<bool, Why> {
+) -> Result<bool, Why>
+    ensures ends { IfErr result IsOfConnection }
+    ensures door { hall.new.door ≡ hall.old.door }
+{
     let mut is_busy = false;
     for _place in 0..hall.connections.len() {
         let stand = hall.connections.turn(rt, alloc, now, desk);

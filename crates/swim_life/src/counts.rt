@@ -1,7 +1,8 @@
 //! What a worker counts, and why it ends.
 
-ghost use Rattle.std.specs.Prelude.{◌≡◌, ◌↔◌, ◌+◌, ◌≤◌, ◌^◌, ◌-◌, min, IsSome, IfSome};
+ghost use Rattle.std.specs.Prelude.{◌≡◌};
 ghost use Rattle.swim_life.specs.Ends.{gravity, graver, why_text, together};
+ghost use Rattle.swim_life.specs.Faults.{one_fault_more, end_at};
 
 /// How many faults in a row a worker takes of its line or its door before it gives up.
 pub(crate) const MOST_FAULTS: u32 = 16;
@@ -111,9 +112,8 @@ impl Faults {
 
     /// One more; why the worker ends, if that is one too many.
     pub(crate) fn more(&mut self) -> Option<Why>
-        ensures count { self.new.in_a_row ≡ min (self.old.in_a_row + 1) (2 ^ 32 - 1) }
-        ensures ends { IsSome result ↔ (16 ≤ self.new.in_a_row) }
-        ensures why { IfSome result (λ why. why ≡ Why.Socket) }
+        ensures count { self.new.in_a_row ≡ one_fault_more self.old.in_a_row }
+        ensures ends { result ≡ end_at self.new.in_a_row }
     {
         self.in_a_row = self.in_a_row.saturating_add(1);
         if self.in_a_row < MOST_FAULTS {

@@ -2,8 +2,8 @@
 //! once a turn, so a gate that has nothing waits a moment, but not long, before it answers that it is idle; a door is told
 //! when to wait. A herald tells people that a life begins, and a shelf has the files of the lives' journals.
 
-ghost use Rattle.std.specs.Prelude.{◌≡◌, ℕ, List, Option, IfSome};
-ghost use Rattle.swim_life.specs.Gates.{FitsInto};
+ghost use Rattle.std.specs.Prelude.{◌≡◌, ℕ, [], ◌∷◌, List, Option, IfSome};
+ghost use Rattle.swim_life.specs.Gates.{FitsInto, is_fault};
 ghost use Rattle.swim_life.specs.Notices.{Notices};
 ghost use Rattle.swim_life.specs.Posts.{Grows, IsFresh};
 ghost use Rattle.swim_life.specs.Written.{IsFile};
@@ -26,9 +26,17 @@ pub enum Got {
 
 /// Where datagrams come in. The receiver has it for itself.
 pub trait Line {
+    ghost use Rattle.std.specs.Prelude.{List, Option};
+    ghost use Rattle.swim_life.specs.Gates.{Received};
+
+    // what it gave so far, oldest first, where that is known
+    ghost received: { Self → Option (List Received) };
+
     /// The next datagram, which is put at the front of the buffer.
     fn receive<R: Wait>(&mut self, rt: &R, bytes: &mut [u8]) -> Got
-        ensures { FitsInto result bytes.new };
+        ensures fits { FitsInto result bytes.new }
+        ensures received { Grows (received self.old) (received self.new)
+            (record { got = result; bytes = bytes.new } ∷ []) };
 }
 
 /// Where a worker's datagrams go out. Each worker that sends has one of its own.
@@ -62,8 +70,15 @@ pub enum Beat {
 
 /// Where the ticks come from.
 pub trait Pace {
+    ghost use Rattle.std.specs.Prelude.{List, Option};
+    ghost use Rattle.swim_life.specs.declared.gates.Beat.{Beat};
+
+    // the beats that it gave so far, oldest first, where they are known
+    ghost beats: { Self → Option (List Beat) };
+
     /// Waits for the next beat.
-    fn next<R: Wait>(&mut self, rt: &R) -> Beat;
+    fn next<R: Wait>(&mut self, rt: &R) -> Beat
+        ensures { Grows (beats self.old) (beats self.new) (result ∷ []) };
 }
 
 /// What came to a door.
@@ -79,6 +94,11 @@ pub enum Knock<A: Drop, B: Drop> {
 
 /// Where operators come in. Nothing of it waits but `wait`.
 pub trait Door {
+    ghost use Rattle.std.specs.Prelude.{Bool, List, Option};
+
+    // of each of its answers so far, oldest first, whether it was a fault; where that is known
+    ghost faults: { Self → Option (List Bool) };
+
     /// Where an operator's control lines come from.
     type Reader: Polled + Drop;
 
@@ -86,13 +106,16 @@ pub trait Door {
     type Writer: Sink + Drop;
 
     /// The next connection, if one has come.
-    fn next<R: Wait>(&mut self, rt: &R) -> Knock<Self::Reader, Self::Writer>;
+    fn next<R: Wait>(&mut self, rt: &R) -> Knock<Self::Reader, Self::Writer>
+        ensures { Grows (faults self.old) (faults self.new) (is_fault result ∷ []) };
 
     /// Waits a moment, or until something comes: a connection, bytes of one, or room for an answer of one.
-    fn wait<R: Wait>(&mut self, rt: &R);
+    fn wait<R: Wait>(&mut self, rt: &R)
+        ensures { faults self.new ≡ faults self.old };
 
     /// The time now, in milliseconds since some moment.
-    fn now(&mut self) -> u64;
+    fn now(&mut self) -> u64
+        ensures { faults self.new ≡ faults self.old };
 }
 
 /// Who tells people that a life begins, or doesn't.

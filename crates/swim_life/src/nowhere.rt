@@ -49,6 +49,8 @@ impl Sink for Nowhere {
 pub struct Never {}
 
 impl Pace for Never {
+    ghost beats = { λ p. None };
+
     fn next<R: Wait>(&mut self, _rt: &R) -> Beat {
         Beat::Stop
     }

@@ -1,7 +1,7 @@
 //! The callers of the node that send the datagrams of its replies.
 
-ghost use Rattle.std.specs.Prelude.{◌≡◌, ◌⊎◌, [], None, Some, box_value};
-ghost use Rattle.swim_node.specs.Answered.{MayRefuse};
+ghost use Rattle.std.specs.Prelude.{◌≡◌, [], box_value};
+ghost use Rattle.swim_life.specs.Calling.{Hears, Ticks};
 ghost use Rattle.swim_life.specs.Posts.{HasSent, IsFresh};
 
 use crate::counts::{Counts, Why};
@@ -10,7 +10,7 @@ use crate::holding::Held;
 use crate::sending::finish;
 use std::marker::Model;
 use std::sync::Wait;
-use swim_node::{CallFault, Naming, Node};
+use swim_node::{Naming, Node};
 use swim_targets::Chooser;
 use swim_wire::Peer;
 
@@ -62,8 +62,7 @@ impl<N: Naming, O: Post + Drop, const SEAT: u8> Sender<N, O, SEAT> {
         bytes: &[u8],
         source: Peer,
     ) -> Option<Why>
-        ensures { (result ≡ None) ⊎ ((result ≡ Some Why.JournalFull)
-            × MayRefuse N.opening N.limit self.old.seat CallFault.JournalFull) }
+        ensures { Hears N.opening N.limit bytes.now source self.old result self.new }
     {
         let answer = node.hear(rt, &mut self.held.seat, bytes, source);
         let opening = node.opening();
@@ -76,8 +75,7 @@ impl<N: Naming, O: Post + Drop, const SEAT: u8> Sender<N, O, SEAT> {
         rt: &R,
         node: &Node<N, C, H>,
     ) -> Option<Why>
-        ensures { (result ≡ None) ⊎ ((result ≡ Some Why.JournalFull)
-            × MayRefuse N.opening N.limit self.old.seat CallFault.JournalFull) }
+        ensures { Ticks N.opening N.limit self.old result self.new }
     {
         let answer = node.tick(rt, &mut self.held.seat);
         let opening = node.opening();

@@ -1,6 +1,6 @@
 //! The pace of a daemon: it sleeps from tick to tick.
 
-ghost use Rattle.std.specs.Prelude.{◌≡◌};
+ghost use Rattle.std.specs.Prelude.{◌≡◌, None};
 ghost use Rattle.swim_life.specs.Pacing.{Beats};
 
 use crate::gates::{Beat, Pace};
@@ -45,6 +45,8 @@ impl<K: Clock + Drop> SleepingPace<K> {
 }
 
 impl<K: Clock + Drop> Pace for SleepingPace<K> {
+    ghost beats = { λ p. None };
+
     fn next<R: Wait>(&mut self, _rt: &R) -> Beat
         ensures { Beats self.old result self.new }
     {

@@ -1,6 +1,6 @@
 //! The line of a daemon: a UDP socket.
 
-ghost use Rattle.std.specs.Prelude.{None};
+ghost use Rattle.std.specs.Prelude.{◌≡◌, ◌↔◌, ◌⊎◌, None};
 ghost use Rattle.swim_life.specs.Gates.{FitsInto};
 
 use crate::gates::{Got, Line, Post};
@@ -35,6 +35,8 @@ impl UdpLine {
 
 // The workers share the socket, so each has a reference to it.
 impl<'s> Line for &'s UdpLine {
+    ghost received = { λ s. None };
+
     fn receive<R: Wait>(&mut self, _rt: &R, bytes: &mut [u8]) -> Got
         ensures { FitsInto result bytes.new }
     {
@@ -43,10 +45,7 @@ impl<'s> Line for &'s UdpLine {
                 Some(peer) => Got::Datagram(count, peer),
                 None => Got::Idle,
             },
-            Err(fault) => match fault.kind() {
-                ErrorKind::WouldBlock | ErrorKind::Interrupted => Got::Idle,
-                _ => Got::Fault,
-            },
+            Err(fault) => got_by(fault.kind()),
         }
     }
 }
@@ -63,6 +62,17 @@ impl<'s> Post for &'s UdpLine {
             Ok(count) => count == bytes.len(),
             Err(_) => false,
         }
+    }
+}
+
+/// What a receive got that failed so: nothing where it waited in vain or was interrupted, and else a fault of the line.
+fn got_by(kind: ErrorKind) -> Got
+    ensures idle { (result ≡ Got.Idle) ↔ ((kind ≡ ErrorKind.WouldBlock) ⊎ (kind ≡ ErrorKind.Interrupted)) }
+    ensures fault { (result ≡ Got.Idle) ⊎ (result ≡ Got.Fault) }
+{
+    match kind {
+        ErrorKind::WouldBlock | ErrorKind::Interrupted => Got::Idle,
+        _ => Got::Fault,
     }
 }
 

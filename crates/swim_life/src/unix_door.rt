@@ -1,5 +1,7 @@
 //! The door of a daemon: a Unix socket.
 
+ghost use Rattle.std.specs.Prelude.{◌≡◌, ◌↔◌, ◌⊎◌, None, IsTrue};
+
 use crate::gates::{Door, Knock};
 use crate::unix_streams::{StreamSink, StreamSource};
 use mio::unix::SourceFd;
@@ -89,7 +91,20 @@ fn watch(poll: &Poll, descriptor: RawFd) -> io::Result<()> {
         .register(&mut SourceFd(&descriptor), Token(0), both)
 }
 
+/// Whether an accept that failed so met nobody: who came may be gone again, too. Else it is a fault of the door.
+fn is_nobody(kind: ErrorKind) -> bool
+    ensures { IsTrue result ↔ ((kind ≡ ErrorKind.WouldBlock) ⊎ (kind ≡ ErrorKind.Interrupted)
+        ⊎ (kind ≡ ErrorKind.ConnectionAborted)) }
+{
+    matches!(
+        kind,
+        ErrorKind::WouldBlock | ErrorKind::Interrupted | ErrorKind::ConnectionAborted
+    )
+}
+
 impl<K: Clock + Drop> Door for UnixDoor<K> {
+    ghost faults = { λ d. None };
+
     type Reader = StreamSource;
 
     type Writer = StreamSink;
@@ -100,12 +115,8 @@ impl<K: Clock + Drop> Door for UnixDoor<K> {
                 Ok((reader, writer)) => Knock::Conn(reader, writer),
                 Err(_) => Knock::Fault,
             },
-            Err(fault) => match fault.kind() {
-                ErrorKind::WouldBlock | ErrorKind::Interrupted | ErrorKind::ConnectionAborted => {
-                    Knock::Idle
-                }
-                _ => Knock::Fault,
-            },
+            Err(fault) if is_nobody(fault.kind()) => Knock::Idle,
+            Err(_) => Knock::Fault,
         }
     }
 

@@ -1,8 +1,10 @@
 //! The receiver and the ticker, two of the workers of a life. Each worker has a seat of the node for itself. It
 //! reads the shared flag once a turn, then asks its gate once, and sets the flag when it ends.
 
-ghost use Rattle.std.specs.Prelude.{◌≡◌, ◌↔◌, true, Some};
+ghost use Rattle.std.specs.Prelude.{◌≡◌, ◌↔◌, ℕ, true, Option, Some};
 ghost use Rattle.std.specs.Option.{unwrap_or};
+ghost use Rattle.swim_life.specs.declared.counts.Why.{Why as Reason};
+ghost use Rattle.swim_life.specs.Turns.{HasHeard, HasTicked, HearsNext, IsTurn, TicksNext};
 
 use crate::counts::{Faults, Why};
 use crate::gates::{Beat, Got, Line, Pace, Post};
@@ -24,7 +26,10 @@ pub(crate) fn receive<N: Naming, O: Post + Drop, C: Chooser, H: Wait + Drop, R: 
     over: &AtomicBool,
     sender: Sender<N, O, 0>,
     line: &mut L,
-) -> Ended<N, O, 0> {
+) -> Ended<N, O, 0>
+    ensures { (end : Option Reason) × (result.why ≡ unwrap_or end Why.Stopped)
+        × HasHeard N.opening N.limit (L.received line.old) (L.received line.new) sender end result.sender }
+{
     let mut sender = sender;
     let end = hear_on(rt, node, over, &mut sender, line);
     over.store(true, Ordering::SeqCst);
@@ -32,13 +37,16 @@ pub(crate) fn receive<N: Naming, O: Post + Drop, C: Chooser, H: Wait + Drop, R: 
 }
 
 /// Hears until the life is over (`None`), or until the receiver ends, and why.
+#[tactic(auto, using(crate::proofs::Turning::none_turned, crate::proofs::Turning::one_more_turned))]
 fn hear_on<N: Naming, O: Post + Drop, C: Chooser, H: Wait + Drop, R: Wait, L: Line>(
     rt: &R,
     node: &Node<N, C, H>,
     over: &AtomicBool,
     sender: &mut Sender<N, O, 0>,
     line: &mut L,
-) -> Option<Why> {
+) -> Option<Why>
+    ensures { HasHeard N.opening N.limit (L.received line.old) (L.received line.new) sender.old result sender.new }
+{
     let mut faults = Faults::none();
     for _turn in rt.forever() {
         if over.load(Ordering::SeqCst) {
@@ -58,7 +66,10 @@ fn hear_next<N: Naming, O: Post + Drop, C: Chooser, H: Wait + Drop, R: Wait, L: 
     sender: &mut Sender<N, O, 0>,
     faults: &mut Faults,
     line: &mut L,
-) -> Option<Why> {
+) -> Option<Why>
+    ensures { IsTurn (HearsNext N.opening N.limit) (L.received line.old) (L.received line.new)
+        (sender.old, faults.old.in_a_row) result (sender.new, faults.new.in_a_row) }
+{
     let mut bytes = [0u8; BUFFER_BYTES];
     match line.receive(rt, &mut bytes) {
         Got::Datagram(count, source) => {
@@ -80,7 +91,10 @@ pub(crate) fn tick<N: Naming, O: Post + Drop, C: Chooser, H: Wait + Drop, R: Wai
     over: &AtomicBool,
     sender: Sender<N, O, 1>,
     pace: &mut P,
-) -> Ended<N, O, 1> {
+) -> Ended<N, O, 1>
+    ensures { (end : Option Reason) × (result.why ≡ unwrap_or end Why.Stopped)
+        × HasTicked N.opening N.limit (P.beats pace.old) (P.beats pace.new) sender end result.sender }
+{
     let mut sender = sender;
     let end = tick_on(rt, node, over, &mut sender, pace);
     over.store(true, Ordering::SeqCst);
@@ -88,13 +102,16 @@ pub(crate) fn tick<N: Naming, O: Post + Drop, C: Chooser, H: Wait + Drop, R: Wai
 }
 
 /// Ticks until the life is over (`None`), or until the ticker ends, and why.
+#[tactic(auto, using(crate::proofs::Turning::none_turned, crate::proofs::Turning::one_more_turned))]
 fn tick_on<N: Naming, O: Post + Drop, C: Chooser, H: Wait + Drop, R: Wait, P: Pace>(
     rt: &R,
     node: &Node<N, C, H>,
     over: &AtomicBool,
     sender: &mut Sender<N, O, 1>,
     pace: &mut P,
-) -> Option<Why> {
+) -> Option<Why>
+    ensures { HasTicked N.opening N.limit (P.beats pace.old) (P.beats pace.new) sender.old result sender.new }
+{
     for _turn in rt.forever() {
         if over.load(Ordering::SeqCst) {
             return None;
@@ -112,7 +129,9 @@ fn tick_next<N: Naming, O: Post + Drop, C: Chooser, H: Wait + Drop, R: Wait, P: 
     node: &Node<N, C, H>,
     sender: &mut Sender<N, O, 1>,
     pace: &mut P,
-) -> Option<Why> {
+) -> Option<Why>
+    ensures { IsTurn (TicksNext N.opening N.limit) (P.beats pace.old) (P.beats pace.new) sender.old result sender.new }
+{
     match pace.next(rt) {
         Beat::Tick => sender.tick(rt, node),
         Beat::Idle => None,

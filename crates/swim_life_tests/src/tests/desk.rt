@@ -23,6 +23,8 @@ struct TypingDoor<'a, 'l, K: Clock + Drop> {
 }
 
 impl<'a, 'l, K: Clock + Drop> Door for TypingDoor<'a, 'l, K> {
+    ghost faults = { λ door. None };
+
     type Reader = Text<'static>;
 
     type Writer = Expecting<'a>;

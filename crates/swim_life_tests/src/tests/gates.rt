@@ -76,6 +76,8 @@ pub struct PingLine<'s, K: Clock + Drop> {
 }
 
 impl<'s, K: Clock + Drop> Line for PingLine<'s, K> {
+    ghost received = { λ line. None };
+
     fn receive<R: Wait>(&mut self, _rt: &R, bytes: &mut [u8]) -> Got
         ensures { FitsInto result bytes.new }
     {
@@ -136,6 +138,8 @@ pub struct StopPace<'s, K: Clock + Drop> {
 }
 
 impl<'s, K: Clock + Drop> Pace for StopPace<'s, K> {
+    ghost beats = { λ pace. None };
+
     fn next<R: Wait>(&mut self, _rt: &R) -> Beat {
         if self.ticks > 0 {
             self.ticks -= 1;
@@ -157,6 +161,8 @@ pub struct NoDoor<K: Clock + Drop> {
 }
 
 impl<K: Clock + Drop> Door for NoDoor<K> {
+    ghost faults = { λ door. None };
+
     type Reader = Text<'static>;
 
     type Writer = Page;
@@ -184,6 +190,8 @@ pub struct OneDoor<'s, K: Clock + Copy + Drop> {
 }
 
 impl<'s, K: Clock + Copy + Drop> Door for OneDoor<'s, K> {
+    ghost faults = { λ door. None };
+
     type Reader = TwoLines<'s>;
 
     type Writer = Answers<'s>;

@@ -229,6 +229,8 @@ struct LateLine<'f, 'g, K: Clock + Drop> {
 }
 
 impl<'f, 'g, K: Clock + Drop> Line for LateLine<'f, 'g, K> {
+    ghost received = { λ line. None };
+
     fn receive<R: Wait>(&mut self, _rt: &R, bytes: &mut [u8]) -> Got
         ensures { FitsInto result bytes.new }
     {
@@ -257,6 +259,8 @@ struct FillingPace<'f, 'g, K: Clock + Drop> {
 }
 
 impl<'f, 'g, K: Clock + Drop> Pace for FillingPace<'f, 'g, K> {
+    ghost beats = { λ pace. None };
+
     fn next<R: Wait>(&mut self, _rt: &R) -> Beat {
         if self.ticks < 2 {
             self.ticks += 1;

@@ -83,6 +83,8 @@ struct OnePing<'s, K: Clock + Drop> {
 }
 
 impl<'s, K: Clock + Drop> Line for OnePing<'s, K> {
+    ghost received = { λ line. None };
+
     fn receive<R: Wait>(&mut self, _rt: &R, bytes: &mut [u8]) -> Got
         ensures { FitsInto result bytes.new }
     {

@@ -17,6 +17,8 @@ struct WatchedLine {
 }
 
 impl<'l> Line for &'l WatchedLine {
+    ghost received = { λ line. None };
+
     fn receive<R: Wait>(&mut self, rt: &R, bytes: &mut [u8]) -> Got
         ensures { FitsInto result bytes.new }
     {
@@ -55,6 +57,8 @@ struct FourTicks<'s, K: Clock + Drop> {
 }
 
 impl<'s, K: Clock + Drop> Pace for FourTicks<'s, K> {
+    ghost beats = { λ pace. None };
+
     fn next<R: Wait>(&mut self, _rt: &R) -> Beat {
         if self.ticks == 1 && self.turns < TURNS && !is_set(self.signal) {
             self.turns += 1;

@@ -1,0 +1,84 @@
+-- What became of a call, once its answer was dealt with.
+use Rattle.std.proofs.Common.{◌≡◌, ℕ, List, Option, Result, Ok, Err, refl, sym, subst, inl, inr}
+use Rattle.std.specs.Prelude.{IfOk, IfErr, OnErr}
+use Rattle.swim_wire.specs.Address.{Address}
+use Rattle.swim_wire.specs.declared.messages.Message.{Message}
+use Rattle.swim_wire.specs.Layout.{IsTextOf}
+use Rattle.swim_history.specs.declared.calls.Call.TheVariants.{Hear, Tick}
+use Rattle.swim_history.specs.Setting.{Setting}
+use Rattle.swim_node.specs.declared.receipts.CallFault.{CallFault}
+use Rattle.swim_node.specs.declared.receipts.CallFault.TheVariants as faults
+use Rattle.swim_node.specs.declared.receipts.Receipt.{Receipt}
+use Rattle.swim_node.specs.Answered.{kept, IsAnswered, MayRefuse, MayRefuseBytes}
+use Rattle.swim_node.specs.Seats.{Seated}
+use Rattle.swim_life.specs.declared.counts.Counts.{Counts}
+use Rattle.swim_life.specs.declared.counts.Why.{Why}
+use Rattle.swim_life.specs.Calling.{IsMade, IsRefused, Hears, Ticks}
+use Rattle.swim_life.specs.Finished.{AreSent, IsFinished}
+use Rattle.swim_life.specs.Posts.{AtSender, Posted}
+
+-- what a contract sees of a sender
+abbrev at_sender : {O : Type 0} → Seated → O → Counts → AtSender O
+at_sender seat post counts = record { seat = seat; post = post; counts = counts }
+
+refused_so : {O N : Type 0} (posted : O → Option (List Posted)) (messages : Receipt N → List (Address × Message)) (old new : Seated)
+    (fault : CallFault) (boxed post after : O) (counts next : Counts) (end : Option Why) → post ≡ boxed → new ≡ old →
+    IsFinished posted (Err fault) messages post counts end after next →
+    IsRefused fault (at_sender old boxed counts) end (at_sender new after next)
+refused_so posted messages old new (faults.Wire f) boxed post after counts next end in_box seat done =
+    record { same = rw (seat, done.1, in_box, done.2) refl; ends = done.0 }
+refused_so posted messages old new faults.NoMemory boxed post after counts next end in_box seat done =
+    record { same = rw (seat, done.1, in_box, done.2) refl; ends = done.0 }
+refused_so posted messages old new faults.JournalFull boxed post after counts next end in_box seat done =
+    record { same = rw (seat, done.1, in_box, done.2) refl; ends = done.0 }
+
+-- only what couldn't be sent was counted
+count_kept : {O : Type 0} (posted : O → Option (List Posted)) (messages : List (Address × Message)) (post after : O) (counts next : Counts) →
+    AreSent messages (posted post) (posted after) counts next → next ≡ record counts { unsent = next.unsent }
+count_kept posted messages post after counts next sent =
+    subst (λ (c : Counts). c ≡ record counts { unsent = c.unsent }) (sym sent.2) refl
+
+pub heard_so : {O N : Type 0} (posted : O → Option (List Posted)) (messages : Receipt N → List (Address × Message)) (o : Setting)
+    (limit : ℕ) (bytes : List ℕ) (source : Address) (old new : Seated) (answer : Result (Receipt N) CallFault) (boxed post after : O)
+    (counts next : Counts) (end : Option Why) → post ≡ boxed →
+    IfOk answer (λ r. (m : Message) × IsTextOf bytes m
+    × IsAnswered o old new (Hear m source) (kept r.position r.number r.call r.reply) r.news) →
+    OnErr answer (new ≡ old) → IfErr answer (MayRefuseBytes bytes o limit old) →
+    IsFinished posted answer messages post counts end after next →
+    Hears o limit bytes source (at_sender old boxed counts) end (at_sender new after next)
+heard_so posted messages o limit bytes source old new (Ok r) boxed post after counts next end in_box ok err refuses done =
+    inl (
+      Hear ok.0 source,
+      (ok.0, ok.1, refl),
+      record {
+        kept = kept r.position r.number r.call r.reply;
+        news = r.news;
+        answered = ok.2;
+        counted = count_kept posted (messages r) post after counts next done.1;
+        goes_on = done.0;
+      },
+    )
+heard_so posted messages o limit bytes source old new (Err f) boxed post after counts next end in_box ok err refuses done =
+    inr (f, refuses, refused_so posted messages old new f boxed post after counts next end in_box err done)
+
+pub ticked_so : {O N : Type 0} (posted : O → Option (List Posted)) (messages : Receipt N → List (Address × Message)) (o : Setting)
+    (limit : ℕ) (old new : Seated) (answer : Result (Receipt N) CallFault) (boxed post after : O)
+    (counts next : Counts) (end : Option Why) → post ≡ boxed →
+    IfOk answer (λ r. IsAnswered o old new Tick (kept r.position r.number r.call r.reply) r.news) →
+    OnErr answer (new ≡ old) → IfErr answer (MayRefuse o limit old) →
+    IsFinished posted answer messages post counts end after next →
+    Ticks o limit (at_sender old boxed counts) end (at_sender new after next)
+ticked_so posted messages o limit old new (Ok r) boxed post after counts next end in_box ok err refuses done =
+    inl (
+      Tick,
+      refl,
+      record {
+        kept = kept r.position r.number r.call r.reply;
+        news = r.news;
+        answered = ok;
+        counted = count_kept posted (messages r) post after counts next done.1;
+        goes_on = done.0;
+      },
+    )
+ticked_so posted messages o limit old new (Err f) boxed post after counts next end in_box ok err refuses done =
+    inr (f, refuses, refused_so posted messages old new f boxed post after counts next end in_box err done)
