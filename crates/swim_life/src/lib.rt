@@ -33,7 +33,7 @@ pub use lives::{Lived, LivesEnd, Past, Terms, live, live_recorded, run_lives};
 pub use nowhere::{Never, NoShelf, Nowhere};
 pub use places::{Place, Sight};
 pub use posts::Posts;
-pub use sleeping_pace::SleepingPace;
+pub use sleeping_pace::{ClockSleeper, Sleeper, SleepingPace};
 pub use udp_line::UdpLine;
 pub use unix_door::UnixDoor;
 pub use unix_streams::{StreamSink, StreamSource};

@@ -1,7 +1,7 @@
 //! The pace of a daemon: it sleeps from tick to tick.
 
 ghost use Rattle.std.specs.Prelude.{◌≡◌, None};
-ghost use Rattle.swim_life.specs.Pacing.{Beats};
+ghost use Rattle.swim_life.specs.Pacing.{Beats, HasSlept};
 
 use crate::gates::{Beat, Pace};
 use std::marker::Model;
@@ -13,45 +13,76 @@ use std::time::Duration;
 /// The longest sleep at once, in milliseconds, so that the ticker sees soon that its life is over.
 const LONGEST_MS: u32 = 100;
 
-/// Gives a tick after each sleep of so many milliseconds, and never tells a life to end. How long a sleep really lasts
-/// is a matter of the system.
+/// By whom a pace sleeps.
+pub trait Sleeper {
+    ghost use Rattle.std.specs.Prelude.{ℕ, Option};
+
+    // for how many milliseconds it slept so far, where that is known
+    ghost slept: { Self → Option ℕ };
+
+    /// Sleeps for so many milliseconds.
+    fn sleep(&mut self, milliseconds: u32)
+        ensures { HasSlept (slept self.old) milliseconds (slept self.new) };
+}
+
+/// A sleeper by a clock. How long a sleep really lasts is a matter of the system.
 #[derive(Drop)]
-pub struct SleepingPace<K: Clock + Drop> {
+pub struct ClockSleeper<K: Clock + Drop> {
     clock: K,
+}
+
+impl<K: Clock + Drop> ClockSleeper<K> {
+    pub fn new(clock: K) -> ClockSleeper<K> {
+        ClockSleeper { clock }
+    }
+}
+
+impl<K: Clock + Drop> Sleeper for ClockSleeper<K> {
+    ghost slept = { λ s. None };
+
+    fn sleep(&mut self, milliseconds: u32) {
+        thread::sleep(&self.clock, Duration::from_millis(u64::from(milliseconds)));
+    }
+}
+
+/// Gives a tick after each sleep of so many milliseconds, and never tells a life to end.
+#[derive(Drop)]
+pub struct SleepingPace<S: Sleeper + Drop> {
+    sleeper: S,
     tick_ms: u32,
     // How much of the present tick was not slept yet.
     left_ms: u32,
 }
 
-impl<K: Clock + Drop> Model for SleepingPace<K> {
+impl<S: Sleeper + Drop> Model for SleepingPace<S> {
     ghost use Rattle.swim_life.specs.Pacing.{Pacing};
 
     ghost Value = { Pacing };
 
-    ghost view = { λ p. record { tick = p.tick_ms; left = p.left_ms } };
+    ghost view = { λ p. record { tick = p.tick_ms; left = p.left_ms; slept = S.slept p.sleeper } };
 }
 
-impl<K: Clock + Drop> SleepingPace<K> {
+impl<S: Sleeper + Drop> SleepingPace<S> {
     /// A pace of so many milliseconds a tick.
-    pub fn new(clock: K, tick_ms: u32) -> SleepingPace<K>
-        ensures { result ≡ record { tick = tick_ms; left = tick_ms } }
+    pub fn new(sleeper: S, tick_ms: u32) -> SleepingPace<S>
+        ensures { result ≡ record { tick = tick_ms; left = tick_ms; slept = S.slept sleeper } }
     {
         SleepingPace {
-            clock,
+            sleeper,
             tick_ms,
             left_ms: tick_ms,
         }
     }
 }
 
-impl<K: Clock + Drop> Pace for SleepingPace<K> {
+impl<S: Sleeper + Drop> Pace for SleepingPace<S> {
     ghost beats = { λ p. None };
 
     fn next<R: Wait>(&mut self, _rt: &R) -> Beat
         ensures { Beats self.old result self.new }
     {
         let time = self.left_ms.min(LONGEST_MS);
-        thread::sleep(&self.clock, Duration::from_millis(u64::from(time)));
+        self.sleeper.sleep(time);
         self.left_ms -= time;
         if self.left_ms > 0 {
             return Beat::Idle;

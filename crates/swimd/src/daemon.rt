@@ -21,7 +21,9 @@ use std::rt::{Clock, Files};
 use std::sync::Wait;
 use std::thread::Threads;
 use swim_config::{Config, ConfigFault, INPUT_BYTES, read_config, read_input};
-use swim_life::{Hall, LivesEnd, Place, Sight, SleepingPace, Terms, UdpLine, UnixDoor, run_lives};
+use swim_life::{
+    ClockSleeper, Hall, LivesEnd, Place, Sight, SleepingPace, Terms, UdpLine, UnixDoor, run_lives,
+};
 use swim_wire::{Peer, ReadSource, Sink};
 
 /// How often a life's journal is written to its file, in milliseconds.
@@ -134,12 +136,12 @@ fn start<R: Files<File = File> + Net + Clock + Threads + Wait + Sync, W: Sink, F
     };
     announce(rt, alloc, &config, is_quiet, faults);
     let mut hall = Hall::new(alloc, door);
-    let mut pace = SleepingPace::new(rt, config.tick_ms);
+    let mut pace = SleepingPace::new(ClockSleeper::new(rt), config.tick_ms);
     let mut herald = Announcer::new(rt, alloc, is_quiet);
     let terms = terms_of(&config);
     let opening = config.opening;
     let mut shelf = Folder::new(rt, alloc, config.files, opening.me(), seconds(rt));
-    let mut pause = SleepingPace::new(rt, WRITE_MS);
+    let mut pause = SleepingPace::new(ClockSleeper::new(rt), WRITE_MS);
     let mut hearing = &line;
     let sending = &line;
     let end = run_lives(

@@ -8,7 +8,7 @@ use super::gates::{Counter, NoDoor, Signals};
 use super::lives::{line, pace};
 use super::*;
 use std::sync::atomic::AtomicBool;
-use swim_life::{Hall, LivesEnd, Shelf, SleepingPace, Terms, run_lives};
+use swim_life::{ClockSleeper, Hall, LivesEnd, Shelf, SleepingPace, Terms, run_lives};
 use swim_script::{Session, run};
 use swim_wire::{Page, Sink, Text};
 
@@ -126,7 +126,7 @@ fn live_twice<R: Threads + Wait + Clock + Send + Sync + Copy + Drop>(
         played: 0,
         calls: 0,
     };
-    let mut pause = SleepingPace::new(rt, 1);
+    let mut pause = SleepingPace::new(ClockSleeper::new(rt), 1);
     let mut page = Page::new(alloc);
     let mut herald = Counter { begun: 0 };
     let mut notices = Page::new(alloc);
