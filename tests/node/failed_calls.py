@@ -1,6 +1,7 @@
-"""What programs have to write and do where one call of the system fails, once. Each function gives, for one run after the other, how
-it ended and what isn't as it has to be."""
+"""What programs have to write and do where one call of the system fails, once, or several in a row. Each function gives, for one run
+after the other, how it ended and what isn't as it has to be."""
 
+import itertools
 import os
 import re
 import subprocess
@@ -13,6 +14,7 @@ from tests.swimsim.worked_scripts import ASKED, JUDGED_2, STARTED, TWO
 
 AS_EVER, READ, WRITE = "as ever", "a read that fails", "a write that fails"
 NOT_BEGUN, CLOSED, UNSENT, CUT, UNTOLD = "nothing was done", "a connection is closed", "a datagram isn't sent", "a journal is cut", "a line isn't told"
+BROKEN = "the line is broken"
 FAILED = b"failed\n"
 MOST = 1_000
 
@@ -64,6 +66,17 @@ ASKED_LINES = [
 TURNS, PAUSE = 50, 0.05
 
 
+def is_acked(daemon, peer, number):
+    """Whether a ping of this number is acked. Acks of earlier ones may come late."""
+    peer.sendto(datagram(PING, 9, 9, 1, number), daemon.address)
+    try:
+        while fields(peer.recv(100))[4] != number:
+            pass
+    except OSError:
+        return False
+    return True
+
+
 class Talk:
     """What passes with a daemon: pings until one is acked, and then control lines, each again until it is answered."""
 
@@ -77,11 +90,7 @@ class Talk:
 
     def is_acked(self):
         self.pings += 1
-        self.peer.sendto(datagram(PING, 9, 9, 1, self.pings), self.daemon.address)
-        try:
-            return fields(self.peer.recv(100))[4] == self.pings
-        except OSError:
-            return False
+        return is_acked(self.daemon, self.peer, self.pings)
 
     def answer(self, line):
         for _ in range(TURNS):
@@ -160,3 +169,28 @@ def of_a_daemon(failer, programs, name, pool):
                 yield ended[0], [f"{name} {number}: {it}" for it in ended[1]]
         place += 8
         must(place < MOST, f"each of {MOST} daemons met a failure")
+
+
+def of_a_broken_line(failer, programs):
+    """A line that fails so many times in a row: after fifteen the daemon goes on, and with the sixteenth it ends."""
+    for count, way, wanted in ((15, AS_EVER, (0, b"stopped")), (16, BROKEN, (5, b"socket"))):
+        try:
+            met = how_it_endures(failer, programs, count)
+            yield way, [] if met == (count, *wanted) else [f"after {count} receives that failed it ended {met}"]
+        except (DaemonFault, OSError, subprocess.SubprocessError) as fault:
+            yield way, [f"{type(fault).__name__}: {fault}"]
+
+
+def how_it_endures(failer, programs, count):
+    """How many receives of a daemon failed, its status, and why it ended. Where it goes on it is stopped, once it has acked a ping."""
+    with Machine(*programs) as machine:
+        daemon, peer, numbers = machine.daemon(1, tick_ms=60_000), machine.socket(), itertools.count(1)
+        peer.settimeout(0.2)
+        daemon.launch(env={**os.environ, "LD_PRELOAD": failer, "FAIL": f"recvfrom 0 {count}"})
+        until(lambda: daemon.child.poll() is not None or is_acked(daemon, peer, next(numbers)), "it acks a ping or ends")
+        if daemon.child.poll() is None:
+            daemon.ask(b"stop\n")
+        stdout, stderr = daemon.child.communicate(timeout=20)
+    closing = LIVES_AND_CLOSING.fullmatch(stdout)
+    must(closing, f"it writes {stdout!r} and {stderr!r}")
+    return stderr.count(FAILED), daemon.child.returncode, closing[2]

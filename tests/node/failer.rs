@@ -1,7 +1,7 @@
-//! Has one call of the system fail in the program that it is loaded into before all else. The variable FAIL says which: its name and
-//! which one of that name, counted from 0, as `read 3`. That call does nothing and is answered an error of input and output, and
-//! `failed` is written to standard error then. Calls on standard error aren't counted. Where the variable PIECES is set, a read from
-//! standard input takes at most so many bytes.
+//! Has calls of the system fail in the program that it is loaded into before all else. The variable FAIL says which: their name and
+//! which one of that name, counted from 0, as `read 3`; where a number follows, so many in a row from that one on. Such a call does
+//! nothing and is answered an error of input and output, and `failed` is written to standard error then. Calls on standard error aren't
+//! counted. Where the variable PIECES is set, a read from standard input takes at most so many bytes.
 #![no_std]
 
 use core::ffi::{CStr, c_char, c_int, c_long, c_void};
@@ -27,26 +27,29 @@ const STANDARD_INPUT: c_int = 0;
 const STANDARD_ERROR: c_int = 2;
 const UNREAD: i64 = i64::MIN;
 
-/// How many calls of the name that fails are left until the one that does.
+/// How many calls of the name that fails are left until the first one that does; below 0 behind it.
 static LEFT: AtomicI64 = AtomicI64::new(UNREAD);
 
-/// What stands behind a name and a space in the variable FAIL, if it is that name.
-fn place_of(name: &CStr) -> Option<i64> {
+/// What stands behind a name and a space in the variable FAIL, if it is that name: which call fails first, and how many do in a row.
+fn place_of(name: &CStr) -> Option<(i64, i64)> {
     let given = unsafe { getenv(c"FAIL".as_ptr()) };
     if given.is_null() {
         return None;
     }
     let rest = unsafe { CStr::from_ptr(given) }.to_bytes().strip_prefix(name.to_bytes())?.strip_prefix(b" ")?;
-    Some(unsafe { atol(rest.as_ptr().cast()) }.into())
+    let number = |text: &[u8]| i64::from(unsafe { atol(text.as_ptr().cast()) });
+    let count = rest.iter().position(|&it| it == b' ').map_or(1, |space| number(&rest[space..]));
+    Some((number(rest), count))
 }
 
-/// Whether this call of that name is the one that fails.
+/// Whether this call of that name is one that fails.
 fn fails(name: &CStr, file: c_int) -> bool {
-    let Some(place) = place_of(name).filter(|_| file != STANDARD_ERROR) else {
+    let Some((place, count)) = place_of(name).filter(|_| file != STANDARD_ERROR) else {
         return false;
     };
     let _is_first = LEFT.compare_exchange(UNREAD, place, SeqCst, SeqCst);
-    if LEFT.fetch_sub(1, SeqCst) != 0 {
+    let left = LEFT.fetch_sub(1, SeqCst);
+    if left > 0 || left <= -count {
         return false;
     }
     let said = b"failed\n";
