@@ -1,6 +1,6 @@
 -- What became of a call, once its answer was dealt with.
 use Rattle.std.proofs.Common.{◌≡◌, ℕ, List, Option, Result, Ok, Err, refl, sym, subst, inl, inr}
-use Rattle.std.specs.Prelude.{IfOk, IfErr, OnErr}
+use Rattle.std.specs.Prelude.{IfOk, IfErr}
 use Rattle.swim_wire.specs.Address.{Address}
 use Rattle.swim_wire.specs.declared.messages.Message.{Message}
 use Rattle.swim_wire.specs.Layout.{IsTextOf}
@@ -9,7 +9,7 @@ use Rattle.swim_history.specs.Setting.{Setting}
 use Rattle.swim_node.specs.declared.receipts.CallFault.{CallFault}
 use Rattle.swim_node.specs.declared.receipts.CallFault.TheVariants as faults
 use Rattle.swim_node.specs.declared.receipts.Receipt.{Receipt}
-use Rattle.swim_node.specs.Answered.{kept, IsAnswered, MayRefuse, MayRefuseBytes}
+use Rattle.swim_node.specs.Answered.{kept, refused, IsAnswered, MayRefuse, MayRefuseBytes}
 use Rattle.swim_node.specs.Seats.{Seated}
 use Rattle.swim_life.specs.declared.counts.Counts.{Counts}
 use Rattle.swim_life.specs.declared.counts.Why.{Why}
@@ -22,7 +22,7 @@ abbrev at_sender : {O : Type 0} → Seated → O → Counts → AtSender O
 at_sender seat post counts = record { seat = seat; post = post; counts = counts }
 
 refused_so : {O N : Type 0} (posted : O → Option (List Posted)) (messages : Receipt N → List (Address × Message)) (old new : Seated)
-    (fault : CallFault) (boxed post after : O) (counts next : Counts) (end : Option Why) → post ≡ boxed → new ≡ old →
+    (fault : CallFault) (boxed post after : O) (counts next : Counts) (end : Option Why) → post ≡ boxed → new ≡ refused fault old →
     IsFinished posted (Err fault) messages post counts end after next →
     IsRefused fault (at_sender old boxed counts) end (at_sender new after next)
 refused_so posted messages old new (faults.Wire f) boxed post after counts next end in_box seat done =
@@ -43,7 +43,7 @@ pub heard_so : {O N : Type 0} (posted : O → Option (List Posted)) (messages : 
     (counts next : Counts) (end : Option Why) → post ≡ boxed →
     IfOk answer (λ r. (m : Message) × IsTextOf bytes m
     × IsAnswered o old new (Hear m source) (kept r.position r.number r.call r.reply) r.news) →
-    OnErr answer (new ≡ old) → IfErr answer (MayRefuseBytes bytes o limit old) →
+    IfErr answer (λ fault. new ≡ refused fault old) → IfErr answer (MayRefuseBytes bytes o limit old) →
     IsFinished posted answer messages post counts end after next →
     Hears o limit bytes source (at_sender old boxed counts) end (at_sender new after next)
 heard_so posted messages o limit bytes source old new (Ok r) boxed post after counts next end in_box ok err refuses done =
@@ -65,7 +65,7 @@ pub ticked_so : {O N : Type 0} (posted : O → Option (List Posted)) (messages :
     (limit : ℕ) (old new : Seated) (answer : Result (Receipt N) CallFault) (boxed post after : O)
     (counts next : Counts) (end : Option Why) → post ≡ boxed →
     IfOk answer (λ r. IsAnswered o old new Tick (kept r.position r.number r.call r.reply) r.news) →
-    OnErr answer (new ≡ old) → IfErr answer (MayRefuse o limit old) →
+    IfErr answer (λ fault. new ≡ refused fault old) → IfErr answer (MayRefuse o limit old) →
     IsFinished posted answer messages post counts end after next →
     Ticks o limit (at_sender old boxed counts) end (at_sender new after next)
 ticked_so posted messages o limit old new (Ok r) boxed post after counts next end in_box ok err refuses done =

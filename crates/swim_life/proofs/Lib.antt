@@ -1,4 +1,5 @@
 pub mod Called
+pub mod Fullness
 pub mod LifeFiles
 pub mod Living
 pub mod Posting

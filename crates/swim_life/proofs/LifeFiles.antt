@@ -45,6 +45,7 @@ life_with_cut opening limit past new cut same is = subst (λ p. IsLife opening l
       seats = is.seats;
       the_seats = is.the_seats;
       history = is.history;
+      full = is.full;
     })
 
 pub was_drawn_with_cut : (opening : Setting) (chooser : ChaCha) (past new : Past) (cut : Bool) → new ≡ record past { is_cut = cut } →

@@ -2,6 +2,7 @@
 use Rattle.std.proofs.Common.{◌≡◌, ℕ, ◌+◌, List, [], ◌∷◌, ◌++◌, Option, Result, Ok, Err, not, map, flat_map, count_by, cond}
 use Rattle.std.proofs.Common.{refl, sym, ap, ◌∙◌, subst, arith, append-nil}
 use Rattle.std.proofs.lemmas.List.{map-append}
+use Rattle.std.specs.Prelude.{IfErr}
 use Rattle.std.proofs.lemmas.List.Sums.{sum_by-append}
 use Rattle.std.proofs.lemmas.Grind.{flat_map-append}
 use Rattle.swim_wire.specs.Address.{Address}
@@ -15,6 +16,7 @@ use Rattle.swim_history.specs.Setting.{Setting}
 use Rattle.swim_node.specs.declared.receipts.CallFault.{CallFault}
 use Rattle.swim_node.specs.declared.receipts.CallFault.TheVariants as faults
 use Rattle.swim_node.specs.declared.receipts.Receipt.{Receipt}
+use Rattle.swim_node.specs.Answered.{refused}
 use Rattle.swim_node.specs.OneHistory.{HoldsCalls}
 use Rattle.swim_node.specs.Seats.{Seated}
 use Rattle.swim_life.specs.declared.counts.Counts.{Counts}
@@ -59,7 +61,7 @@ one_more_sent o calls more k reply before after u n v are grown is sent counted 
 
 -- no call more
 still : {O : Type 0} (posted : O → Option (List Posted)) (o : Setting) (old new : Seated) (post after : O) (counts next : Counts) →
-    HasSent o old.calls (posted post) counts.unsent → new ≡ old → after ≡ post → next.unsent ≡ counts.unsent →
+    HasSent o old.calls (posted post) counts.unsent → new.calls ≡ old.calls → after ≡ post → next.unsent ≡ counts.unsent →
     HasSent o new.calls (posted after) next.unsent
 still posted o old new post after counts next are seat same count = rw (seat, same, count) are
 
@@ -68,7 +70,7 @@ pub finished_sent : {O : Type 0} {N : Type 0} (posted : O → Option (List Poste
     (answer : Result (Receipt N) CallFault) (boxed post after : O) (counts next : Counts) (end : Option Why) →
     HasSent o old.calls (posted boxed) counts.unsent → post ≡ boxed → opening ≡ o →
     ((r : Receipt N) → answer ≡ Ok r → (k : Kept) × (new.calls ≡ old.calls ++ k ∷ []) × (k.reply ≡ r.reply)) →
-    ((f : CallFault) → answer ≡ Err f → new ≡ old) →
+    IfErr answer (λ fault. new ≡ refused fault old) →
     IsFinished posted answer (λ r. sends_of r.reply opening) post counts end after next →
     HasSent o new.calls (posted after) next.unsent
 finished_sent posted o opening old new (Ok r) boxed post after counts next end sent in_box is ok err done =
@@ -79,13 +81,13 @@ finished_sent posted o opening old new (Ok r) boxed post after counts next end s
     (ap (λ (c : Counts). c.unsent) done.1.2)
 finished_sent posted o opening old new (Err (faults.Wire f)) boxed post after counts next end sent in_box is ok err done =
     let are : HasSent o old.calls (posted post) counts.unsent = rw in_box sent in
-    still posted o old new post after counts next are (err (faults.Wire f) refl) done.1 (ap (λ (c : Counts). c.unsent) done.2)
+    still posted o old new post after counts next are (ap (λ (s : Seated). s.calls) err) done.1 (ap (λ (c : Counts). c.unsent) done.2)
 finished_sent posted o opening old new (Err faults.NoMemory) boxed post after counts next end sent in_box is ok err done =
     let are : HasSent o old.calls (posted post) counts.unsent = rw in_box sent in
-    still posted o old new post after counts next are (err faults.NoMemory refl) done.1 (ap (λ (c : Counts). c.unsent) done.2)
+    still posted o old new post after counts next are (ap (λ (s : Seated). s.calls) err) done.1 (ap (λ (c : Counts). c.unsent) done.2)
 finished_sent posted o opening old new (Err faults.JournalFull) boxed post after counts next end sent in_box is ok err done =
     let are : HasSent o old.calls (posted post) counts.unsent = rw in_box sent in
-    still posted o old new post after counts next are (err faults.JournalFull refl) done.1 (ap (λ (c : Counts). c.unsent) done.2)
+    still posted o old new post after counts next are (ap (λ (s : Seated). s.calls) err) done.1 (ap (λ (c : Counts). c.unsent) done.2)
 
 -- what two of the seats sent whose calls a journal holds
 pub closed_posted : (o : Setting) (past : List Entry) (seats : List Seated) (first second third fourth : Seated)

@@ -1,5 +1,5 @@
 -- To what operators ask of a node, the detector replies so that it can be told.
-use Rattle.std.proofs.Common.{◌≡◌, ℕ, List, subst, sym, inl}
+use Rattle.std.proofs.Common.{◌≡◌, ℕ, List, refl, subst, sym, inl, inr}
 use Rattle.swim_wire.specs.Address.{Address}
 use Rattle.swim_history.specs.declared.calls.Call.{Call}
 use Rattle.swim_history.specs.declared.calls.Call.TheVariants as calls
@@ -10,11 +10,13 @@ use Rattle.swim_history.specs.declared.entries.Choice.{Choice}
 use Rattle.swim_history.specs.declared.entries.Entry.{Entry}
 use Rattle.swim_history.specs.Setting.{Setting}
 use Rattle.swim_history.specs.Run.{Answers}
+use Rattle.swim_node.specs.declared.receipts.CallFault.{CallFault}
+use Rattle.swim_node.specs.declared.receipts.CallFault.TheVariants as faults
 use Rattle.swim_node.specs.Seats.{Seated}
-use Rattle.swim_node.specs.Answered.{kept, IsAnswered}
+use Rattle.swim_node.specs.Answered.{kept, refused, IsAnswered, MayRefuse}
 use Rattle.swim_control.specs.declared.desks.Answer.{Answer}
 use Rattle.swim_node.specs.News.{IsLongerOf}
-use Rattle.swim_life.specs.Desk.{AtDesk, IsTold, Tells, Calls}
+use Rattle.swim_life.specs.Desk.{AtDesk, IsTold, Tells, TellsRefusal, Calls}
 
 reply_to_join : (o : Setting) (h : List Entry) (id : ℕ) (peer : Address) (reply : Reply) (choice : Choice) → Answers o h (calls.Join id peer) reply choice → IsTold reply
 reply_to_join o h id peer Quiet choice is = absurd is
@@ -62,3 +64,11 @@ is_called o limit old new seat asked position number call reply news answer is s
   learnt = learnt;
   refused = as_many;
 })
+
+-- a call that was refused
+pub is_refused : (o : Setting) (limit : ℕ) (old new : AtDesk) (seat : Seated) (count : ℕ) (asked : Call) (fault : CallFault) (answer : Answer)
+    → MayRefuse o limit old.seat fault → seat ≡ refused fault old.seat → new ≡ record old { seat = seat; refused = count } → TellsRefusal fault answer old.refused count
+    → Calls o limit old asked answer new
+is_refused o limit old new seat count asked (faults.Wire f) answer may is same tells = absurd may
+is_refused o limit old new seat count asked faults.JournalFull answer may is same tells = inr (rw (tells.0, same, is, tells.1) (may, refl))
+is_refused o limit old new seat count asked faults.NoMemory answer may is same tells = inr (rw (tells.0, same, is, tells.1) (may, refl))

@@ -10,7 +10,7 @@ use Rattle.swim_history.specs.declared.seats.Kept.{Kept}
 use Rattle.swim_history.specs.Setting.{Setting}
 use Rattle.swim_node.specs.declared.receipts.CallFault.{CallFault}
 use Rattle.swim_node.specs.declared.receipts.CallFault.TheVariants as faults
-use Rattle.swim_node.specs.Answered.{IsAnswered, MayRefuse, MayRefuseBytes}
+use Rattle.swim_node.specs.Answered.{IsAnswered, MayRefuse, MayRefuseBytes, refused}
 use Rattle.swim_life.specs.declared.counts.Counts.{Counts}
 use Rattle.swim_life.specs.declared.counts.Why.{Why}
 use Rattle.swim_life.specs.declared.counts.Why.TheVariants.{JournalFull}
@@ -37,9 +37,9 @@ abbrev pub end_with : CallFault → Option Why
 end_with faults.JournalFull = Some JournalFull
 end_with fault = None
 
--- the node refused: nothing changed but the counts
+-- the node refused: nothing changed but the counts, and what the seat knows of a full journal
 pub record IsRefused {O : Type 0} (fault : CallFault) (old : AtSender O) (end : Option Why) (new : AtSender O) : Type 0 where
-  pub same : new ≡ record old { counts = counts_with fault old.counts }
+  pub same : new ≡ record old { seat = refused fault old.seat; counts = counts_with fault old.counts }
   pub ends : end ≡ end_with fault
 
 -- a call was made, of those that may be, or got a refusal, of those that it may get

@@ -15,10 +15,11 @@ use Rattle.swim_control.specs.declared.desks.Answer.TheVariants.{Joined, Removed
 use Rattle.swim_control.specs.declared.desks.Command.{Command}
 use Rattle.swim_control.specs.declared.desks.Command.TheVariants.{List as Lists, Join, Remove, Gap}
 use Rattle.swim_control.specs.Desks.{Told, Shows, Measures, Answers}
+use Rattle.swim_node.specs.declared.receipts.CallFault.{CallFault}
 use Rattle.swim_node.specs.declared.receipts.CallFault.TheVariants as faults
 use Rattle.swim_node.specs.Seats.{Seated}
 use Rattle.swim_node.specs.News.{IsLongerOf}
-use Rattle.swim_node.specs.Answered.{IsAnswered, IsGapAtMoment, MayRefuse}
+use Rattle.swim_node.specs.Answered.{IsAnswered, IsGapAtMoment, MayRefuse, refused}
 use Rattle.swim_life.specs.Ends.{both}
 
 -- what a contract sees of a desk: its seat, the changes that its viewer has seen, and how many of its calls were
@@ -51,12 +52,20 @@ pub record IsDone (o : Setting) (old : AtDesk) (call : Call) (answer : Answer) (
   pub learnt : IsLongerOf old.seen news new.seen
   pub refused : new.refused ≡ old.refused
 
--- a call was refused: where the journal had as many entries as it may have, or for want of memory, which is counted
+-- a call was refused: where the journal had as many entries as it may have, which the seat knows then, or for want of memory,
+-- which is counted
 abbrev pub IsRefused : Setting → ℕ → AtDesk → Answer → AtDesk → Type 0
-IsRefused o limit old JournalFull new = MayRefuse o limit old.seat faults.JournalFull × (new ≡ old)
+IsRefused o limit old JournalFull new =
+    MayRefuse o limit old.seat faults.JournalFull × (new ≡ record old { seat = refused faults.JournalFull old.seat })
 IsRefused o limit old NoMemory new =
     MayRefuse o limit old.seat faults.NoMemory × (new ≡ record old { refused = both old.refused 1 })
 IsRefused o limit old answer new = ⊥
+
+-- what is told of a refusal, and how many calls were refused for want of memory before and after
+abbrev pub TellsRefusal : CallFault → Answer → ℕ → ℕ → Type 0
+TellsRefusal (faults.Wire fault) answer old new = ⊥
+TellsRefusal faults.JournalFull answer old new = (answer ≡ JournalFull) × (new ≡ old)
+TellsRefusal faults.NoMemory answer old new = (answer ≡ NoMemory) × (new ≡ both old 1)
 
 -- a call got this answer
 abbrev pub Calls : Setting → ℕ → AtDesk → Call → Answer → AtDesk → Type 0

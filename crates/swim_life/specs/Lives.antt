@@ -18,13 +18,14 @@ use Rattle.swim_life.specs.Draws.{WasDrawn}
 use Rattle.swim_life.specs.Endings.{TellsLife, TellsText, Written, stopped_text}
 
 -- a life from this opening: its journal is one history, with the calls of the four seats of a node, and has at most so
--- many entries
+-- many entries, and no fewer where it is what ended the life
 pub record IsLife (first : Setting) (limit : ℕ) (past : Past) : Type 0 where
   pub opening : past.journal.opening ≡ first
   pub within : length past.journal.past ≤ limit
   pub seats : List Seated
   pub the_seats : AreTheSeats seats
   pub history : IsOneHistory first past.journal.past seats (changes first past.journal.past)
+  pub full : past.why ≡ whys.JournalFull → length past.journal.past ≡ limit
 
 -- what the life after these begins with
 abbrev pub opening_after : Setting → List Past → Setting

@@ -1,6 +1,6 @@
 //! The controller, the third of a life's workers: it serves the connections of a hall, each in its turn.
 
-ghost use Rattle.std.specs.Prelude.{◌≡◌, ◌↔◌, true, Some, IfErr};
+ghost use Rattle.std.specs.Prelude.{◌≡◌, ◌↔◌, ◌<◌, true, Some, Err, IfErr, IfSome};
 ghost use Rattle.std.specs.Option.{unwrap_or};
 ghost use Rattle.swim_life.specs.Ends.{IsOfConnection, end_of, why_at};
 ghost use Rattle.swim_life.specs.Faults.{AsksDoor, ServesNext, ShutsOut};
@@ -44,7 +44,9 @@ fn serve_on<N: Naming, H: Wait + Drop, R: Wait, D: Door + Drop>(
     over: &AtomicBool,
     desk: &mut NodeDesk<N, H, 2>,
     hall: &mut Hall<D>,
-) -> Option<Why> {
+) -> Option<Why>
+    ensures full { result ≡ Some Why.JournalFull → 0 < desk.new.seat.full }
+{
     let mut faults = Faults::none();
     for _turn in rt.forever() {
         if over.load(Ordering::SeqCst) {
@@ -59,6 +61,7 @@ fn serve_on<N: Naming, H: Wait + Drop, R: Wait, D: Door + Drop>(
 
 /// What the controller hands back that ended so, or whose life was over: it was told to stop where that is why it ended.
 fn left<N: Naming, H: Wait + Drop>(desk: NodeDesk<N, H, 2>, end: Option<Why>) -> Left<N, 2>
+    requires { end ≡ Some Why.JournalFull → 0 < desk.seat.full }
     ensures why { result.why ≡ unwrap_or end Why.Stopped }
     ensures stopped { (result.is_stopped ≡ true) ↔ (end ≡ Some Why.Stopped) }
     ensures refused { result.refused ≡ desk.entry.refused }
@@ -81,8 +84,9 @@ fn serve_next<N: Naming, H: Wait + Drop, R: Wait, D: Door + Drop>(
     faults: &mut Faults,
     hall: &mut Hall<D>,
 ) -> Option<Why>
-    ensures { ServesNext hall.old.connections (D.faults hall.old.door) faults.old.in_a_row result
+    ensures serves { ServesNext hall.old.connections (D.faults hall.old.door) faults.old.in_a_row result
         (D.faults hall.new.door) faults.new.in_a_row }
+    ensures full { result ≡ Some Why.JournalFull → 0 < desk.new.seat.full }
 {
     let is_there = match let_in(rt, alloc, faults, hall) {
         Ok(is_there) => is_there,
@@ -106,8 +110,9 @@ fn let_in<R: Wait, D: Door + Drop>(
     faults: &mut Faults,
     hall: &mut Hall<D>,
 ) -> Result<bool, Why>
-    ensures { AsksDoor hall.old.connections (D.faults hall.old.door) faults.old.in_a_row (end_of result)
+    ensures door { AsksDoor hall.old.connections (D.faults hall.old.door) faults.old.in_a_row (end_of result)
         (D.faults hall.new.door) faults.new.in_a_row }
+    ensures socket { IfErr result (λ why. why ≡ Why.Socket) }
 {
     if hall.connections.is_full() {
         return Ok(false);
@@ -133,7 +138,8 @@ fn let_in<R: Wait, D: Door + Drop>(
 /// What comes of a fault of the door while so many connections are open. Each of them has descriptors of the system, so
 /// while there are some it may be that no other is left: the fault doesn't count then, and the door is asked again.
 fn shut_out(faults: &mut Faults, connections: usize) -> Option<Why>
-    ensures { ShutsOut connections faults.old.in_a_row result faults.new.in_a_row }
+    ensures shuts { ShutsOut connections faults.old.in_a_row result faults.new.in_a_row }
+    ensures socket { IfSome result (λ why. why ≡ Why.Socket) }
 {
     if connections > 0 {
         return None;
@@ -151,6 +157,7 @@ fn serve_rounds<N: Naming, H: Wait + Drop, R: Wait, D: Door + Drop>(
     hall: &mut Hall<D>,
 ) -> Result<bool, Why>
     ensures ends { IfErr result IsOfConnection }
+    ensures full { result ≡ Err Why.JournalFull → 0 < desk.new.seat.full }
     ensures door { D.faults hall.new.door ≡ D.faults hall.old.door }
 {
     let now = hall.door.now();
@@ -172,6 +179,7 @@ fn serve_each<N: Naming, H: Wait + Drop, R: Wait, D: Door + Drop>(
     hall: &mut Hall<D>,
 ) -> Result<bool, Why>
     ensures ends { IfErr result IsOfConnection }
+    ensures full { result ≡ Err Why.JournalFull → 0 < desk.new.seat.full }
     ensures door { hall.new.door ≡ hall.old.door }
 {
     let mut is_busy = false;

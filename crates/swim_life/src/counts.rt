@@ -1,6 +1,6 @@
 //! What a worker counts, and why it ends.
 
-ghost use Rattle.std.specs.Prelude.{◌≡◌};
+ghost use Rattle.std.specs.Prelude.{◌≡◌, IfSome};
 ghost use Rattle.swim_life.specs.Ends.{gravity, graver, why_text, together};
 ghost use Rattle.swim_life.specs.Faults.{one_fault_more, end_at};
 
@@ -114,6 +114,7 @@ impl Faults {
     pub(crate) fn more(&mut self) -> Option<Why>
         ensures count { self.new.in_a_row ≡ one_fault_more self.old.in_a_row }
         ensures ends { result ≡ end_at self.new.in_a_row }
+        ensures socket { IfSome result (λ why. why ≡ Why.Socket) }
     {
         self.in_a_row = self.in_a_row.saturating_add(1);
         if self.in_a_row < MOST_FAULTS {

@@ -1,6 +1,7 @@
 //! Seats on their way: a worker's, with its number in its type, into a thread and back, and the four of a node behind its close.
 
-ghost use Rattle.std.specs.Prelude.{◌≡◌, [], ◌∷◌};
+ghost use Rattle.std.specs.Prelude.{◌≡◌, ◌<◌, [], ◌∷◌};
+ghost use Rattle.swim_life.specs.declared.counts.Why.TheVariants.{JournalFull};
 
 use crate::counts::Why;
 use crate::gates::Post;
@@ -37,20 +38,22 @@ pub(crate) struct Held<N: Naming, const SEAT: u8> {
 }
 
 /// What a worker that sends hands back: its seat with its post and its counts, why it ended, and whether it was told to
-/// stop.
+/// stop. Where it ended for a full journal its seat knows of that.
 #[derive(Drop)]
 pub(crate) struct Ended<N: Naming, O: Post + Drop, const SEAT: u8> {
     pub(crate) sender: Sender<N, O, SEAT>,
     pub(crate) why: Why,
     pub(crate) is_stopped: bool,
+    pub(crate) ghost full: { why ≡ JournalFull → 0 < sender.seat.full },
 }
 
 /// What the controller hands back: its seat, why it ended, whether it was told to stop, and how many of its calls were refused
-/// for want of memory.
+/// for want of memory. Where it ended for a full journal its seat knows of that.
 #[derive(Drop)]
 pub(crate) struct Left<N: Naming, const SEAT: u8> {
     pub(crate) held: Held<N, SEAT>,
     pub(crate) why: Why,
     pub(crate) is_stopped: bool,
     pub(crate) refused: u64,
+    pub(crate) ghost full: { why ≡ JournalFull → 0 < held.seat.full },
 }

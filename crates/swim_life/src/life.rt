@@ -63,7 +63,7 @@ pub struct Life<N: PageNaming, O: Post + Drop, W: Sink + Drop> {
 /// the node.
 ///
 /// Whatever came, and in whatever order, the journal is one run of the detector that holds the calls of the four seats,
-/// and what was written is its text, or where the sink failed a front of it. What the posts were handed are the datagrams of
+/// with as many entries as it may have where it is what ended the life; and what was written is its text, or where the sink failed a front of it. What the posts were handed are the datagrams of
 /// the replies that stand in the journal, each once, in order, and those that a post didn't take are counted.
 pub fn run_life<
     N: PageNaming + Send + Sync,
@@ -102,6 +102,7 @@ pub fn run_life<
     ensures written { Puts N.page (W.written result.writer)
         (calls_text (filings_of result.journal.past)) result.is_whole }
     ensures back { result.is_whole ≡ true → AreReadBack (filings_of result.journal.past) }
+    ensures full { result.why ≡ Why.JournalFull → length result.journal.past ≡ N.limit }
     ensures posted { HavePosted N.opening result.journal.past (O.posted (box_value result.posts.hearing))
         (O.posted (box_value result.posts.ticking)) result.unsent }
 {
@@ -232,6 +233,7 @@ fn closed<N: PageNaming, O: Post + Drop, H: Wait + Drop, R: Wait, W: Sink + Drop
     ensures back { result.is_whole ≡ true → AreReadBack (filings_of result.journal.past) }
     ensures posted { HavePosted N.opening result.journal.past (O.posted (box_value result.posts.hearing))
         (O.posted (box_value result.posts.ticking)) result.unsent }
+    ensures full { result.why ≡ Why.JournalFull → length result.journal.past ≡ N.limit }
     ensures why { result.why ≡ why_of ended.first.why ended.second.why ended.third.why ended.all_began }
     ensures stopped { result.is_stopped ≡ (ended.first.is_stopped || ended.second.is_stopped || ended.third.is_stopped) }
     ensures unsent { result.unsent ≡ both ended.first.sender.counts.unsent ended.second.sender.counts.unsent }

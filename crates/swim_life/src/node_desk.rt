@@ -6,7 +6,8 @@ ghost use Rattle.swim_control.specs.declared.desks.Command.{Command as Asked};
 ghost use Rattle.swim_control.specs.Desks.{Shows, Measures, Answers};
 ghost use Rattle.swim_node.specs.Answered.{MayRefuse};
 ghost use Rattle.swim_node.specs.News.{IsLongerOf};
-ghost use Rattle.swim_life.specs.Desk.{Asks, Calls, IsRefused, IsTold, Tells};
+ghost use Rattle.swim_node.specs.Seats.{Seated};
+ghost use Rattle.swim_life.specs.Desk.{Asks, Calls, IsTold, Tells, TellsRefusal};
 
 use crate::holding::Held;
 use std::alloc::Global;
@@ -100,8 +101,9 @@ impl<N: Naming, const SEAT: u8> Caller<N, SEAT> {
 
     /// What an operator is told of a call that got no reply. Such a call is counted where memory was refused.
     fn refused(&mut self, fault: CallFault) -> Answer
-        requires { MayRefuse N.opening N.limit self.old.seat fault }
-        ensures { IsRefused N.opening N.limit self.old result self.new }
+        requires { (seat : Seated) × MayRefuse N.opening N.limit seat fault }
+        ensures same { self.new ≡ record self.old { refused = self.new.refused } }
+        ensures tells { TellsRefusal fault result self.old.refused self.new.refused }
     {
         match fault {
             CallFault::JournalFull => Answer::JournalFull,

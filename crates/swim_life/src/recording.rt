@@ -4,7 +4,7 @@ ghost use Rattle.std.specs.Prelude.{◌≡◌, ◌≤◌, ◌&&◌, ◌==◌, []
 ghost use Rattle.swim_wire.specs.Streams.{Puts};
 ghost use Rattle.swim_history.specs.Changes.{changes};
 ghost use Rattle.swim_node.specs.Following.{filings_of};
-ghost use Rattle.swim_node.specs.OneHistory.{IsOneHistory};
+ghost use Rattle.swim_node.specs.OneHistory.{AreFullWhereMet, IsOneHistory};
 ghost use Rattle.swim_node.specs.Seats.{AreTheSeats};
 ghost use Rattle.swim_journal.specs.Journals.{calls_text, AreReadBack};
 
@@ -79,6 +79,7 @@ pub(crate) fn close_recorded<N: PageNaming, C: Chooser, H: Wait + Drop, R: Wait,
     ensures history { let s = result.seats in IsOneHistory N.opening result.journal.past
         (s.first ∷ s.second ∷ s.third ∷ s.fourth ∷ [])
         (changes N.opening result.journal.past) }
+    ensures full { AreFullWhereMet N.limit result.journal.past seats }
     ensures drawn { N.drawn result.journal.past }
     ensures written { Puts N.page (W.written result.writer)
         (calls_text (filings_of result.journal.past)) result.is_whole }

@@ -1,6 +1,6 @@
 //! The callers of the node that send the datagrams of its replies.
 
-ghost use Rattle.std.specs.Prelude.{◌≡◌, [], box_value};
+ghost use Rattle.std.specs.Prelude.{◌≡◌, ◌<◌, [], Some, box_value};
 ghost use Rattle.swim_life.specs.Calling.{Hears, Ticks};
 ghost use Rattle.swim_life.specs.Posts.{HasSent, IsFresh};
 
@@ -62,7 +62,8 @@ impl<N: Naming, O: Post + Drop, const SEAT: u8> Sender<N, O, SEAT> {
         bytes: &[u8],
         source: Peer,
     ) -> Option<Why>
-        ensures { Hears N.opening N.limit bytes.now source self.old result self.new }
+        ensures hears { Hears N.opening N.limit bytes.now source self.old result self.new }
+        ensures full { result ≡ Some Why.JournalFull → 0 < self.new.seat.full }
     {
         let answer = node.hear(rt, &mut self.held.seat, bytes, source);
         let opening = node.opening();
@@ -75,7 +76,8 @@ impl<N: Naming, O: Post + Drop, const SEAT: u8> Sender<N, O, SEAT> {
         rt: &R,
         node: &Node<N, C, H>,
     ) -> Option<Why>
-        ensures { Ticks N.opening N.limit self.old result self.new }
+        ensures ticks { Ticks N.opening N.limit self.old result self.new }
+        ensures full { result ≡ Some Why.JournalFull → 0 < self.new.seat.full }
     {
         let answer = node.tick(rt, &mut self.held.seat);
         let opening = node.opening();

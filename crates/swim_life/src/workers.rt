@@ -1,7 +1,7 @@
 //! The receiver and the ticker, two of the workers of a life. Each worker has a seat of the node for itself. It
 //! reads the shared flag once a turn, then asks its gate once, and sets the flag when it ends.
 
-ghost use Rattle.std.specs.Prelude.{◌≡◌, ◌↔◌, ℕ, true, Option, Some};
+ghost use Rattle.std.specs.Prelude.{◌≡◌, ◌↔◌, ◌<◌, ℕ, true, Option, Some};
 ghost use Rattle.std.specs.Option.{unwrap_or};
 ghost use Rattle.swim_life.specs.declared.counts.Why.{Why as Reason};
 ghost use Rattle.swim_life.specs.Turns.{HasHeard, HasTicked, HearsNext, IsTurn, TicksNext};
@@ -45,7 +45,8 @@ fn hear_on<N: Naming, O: Post + Drop, C: Chooser, H: Wait + Drop, R: Wait, L: Li
     sender: &mut Sender<N, O, 0>,
     line: &mut L,
 ) -> Option<Why>
-    ensures { HasHeard N.opening N.limit (L.received line.old) (L.received line.new) sender.old result sender.new }
+    ensures heard { HasHeard N.opening N.limit (L.received line.old) (L.received line.new) sender.old result sender.new }
+    ensures full { result ≡ Some Why.JournalFull → 0 < sender.new.seat.full }
 {
     let mut faults = Faults::none();
     for _turn in rt.forever() {
@@ -67,8 +68,9 @@ fn hear_next<N: Naming, O: Post + Drop, C: Chooser, H: Wait + Drop, R: Wait, L: 
     faults: &mut Faults,
     line: &mut L,
 ) -> Option<Why>
-    ensures { IsTurn (HearsNext N.opening N.limit) (L.received line.old) (L.received line.new)
+    ensures turn { IsTurn (HearsNext N.opening N.limit) (L.received line.old) (L.received line.new)
         (sender.old, faults.old.in_a_row) result (sender.new, faults.new.in_a_row) }
+    ensures full { result ≡ Some Why.JournalFull → 0 < sender.new.seat.full }
 {
     let mut bytes = [0u8; BUFFER_BYTES];
     match line.receive(rt, &mut bytes) {
@@ -110,7 +112,8 @@ fn tick_on<N: Naming, O: Post + Drop, C: Chooser, H: Wait + Drop, R: Wait, P: Pa
     sender: &mut Sender<N, O, 1>,
     pace: &mut P,
 ) -> Option<Why>
-    ensures { HasTicked N.opening N.limit (P.beats pace.old) (P.beats pace.new) sender.old result sender.new }
+    ensures ticked { HasTicked N.opening N.limit (P.beats pace.old) (P.beats pace.new) sender.old result sender.new }
+    ensures full { result ≡ Some Why.JournalFull → 0 < sender.new.seat.full }
 {
     for _turn in rt.forever() {
         if over.load(Ordering::SeqCst) {
@@ -130,7 +133,8 @@ fn tick_next<N: Naming, O: Post + Drop, C: Chooser, H: Wait + Drop, R: Wait, P: 
     sender: &mut Sender<N, O, 1>,
     pace: &mut P,
 ) -> Option<Why>
-    ensures { IsTurn (TicksNext N.opening N.limit) (P.beats pace.old) (P.beats pace.new) sender.old result sender.new }
+    ensures turn { IsTurn (TicksNext N.opening N.limit) (P.beats pace.old) (P.beats pace.new) sender.old result sender.new }
+    ensures full { result ≡ Some Why.JournalFull → 0 < sender.new.seat.full }
 {
     match pace.next(rt) {
         Beat::Tick => sender.tick(rt, node),
@@ -144,6 +148,7 @@ fn ended<N: Naming, O: Post + Drop, const SEAT: u8>(
     sender: Sender<N, O, SEAT>,
     end: Option<Why>,
 ) -> Ended<N, O, SEAT>
+    requires { end ≡ Some Why.JournalFull → 0 < sender.seat.full }
     ensures sender { result.sender ≡ sender }
     ensures why { result.why ≡ unwrap_or end Why.Stopped }
     ensures stopped { (result.is_stopped ≡ true) ↔ (end ≡ Some Why.Stopped) }

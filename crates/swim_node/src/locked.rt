@@ -1,16 +1,15 @@
 //! What lies under a node's lock.
 
-ghost use Rattle.std.specs.Prelude.{◌≡◌, ◌≤◌, ◌+◌, length, IfOk, IfErr, OnErr, IfSome};
+ghost use Rattle.std.specs.Prelude.{◌≡◌, ◌<◌, ◌≤◌, ◌+◌, length, IfOk, IfErr, IfSome};
 ghost use mathlib.Core.List.{IsPrefix};
 ghost use Rattle.swim_node.specs.Following.{filings_of, note_in};
 ghost use Rattle.swim_node.specs.Draws.{DrawsAll};
 ghost use Rattle.swim_history.specs.Seats.{kept_of};
 ghost use Rattle.swim_node.specs.News.{SawNothing, EndsWithChange};
 ghost use Rattle.swim_node.specs.Seats.{Seated, AreNew, AreTheSeats};
-ghost use Rattle.swim_node.specs.Names.{counted};
 ghost use Rattle.swim_node.specs.Cells.{noted};
-ghost use Rattle.swim_node.specs.Answered.{EndsARun, MayRefuse, IsGapAtMoment};
-ghost use Rattle.swim_node.specs.OneHistory.{HoldsCalls, IsOneHistory};
+ghost use Rattle.swim_node.specs.Answered.{EndsARun, MayRefuse, full_after, IsGapAtMoment};
+ghost use Rattle.swim_node.specs.OneHistory.{AreFullWhereMet, HoldsCalls, IsOneHistory};
 
 use crate::board::Board;
 use crate::cells::{CellNote, Cells, Filed};
@@ -53,7 +52,7 @@ pub(crate) struct Answered<N: Naming> {
 }
 
 impl<N: Naming, C: Chooser, H: Wait + Drop> Model for Locked<N, C, H> {
-    ghost use Rattle.std.specs.Prelude.{◌≡◌};
+    ghost use Rattle.std.specs.Prelude.{◌≡◌, ◌<◌, length};
     ghost use Rattle.swim_detector.specs.Recording.{Recording};
     ghost use Rattle.swim_history.specs.Changes.{changes};
     ghost use Rattle.swim_node.specs.Names.{AreCounts};
@@ -65,10 +64,11 @@ impl<N: Naming, C: Chooser, H: Wait + Drop> Model for Locked<N, C, H> {
     ghost view = { λ l. l.recorder };
 
     ghost invariant = { λ l. (l.recorder.opening ≡ N.opening) × (l.recorder.limit ≡ N.limit)
-        × AreCounts l.books l.recorder.past
+        × AreCounts l.books.calls l.recorder.past
         × (l.board ≡ changes N.opening l.recorder.past)
         × (l.notes.items ≡ notes_of N.cells l.recorder.past)
-        × IsDrawnSo C.orders C.places N.opening N.drawn l.recorder.past l.recorder.chooser };
+        × IsDrawnSo C.orders C.places N.opening N.drawn l.recorder.past l.recorder.chooser
+        × (0 < l.books.full → length l.recorder.past ≡ N.limit) };
 }
 
 impl<N: Naming, C: Chooser, H: Wait + Drop> Locked<N, C, H> {
@@ -120,20 +120,20 @@ impl<N: Naming, C: Chooser, H: Wait + Drop> Locked<N, C, H> {
     ) -> Result<Answered<N>, CallFault>
         requires { number ≡ tally.old.calls }
         ensures ok { IfOk result (λ a. (a.kept.call ≡ call.now) × (a.kept.number ≡ number)
-            × (tally.new ≡ counted tally.old.seat (number + 1))
+            × (tally.new ≡ record tally.old { calls = number + 1 }) × (tally.old.full ≡ 0)
             × EndsARun N.opening tally.old.seat a.kept a.news
             × (a.note ≡ noted N.cells tally.old.seat a.kept)) }
         ensures change { IfOk result (λ a. EndsWithChange a.kept.call a.kept.reply a.news) }
-        ensures err { OnErr result (tally.new ≡ tally.old) }
+        ensures err { IfErr result (λ fault. tally.new ≡ record tally.old { full = full_after fault tally.old.full }) }
         ensures refuses { IfErr result (λ fault. (seat : Seated) → seat.number ≡ tally.old.seat →
-            length seat.calls ≡ number → MayRefuse N.opening N.limit seat fault) }
+            length seat.calls ≡ number → seat.full ≡ tally.old.full → MayRefuse N.opening N.limit seat fault) }
     {
-        // These two take no time, and show what the seat's count and the journal are.
+        // These two take no time, and show what the seat's counts and the journal are.
         self.books.audit(tally);
         let position = self.recorder.journal().len();
         match self.recorder.ready() {
             Ok(()) => {}
-            Err(ApplyFault::JournalFull) => return Err(CallFault::JournalFull),
+            Err(ApplyFault::JournalFull) => return Err(self.full(tally)),
             Err(ApplyFault::NoMemory) => return Err(CallFault::NoMemory),
         }
         self.notes.reserve(1)?;
@@ -159,24 +159,37 @@ impl<N: Naming, C: Chooser, H: Wait + Drop> Locked<N, C, H> {
 
     /// Why a call of a seat is refused that finds no memory: where the journal is full, that is told.
     pub(crate) fn refusal(&mut self, tally: &mut Tally<N>) -> CallFault
-        ensures tally { tally.new ≡ tally.old }
+        ensures tally { tally.new ≡ record tally.old { full = full_after result tally.old.full } }
         ensures may { (seat : Seated) → seat.number ≡ tally.old.seat → length seat.calls ≡ tally.old.calls →
-            MayRefuse N.opening N.limit seat result }
+            seat.full ≡ tally.old.full → MayRefuse N.opening N.limit seat result }
     {
         self.books.audit(tally);
         let _run = self.recorder.journal().len();
         match self.recorder.ready() {
-            Err(ApplyFault::JournalFull) => CallFault::JournalFull,
+            Err(ApplyFault::JournalFull) => self.full(tally),
             Ok(()) | Err(ApplyFault::NoMemory) => CallFault::NoMemory,
         }
     }
 
-    /// Shows that the journal holds a seat's calls, by the notes of them and by the counts.
+    /// What a call of a seat is told that met the full journal. It is counted.
+    fn full(&mut self, tally: &mut Tally<N>) -> CallFault
+        requires { length self.old.past ≡ N.limit }
+        ensures locked { self.new ≡ self.old }
+        ensures tally { tally.new ≡ record tally.old { full = tally.old.full + 1 } }
+        ensures fault { result ≡ CallFault.JournalFull }
+    {
+        self.books.add_full(tally);
+        CallFault::JournalFull
+    }
+
+    /// Shows that the journal holds a seat's calls, by the notes of them and by the counts, and that it is full if a call
+    /// of the seat met a full one.
     #[tactic(auto, using(crate::proofs::Filing::placed_notes, crate::proofs::Filing::hold_calls))]
     fn compare<R: Wait>(&mut self, rt: &R, seat: &mut Seat<N>)
         ensures locked { self.new ≡ self.old }
         ensures seat { seat.new ≡ seat.old }
         ensures calls { seat.old.calls ≡ kept_of seat.old.number self.old.past }
+        ensures full { 0 < seat.old.full → length self.old.past ≡ N.limit }
     {
         self.books.audit(&mut seat.tally);
         let _run = self.recorder.journal().len();
@@ -208,6 +221,7 @@ impl<N: Naming, C: Chooser, H: Wait + Drop> Locked<N, C, H> {
         ensures within { length result.0.past ≤ N.limit }
         ensures seats { result.1 ≡ seats }
         ensures history { IsOneHistory N.opening result.0.past seats result.2 }
+        ensures full { AreFullWhereMet N.limit result.0.past seats }
     {
         let mut locked = self;
         let seats = locked.compare_all(rt, seats);
@@ -267,6 +281,7 @@ impl<N: Naming, C: Chooser, H: Wait + Drop> Locked<N, C, H> {
         ensures within { length result.0.past ≤ N.limit }
         ensures seats { result.1 ≡ seats }
         ensures history { IsOneHistory N.opening result.0.past seats result.2 }
+        ensures full { AreFullWhereMet N.limit result.0.past seats }
         ensures followed { IsPrefix follower (filings_of result.0.past) }
         ensures whole { length follower ≡ length result.0.past → follower ≡ filings_of result.0.past }
         ensures drawn { N.drawn result.0.past }
@@ -290,6 +305,7 @@ impl<N: Naming, C: Chooser, H: Wait + Drop> Locked<N, C, H> {
         ensures locked { self.new ≡ self.old }
         ensures seats { result ≡ seats }
         ensures calls { HoldsCalls self.old.past seats }
+        ensures full { AreFullWhereMet N.limit self.old.past seats }
     {
         let [first, second, third, fourth] = seats;
         [
@@ -304,6 +320,7 @@ impl<N: Naming, C: Chooser, H: Wait + Drop> Locked<N, C, H> {
         ensures locked { self.new ≡ self.old }
         ensures seat { result ≡ seat }
         ensures calls { seat.calls ≡ kept_of seat.number self.old.past }
+        ensures full { 0 < seat.full → length self.old.past ≡ N.limit }
     {
         let mut seat = seat;
         self.compare(rt, &mut seat);

@@ -17,7 +17,7 @@ pub trait Naming {
     /// How many entries its journal may have.
     ghost limit: { ℕ };
 
-    /// Its four ledgers, one for each seat's calls.
+    /// Its five ledgers, one for each seat's calls, and one for the calls that met a full journal.
     ghost ledgers: { List ℕ };
 
     /// Its list of changes.

@@ -1,6 +1,6 @@
 //! The node: one detector for four callers.
 
-ghost use Rattle.std.specs.Prelude.{◌≡◌, ◌≤◌, ◌++◌, ◌∷◌, [], Err, Some, IfOk, IfErr, OnErr, IfSome, IfNone, length};
+ghost use Rattle.std.specs.Prelude.{◌≡◌, ◌≤◌, ◌++◌, ◌∷◌, [], Err, Some, IfOk, IfErr, IfSome, IfNone, length};
 ghost use mathlib.Core.List.{IsPrefix};
 ghost use Rattle.swim_node.specs.Following.{filings_of};
 ghost use Rattle.swim_node.specs.Draws.{DrawsAll};
@@ -10,8 +10,8 @@ ghost use Rattle.swim_wire.specs.Layout.{IsTextOf, first_fault};
 ghost use Rattle.swim_history.specs.declared.calls.Call.TheVariants as call;
 ghost use Rattle.swim_node.specs.News.{SawNothing, EndsWithChange};
 ghost use Rattle.swim_node.specs.Seats.{AreNew, AreTheSeats};
-ghost use Rattle.swim_node.specs.Answered.{kept, IsAnswered, MayRefuse, MayRefuseBytes, IsGapAtMoment};
-ghost use Rattle.swim_node.specs.OneHistory.{IsOneHistory};
+ghost use Rattle.swim_node.specs.Answered.{kept, refused, IsAnswered, MayRefuse, MayRefuseBytes, IsGapAtMoment};
+ghost use Rattle.swim_node.specs.OneHistory.{AreFullWhereMet, IsOneHistory};
 
 use crate::cells::{Cells, Filed};
 use crate::following::{Followed, Follower, ReadCall};
@@ -91,7 +91,7 @@ impl<N: Naming, C: Chooser, H: Wait + Drop> Node<N, C, H> {
             × IsAnswered N.opening seat.old seat.new (call.Hear m source) k r.news) }
         ensures change { IfOk result (λ r. EndsWithChange r.call r.reply r.news) }
         ensures number { seat.new.number ≡ seat.old.number }
-        ensures err { OnErr result (seat.new ≡ seat.old) }
+        ensures err { IfErr result (λ fault. seat.new ≡ refused fault seat.old) }
         ensures refuses { IfErr result (MayRefuseBytes bytes.now N.opening N.limit seat.old) }
         ensures wire { (f : WireFault) → first_fault bytes.now ≡ Some f → result ≡ Err (CallFault.Wire f) }
     {
@@ -107,7 +107,7 @@ impl<N: Naming, C: Chooser, H: Wait + Drop> Node<N, C, H> {
             IsAnswered N.opening seat.old seat.new call.Tick k r.news) }
         ensures change { IfOk result (λ r. EndsWithChange r.call r.reply r.news) }
         ensures number { seat.new.number ≡ seat.old.number }
-        ensures err { OnErr result (seat.new ≡ seat.old) }
+        ensures err { IfErr result (λ fault. seat.new ≡ refused fault seat.old) }
         ensures refuses { IfErr result (MayRefuse N.opening N.limit seat.old) }
     {
         self.call(rt, seat, &Call::Tick)
@@ -125,7 +125,7 @@ impl<N: Naming, C: Chooser, H: Wait + Drop> Node<N, C, H> {
             IsAnswered N.opening seat.old seat.new (call.Join id peer) k r.news) }
         ensures change { IfOk result (λ r. EndsWithChange r.call r.reply r.news) }
         ensures number { seat.new.number ≡ seat.old.number }
-        ensures err { OnErr result (seat.new ≡ seat.old) }
+        ensures err { IfErr result (λ fault. seat.new ≡ refused fault seat.old) }
         ensures refuses { IfErr result (MayRefuse N.opening N.limit seat.old) }
     {
         self.call(rt, seat, &Call::Join(id, peer))
@@ -142,7 +142,7 @@ impl<N: Naming, C: Chooser, H: Wait + Drop> Node<N, C, H> {
             IsAnswered N.opening seat.old seat.new (call.Remove id) k r.news) }
         ensures change { IfOk result (λ r. EndsWithChange r.call r.reply r.news) }
         ensures number { seat.new.number ≡ seat.old.number }
-        ensures err { OnErr result (seat.new ≡ seat.old) }
+        ensures err { IfErr result (λ fault. seat.new ≡ refused fault seat.old) }
         ensures refuses { IfErr result (MayRefuse N.opening N.limit seat.old) }
     {
         self.call(rt, seat, &Call::Remove(id))
@@ -165,6 +165,7 @@ impl<N: Naming, C: Chooser, H: Wait + Drop> Node<N, C, H> {
         ensures within { length result.0.past ≤ N.limit }
         ensures seats { result.1 ≡ seats }
         ensures history { IsOneHistory N.opening result.0.past seats result.2 }
+        ensures full { AreFullWhereMet N.limit result.0.past seats }
         ensures drawn { N.drawn result.0.past }
     {
         self.locked.into_inner().close(rt, seats)
@@ -212,6 +213,7 @@ impl<N: Naming, C: Chooser, H: Wait + Drop> Node<N, C, H> {
         ensures within { length result.0.past ≤ N.limit }
         ensures seats { result.1 ≡ seats }
         ensures history { IsOneHistory N.opening result.0.past seats result.2 }
+        ensures full { AreFullWhereMet N.limit result.0.past seats }
         ensures followed { IsPrefix follower (filings_of result.0.past) }
         ensures whole { length follower ≡ length result.0.past → follower ≡ filings_of result.0.past }
         ensures drawn { N.drawn result.0.past }
@@ -229,7 +231,7 @@ impl<N: Naming, C: Chooser, H: Wait + Drop> Node<N, C, H> {
             IsAnswered N.opening seat.old seat.new call.now k r.news) }
         ensures change { IfOk result (λ r. EndsWithChange r.call r.reply r.news) }
         ensures number { seat.new.number ≡ seat.old.number }
-        ensures err { OnErr result (seat.new ≡ seat.old) }
+        ensures err { IfErr result (λ fault. seat.new ≡ refused fault seat.old) }
         ensures refuses { IfErr result (MayRefuse N.opening N.limit seat.old) }
     {
         let Ok(()) = seat.calls.reserve(1) else {
@@ -265,7 +267,7 @@ impl<N: Naming, C: Chooser, H: Wait + Drop> Node<N, C, H> {
 
     // Why a call is refused to which the seat has no room: where the journal is full, that is told.
     fn refusal<R: Wait>(&self, rt: &R, seat: &mut Seat<N>) -> CallFault
-        ensures seat { seat.new ≡ seat.old }
+        ensures seat { seat.new ≡ refused result seat.old }
         ensures may { MayRefuse N.opening N.limit seat.old result }
     {
         self.locked.lock(rt).refusal(&mut seat.tally)

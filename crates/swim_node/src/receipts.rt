@@ -21,13 +21,14 @@ pub struct Receipt<N: Naming> {
     pub news: News<N>,
 }
 
-/// Why a call got no reply. The seat is as it was, and the call is not in the journal.
+/// Why a call got no reply. The seat's calls are as they were, and this one is not in the journal.
 #[derive(Clone, Copy, Debug, PartialEq, Eq, Error)]
 pub enum CallFault {
     /// The bytes are no datagram. Only `hear` answers so, before it takes the lock.
     #[error("no datagram: {0}")]
     Wire(WireFault),
-    /// The journal has as many entries as it may have.
+    /// The journal has as many entries as it may have, as the one will that is handed back when the node is closed: the seat
+    /// counts this answer, and the contract of `Node::close` says so of each seat that has one.
     #[error("the journal is full")]
     JournalFull,
     /// Memory was refused.

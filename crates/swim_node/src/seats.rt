@@ -3,7 +3,7 @@
 ghost use Rattle.std.specs.Prelude.{◌≡◌, ◌<◌, ◌∷◌, [], Some, length, slice_get, slice_index, IsSome};
 ghost use Rattle.swim_history.specs.declared.seats.Kept.{Kept};
 ghost use Rattle.swim_node.specs.Cells.{noted, ArePlaced, AreNoted};
-ghost use Rattle.swim_node.specs.Names.{counted};
+ghost use Rattle.swim_node.specs.Names.{none_counted};
 ghost use Rattle.swim_node.specs.Seats.{AreNew};
 
 use crate::cells::{CellNote, compare_at};
@@ -16,7 +16,7 @@ use swim_history::Kept;
 
 /// A caller of a node. There are four, numbered 0 to 3; each may go to a thread of its own, and none can be copied.
 /// It keeps what it was answered, so that at the end its calls can be compared with the journal. A contract sees its
-/// number and its answered calls, oldest first.
+/// number, its answered calls, oldest first, and how many of its calls met a full journal.
 #[derive(Drop)]
 pub struct Seat<N: Naming> {
     pub(crate) tally: Tally<N>,
@@ -32,7 +32,7 @@ impl<N: Naming> Model for Seat<N> {
 
     ghost Value = { Seated };
 
-    ghost view = { λ s. record { number = s.tally.seat; calls = s.calls.items } };
+    ghost view = { λ s. record { number = s.tally.seat; calls = s.calls.items; full = s.tally.full } };
 
     ghost invariant = { λ s. (s.tally.calls ≡ length s.calls.items) × AreNumbered s.calls.items
         × (s.notes.items ≡ map (noted N.cells s.tally.seat) s.calls.items) };
@@ -56,8 +56,8 @@ impl<N: Naming> Seat<N> {
 
     /// The seat of a tally that has counted nothing.
     fn new(alloc: Global, tally: Tally<N>) -> Seat<N>
-        requires { tally.calls ≡ 0 }
-        ensures { result ≡ record { number = tally.seat; calls = [] } }
+        requires { tally ≡ none_counted tally.seat }
+        ensures { result ≡ record { number = tally.seat; calls = []; full = 0 } }
     {
         Seat {
             tally,
@@ -104,7 +104,7 @@ pub(crate) fn wait_for_good<R: Wait>(rt: &R)
 
 /// The seats of a node that was just opened.
 pub(crate) fn seats_of<N: Naming>(alloc: Global, tallies: [Tally<N>; 4]) -> [Seat<N>; 4]
-    requires { tallies ≡ counted 0 0 ∷ counted 1 0 ∷ counted 2 0 ∷ counted 3 0 ∷ [] }
+    requires { tallies ≡ none_counted 0 ∷ none_counted 1 ∷ none_counted 2 ∷ none_counted 3 ∷ [] }
     ensures { AreNew result }
 {
     let [first, second, third, fourth] = tallies;

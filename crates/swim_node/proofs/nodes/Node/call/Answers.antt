@@ -3,7 +3,7 @@ use Rattle.swim_node.proofs.Filing.{numbered_then, noted_then}
 use Rattle.swim_node.proofs.nodes.Node.call.Goals as goal
 
 pub returns-in-Err-clause-refuses : goal.returns-in-Err-clause-refuses
-returns-in-Err-clause-refuses g c = c.in-Err.ensures.refuses c.args.seat.now (search rules) (search rules)
+returns-in-Err-clause-refuses g c = c.in-Err.ensures.refuses c.args.seat.now (search rules) (search rules) (search rules)
 
 pub invariant_of-seat-2 : goal.invariant_of-seat-2
 invariant_of-seat-2 g c =

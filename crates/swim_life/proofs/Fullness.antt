@@ -1,0 +1,173 @@
+-- Who ends for a full journal has a seat that knows of it.
+use Rattle.std.proofs.Common.{◌≡◌, ◌⊎◌, ℕ, ◌+◌, ◌<◌, Bool, true, false, List, [], ◌∷◌, length, Option, Some, None, Result, Ok, Err, sym, subst, ◌∙◌, inl, inr, arith}
+use Rattle.std.specs.Prelude.{IfErr, MatchOption, nat_lt, if◌then◌else◌}
+use Rattle.std.specs.Option.{unwrap_or}
+use Rattle.swim_wire.specs.Address.{Address}
+use Rattle.swim_wire.specs.declared.messages.Message.{Message}
+use Rattle.swim_wire.specs.declared.short_lines.LineEnd.{LineEnd}
+use Rattle.swim_wire.specs.declared.short_lines.LineEnd.TheVariants as lines
+use Rattle.swim_history.specs.declared.calls.Call.{Call}
+use Rattle.swim_history.specs.declared.entries.Entry.{Entry}
+use Rattle.swim_history.specs.declared.replies.Reply.{Reply}
+use Rattle.swim_history.specs.declared.replies.Reply.TheVariants as replies
+use Rattle.swim_history.specs.Setting.{Setting}
+use Rattle.swim_control.specs.declared.connections.Stand.{Stand}
+use Rattle.swim_control.specs.declared.connections.Stand.TheVariants as stands
+use Rattle.swim_control.specs.declared.desks.Answer.{Answer}
+use Rattle.swim_control.specs.declared.desks.Answer.TheVariants as answers
+use Rattle.swim_control.specs.declared.desks.Command.{Command}
+use Rattle.swim_control.specs.declared.desks.Command.TheVariants as commands
+use Rattle.swim_control.specs.declared.commands.Said.{Said}
+use Rattle.swim_control.specs.declared.commands.Said.TheVariants as saids
+use Rattle.swim_control.specs.declared.faults.Fault.{Fault}
+use Rattle.swim_control.specs.declared.faults.Fault.TheVariants as line_faults
+use Rattle.swim_control.specs.declared.serving.Served.{Served}
+use Rattle.swim_control.specs.declared.serving.Served.TheVariants as served
+use Rattle.swim_control.specs.Commands.{said_by, line_said}
+use Rattle.swim_control.specs.Connections.{TakesTurn}
+use Rattle.swim_control.specs.Desks.{Told, Shows, Measures, Answers}
+use Rattle.swim_control.specs.Serving.{end_at}
+use Rattle.swim_control.specs.Talks.{Talk}
+use Rattle.swim_control.specs.Turns.{Asked, Meets, closed}
+use Rattle.swim_node.specs.declared.receipts.CallFault.{CallFault}
+use Rattle.swim_node.specs.declared.receipts.CallFault.TheVariants as faults
+use Rattle.swim_node.specs.declared.receipts.Receipt.{Receipt}
+use Rattle.swim_node.specs.Answered.{refused}
+use Rattle.swim_node.specs.OneHistory.{AreFullWhereMet}
+use Rattle.swim_node.specs.Seats.{Seated}
+use Rattle.swim_life.specs.declared.counts.Counts.{Counts}
+use Rattle.swim_life.specs.declared.counts.Why.{Why}
+use Rattle.swim_life.specs.declared.counts.Why.TheVariants.{JournalFull, NoMemory, Socket, Stopped}
+use Rattle.swim_life.specs.Desk.{AtDesk, Asks, Calls, Tells}
+use Rattle.swim_life.specs.Ends.{graver, gravity, why_of, why_at}
+use Rattle.swim_life.specs.Finished.{IsFinished}
+use Rattle.swim_life.specs.Posts.{Posted}
+
+-- ---- the receiver and the ticker
+
+pub finished_full : {O N : Type 0} (posted : O → Option (List Posted)) (messages : Receipt N → List (Address × Message)) (old new : Seated)
+    (answer : Result (Receipt N) CallFault) (post after : O) (counts next : Counts) (end : Option Why) →
+    IfErr answer (λ fault. new ≡ refused fault old) → IsFinished posted answer messages post counts end after next →
+    end ≡ Some JournalFull → 0 < new.full
+finished_full posted messages old new (Ok receipt) post after counts next end err done ends = absurd (cc (done.0, ends))
+finished_full posted messages old new (Err (faults.Wire f)) post after counts next end err done ends = absurd (cc (done.0, ends))
+finished_full posted messages old new (Err faults.NoMemory) post after counts next end err done ends = absurd (cc (done.0, ends))
+finished_full posted messages old new (Err faults.JournalFull) post after counts next end err done ends = rw err (omega arith)
+
+-- ---- the controller
+
+told_full : (reply : Reply) → Tells reply answers.JournalFull → ⊥
+told_full (replies.Joined place) is = cc is
+told_full replies.Removed is = cc is
+told_full (replies.Refused why) is = cc is
+told_full replies.Quiet is = is
+told_full (replies.Started judged probe) is = is
+told_full (replies.Asked target number relays) is = is
+told_full replies.Heard is = is
+told_full (replies.Send to message) is = is
+told_full (replies.Dropped why) is = is
+
+called_full : (o : Setting) (limit : ℕ) (call : Call) (desk after : AtDesk) → Calls o limit desk call answers.JournalFull after →
+    0 < after.seat.full
+called_full o limit call desk after (inl done) = absurd (told_full done.kept.reply done.told)
+called_full o limit call desk after (inr refused) = rw (refused.1) (omega arith)
+
+asked_full : (o : Setting) (limit : ℕ) (command : Command) (desk after : AtDesk) →
+    Asks o limit desk command (Answers answers.JournalFull) after → 0 < after.seat.full
+asked_full o limit commands.List desk after is = absurd is
+asked_full o limit (commands.Gap member) desk after is = absurd is
+asked_full o limit (commands.Join id peer) desk after is = called_full o limit _ desk after is
+asked_full o limit (commands.Remove id) desk after is = called_full o limit _ desk after is
+
+answer_full : (o : Setting) (limit : ℕ) (command : Command) (told : Told) (desk after : AtDesk) → Asks o limit desk command told after →
+    end_at (Ok (saids.Asks command)) (told ∷ []) ≡ Some served.JournalFull → 0 < after.seat.full
+answer_full o limit command (Shows table) desk after is ends = absurd (cc ends)
+answer_full o limit command (Measures gap) desk after is ends = absurd (cc ends)
+answer_full o limit command (Answers (answers.Joined place)) desk after is ends = absurd (cc ends)
+answer_full o limit command (Answers answers.Removed) desk after is ends = absurd (cc ends)
+answer_full o limit command (Answers (answers.Refused why)) desk after is ends = absurd (cc ends)
+answer_full o limit command (Answers answers.NoMemory) desk after is ends = absurd (cc ends)
+answer_full o limit command (Answers answers.JournalFull) desk after is ends = asked_full o limit command desk after is
+
+line_full : (o : Setting) (limit : ℕ) (read : Result Said Fault) (told : List Told) (desk after : AtDesk) →
+    Asked (Asks o limit) read desk told after → end_at read told ≡ Some served.JournalFull → 0 < after.seat.full
+line_full o limit (Err line_faults.LongLine) told desk after is ends = absurd (cc ends)
+line_full o limit (Err line_faults.Unended) told desk after is ends = absurd (cc ends)
+line_full o limit (Err (line_faults.Words fault)) told desk after is ends = absurd (cc ends)
+line_full o limit (Ok saids.Stop) told desk after is ends = absurd (cc ends)
+line_full o limit (Ok (saids.Asks command)) [] desk after is ends = absurd (cc ends)
+line_full o limit (Ok (saids.Asks command)) (told ∷ []) desk after is ends = answer_full o limit command told desk after is ends
+line_full o limit (Ok (saids.Asks command)) (told ∷ more ∷ before) desk after is ends = absurd is
+
+-- what was told ends serving only where it was written
+written_full : (done : Bool) (end : Option Served) → Some served.JournalFull ≡ closed done end → end ≡ Some served.JournalFull
+written_full true end is = sym is
+written_full false end is = absurd (cc is)
+
+met_full : (o : Setting) (limit : ℕ) (met : LineEnd) (line : List ℕ) (desk after : AtDesk) (old new : Option (List ℕ)) →
+    Meets (Asks o limit) met line desk after old new (Some served.JournalFull) → 0 < after.seat.full
+met_full o limit lines.Feed line desk after old new is =
+    line_full o limit (said_by (line_said line)) is.told desk after is.asked (written_full is.done (end_at (said_by (line_said line)) is.told) is.is)
+met_full o limit lines.Long line desk after old new is = absurd (cc (written_full is.1.0 (Some served.TooLong) is.1.2))
+met_full o limit lines.Unended line desk after old new is = absurd (cc (written_full is.1.0 (Some served.Unended) is.1.2))
+met_full o limit lines.Over line desk after old new is = absurd (cc is.2)
+met_full o limit lines.Spent line desk after old new is = absurd (cc is.2)
+met_full o limit lines.Failed line desk after old new is = absurd (cc is.2)
+met_full o limit lines.Unsent line desk after old new is = absurd (cc is.2)
+
+ended_full : (o : Setting) (limit now : ℕ) (end : Served) (old new : List Talk) (desk after : AtDesk) →
+    TakesTurn (Asks o limit) now (stands.Ended end) old new desk after → why_at (stands.Ended end) ≡ Some JournalFull →
+    0 < after.seat.full
+ended_full o limit now served.JournalFull old new desk after is ends =
+    met_full o limit is.turn.met is.turn.line desk after _ is.turn.put is.turn.meets
+ended_full o limit now served.Stopped old new desk after is ends = absurd (cc ends)
+ended_full o limit now served.Ended old new desk after is ends = absurd (cc ends)
+ended_full o limit now served.Unended old new desk after is ends = absurd (cc ends)
+ended_full o limit now served.TooLong old new desk after is ends = absurd (cc ends)
+ended_full o limit now served.ReadFault old new desk after is ends = absurd (cc ends)
+ended_full o limit now served.WriteFault old new desk after is ends = absurd (cc ends)
+
+stood_full : (o : Setting) (limit now : ℕ) (stand : Stand) (old new : List Talk) (desk after : AtDesk) →
+    TakesTurn (Asks o limit) now stand old new desk after → why_at stand ≡ Some JournalFull → 0 < after.seat.full
+stood_full o limit now (stands.Ended end) old new desk after is ends = ended_full o limit now end old new desk after is ends
+stood_full o limit now stands.Idle old new desk after is ends = absurd (cc ends)
+stood_full o limit now stands.Busy old new desk after is ends = absurd (cc ends)
+stood_full o limit now (stands.Closed why) old new desk after is ends = absurd (cc ends)
+
+-- of a turn of a connection, if there is one
+pub turned_full : (o : Setting) (limit now : ℕ) (turn : Option Stand) (old new : List Talk) (desk after : AtDesk) →
+    MatchOption turn ((old ≡ []) × (new ≡ []) × (after ≡ desk)) (λ stand. TakesTurn (Asks o limit) now stand old new desk after) →
+    why_at (unwrap_or turn stands.Idle) ≡ Some JournalFull → 0 < after.seat.full
+turned_full o limit now None old new desk after is ends = absurd (cc ends)
+turned_full o limit now (Some stand) old new desk after is ends = stood_full o limit now stand old new desk after is ends
+
+-- ---- the life
+
+either : {A : Type 0} (which : Bool) (one other it : A) → (if which then one else other) ≡ it → (one ≡ it) ⊎ (other ≡ it)
+either true one other it is = inl is
+either false one other it is = inr is
+
+graver_of : (one other it : Why) → graver one other ≡ it → (other ≡ it) ⊎ (one ≡ it)
+graver_of one other it is = either (nat_lt (gravity one) (gravity other)) other one it is
+
+of_began : (all_began : Bool) → (if all_began then Stopped else NoMemory) ≡ JournalFull → ⊥
+of_began true is = cc is
+of_began false is = cc is
+
+-- a life that ends for a full journal has one
+pub life_full : (limit : ℕ) (past : List Entry) (seats : List Seated) (first second third fourth : Seated) (a b c : Why) (all_began : Bool)
+    (why : Why) → AreFullWhereMet limit past seats → seats ≡ first ∷ second ∷ third ∷ fourth ∷ [] →
+    (a ≡ JournalFull → 0 < first.full) → (b ≡ JournalFull → 0 < second.full) → (c ≡ JournalFull → 0 < third.full) →
+    why ≡ why_of a b c all_began → why ≡ JournalFull → length past ≡ limit
+life_full limit past seats first second third fourth a b c all_began why all are one two three is full =
+    let each = subst (λ s. AreFullWhereMet limit past s) are all in
+    elim (graver_of (graver (graver a b) c) (if all_began then Stopped else NoMemory) JournalFull (sym is ∙ full)) [
+    | inl began ↦ absurd (of_began all_began began)
+    | inr workers ↦ elim (graver_of (graver a b) c JournalFull workers) [
+      | inl third_is ↦ each.1.1.0 (three third_is)
+      | inr two_are ↦ elim (graver_of a b JournalFull two_are) [
+        | inl second_is ↦ each.1.0 (two second_is)
+        | inr first_is ↦ each.0 (one first_is)
+      ]
+    ]
+    ]
