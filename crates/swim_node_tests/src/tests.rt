@@ -6,6 +6,7 @@ mod at_once;
 mod draws;
 mod following;
 mod gaps;
+mod holding;
 mod limits;
 mod plans;
 mod refusals;
