@@ -5,6 +5,7 @@ mod files;
 mod gates;
 mod lives;
 mod posts;
+mod refusals;
 mod two;
 
 use crate::tests::gates::NoDoor;
