@@ -40,7 +40,7 @@ pub enum Served {
 }
 
 /// Serves a connection: answers each line that the reader gives, by what the desk tells, until the input ends or a
-/// line ends it. Each answer is handed on before the reader is waited for.
+/// line ends it. Each answer is handed on before the reader is waited for, and the last one before serving ends.
 pub fn serve<R: Wait, S: Source, W: Sink, D: Desk>(
     rt: &R,
     alloc: Global,
@@ -53,6 +53,7 @@ pub fn serve<R: Wait, S: Source, W: Sink, D: Desk>(
     ensures reads { ReadsFail result (S.left reader.old) (S.left reader.new) (S.failures reader.old)
         (S.failures reader.new) }
     ensures writes { W.failures writer.new ≡ failures_if (W.failures writer.old) (not (is_write_fault (Some result))) }
+    ensures sent { is_write_fault (Some result) ≡ false → W.held writer.new ≡ 0 }
 {
     let mut line = ArrayVec::<u8, LINE_BYTES>::new();
     let mut reads = READS;
@@ -79,6 +80,7 @@ fn tell<W: Sink>(writer: &mut W, fault: Fault, end: Served) -> Served
     ensures told { IsLast (W.written writer.old) (W.written writer.new) (fault_text fault) end result }
     ensures failures { W.failures writer.new ≡ failures_if (W.failures writer.old)
         (not (is_write_fault (Some result))) }
+    ensures sent { is_write_fault (Some result) ≡ false → W.held writer.new ≡ 0 }
 {
     if !put_fault(writer, fault) {
         return Served::WriteFault;
@@ -92,6 +94,7 @@ fn send<W: Sink>(writer: &mut W, end: Served) -> Served
     ensures ends { (result ≡ end) ⊎ (result ≡ Served.WriteFault) }
     ensures failures { (n : ℕ) → W.failures writer.old ≡ failures_if n (not (is_write_fault (Some end))) →
         W.failures writer.new ≡ failures_if n (not (is_write_fault (Some result))) }
+    ensures sent { is_write_fault (Some result) ≡ false → W.held writer.new ≡ 0 }
 {
     if end == Served::WriteFault || !writer.flush() {
         Served::WriteFault

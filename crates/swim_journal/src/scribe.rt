@@ -68,6 +68,7 @@ impl<N: PageNaming, W: Sink + Drop> Scribe<N, W> {
         ensures kept { self.old.whole ≡ false → (result ≡ false) × (self.new ≡ self.old) }
         ensures failures { self.old.whole ≡ true →
             W.failures self.new.writer ≡ failures_if (W.failures self.old.writer) self.new.whole }
+        ensures sent { self.new.whole ≡ true → W.held self.new.writer ≡ 0 }
     {
         if !self.is_whole {
             return false;
@@ -89,6 +90,7 @@ impl<N: PageNaming, W: Sink + Drop> Scribe<N, W> {
         ensures kept { self.old.whole ≡ false → self.new ≡ self.old }
         ensures failures { self.old.whole ≡ true →
             W.failures self.new.writer ≡ failures_if (W.failures self.old.writer) self.new.whole }
+        ensures sent { self.new.whole ≡ true → W.held self.new.writer ≡ 0 }
     {
         for _ in rt.forever() {
             if !self.step(rt, node) {

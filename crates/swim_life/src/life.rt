@@ -102,6 +102,7 @@ pub fn run_life<
     ensures written { Puts N.page (W.written result.writer)
         (calls_text (filings_of result.journal.past)) result.is_whole }
     ensures back { result.is_whole ≡ true → AreReadBack (filings_of result.journal.past) }
+    ensures sent { result.is_whole ≡ true → W.held result.writer ≡ 0 }
     ensures full { result.why ≡ Why.JournalFull → length result.journal.past ≡ N.limit }
     ensures posted { HavePosted N.opening result.journal.past (O.posted (box_value result.posts.hearing))
         (O.posted (box_value result.posts.ticking)) result.unsent }
@@ -231,6 +232,7 @@ fn closed<N: PageNaming, O: Post + Drop, H: Wait + Drop, R: Wait, W: Sink + Drop
     ensures written { Puts N.page (W.written result.writer)
         (calls_text (filings_of result.journal.past)) result.is_whole }
     ensures back { result.is_whole ≡ true → AreReadBack (filings_of result.journal.past) }
+    ensures sent { result.is_whole ≡ true → W.held result.writer ≡ 0 }
     ensures posted { HavePosted N.opening result.journal.past (O.posted (box_value result.posts.hearing))
         (O.posted (box_value result.posts.ticking)) result.unsent }
     ensures full { result.why ≡ Why.JournalFull → length result.journal.past ≡ N.limit }

@@ -254,6 +254,7 @@ pub fn live_recorded<
     ensures life { IfOk result (λ lived. IsLife opening limit lived.past) }
     ensures drawn { IfOk result (λ lived. WasDrawn DrawsOrder DrawsPlace opening chooser lived.past.journal.past) }
     ensures written { IfOk result (λ lived. IsWritten (W.written writer) (W.written lived.writer) lived.past) }
+    ensures sent { IfOk result (λ lived. lived.past.is_cut ≡ false → W.held lived.writer ≡ 0) }
 {
     let Ok(parts) = Parts::make(alloc, limit) else {
         return Err(OpenFault::NoMemory);
@@ -296,6 +297,7 @@ fn live_so<
     ensures life { IfOk result (λ lived. IsLife opening limit lived.past) }
     ensures drawn { IfOk result (λ lived. N.drawn lived.past.journal.past) }
     ensures written { IfOk result (λ lived. IsWritten N.page (W.written lived.writer) lived.past) }
+    ensures sent { IfOk result (λ lived. lived.past.is_cut ≡ false → W.held lived.writer ≡ 0) }
 {
     let Ok(posts) = Posts::of(alloc, post) else {
         return Err(OpenFault::NoMemory);

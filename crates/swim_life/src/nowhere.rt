@@ -35,6 +35,8 @@ impl Sink for Nowhere {
 
     ghost failures = { λ s. s.failures };
 
+    ghost held = { λ s. 0 };
+
     fn put(&mut self, _text: &[u8]) -> bool {
         self.refuse()
     }

@@ -84,6 +84,7 @@ pub(crate) fn close_recorded<N: PageNaming, C: Chooser, H: Wait + Drop, R: Wait,
     ensures written { Puts N.page (W.written result.writer)
         (calls_text (filings_of result.journal.past)) result.is_whole }
     ensures back { result.is_whole ≡ true → AreReadBack (filings_of result.journal.past) }
+    ensures sent { result.is_whole ≡ true → W.held result.writer ≡ 0 }
 {
     let mut scribe = scribe;
     scribe.finish(rt, &node);

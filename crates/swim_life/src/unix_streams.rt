@@ -1,6 +1,6 @@
 //! The two ends of a connection of the control socket. Neither waits: the stream has to be one that doesn't.
 
-ghost use Rattle.std.specs.Prelude.{◌≡◌, ◌≤◌, length, drop, None, slice_range};
+ghost use Rattle.std.specs.Prelude.{◌≡◌, ◌≤◌, true, length, drop, None, slice_range};
 ghost use Rattle.std.specs.Io.KnownBytes.{Keeps};
 ghost use Rattle.swim_wire.specs.Streams.{Gives, Puts, failures_then, failures_if};
 ghost use Rattle.swim_wire.specs.Polled.{Looks};
@@ -130,7 +130,8 @@ impl StreamSink {
 
     /// Hands on what the stream takes now, and answers whether nothing is left to be handed on.
     fn hand_on(&mut self) -> bool
-        ensures { self.new.failures ≡ self.old.failures }
+        ensures failures { self.new.failures ≡ self.old.failures }
+        ensures sent { result ≡ true → length self.new.held.items ≡ 0 }
     {
         for _write in 0..WRITES {
             let left = self.held.as_slice().get(self.sent..).unwrap_or(&[]);
@@ -157,7 +158,8 @@ impl StreamSink {
     /// Lets go of what is held, for nobody takes it any more. The lines of the other end are over then too, so that the
     /// connection is closed with its next turn and not only once an answer has waited too long.
     fn give_up(&mut self)
-        ensures { self.new.failures ≡ self.old.failures }
+        ensures failures { self.new.failures ≡ self.old.failures }
+        ensures none { length self.new.held.items ≡ 0 }
     {
         self.held.clear();
         self.sent = 0;
@@ -169,6 +171,8 @@ impl Sink for StreamSink {
     ghost written = { λ s. None };
 
     ghost failures = { λ s. s.failures };
+
+    ghost held = { λ s. length s.held.items };
 
     fn put(&mut self, text: &[u8]) -> bool
         ensures bytes { Puts None None text.now result }
@@ -184,6 +188,7 @@ impl Sink for StreamSink {
     fn flush(&mut self) -> bool
         ensures bytes { Keeps None None }
         ensures failures { self.new.failures ≡ failures_if self.old.failures result }
+        ensures sent { result ≡ true → length self.new.held.items ≡ 0 }
     {
         if self.hand_on() {
             return true;

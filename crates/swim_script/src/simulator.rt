@@ -1,6 +1,6 @@
 //! The simulator: a script in, replies out.
 
-ghost use Rattle.std.specs.Prelude.{◌≡◌, if◌then◌else◌};
+ghost use Rattle.std.specs.Prelude.{◌≡◌, if◌then◌else◌, OnOk};
 ghost use Rattle.swim_wire.specs.Streams.{one_more};
 ghost use Rattle.swim_script.specs.Ends.{LeavesKnown, unplayed};
 ghost use Rattle.swim_script.specs.Script.{RunsKnown, is_read, is_write};
@@ -14,8 +14,8 @@ use swim_wire::{Sink, Source, Taken, next_line};
 
 /// Plays the script that the reader gives, and writes its answers. Each answer is written as soon as its
 /// line was read, and handed on before the reader is waited for. What a journal file tells of answers is compared with
-/// them, and the first that differs ends the run. The session, of which no line was read before, has the journal of the
-/// run afterwards.
+/// them, and the first that differs ends the run. After a script without a fault the writer holds no answer back. The
+/// session, of which no line was read before, has the journal of the run afterwards.
 pub fn run<R: Source, W: Sink>(
     session: &mut Session,
     reader: &mut R,
@@ -29,6 +29,7 @@ pub fn run<R: Source, W: Sink>(
     ensures writes { W.failures writer.new ≡
         (if is_write result then one_more (W.failures writer.old) else W.failures writer.old) }
     ensures leaves { LeavesKnown result (R.left reader.old) (W.written writer.old) (W.written writer.new) session.new }
+    ensures sent { OnOk result (W.held writer.new ≡ 0) }
 {
     let mut line = ArrayVec::<u8, LINE_BYTES>::new();
     let mut form = Form::Script;

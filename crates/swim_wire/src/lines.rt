@@ -51,6 +51,9 @@ pub fn next_line<R: Source, W: Sink, const LIMIT: usize>(
 
     // Also of a source whose bytes are not known.
     ensures spends { result ≡ Taken.Line → budget.new < budget.old }
+    // Before the end of the source, or a read that failed, was met, the writer was flushed.
+    ensures over { result ≡ Taken.Over → W.held writer.new ≡ 0 }
+    ensures failed { result ≡ Taken.Failed → W.held writer.new ≡ 0 }
 {
     let start = *budget;
     let mut is_long = false;
@@ -82,6 +85,8 @@ fn read_ready<R: Source, const LIMIT: usize>(
     ensures within { budget.new ≤ budget.old }
     ensures spends { result ≡ none → budget.new < budget.old }
     ensures ends { result ≡ some Taken.Line → budget.new < budget.old }
+    ensures not_over { ¬ (result ≡ some Taken.Over) }
+    ensures not_failed { ¬ (result ≡ some Taken.Failed) }
 {
     let (part, is_ended) = first_part(reader.ready());
     let count = part.len() + usize::from(is_ended);
@@ -118,6 +123,8 @@ fn read_byte<R: Source, W: Sink, const LIMIT: usize>(
     ensures within { budget.new ≤ budget.old }
     ensures spends { result ≡ none → budget.new < budget.old }
     ensures ends { result ≡ some Taken.Line → budget.new < start }
+    ensures over { result ≡ some Taken.Over → W.held writer.new ≡ 0 }
+    ensures failed { result ≡ some Taken.Failed → W.held writer.new ≡ 0 }
 {
     match next_byte(reader, writer) {
         None => Some(Taken::Unsent),
@@ -147,6 +154,8 @@ fn take_part<const LIMIT: usize>(
     ensures within { budget.new ≤ budget.old }
     ensures spends { result ≡ none → 0 < length (part.now ++ feed_if is_ended) → budget.new < budget.old }
     ensures ends { result ≡ some Taken.Line → budget.new < budget.old }
+    ensures not_over { ¬ (result ≡ some Taken.Over) }
+    ensures not_failed { ¬ (result ≡ some Taken.Failed) }
 {
     let count = part.len() + usize::from(is_ended);
     if count > *budget as usize {
@@ -188,6 +197,7 @@ pub(crate) fn next_byte<R: Source, W: Sink>(reader: &mut R, writer: &mut W) -> O
     ensures unread { IfNone result (reader.new ≡ reader.old) }
     ensures kept { Keeps (W.written writer.old) (W.written writer.new) }
     ensures writes { W.failures writer.new ≡ failures_if (W.failures writer.old) (is_some result) }
+    ensures sent { IfSome result (λ b. W.held writer.new ≡ 0) }
 {
     if !writer.flush() {
         return None;

@@ -206,6 +206,8 @@ impl Sink for Page {
 
     ghost failures = { λ p. p.failures };
 
+    ghost held = { λ p. 0 };
+
     fn put(&mut self, text: &[u8]) -> bool
         ensures bytes { Puts (Some self.old.text) (Some self.new.text) text.now result }
         ensures failures { self.new.failures ≡ failures_if self.old.failures result }

@@ -1,6 +1,6 @@
 //! Lines of somebody who waits for an answer: reading ends at the byte too many.
 
-ghost use Rattle.std.specs.Prelude.{◌≡◌, ℕ, ◌+◌, ◌<◌, ◌≤◌, length, take, None as none, Some as some, not, false};
+ghost use Rattle.std.specs.Prelude.{◌≡◌, ℕ, ◌+◌, ◌<◌, ◌≤◌, length, take, None as none, Some as some, not, true, false};
 ghost use Rattle.std.specs.Io.KnownBytes.{Keeps};
 ghost use Rattle.swim_wire.specs.Streams.{failures_if};
 ghost use Rattle.swim_wire.specs.ShortLines.{ComesKnown, Advances, AdvancesBy, is_failed, is_unsent, has_failed};
@@ -48,6 +48,9 @@ pub fn next_short_line<R: Source, W: Sink, const LIMIT: usize>(
 
     // Also of a source whose bytes are not known.
     ensures spends { result ≡ LineEnd.Feed → reads.new < reads.old }
+
+    // Before a read that failed the writer was flushed.
+    ensures sent { is_failed result ≡ true → W.held writer.new ≡ 0 }
 {
     line.clear();
     while *reads > 0 {
@@ -75,6 +78,7 @@ pub(crate) fn read_ready<R: Source, const LIMIT: usize>(
         line.old.items line.new.items LIMIT reads.old reads.new }
     ensures reads { R.failures reader.new ≡ failures_if (R.failures reader.old) (not (has_failed result)) }
     ensures writes { is_unsent_at result ≡ false }
+    ensures whole { has_failed result ≡ false }
     ensures spends { result ≡ none → reads.new < reads.old }
     ensures ends { result ≡ some LineEnd.Feed → reads.new < reads.old }
 {
@@ -98,6 +102,7 @@ fn read_byte<R: Source, W: Sink, const LIMIT: usize>(
     ensures writes { W.failures writer.new ≡ failures_if (W.failures writer.old) (not (is_unsent_at result)) }
     ensures spends { result ≡ none → reads.new < reads.old }
     ensures ends { result ≡ some LineEnd.Feed → reads.new < reads.old }
+    ensures sent { has_failed result ≡ true → W.held writer.new ≡ 0 }
 {
     match next_byte(reader, writer) {
         None => Some(LineEnd::Unsent),

@@ -158,6 +158,8 @@ impl<W: Write> Sink for WriteSink<W> {
 
     ghost failures = { λ s. s.failures };
 
+    ghost held = { λ s. length s.buffered };
+
     fn put(&mut self, text: &[u8]) -> bool
         ensures bytes { Puts (written_of W.contents self.old) (written_of W.contents self.new) text.now result }
         ensures failures { self.new.failures ≡ failures_if self.old.failures result }

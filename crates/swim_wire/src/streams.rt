@@ -1,6 +1,6 @@
 //! Bytes in and bytes out: what a program that answers line by line reads from and writes to.
 
-ghost use Rattle.std.specs.Prelude.{◌≡◌, ℕ, ◌≤◌, List, length, take, drop, Option, IfSome};
+ghost use Rattle.std.specs.Prelude.{◌≡◌, ℕ, ◌≤◌, true, List, length, take, drop, Option, IfSome};
 ghost use Rattle.std.specs.Io.{StartsWith};
 ghost use Rattle.std.specs.Io.KnownBytes.{Keeps, Consumes};
 ghost use Rattle.swim_wire.specs.Streams.{Gives, Puts, failures_then, failures_if};
@@ -53,6 +53,9 @@ pub trait Sink {
     // How many writes failed; the count stops at 2^64-1.
     ghost failures: { Self → ℕ };
 
+    // How many bytes it holds back.
+    ghost held: { Self → ℕ };
+
     /// Takes the bytes of a text, and answers whether it took all of them. Where it did not, it took a front of them.
     fn put(&mut self, text: &[u8]) -> bool
         ensures bytes { Puts (written self.old) (written self.new) text.now result }
@@ -62,5 +65,6 @@ pub trait Sink {
     /// back.
     fn flush(&mut self) -> bool
         ensures bytes { Keeps (written self.old) (written self.new) }
-        ensures failures { failures self.new ≡ failures_if (failures self.old) result };
+        ensures failures { failures self.new ≡ failures_if (failures self.old) result }
+        ensures sent { result ≡ true → held self.new ≡ 0 };
 }

@@ -26,6 +26,7 @@ pub fn check<S: Source, W: Sink, F: Sink>(
         (F.written faults.old, F.failures faults.old) (F.written faults.new, F.failures faults.new) result }
     ensures reads { S.failures reader.new ≡ failures_if (S.failures reader.old) (not (is_unread result)) }
     ensures writes { W.failures writer.new ≡ failures_if (W.failures writer.old) (not (is_unwritten result)) }
+    ensures sent { result ≡ Outcome.Checked → W.held writer.new ≡ 0 }
     ensures explains { Explains result details.new }
 {
     let mut text = ArrayVec::<u8, INPUT_BYTES>::new();
@@ -46,6 +47,7 @@ fn show<W: Sink, F: Sink>(config: &Config, writer: &mut W, faults: &mut F) -> Ou
     ensures shows { Shows config.now (W.written writer.old) (W.written writer.new)
         (F.written faults.old, F.failures faults.old) (F.written faults.new, F.failures faults.new) result }
     ensures writes { W.failures writer.new ≡ failures_if (W.failures writer.old) (not (is_unwritten result)) }
+    ensures sent { result ≡ Outcome.Checked → W.held writer.new ≡ 0 }
 {
     if !summary(config, writer) {
         return Outcome::Unwritten;

@@ -116,7 +116,8 @@ fn ask_for<R: Net + Clock, S: Source, W: Sink>(
 
 /// Writes help.
 fn help<W: Sink>(text: &[u8], writer: &mut W) -> Outcome
-    ensures { Helps text.now (W.written writer.old) (W.written writer.new) result }
+    ensures helps { Helps text.now (W.written writer.old) (W.written writer.new) result }
+    ensures sent { result ≡ Outcome.Helped → W.held writer.new ≡ 0 }
 {
     if writer.put(text) && writer.flush() {
         Outcome::Helped
@@ -127,7 +128,8 @@ fn help<W: Sink>(text: &[u8], writer: &mut W) -> Outcome
 
 /// Writes the version.
 fn version<W: Sink>(writer: &mut W) -> Outcome
-    ensures { Helps (codes "swimd 1.0\n") (W.written writer.old) (W.written writer.new) result }
+    ensures helps { Helps (codes "swimd 1.0\n") (W.written writer.old) (W.written writer.new) result }
+    ensures sent { result ≡ Outcome.Helped → W.held writer.new ≡ 0 }
 {
     help(VERSION_LINE, writer)
 }

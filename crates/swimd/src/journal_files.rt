@@ -1,6 +1,6 @@
 //! Journal files as they are written.
 
-ghost use Rattle.std.specs.Prelude.{◌≡◌, None};
+ghost use Rattle.std.specs.Prelude.{◌≡◌, true, false, length, None};
 ghost use Rattle.swim_wire.specs.Streams.{failures_if};
 
 use crate::comments::comment_behind;
@@ -65,7 +65,8 @@ impl<'r, K: Clock> JournalFile<'r, K> {
 
     /// Writes what is held back, and answers whether the system took it.
     fn hand_on(&mut self) -> bool
-        ensures { self.new.failures ≡ self.old.failures }
+        ensures failures { self.new.failures ≡ self.old.failures }
+        ensures sent { result ≡ true → length self.new.held.items ≡ 0 }
     {
         let Some(file) = &mut self.file else {
             return false;
@@ -81,7 +82,8 @@ impl<'r, K: Clock> JournalFile<'r, K> {
 
     /// Lets go of the file for this reason.
     fn give_up(&mut self, fault: ErrorKind) -> bool
-        ensures { self.new.failures ≡ self.old.failures }
+        ensures failures { self.new.failures ≡ self.old.failures }
+        ensures gone { result ≡ false }
     {
         self.fault = Some(fault);
         self.file = None;
@@ -91,6 +93,7 @@ impl<'r, K: Clock> JournalFile<'r, K> {
     /// Counts a failure, where it is one.
     fn counted(&mut self, is_done: bool) -> bool
         ensures done { result ≡ is_done }
+        ensures held { self.new.held ≡ self.old.held }
         ensures failures { self.new.failures ≡ failures_if self.old.failures is_done }
     {
         if !is_done {
@@ -137,6 +140,8 @@ impl<'r, K: Clock> Sink for JournalFile<'r, K> {
     ghost written = { λ f. None };
 
     ghost failures = { λ f. f.failures };
+
+    ghost held = { λ f. length f.held.items };
 
     fn put(&mut self, text: &[u8]) -> bool {
         let is_taken = self.take_told(text);

@@ -4,3 +4,4 @@ pub mod Named
 pub mod Differences
 pub mod Verifying
 pub mod WholeLines
+pub mod Wording

@@ -1,6 +1,6 @@
 //! A sink that puts words between the lines that it takes.
 
-ghost use Rattle.std.specs.Prelude.{◌≡◌, None as none};
+ghost use Rattle.std.specs.Prelude.{◌≡◌, true, None as none};
 ghost use Rattle.std.specs.Io.KnownBytes.{Keeps};
 ghost use Rattle.swim_wire.specs.Streams.{Puts, failures_if};
 
@@ -30,19 +30,19 @@ pub struct Worded<T: Teller, W: Sink> {
     failures: u64,
 }
 
-// A contract sees how many writes failed.
+// A contract sees how many writes failed, and how many bytes are held back.
 impl<T: Teller, W: Sink> Model for Worded<T, W> {
-    ghost use Rattle.std.specs.Prelude.{ℕ};
+    ghost use Rattle.swimsim.specs.Wording.{Putting};
 
-    ghost Value = { ℕ };
+    ghost Value = { Putting };
 
-    ghost view = { λ s. s.failures };
+    ghost view = { λ s. record { failures = s.failures; held = W.held s.writer } };
 }
 
 impl<T: Teller, W: Sink> Worded<T, W> {
     /// The sink over that one, with who has the words. Nothing was written yet.
     pub fn new(teller: T, writer: W) -> Worded<T, W>
-        ensures { result ≡ 0 }
+        ensures { result.failures ≡ 0 }
     {
         Worded {
             teller,
@@ -53,7 +53,7 @@ impl<T: Teller, W: Sink> Worded<T, W> {
     }
 
     fn put_byte(&mut self, byte: u8) -> bool
-        ensures { self.new ≡ self.old }
+        ensures { self.new.failures ≡ self.old.failures }
     {
         if self.line.is_empty() && !self.teller.put_above(&mut self.writer) {
             return false;
@@ -73,11 +73,13 @@ impl<T: Teller, W: Sink> Worded<T, W> {
 impl<T: Teller, W: Sink> Sink for Worded<T, W> {
     ghost written = { λ s. none };
 
-    ghost failures = { λ s. s };
+    ghost failures = { λ s. s.failures };
+
+    ghost held = { λ s. s.held };
 
     fn put(&mut self, text: &[u8]) -> bool
         ensures bytes { Puts none none text.now result }
-        ensures failures { self.new ≡ failures_if self.old result }
+        ensures failures { self.new.failures ≡ failures_if self.old.failures result }
     {
         for byte in text {
             if !self.put_byte(*byte) {
@@ -90,7 +92,8 @@ impl<T: Teller, W: Sink> Sink for Worded<T, W> {
 
     fn flush(&mut self) -> bool
         ensures bytes { Keeps none none }
-        ensures failures { self.new ≡ failures_if self.old result }
+        ensures failures { self.new.failures ≡ failures_if self.old.failures result }
+        ensures sent { result ≡ true → self.new.held ≡ 0 }
     {
         if self.writer.flush() {
             return true;

@@ -1,6 +1,6 @@
 //! Connections that take turns.
 
-ghost use Rattle.std.specs.Prelude.{None};
+ghost use Rattle.std.specs.Prelude.{None, length};
 
 use super::groups::Group;
 use arrayvec::ArrayVec;
@@ -54,6 +54,8 @@ impl<'s> Sink for Client<'s> {
     ghost written = { λ client. None };
 
     ghost failures = { λ client. client.failures };
+
+    ghost held = { λ client. length client.held.items };
 
     fn put(&mut self, text: &[u8]) -> bool {
         let _ = self.held.try_extend_from_slice(text);

@@ -37,11 +37,7 @@ impl<'a, 'l, K: Clock + Drop> Door for TypingDoor<'a, 'l, K> {
             return Knock::Idle;
         }
         self.was_open = true;
-        let answers = Expecting {
-            is_answered: self.is_answered,
-            text: ArrayVec::new(),
-        };
-        Knock::Conn(Text::new(LINES), answers)
+        Knock::Conn(Text::new(LINES), Expecting::of(self.is_answered, ANSWERS))
     }
 
     fn wait<R: Wait>(&mut self, _rt: &R) {
@@ -55,15 +51,28 @@ impl<'a, 'l, K: Clock + Drop> Door for TypingDoor<'a, 'l, K> {
 
 // Where the answers go. It tells at each flush whether they are those that are expected, and no more.
 #[derive(Drop)]
-struct Expecting<'s> {
+pub struct Expecting<'s> {
     is_answered: &'s AtomicBool,
+    wanted: &'static [u8],
     text: ArrayVec<u8, 128>,
+}
+
+impl<'s> Expecting<'s> {
+    pub fn of(is_answered: &'s AtomicBool, wanted: &'static [u8]) -> Expecting<'s> {
+        Expecting {
+            is_answered,
+            wanted,
+            text: ArrayVec::new(),
+        }
+    }
 }
 
 impl<'s> Sink for Expecting<'s> {
     ghost written = { λ answers. None };
 
     ghost failures = { λ answers. 0 };
+
+    ghost held = { λ answers. 0 };
 
     fn put(&mut self, text: &[u8]) -> bool {
         for byte in text {
@@ -73,7 +82,7 @@ impl<'s> Sink for Expecting<'s> {
     }
 
     fn flush(&mut self) -> bool {
-        let are_expected = *self.text.as_slice() == *ANSWERS;
+        let are_expected = *self.text.as_slice() == *self.wanted;
         self.is_answered.store(are_expected, Ordering::SeqCst);
         true
     }

@@ -25,6 +25,8 @@ impl Sink for File {
 
     ghost failures = { λ f. f.failures };
 
+    ghost held = { λ f. 0 };
+
     fn put(&mut self, text: &[u8]) -> bool
         ensures bytes { Puts None None text.now result }
         ensures failures { self.new.failures ≡ failures_if self.old.failures result }

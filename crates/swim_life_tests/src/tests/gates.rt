@@ -298,6 +298,8 @@ impl<'s> Sink for Answers<'s> {
 
     ghost failures = { λ answers. 0 };
 
+    ghost held = { λ answers. 0 };
+
     fn put(&mut self, text: &[u8]) -> bool {
         for byte in text {
             let _ = self.text.try_push(*byte);
