@@ -162,12 +162,12 @@ pub life_full : (limit : ℕ) (past : List Entry) (seats : List Seated) (first s
 life_full limit past seats first second third fourth a b c all_began why all are one two three is full =
     let each = subst (λ s. AreFullWhereMet limit past s) are all in
     elim (graver_of (graver (graver a b) c) (if all_began then Stopped else NoMemory) JournalFull (sym is ∙ full)) [
-    | inl began ↦ absurd (of_began all_began began)
-    | inr workers ↦ elim (graver_of (graver a b) c JournalFull workers) [
-      | inl third_is ↦ each.1.1.0 (three third_is)
-      | inr two_are ↦ elim (graver_of a b JournalFull two_are) [
-        | inl second_is ↦ each.1.0 (two second_is)
-        | inr first_is ↦ each.0 (one first_is)
+      | inl began ↦ absurd (of_began all_began began)
+      | inr workers ↦ elim (graver_of (graver a b) c JournalFull workers) [
+        | inl third_is ↦ each.1.1.0 (three third_is)
+        | inr two_are ↦ elim (graver_of a b JournalFull two_are) [
+          | inl second_is ↦ each.1.0 (two second_is)
+          | inr first_is ↦ each.0 (one first_is)
+        ]
       ]
-    ]
     ]

@@ -73,10 +73,7 @@ fn hear_beside<N: Naming, C: Chooser, R: Wait + Clock + Copy + Drop>(
     answer
 }
 
-fn join_and_hear<
-    N: Naming + Send + Sync,
-    R: Threads + Wait + Clock + Send + Sync + Copy + Drop,
->(
+fn join_and_hear<N: Naming + Send + Sync, R: Threads + Wait + Clock + Send + Sync + Copy + Drop>(
     rt: R,
     alloc: Global,
     parts: Parts,
