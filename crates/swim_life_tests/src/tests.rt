@@ -6,6 +6,7 @@ mod gates;
 mod lives;
 mod posts;
 mod refusals;
+mod sending;
 mod two;
 
 use crate::tests::gates::NoDoor;
