@@ -1,7 +1,8 @@
 //! Has calls of the system fail in the program that it is loaded into before all else. The variable FAIL says which: their name and
 //! which one of that name, counted from 0, as `read 3`; where a number follows, so many in a row from that one on. Such a call does
 //! nothing and is answered an error of input and output, and `failed` is written to standard error then. Calls on standard error aren't
-//! counted. Where the variable PIECES is set, a read from standard input takes at most so many bytes.
+//! counted. Where the variable PIECES is set, a read from standard input takes at most so many bytes. Where HOLD is set, a change of a
+//! file's mode waits until there is a file at that path, for ten seconds at most.
 #![no_std]
 
 use core::ffi::{CStr, c_char, c_int, c_long, c_void};
@@ -17,9 +18,12 @@ unsafe extern "C" {
 
 const READ: c_long = 0;
 const WRITE: c_long = 1;
+const ACCESS: c_long = 21;
+const NANOSLEEP: c_long = 35;
 const SENDTO: c_long = 44;
 const RECVFROM: c_long = 45;
 const FDATASYNC: c_long = 75;
+const CHMOD: c_long = 90;
 const ACCEPT4: c_long = 288;
 
 const INPUT_OUTPUT: c_int = 5;
@@ -105,6 +109,18 @@ pub extern "C" fn send(file: c_int, bytes: *const c_void, count: usize, flags: c
 #[unsafe(no_mangle)]
 pub extern "C" fn accept4(file: c_int, from: *mut c_void, length: *mut c_int, flags: c_int) -> c_int {
     if fails(c"accept4", file) { -1 } else { unsafe { syscall(ACCEPT4, file, from, length, flags) as c_int } }
+}
+
+#[unsafe(no_mangle)]
+pub extern "C" fn chmod(path: *const c_char, mode: u32) -> c_int {
+    let awaited = unsafe { getenv(c"HOLD".as_ptr()) };
+    let millisecond = [0i64, 1_000_000];
+    let mut left = if awaited.is_null() { 0 } else { 10_000 };
+    while left > 0 && unsafe { syscall(ACCESS, awaited, 0) } != 0 {
+        unsafe { syscall(NANOSLEEP, millisecond.as_ptr(), core::ptr::null::<i64>()) };
+        left -= 1;
+    }
+    unsafe { syscall(CHMOD, path, mode) as c_int }
 }
 
 #[panic_handler]
