@@ -12,6 +12,7 @@ import re
 
 # The head of an `impl`, or the end of an item.
 IMPL = re.compile(r"^(?:unsafe )?impl\b(.*)|^\}$", re.MULTILINE)
+REFERENCE = re.compile(r"&(?:'\w+ )?")
 TYPE = re.compile(r"^(?:pub(?:\([^)]*\))? )?(?:struct|enum) (\w+)", re.MULTILINE)
 # The brace before a body ends the first line of the head or that of the last parameters, or it stands alone.
 FUNCTION = re.compile(
@@ -48,7 +49,10 @@ def owner_of(head, file, texts):
     """The path under which the functions of an `impl` stand: its type, and right behind that the trait, if there is one."""
     words = without_arguments(head).split("{")[0].split(" where ")[0].split(" for ")
     names = [it.strip().split("::")[-1] for it in reversed(words)]
-    return [*home_of(names[0], file, texts), "".join(names)]
+    # A reference to a type is named behind a word.
+    reference = REFERENCE.match(names[0])
+    names[0] = names[0][reference.end():] if reference else names[0]
+    return [*home_of(names[0], file, texts), "".join(["Ref" if reference else "", *names])]
 
 
 def functions_in(file, texts):
