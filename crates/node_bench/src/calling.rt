@@ -1,12 +1,13 @@
 //! Calls of a node, again and again. Each function says how many were answered.
 
-use crate::nodes::{SOMEWHERE, datagram, passer};
+use crate::nodes::{SOMEWHERE, passer, ping};
 use crate::working::Four;
 use std::sync::Wait;
 use std::sync::atomic::{AtomicBool, Ordering};
 use std::thread::{Threads, join};
 use swim_node::{Naming, Node, Seat};
 use swim_targets::Scripted;
+use swim_wire::encode;
 
 /// So many pings are heard.
 pub(crate) fn hear<N: Naming, H: Wait + Drop, R: Wait>(
@@ -16,10 +17,10 @@ pub(crate) fn hear<N: Naming, H: Wait + Drop, R: Wait>(
     calls: u32,
 ) -> u32 {
     let mut seat = seat;
-    let ping = datagram();
+    let ping = encode(&ping());
     let mut answered = 0_u32;
     for _turn in 0..calls {
-        if hears(rt, node, &mut seat, &ping) {
+        if hears(rt, node, &mut seat, ping.as_slice()) {
             answered = answered.saturating_add(1);
         }
     }

@@ -3,7 +3,7 @@
 use std::alloc::Global;
 use swim_history::Opening;
 use swim_targets::Scripted;
-use swim_wire::{DATAGRAM_BYTES, Id, Kind, Message, Peer, PeriodNumber, encode};
+use swim_wire::{Id, Kind, Message, Peer, PeriodNumber, Version};
 
 /// Where all members stand.
 pub(crate) const SOMEWHERE: Peer = Peer {
@@ -22,7 +22,7 @@ pub(crate) fn passer() -> Id {
 /// Member 1, which knows member 2 and asks no relays.
 pub(crate) fn opening() -> Option<Opening> {
     let rows = [(other(), SOMEWHERE)];
-    Opening::check(Id::default(), 0, 1, PERIOD, &rows, 0).ok()
+    Opening::check(Id::default(), 0, 1, PERIOD, &rows, 0, Version::One).ok()
 }
 
 /// A chooser that leaves each order as it is, and takes each last place.
@@ -33,17 +33,14 @@ pub(crate) fn no_script(alloc: Global) -> Scripted {
 /// A ping of member 2 for member 1.
 pub(crate) fn ping() -> Message {
     Message {
+        version: Version::One,
         kind: Kind::Ping,
         sender: other(),
         initiator: other(),
         target: Id::default(),
         number: PeriodNumber::new(1).unwrap_or_default(),
+        at: None,
     }
-}
-
-/// The same, as a datagram.
-pub(crate) fn datagram() -> [u8; DATAGRAM_BYTES] {
-    encode(&ping())
 }
 
 /// A member that is listed all the time.

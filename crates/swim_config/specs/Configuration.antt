@@ -11,6 +11,9 @@ use Rattle.toml.specs.Data.{as_str, as_integer, as_array, as_table}
 use Rattle.toml.specs.Parse.{parse_document}
 use Rattle.swim_wire.specs.Address.{Address, address_of}
 use Rattle.swim_wire.specs.Arguments.{◌>>=◌}
+use Rattle.swim_wire.specs.Layout.{version_of}
+use Rattle.swim_wire.specs.declared.messages.Version.{Version}
+use Rattle.swim_wire.specs.declared.messages.Version.TheVariants.{One, Two}
 use Rattle.swim_history.specs.Check.{first_fault, setting_of}
 use Rattle.swim_history.specs.Setting.{Setting}
 use Rattle.swim_history.specs.declared.openings.OpeningFault.{OpeningFault}
@@ -182,6 +185,12 @@ kept_in table = do
   last ← number_at keys.Last table
   Ok (record { seed = seed; journal = journal; last = last })
 
+-- the version of its own pings and ping-reqs: the number is the one that a datagram has for it
+unfoldable pub version_in : Members → Result Version ConfigFault
+version_in table = do
+  wire ← number_at keys.Wire table
+  Ok (version_of wire)
+
 -- where each life's journal is written to a file
 unfoldable pub files_in : Members → Result JournalFiles ConfigFault
 files_in table = do
@@ -195,12 +204,14 @@ settings_in table = do
   place ← place_in table
   times ← times_in table
   kept ← kept_in table
+  version ← version_in table
   files ← files_in table
-  Ok (record { place = place; times = times; kept = kept; files = files })
+  Ok (record { place = place; times = times; kept = kept; version = version; files = files })
 
 -- what the detector starts from
 abbrev pub setting_with : Settings → List (ℕ × Address) → Setting
-setting_with s members = setting_of s.place.id s.times.k s.times.rtt s.times.period members s.kept.last
+setting_with s members =
+    setting_of s.place.id s.times.k s.times.rtt s.times.period members s.kept.last s.version
 
 -- the configuration of these settings and this opening, if the opening has no fault
 abbrev pub config_unless : Option OpeningFault → Settings → Setting → Result Config ConfigFault
@@ -231,6 +242,11 @@ config_in table = do
 abbrev pub told_keep : JournalFiles → Option ℕ
 told_keep files = if is_some files.dir then Some files.keep else None
 
+-- the number of a version that isn't the first one
+abbrev pub told_version : Version → Option ℕ
+told_version One = None
+told_version Two = Some 2
+
 -- the number that a summary tells of a key; none where it tells none, as of a key that is left out
 abbrev pub number_of : Key → Config → Option ℕ
 number_of keys.K config = Some config.opening.k
@@ -239,6 +255,7 @@ number_of keys.Period config = Some config.opening.period
 number_of keys.TickMs config = Some config.tick_ms
 number_of keys.Last config = Some config.opening.last
 number_of keys.Journal config = Some config.journal
+number_of keys.Wire config = told_version config.opening.version
 number_of keys.JournalKeep config = told_keep config.files
 number_of key config = None
 

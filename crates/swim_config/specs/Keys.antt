@@ -47,6 +47,14 @@ entry_of keys.Last =
       about = codes "the last period number that was used before";
       begins_line = false;
     }
+entry_of keys.Wire =
+    record {
+      name = codes "wire";
+      form = Number 1 2;
+      default = Some 1;
+      about = codes "the version of its own pings and ping-reqs";
+      begins_line = false;
+    }
 entry_of keys.JournalDir = required (codes "journal_dir") Path (codes "the folder of the journal files")
 entry_of keys.JournalKeep =
     record {
@@ -64,14 +72,15 @@ entry_of keys.MemberAt = required (codes "at") Peer (codes "where another member
 abbrev pub top_keys : List Key
 top_keys =
     keys.Id ∷ keys.Listen ∷ keys.Control ∷ keys.K ∷ keys.Rtt ∷ keys.Period ∷ keys.TickMs ∷ keys.Seed ∷ keys.Journal ∷
-    keys.Last ∷ keys.JournalDir ∷ keys.JournalKeep ∷ keys.Member ∷ []
+    keys.Last ∷ keys.Wire ∷ keys.JournalDir ∷ keys.JournalKeep ∷ keys.Member ∷ []
 
 abbrev pub member_keys : List Key
 member_keys = keys.MemberId ∷ keys.MemberAt ∷ []
 
 -- those whose numbers a summary tells behind its first three lines, in this order
 abbrev pub number_keys : List Key
-number_keys = keys.K ∷ keys.Rtt ∷ keys.Period ∷ keys.TickMs ∷ keys.Last ∷ keys.Journal ∷ keys.JournalKeep ∷ []
+number_keys =
+    keys.K ∷ keys.Rtt ∷ keys.Period ∷ keys.TickMs ∷ keys.Last ∷ keys.Journal ∷ keys.Wire ∷ keys.JournalKeep ∷ []
 
 -- ---- what follows of a key
 

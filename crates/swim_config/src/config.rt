@@ -2,7 +2,9 @@
 
 ghost use Rattle.std.specs.Prelude.{◌≡◌};
 ghost use Rattle.toml.specs.View.{table_view};
-ghost use Rattle.swim_config.specs.Configuration.{config_with, files_in, kept_in, number_of, place_in, settings_in, times_in, told_keep};
+ghost use Rattle.swim_wire.specs.Layout.{version_of};
+ghost use Rattle.swim_config.specs.Configuration.{config_with, files_in, kept_in, number_of, place_in, settings_in, times_in};
+ghost use Rattle.swim_config.specs.Configuration.{told_keep, told_version, version_in};
 
 use crate::config_fault::ConfigFault;
 use crate::keys::Key;
@@ -11,7 +13,7 @@ use crate::values::{
     take_id, take_number, take_path, take_path_if, take_peer, take_seed, take_small,
 };
 use swim_history::Opening;
-use swim_wire::{Id, Peer};
+use swim_wire::{Id, Peer, Version};
 use toml::Table;
 
 /// What a daemon is started with.
@@ -73,6 +75,8 @@ pub struct Settings {
     pub place: Place,
     pub times: Times,
     pub kept: Kept,
+    /// The version of its own pings and ping-reqs.
+    pub version: Version,
     pub files: JournalFiles,
 }
 
@@ -89,6 +93,7 @@ impl Config {
             Key::TickMs => Some(u64::from(self.tick_ms)),
             Key::Last => Some(opening.last()),
             Key::Journal => Some(u64::from(self.journal)),
+            Key::Wire => told_version(opening.version()),
             Key::JournalKeep => self.files.told_keep(),
             _ => None,
         }
@@ -108,6 +113,16 @@ impl JournalFiles {
     }
 }
 
+/// The number of a version that isn't the first one, which goes without saying.
+fn told_version(version: Version) -> Option<u64>
+    ensures { result ≡ told_version version }
+{
+    match version {
+        Version::One => None,
+        Version::Two => Some(2),
+    }
+}
+
 /// The settings of a table, or their first fault.
 #[tactic(auto, unfolding(crate::specs::Configuration::settings_in))]
 pub fn take_settings(table: &Table) -> Result<Settings, ConfigFault>
@@ -116,11 +131,13 @@ pub fn take_settings(table: &Table) -> Result<Settings, ConfigFault>
     let place = take_place(table)?;
     let times = take_times(table)?;
     let kept = take_kept(table)?;
+    let version = take_version(table)?;
     let files = take_files(table)?;
     Ok(Settings {
         place,
         times,
         kept,
+        version,
         files,
     })
 }
@@ -169,6 +186,25 @@ fn take_kept(table: &Table) -> Result<Kept, ConfigFault>
     })
 }
 
+#[tactic(auto, unfolding(crate::specs::Configuration::version_in))]
+fn take_version(table: &Table) -> Result<Version, ConfigFault>
+    ensures { result ≡ version_in (table_view table.now) }
+{
+    let wire = take_number(table, Key::Wire)?;
+    Ok(version_of(wire))
+}
+
+/// The version of that number, 1 or 2.
+fn version_of(wire: u64) -> Version
+    ensures { result ≡ version_of wire }
+{
+    if wire == 1 {
+        Version::One
+    } else {
+        Version::Two
+    }
+}
+
 #[tactic(auto, unfolding(crate::specs::Configuration::files_in))]
 fn take_files(table: &Table) -> Result<JournalFiles, ConfigFault>
     ensures { result ≡ files_in (table_view table.now) }
@@ -186,6 +222,7 @@ pub fn config_with(settings: Settings, members: &[(Id, Peer)]) -> Result<Config,
         place,
         times,
         kept,
+        version,
         files,
     } = settings;
     let seed = kept.seed;
@@ -196,6 +233,7 @@ pub fn config_with(settings: Settings, members: &[(Id, Peer)]) -> Result<Config,
         times.period,
         members,
         kept.last,
+        version,
     ) {
         Err(fault) => Err(ConfigFault::Opening(fault)),
         Ok(opening) => Ok(Config {

@@ -27,6 +27,8 @@ pub enum Key {
     Journal,
     /// The last period number that was used before.
     Last,
+    /// The version of its own pings and ping-reqs.
+    Wire,
     /// The folder of the journal files.
     JournalDir,
     /// How many journal files stay.
@@ -70,7 +72,7 @@ struct Entry {
 }
 
 /// The keys of a configuration, in the order in which their faults are told.
-pub const TOP_KEYS: [Key; 13] = [
+pub const TOP_KEYS: [Key; 14] = [
     Key::Id,
     Key::Listen,
     Key::Control,
@@ -81,19 +83,21 @@ pub const TOP_KEYS: [Key; 13] = [
     Key::Seed,
     Key::Journal,
     Key::Last,
+    Key::Wire,
     Key::JournalDir,
     Key::JournalKeep,
     Key::Member,
 ];
 
 /// The keys whose numbers a summary tells behind its first three lines, in this order.
-pub const NUMBER_KEYS: [Key; 7] = [
+pub const NUMBER_KEYS: [Key; 8] = [
     Key::K,
     Key::Rtt,
     Key::Period,
     Key::TickMs,
     Key::Last,
     Key::Journal,
+    Key::Wire,
     Key::JournalKeep,
 ];
 
@@ -142,6 +146,13 @@ impl Key {
                 form: Form::Number(0, 9_223_372_036_854_775_807),
                 default: Some(0),
                 about: "the last period number that was used before",
+                begins_line: false,
+            },
+            Key::Wire => Entry {
+                name: "wire",
+                form: Form::Number(1, 2),
+                default: Some(1),
+                about: "the version of its own pings and ping-reqs",
                 begins_line: false,
             },
             Key::JournalDir => required(

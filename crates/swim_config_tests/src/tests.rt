@@ -1,3 +1,4 @@
 mod causes;
 mod configurations;
 mod refusals;
+mod versions;

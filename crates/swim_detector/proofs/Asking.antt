@@ -7,6 +7,7 @@ use Rattle.std.proofs.Math.Nat.{min-zero, zero-min}
 use Rattle.std.proofs.lemmas.List.Sorted.{length_permutation}
 use Rattle.std.proofs.lemmas.List.{length-map, length-take}
 use Rattle.arrayvec.specs.ArrayVec.{ArrayVec}
+use Rattle.swim_wire.specs.Address.{Address}
 use Rattle.swim_wire.specs.Ids.{has, has_twice}
 use Rattle.swim_history.specs.declared.calls.Call.TheVariants.{Tick}
 use Rattle.swim_history.specs.declared.replies.Relay.{Relay}
@@ -18,7 +19,7 @@ use Rattle.swim_history.specs.Aim.{unheard}
 use Rattle.swim_history.specs.Rows.{up, row_of, is_listed}
 use Rattle.swim_history.specs.Round.{listed}
 use Rattle.swim_wire.specs.IdLaws.{has_part, once_part, has-IsPermutation, once-IsPermutation}
-use Rattle.swim_history.specs.Laws.Listed.{listed_is, listed_once}
+use Rattle.swim_history.specs.Laws.Listed.{listed_is, listed_once, aim_listed, unheard_aim}
 use Rattle.swim_history.specs.Run.{IsRun, AreRelays, candidates}
 use Rattle.swim_history.specs.Drawn.{DrawsRelays}
 use Rattle.swim_detector.specs.declared.states.State.{State}
@@ -91,10 +92,14 @@ no_relays o h m none = record { count = by none; once = refl; each = tt }
     by (inl none) = rw none (sym (zero-min (length (candidates o h m))))
     by (inr nobody) = rw nobody (sym (min-zero o.k))
 
+-- whom no ack was heard of is listed
+pub aim_is_listed : (o : Setting) (h : List Entry) (m : ℕ) → IsSetting o → IsRun o h → unheard o h ≡ Some m → is_listed o h m ≡ true
+aim_is_listed o h m s run silent = aim_listed o h m s run (unheard_aim o h m silent)
+
 -- the aim is asked about
-pub asked : {S : Type 0} (orders : S → List ℕ → List ℕ → S → Type 0) (places : S → ℕ → ℕ → S → Type 0) (o : Setting) (h : List Entry) (m number : ℕ) (relays : ArrayVec Relay) (old new : State) (before after : S) →
-    IsSetting o → Mirrors o h old → Passes o old new → phase o h ≡ o.rtt → unheard o h ≡ Some m → number ≡ period_number o h → AreRelays o h m relays.items →
+pub asked : {S : Type 0} (orders : S → List ℕ → List ℕ → S → Type 0) (places : S → ℕ → ℕ → S → Type 0) (o : Setting) (h : List Entry) (m : ℕ) (peer : Address) (number : ℕ) (relays : ArrayVec Relay) (old new : State) (before after : S) →
+    IsSetting o → Mirrors o h old → Passes o old new → phase o h ≡ o.rtt → unheard o h ≡ Some m → number ≡ period_number o h → AreRelays o h m relays.items → row_of o h m ≡ Some (up m peer) →
     DrawsRelays orders o.k (candidates o h m) (map (λ relay. relay.id) relays.items) before after →
-    IsAnswered orders places o h Tick (plain (Asked m number relays)) new before after
-asked orders places o h m number relays old new before after s mirrors p timeout silent now are drawn =
-    ((timeout, silent, now, are), drawn, λ seat n. passed o h (Asked m number relays) old new seat n s mirrors p refl refl (λ begins. omega (arith, s.timing.0, timeout, begins)))
+    IsAnswered orders places o h Tick (plain (Asked m peer number relays)) new before after
+asked orders places o h m peer number relays old new before after s mirrors p timeout silent now are row drawn =
+    ((timeout, silent, now, are, row), drawn, λ seat n. passed o h (Asked m peer number relays) old new seat n s mirrors p refl refl (λ begins. omega (arith, s.timing.0, timeout, begins)))

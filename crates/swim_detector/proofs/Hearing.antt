@@ -1,15 +1,16 @@
 -- Answers to messages.
-use Rattle.std.proofs.Common.{◌≡◌, ◌≢◌, ℕ, ◌+◌, ◌<◌, ◌≤◌, Bool, true, false, ◌||◌, ◌&&◌, List, [], ◌∷◌, ◌++◌, length, Some, None, refl, sym, ap, ◌∙◌, arith, length-append}
+use Rattle.std.proofs.Common.{◌≡◌, ◌≢◌, ℕ, ◌+◌, ◌<◌, ◌≤◌, Bool, true, false, ◌||◌, ◌&&◌, List, [], ◌∷◌, ◌++◌, length, Option, Some, None, refl, sym, ap, ◌∙◌, arith, length-append}
 use Rattle.std.specs.Prelude.{◌==◌}
 use Rattle.std.proofs.lemmas.Bool.{eq-eqb, ne_eqb, eqb-true}
 use Rattle.std.proofs.lemmas.Option.{same_Some}
 use Rattle.swim_wire.specs.Address.{Address}
-use Rattle.swim_wire.specs.Probe.{key_of, passed_on}
+use Rattle.swim_wire.specs.Probe.{key_of, ping_by, ack_by}
 use Rattle.swim_wire.specs.declared.messages.Key.{Key}
 use Rattle.swim_wire.specs.RequestLaws.{forget_none, waits_none}
-use Rattle.swim_wire.specs.Requests.{Request, waits, forget, peer_for}
-use Rattle.swim_wire.specs.declared.messages.Message.{Message}
+use Rattle.swim_wire.specs.Requests.{Request, waits, forget, asker_for}
+use Rattle.swim_wire.specs.Messages.{Message}
 use Rattle.swim_wire.specs.declared.messages.Kind.{Kind}
+use Rattle.swim_wire.specs.declared.messages.Version.{Version}
 use Rattle.swim_wire.specs.declared.messages.Kind.TheVariants.{Ping, PingReq, Ack}
 use Rattle.swim_history.specs.declared.calls.Call.TheVariants.{Hear}
 use Rattle.swim_history.specs.declared.replies.Reply.{Reply}
@@ -21,11 +22,10 @@ use Rattle.swim_history.specs.Setting.{Setting, IsSetting}
 use Rattle.swim_history.specs.Events.{is_acking}
 use Rattle.swim_history.specs.Clock.{period_number}
 use Rattle.swim_history.specs.Aim.{aim, was_heard}
-use Rattle.swim_history.specs.Rows.{up, row_of}
 use Rattle.swim_history.specs.Waiting.{waiting, asked_in, sent_on_in}
 use Rattle.swim_history.specs.Laws.Waiting.{waiting_asked, waiting_answered, waiting_same}
 use Rattle.swim_history.specs.Laws.Run.{hears_no_start}
-use Rattle.swim_history.specs.Run.{Hears, IsRequest, is_waiting}
+use Rattle.swim_history.specs.Run.{Hears, IsRequest, target_at, is_waiting}
 use Rattle.swim_wire.specs.Requests.{most_waiting}
 use Rattle.swim_detector.specs.declared.states.State.{State}
 use Rattle.swim_relays.specs.Waiting.{Waiting}
@@ -79,9 +79,9 @@ pub ping_dropped : (o : Setting) (h : List Entry) (m : Message) (source : Addres
 ping_dropped o h m source s mirrors is other =
     same_state o h m source (Dropped NotForMe) s mirrors (rw is other) refl refl (λ target aims. no_ack o h m source Ping target is (λ e. absurd (cc e)))
 
-pub ping_answered : (o : Setting) (h : List Entry) (m : Message) (source : Address) (s : State) → Mirrors o h s → m.kind ≡ Ping → m.target ≡ o.me → IsSettled o h (Hear m source) (plain (Send source (passed_on Ack o.me m))) s
+pub ping_answered : (o : Setting) (h : List Entry) (m : Message) (source : Address) (s : State) → Mirrors o h s → m.kind ≡ Ping → m.target ≡ o.me → IsSettled o h (Hear m source) (plain (Send source (ack_by m.version o.me m))) s
 ping_answered o h m source s mirrors is own =
-    same_state o h m source (Send source (passed_on Ack o.me m)) s mirrors (rw is (own, refl, refl)) (rw is refl) (rw is refl) (λ target aims. no_ack o h m source Ping target is (λ e. absurd (cc e)))
+    same_state o h m source (Send source (ack_by m.version o.me m)) s mirrors (rw is (own, refl, refl)) (rw is refl) (rw is refl) (λ target aims. no_ack o h m source Ping target is (λ e. absurd (cc e)))
 
 -- ---- requests
 
@@ -91,10 +91,10 @@ request_dropped o h m source why s mirrors is fits =
     same_state o h m source (Dropped why) s mirrors (rw is fits) refl refl (λ target aims. no_ack o h m source PingReq target is (λ e. absurd (cc e)))
 
 -- 64 others wait
-pub request_full : (o : Setting) (h : List Entry) (m : Message) (source peer : Address) (s : State) → Mirrors o h s → m.kind ≡ PingReq → IsRequest o.me m → m.target ≢ o.me → row_of o h m.target ≡ Some (up m.target peer) →
+pub request_full : (o : Setting) (h : List Entry) (m : Message) (source peer : Address) (s : State) → Mirrors o h s → m.kind ≡ PingReq → IsRequest o.me m → m.target ≢ o.me → target_at o h m ≡ Some peer →
     waits (key_of m) s.requests.waiting ≡ false → length s.requests.waiting ≡ 64 → IsSettled o h (Hear m source) (plain (Dropped TableFull)) s
-request_full o h m source peer s mirrors is own other listed none full =
-    request_dropped o h m source TableFull s mirrors is (own, other, rw listed refl, rw mirrors.requests_are.1 at none, omega (arith, rw mirrors.requests_are.1 at full))
+request_full o h m source peer s mirrors is own other target none full =
+    request_dropped o h m source TableFull s mirrors is (own, other, (λ missing. absurd (cc (target, missing))), rw mirrors.requests_are.1 at none, omega (arith, rw mirrors.requests_are.1 at full))
 
 -- one more request waits only where there is room for it
 room_for : (key : Key) (rs new : List Request) (r : Request) → new ≡ forget key rs ++ r ∷ [] → length new ≤ 64 → waits key rs ≡ false → length rs < 64
@@ -103,19 +103,19 @@ room_for key rs new r is bound none =
     omega (arith, count, bound)
 
 -- a request waits
-pub request_taken : (o : Setting) (h : List Entry) (m : Message) (source peer : Address) (old new : State) → IsSetting o → Mirrors o h old → m.kind ≡ PingReq → IsRequest o.me m → m.target ≢ o.me → row_of o h m.target ≡ Some (up m.target peer) →
+pub request_taken : (o : Setting) (h : List Entry) (m : Message) (source peer : Address) (old new : State) → IsSetting o → Mirrors o h old → m.kind ≡ PingReq → IsRequest o.me m → m.target ≢ o.me → target_at o h m ≡ Some peer →
     new.targets ≡ old.targets → new.aim ≡ old.aim → new.phase ≡ old.phase → new.heard ≡ old.heard →
-    new.requests ≡ record old.requests { waiting = forget (key_of m) old.requests.waiting ++ record { key = key_of m; peer = source; left = old.requests.period } ∷ [] } → length new.requests.waiting ≤ 64 →
-    IsSettled o h (Hear m source) (plain (Send peer (passed_on Ping o.me m))) new
-request_taken o h m source peer old new setting mirrors is own other listed targets aims phases heard asked bound =
-    let reply = Send peer (passed_on Ping o.me m) in
-    let r : Request = record { key = key_of m; peer = source; left = o.period } in
+    new.requests ≡ record old.requests { waiting = forget (key_of m) old.requests.waiting ++ record { key = key_of m; peer = source; version = m.version; left = old.requests.period } ∷ [] } → length new.requests.waiting ≤ 64 →
+    IsSettled o h (Hear m source) (plain (Send peer (ping_by o.me m))) new
+request_taken o h m source peer old new setting mirrors is own other target targets aims phases heard asked bound =
+    let reply = Send peer (ping_by o.me m) in
+    let r : Request = record { key = key_of m; peer = source; version = m.version; left = o.period } in
     let waits_now : new.requests.waiting ≡ forget (key_of m) (waiting o h) ++ r ∷ [] = rw (mirrors.requests_are.1, mirrors.requests_are.0) at (ap (λ (w : Waiting). w.waiting) asked) in
     let room : is_waiting o h m ≡ false → length (waiting o h) < most_waiting = λ none. room_for (key_of m) (waiting o h) new.requests.waiting r waits_now bound none in
-    hears o h m source reply old new mirrors (rw is (own, other, listed, room, refl)) targets aims phases
+    hears o h m source reply old new mirrors (rw is (own, other, target, room, refl)) targets aims phases
     (λ seat number. (
       ap (λ (w : Waiting). w.period) asked ∙ mirrors.requests_are.0,
-      rw (waiting_asked o h (plain_entry seat number (Hear m source) reply) m source peer (passed_on Ping o.me m) (omega (arith, setting.timing.0, setting.timing.1)) refl is refl) waits_now,
+      rw (waiting_asked o h (plain_entry seat number (Hear m source) reply) m source peer (ping_by o.me m) (omega (arith, setting.timing.0, setting.timing.1)) refl is refl) waits_now,
     ))
     (λ target aimed. heard ∙ mirrors.heard_is target aimed ∙ rw (no_ack o h m source PingReq target is (λ e. absurd (cc e))) refl)
 
@@ -125,21 +125,21 @@ not_own : (o : Setting) (h : List Entry) (m : Message) (source : Address) (targe
 not_own o h m source target is other = rw (is, ne_eqb m.initiator o.me other) refl
 
 -- an ack is sent on
-pub ack_forwarded : (o : Setting) (h : List Entry) (m : Message) (source peer : Address) (old new : State) → Mirrors o h old → m.kind ≡ Ack → m.initiator ≢ o.me → Some peer ≡ peer_for (key_of m) old.requests.waiting →
+pub ack_forwarded : (o : Setting) (h : List Entry) (m : Message) (source : Address) (asker : Address × Version) (old new : State) → Mirrors o h old → m.kind ≡ Ack → m.initiator ≢ o.me → Some asker ≡ asker_for (key_of m) old.requests.waiting →
     new.targets ≡ old.targets → new.aim ≡ old.aim → new.phase ≡ old.phase → new.heard ≡ old.heard →
     new.requests ≡ record old.requests { waiting = forget (key_of m) old.requests.waiting } →
-    IsSettled o h (Hear m source) (plain (Send peer (passed_on Ack o.me m))) new
-ack_forwarded o h m source peer old new mirrors is other waits targets aims phases heard answered =
-    let reply = Send peer (passed_on Ack o.me m) in
-    hears o h m source reply old new mirrors (rw is (other, sym (rw mirrors.requests_are.1 at waits), refl)) targets aims phases
+    IsSettled o h (Hear m source) (plain (Send asker.0 (ack_by asker.1 o.me m))) new
+ack_forwarded o h m source asker old new mirrors is other waits targets aims phases heard answered =
+    let reply = Send asker.0 (ack_by asker.1 o.me m) in
+    hears o h m source reply old new mirrors (rw is (other, asker.1, sym (rw mirrors.requests_are.1 at waits), refl)) targets aims phases
     (λ seat number. (
       ap (λ (w : Waiting). w.period) answered ∙ mirrors.requests_are.0,
-      rw (waiting_answered o h (plain_entry seat number (Hear m source) reply) m source peer (passed_on Ack o.me m) refl is refl) (rw mirrors.requests_are.1 at (ap (λ (w : Waiting). w.waiting) answered)),
+      rw (waiting_answered o h (plain_entry seat number (Hear m source) reply) m source asker.0 (ack_by asker.1 o.me m) refl is refl) (rw mirrors.requests_are.1 at (ap (λ (w : Waiting). w.waiting) answered)),
     ))
     (λ target aimed. heard ∙ mirrors.heard_is target aimed ∙ rw (not_own o h m source target is other) refl)
 
 -- nobody waits for the ack
-pub ack_unasked : (o : Setting) (h : List Entry) (m : Message) (source : Address) (old new : State) → Mirrors o h old → m.kind ≡ Ack → m.initiator ≢ o.me → None ≡ peer_for (key_of m) old.requests.waiting →
+pub ack_unasked : (o : Setting) (h : List Entry) (m : Message) (source : Address) (old new : State) → Mirrors o h old → m.kind ≡ Ack → m.initiator ≢ o.me → None ≡ asker_for (key_of m) old.requests.waiting →
     new.targets ≡ old.targets → new.aim ≡ old.aim → new.phase ≡ old.phase → new.heard ≡ old.heard →
     new.requests ≡ record old.requests { waiting = forget (key_of m) old.requests.waiting } →
     IsSettled o h (Hear m source) (plain (Dropped NoRequest)) new

@@ -31,7 +31,7 @@ use Rattle.swim_detector.specs.Mirrors.{Mirrors, AreRequests, choice_of, may_dra
 undrawn : {S : Type 0} (orders : S → List ℕ → List ℕ → S → Type 0) (places : S → ℕ → ℕ → S → Type 0) (o : Setting) (h : List Entry) (call : Call) (reply : Reply) (choice : Choice) (c : S) →
     may_draw call reply choice ≡ false → DrawsEntry orders places o h call reply choice c c
 undrawn orders places o h Tick (Started judged probe) (Round order) c none = absurd cc
-undrawn orders places o h Tick (Asked m number relays) choice c none = absurd cc
+undrawn orders places o h Tick (Asked m peer number relays) choice c none = absurd cc
 undrawn orders places o h (Join id peer) (Joined place) choice c none = absurd cc
 undrawn orders places o h call reply choice c none = refl
 

@@ -61,7 +61,7 @@ round_entry seat number call reply state =
 -- the chooser may have been asked for the entry
 abbrev pub may_draw : Call → Reply → Choice → Bool
 may_draw Tick (Started judged probe) (Round order) = true
-may_draw Tick (Asked m number relays) choice = true
+may_draw Tick (Asked m peer number relays) choice = true
 may_draw (Join id peer) (Joined place) choice = true
 may_draw call reply choice = false
 

@@ -7,6 +7,7 @@ mod periods;
 mod refusals;
 mod requests;
 mod steps;
+mod versions;
 
 use arrayvec::ArrayVec;
 use std::alloc::Global;
@@ -15,7 +16,7 @@ use std::test::*;
 use swim_detector::Recorder;
 use swim_history::{Call, Opening, Probe, Relay, Reply, Row, RowState};
 use swim_targets::{Order, Scripted};
-use swim_wire::{Id, Kind, Message, Peer, PeriodNumber};
+use swim_wire::{Id, Kind, Message, Peer, PeriodNumber, Version};
 
 fn id(number: u32) -> Id {
     Id::new(number).unwrap_or_default()
@@ -37,13 +38,18 @@ fn order_of(numbers: &[u32]) -> Order {
     order
 }
 
-// Member 1, which knows these others, with a timeout of one tick and a period of three.
+// Member 1, which knows these others, with a timeout of one tick and a period of three. Its own messages are of version 1.
 fn opening<R: Abort>(rt: &R, k: u32, others: &[u8], last: u64) -> Opening {
+    opening_in(rt, k, others, last, Version::One)
+}
+
+// The same, whose own messages are of that version.
+fn opening_in<R: Abort>(rt: &R, k: u32, others: &[u8], last: u64, version: Version) -> Opening {
     let mut rows = ArrayVec::<(Id, Peer), 128>::new();
     for other in others {
         let _ = rows.try_push((id(u32::from(*other)), at(*other)));
     }
-    match Opening::check(id(1), k, 1, 3, rows.as_slice(), last) {
+    match Opening::check(id(1), k, 1, 3, rows.as_slice(), last, version) {
         Ok(opening) => opening,
         Err(_) => panic!(rt; "an opening"),
     }
@@ -78,13 +84,16 @@ fn opened_with(
     Ok(Recorder::open(alloc, opening, chooser, 1000))
 }
 
+// A message of version 1.
 fn message(kind: Kind, sender: u32, initiator: u32, target: u32, number: u64) -> Message {
     Message {
+        version: Version::One,
         kind,
         sender: id(sender),
         initiator: id(initiator),
         target: id(target),
         number: PeriodNumber::new(number).unwrap_or_default(),
+        at: None,
     }
 }
 
@@ -108,7 +117,7 @@ fn started(judged: Option<u32>, target: u8, number: u64) -> Reply {
     }
 }
 
-fn asked_of(target: u32, number: u64, relays: &[u8]) -> Reply {
+fn asked_of(target: u8, number: u64, relays: &[u8]) -> Reply {
     let mut asked = ArrayVec::<Relay, 8>::new();
     for relay in relays {
         let _ = asked.try_push(Relay {
@@ -117,7 +126,8 @@ fn asked_of(target: u32, number: u64, relays: &[u8]) -> Reply {
         });
     }
     Reply::Asked {
-        target: id(target),
+        target: id(u32::from(target)),
+        peer: at(target),
         number,
         relays: asked,
     }

@@ -29,7 +29,7 @@ probing (e ∷ before) = if is_start e then probing_by (length before) (probe_in
 
 -- the ask of an entry at that place
 abbrev pub ask_in : ℕ → Reply → Option Ask → Option Ask
-ask_in place (Asked target number relays) earlier = Some (record { place = place; relays = relays })
+ask_in place (Asked target peer number relays) earlier = Some (record { place = place; relays = relays })
 ask_in place reply earlier = earlier
 
 -- the ask of the period that runs

@@ -33,6 +33,8 @@ pub enum Break {
     Relays,
     #[error("the timeout or the period is another")]
     Timing,
+    #[error("the version of its own messages is another")]
+    Version,
     /// Members, their addresses, their states or their order.
     #[error("the members aren't those that were left")]
     Rows,
@@ -74,6 +76,9 @@ fn opening_break(left: &Opening, opening: &Opening) -> Option<Break>
     }
     if opening.rtt() != left.rtt() || opening.period() != left.period() {
         return Some(Break::Timing);
+    }
+    if opening.version() != left.version() {
+        return Some(Break::Version);
     }
     if !are_same(opening.rows(), left.rows()) {
         return Some(Break::Rows);

@@ -35,8 +35,8 @@ choice_stays ids more (Round count start) within =
 
 -- the same of relays
 reply_found : (relays : List Relay) (reply : Reply) → reply_among (relays ++ relays_in reply) (reply_at (length relays) reply) ≡ reply
-reply_found relays (replies.Asked target number asked) =
-    ap (λ xs. replies.Asked target number (record { items = xs })) (ap (take (length asked.items)) (drop_at relays asked.items (length relays) refl) ∙ take_all (length asked.items) asked.items (omega arith))
+reply_found relays (replies.Asked target peer number asked) =
+    ap (λ xs. replies.Asked target peer number (record { items = xs })) (ap (take (length asked.items)) (drop_at relays asked.items (length relays) refl) ∙ take_all (length asked.items) asked.items (omega arith))
 reply_found relays replies.Quiet = refl
 reply_found relays (replies.Started judged probe) = refl
 reply_found relays replies.Heard = refl
@@ -47,8 +47,8 @@ reply_found relays replies.Removed = refl
 reply_found relays (replies.Refused reason) = refl
 
 reply_stays : (relays more : List Relay) (reply : StoredReply) → IsAskedWithin (length relays) reply → reply_among (relays ++ more) reply ≡ reply_among relays reply
-reply_stays relays more (stored_replies.Asked target number count start) within =
-    ap (λ xs. replies.Asked target number (record { items = xs }))
+reply_stays relays more (stored_replies.Asked target peer number count start) within =
+    ap (λ xs. replies.Asked target peer number (record { items = xs }))
     (ap (take count) (drop-append-le start relays more (omega (arith, within))) ∙ take-append-le count (drop start relays) more (omega (arith, within, length-drop start relays)))
 reply_stays relays more stored_replies.Quiet within = refl
 reply_stays relays more (stored_replies.Started judged probe) within = refl
@@ -63,7 +63,7 @@ reply_stays relays more (stored_replies.Refused reason) within = refl
 entry_stays : (ids more : List ℕ) (relays asked : List Relay) (whole others : List Stored) (slot : Slot) → IsPlaced (length whole) slot → AreWithin (length ids) (length relays) whole
     → entry_in (ids ++ more) (relays ++ asked) (whole ++ others) slot ≡ entry_in ids relays whole slot
 entry_stays ids more relays asked whole others (Quiet seat number) placed within = refl
-entry_stays ids more relays asked whole others (Whole place) placed within =
+entry_stays ids more relays asked whole others (Whole seat number place) placed within =
     let there = get_or-append whole others no_stored place placed in
     let is = each_at (IsStoredWithin (length ids) (length relays)) whole place no_stored within placed in
     let choice = choice_stays ids more (get_or whole place no_stored).drawn is.0 in
@@ -80,15 +80,15 @@ entries_stay ids more relays asked whole others (slot ∷ slots) placed within =
 
 -- how an entry is stored behind so many ids and relays
 abbrev pub stored_at : ℕ → ℕ → Entry → Stored
-stored_at ids relays e = record { seat = e.seat; number = e.number; drawn = drawn_at ids e.choice; call = e.call; reply = reply_at relays e.reply }
+stored_at ids relays e = record { drawn = drawn_at ids e.choice; call = e.call; reply = reply_at relays e.reply }
 
 -- one more entry, stored whole
 pub entry_put : (ids : List ℕ) (relays : List Relay) (whole : List Stored) (slots : List Slot) (e : Entry) → ArePlaced (length whole) slots → AreWithin (length ids) (length relays) whole
-    → map (entry_in (ids ++ ids_in e.choice) (relays ++ relays_in e.reply) (whole ++ stored_at (length ids) (length relays) e ∷ [])) (slots ++ Whole (length whole) ∷ []) ≡ map (entry_in ids relays whole) slots ++ e ∷ []
+    → map (entry_in (ids ++ ids_in e.choice) (relays ++ relays_in e.reply) (whole ++ stored_at (length ids) (length relays) e ∷ [])) (slots ++ Whole e.seat e.number (length whole) ∷ []) ≡ map (entry_in ids relays whole) slots ++ e ∷ []
 entry_put ids relays whole slots e placed within =
     let stored = stored_at (length ids) (length relays) e in
     let last = get_or-append_seam whole stored [] no_stored in
-    map_push (entry_in (ids ++ ids_in e.choice) (relays ++ relays_in e.reply) (whole ++ stored ∷ [])) slots (Whole (length whole))
+    map_push (entry_in (ids ++ ids_in e.choice) (relays ++ relays_in e.reply) (whole ++ stored ∷ [])) slots (Whole e.seat e.number (length whole))
     ∙ (rw (entries_stay ids (ids_in e.choice) relays (relays_in e.reply) whole (stored ∷ []) slots placed within, last, choice_found ids e.choice, reply_found relays e.reply) refl)
 
 -- ---- one more entry stands where it is placed, and its ids where they were drawn
@@ -96,23 +96,23 @@ entry_put ids relays whole slots e placed within =
 placed_more : (count more : ℕ) (slots : List Slot) → count ≤ more → ArePlaced count slots → ArePlaced more slots
 placed_more count more [] le placed = tt
 placed_more count more (Quiet seat number ∷ slots) le placed = (tt, placed_more count more slots le placed.1)
-placed_more count more (Whole place ∷ slots) le placed = (omega (arith, placed.0), placed_more count more slots le placed.1)
+placed_more count more (Whole seat number place ∷ slots) le placed = (omega (arith, placed.0), placed_more count more slots le placed.1)
 
 placed_behind : (count : ℕ) (slots : List Slot) (slot : Slot) → ArePlaced count slots → IsPlaced count slot → ArePlaced count (slots ++ slot ∷ [])
 placed_behind count [] slot placed is = (is, tt)
 placed_behind count (first ∷ slots) slot placed is = (placed.0, placed_behind count slots slot placed.1 is)
 
-pub placed_then : (whole : List Stored) (stored : Stored) (slots : List Slot) → ArePlaced (length whole) slots → ArePlaced (length (whole ++ stored ∷ [])) (slots ++ Whole (length whole) ∷ [])
-placed_then whole stored slots placed =
+pub placed_then : (whole : List Stored) (stored : Stored) (slots : List Slot) (seat number : ℕ) → ArePlaced (length whole) slots → ArePlaced (length (whole ++ stored ∷ [])) (slots ++ Whole seat number (length whole) ∷ [])
+placed_then whole stored slots seat number placed =
     let more : length whole < length (whole ++ stored ∷ []) = omega (arith, length-append whole (stored ∷ [])) in
-    placed_behind (length (whole ++ stored ∷ [])) slots (Whole (length whole)) (placed_more (length whole) (length (whole ++ stored ∷ [])) slots (omega (arith, more)) placed) more
+    placed_behind (length (whole ++ stored ∷ [])) slots (Whole seat number (length whole)) (placed_more (length whole) (length (whole ++ stored ∷ [])) slots (omega (arith, more)) placed) more
 
 is_within_more : (ids more : ℕ) (drawn : Drawn) → ids ≤ more → IsWithin ids drawn → IsWithin more drawn
 is_within_more ids more Nothing le within = tt
 is_within_more ids more (Round count start) le within = (within.0, omega (arith, within.1))
 
 asked_more : (relays more : ℕ) (reply : StoredReply) → relays ≤ more → IsAskedWithin relays reply → IsAskedWithin more reply
-asked_more relays more (stored_replies.Asked target number count start) le within = (within.0, omega (arith, within.1))
+asked_more relays more (stored_replies.Asked target peer number count start) le within = (within.0, omega (arith, within.1))
 asked_more relays more stored_replies.Quiet le within = tt
 asked_more relays more (stored_replies.Started judged probe) le within = tt
 asked_more relays more stored_replies.Heard le within = tt

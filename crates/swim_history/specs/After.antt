@@ -11,8 +11,7 @@ use Rattle.swim_history.specs.Run.{IsRun}
 -- the same parameters, the members known after the history with their states, ascending by id, and the last period
 -- number that was used
 abbrev pub setting_after : Setting → List Entry → Setting
-setting_after o h =
-    record { me = o.me; k = o.k; rtt = o.rtt; period = o.period; rows = table o h; last = period_number o h }
+setting_after o h = record o { rows = table o h; last = period_number o h }
 
 -- the numbers of the periods that were begun, newest first
 abbrev pub numbers : Setting → List Entry → List ℕ

@@ -2,6 +2,7 @@
 use Rattle.std.specs.Prelude.{ℕ, ◌*◌, Bool, ◌||◌, ◌==◌, nat_lt, List, [], ◌∷◌, length, map, Option, find}
 use Rattle.swim_wire.specs.Address.{Address}
 use Rattle.swim_wire.specs.Ids.{has, has_twice}
+use Rattle.swim_wire.specs.declared.messages.Version.{Version}
 use Rattle.swim_history.specs.declared.rows.Row.{Row}
 use Rattle.swim_history.specs.declared.openings.OpeningFault.{OpeningFault}
 use Rattle.swim_history.specs.declared.openings.OpeningFault.TheVariants.{Relays, Timing, TooManyRows, Myself, Twice}
@@ -15,9 +16,16 @@ abbrev pub rows_up : List (ℕ × Address) → List Row
 rows_up members = map (λ member. up member.0 member.1) members
 
 -- the setting that the arguments give, whether or not it is within the limits
-abbrev pub setting_of : ℕ → ℕ → ℕ → ℕ → List (ℕ × Address) → ℕ → Setting
-setting_of me k rtt period members last =
-    record { me = me; k = k; rtt = rtt; period = period; rows = rows_up members; last = last }
+abbrev pub setting_of : ℕ → ℕ → ℕ → ℕ → List (ℕ × Address) → ℕ → Version → Setting
+setting_of me k rtt period members last version = record {
+  me = me;
+  k = k;
+  rtt = rtt;
+  period = period;
+  rows = rows_up members;
+  last = last;
+  version = version;
+}
 
 -- the setting, but a member failed in that period
 abbrev pub setting_failed : ℕ → ℕ → Setting → Setting

@@ -27,7 +27,7 @@ abbrev pub DrawsEntry : {S : Type 0} → (S → List ℕ → List ℕ → S → 
     List Entry → Call → Reply → Choice → S → S → Type 0
 DrawsEntry orders places o h Tick (Started judged probe) (Round order) before after =
     orders before (leave_judged judged (lists o h)).probed order.items after
-DrawsEntry orders places o h Tick (Asked m number relays) choice before after =
+DrawsEntry orders places o h Tick (Asked m peer number relays) choice before after =
     DrawsRelays orders o.k (candidates o h m) (map (λ relay. relay.id) relays.items) before after
 DrawsEntry orders places o h (Join id peer) (Joined place) choice before after =
     places before (length (listed o h)) place after

@@ -41,6 +41,11 @@ abbrev pub is_up : Option Row → Bool
 is_up None = false
 is_up (Some row) = is_state_up row.state
 
+-- where a member is by its row, if it is listed
+abbrev pub where_listed : Option Row → Option Address
+where_listed None = None
+where_listed (Some row) = if is_state_up row.state then Some row.peer else None
+
 -- whether the member is listed: it is up
 abbrev pub is_listed : Setting → List Entry → ℕ → Bool
 is_listed o h id = is_up (row_of o h id)

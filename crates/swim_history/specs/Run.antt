@@ -3,14 +3,16 @@
 use Rattle.std.specs.Prelude.{◌≡◌, ◌≢◌, ◌⊎◌, ℕ, ◌+◌, ◌-◌, ◌^◌, ◌<◌, ◌≤◌, ◌==◌, Bool, true, false, List, [], ◌∷◌, length}
 use Rattle.std.specs.Prelude.{min, map, filter, Option, Some, None}
 use Rattle.std.specs.List.{AllByRecursion}
+use Rattle.std.specs.Option.{option_or}
 use Rattle.swim_wire.specs.Address.{Address}
 use Rattle.swim_wire.specs.Ids.{most_members, has, has_twice, without, front}
-use Rattle.swim_wire.specs.Probe.{key_of, passed_on}
-use Rattle.swim_wire.specs.Requests.{most_waiting, waits, peer_for}
+use Rattle.swim_wire.specs.Probe.{key_of, ping_by, ack_by}
+use Rattle.swim_wire.specs.Requests.{most_waiting, waits, asker_for}
 use Rattle.swim_wire.specs.Round.{leave_judged, MayDraw, redraw}
 use Rattle.swim_wire.specs.declared.messages.Kind.{Kind}
 use Rattle.swim_wire.specs.declared.messages.Kind.TheVariants.{Ping, PingReq, Ack}
-use Rattle.swim_wire.specs.declared.messages.Message.{Message}
+use Rattle.swim_wire.specs.Messages.{Message}
+use Rattle.swim_wire.specs.declared.messages.Version.{Version}
 use Rattle.swim_history.specs.declared.calls.Call.{Call}
 use Rattle.swim_history.specs.declared.calls.Call.TheVariants.{Tick, Hear, Join, Remove}
 use Rattle.swim_history.specs.declared.replies.Reply.{Reply}
@@ -27,7 +29,7 @@ use Rattle.swim_history.specs.declared.entries.Entry.{Entry}
 use Rattle.swim_history.specs.Setting.{Setting}
 use Rattle.swim_history.specs.Clock.{period_number, phase}
 use Rattle.swim_history.specs.Aim.{aim, unheard}
-use Rattle.swim_history.specs.Rows.{up, row_of, is_listed}
+use Rattle.swim_history.specs.Rows.{up, row_of, where_listed, is_listed}
 use Rattle.swim_history.specs.Changes.{known_count}
 use Rattle.swim_history.specs.Round.{lists, listed, drawn}
 use Rattle.swim_history.specs.Waiting.{waiting}
@@ -72,32 +74,39 @@ IsRequest me m = (m.initiator ≡ m.sender) × (m.initiator ≢ me)
 abbrev pub is_waiting : Setting → List Entry → Message → Bool
 is_waiting o h m = waits (key_of m) (waiting o h)
 
--- the replies to a message, by its kind
+-- where the target of a request is: where this member lists it, else where the request says
+abbrev pub target_at : Setting → List Entry → Message → Option Address
+target_at o h m = option_or (where_listed (row_of o h m.target)) m.at
+
+-- the replies to a message, by its kind. An ack to a ping has the version of the ping, a ping that is sent for a request
+-- the version of the request, and an ack that is sent on the version of the request that waits for it.
 abbrev pub Hears : Setting → List Entry → Message → Address → Kind → Reply → Type 0
 Hears o h m source Ping (Dropped NotForMe) = m.target ≢ o.me
-Hears o h m source Ping (Send peer ack) = (m.target ≡ o.me) × (peer ≡ source) × (ack ≡ passed_on Ack o.me m)
+Hears o h m source Ping (Send peer ack) = (m.target ≡ o.me) × (peer ≡ source) × (ack ≡ ack_by m.version o.me m)
 Hears o h m source PingReq (Dropped Borrowed) = (m.initiator ≢ m.sender) ⊎ (m.initiator ≡ o.me)
 Hears o h m source PingReq (Dropped AboutMe) = IsRequest o.me m × (m.target ≡ o.me)
-Hears o h m source PingReq (Dropped Unlisted) = IsRequest o.me m × (m.target ≢ o.me) × (is_listed o h m.target ≡ false)
+Hears o h m source PingReq (Dropped Unlisted) = IsRequest o.me m × (m.target ≢ o.me) × (target_at o h m ≡ None)
 Hears o h m source PingReq (Dropped TableFull) =
-    IsRequest o.me m × (m.target ≢ o.me) × (is_listed o h m.target ≡ true) × (is_waiting o h m ≡ false)
+    IsRequest o.me m × (m.target ≢ o.me) × (target_at o h m ≢ None) × (is_waiting o h m ≡ false)
     × (most_waiting ≤ length (waiting o h))
 Hears o h m source PingReq (Send peer ping) =
-    IsRequest o.me m × (m.target ≢ o.me) × (row_of o h m.target ≡ Some (up m.target peer))
-    × (is_waiting o h m ≡ false → length (waiting o h) < most_waiting) × (ping ≡ passed_on Ping o.me m)
+    IsRequest o.me m × (m.target ≢ o.me) × (target_at o h m ≡ Some peer)
+    × (is_waiting o h m ≡ false → length (waiting o h) < most_waiting) × (ping ≡ ping_by o.me m)
 Hears o h m source Ack Heard = (m.initiator ≡ o.me) × (aim h ≡ Some m.target) × (m.number ≡ period_number o h)
 Hears o h m source Ack (Dropped Stray) = (m.initiator ≡ o.me) × (aim h ≡ Some m.target → m.number ≢ period_number o h)
 Hears o h m source Ack (Send peer ack) =
-    (m.initiator ≢ o.me) × (peer_for (key_of m) (waiting o h) ≡ Some peer) × (ack ≡ passed_on Ack o.me m)
-Hears o h m source Ack (Dropped NoRequest) = (m.initiator ≢ o.me) × (peer_for (key_of m) (waiting o h) ≡ None)
+    (m.initiator ≢ o.me) × (version : Version) × (asker_for (key_of m) (waiting o h) ≡ Some (peer, version))
+    × (ack ≡ ack_by version o.me m)
+Hears o h m source Ack (Dropped NoRequest) = (m.initiator ≢ o.me) × (asker_for (key_of m) (waiting o h) ≡ None)
 Hears o h m source kind reply = ⊥
 
 -- the replies to a call, with what was drawn
 abbrev pub Answers : Setting → List Entry → Call → Reply → Choice → Type 0
 Answers o h Tick (Refused Spent) Nothing = (phase o h ≡ 0) × (period_number o h ≡ greatest_number)
 Answers o h Tick (Started judged probe) choice = IsStart o h judged probe choice
-Answers o h Tick (Asked m number relays) Nothing =
+Answers o h Tick (Asked m peer number relays) Nothing =
     (phase o h ≡ o.rtt) × (unheard o h ≡ Some m) × (number ≡ period_number o h) × AreRelays o h m relays.items
+    × (row_of o h m ≡ Some (up m peer))
 Answers o h Tick Quiet Nothing = (phase o h ≢ 0) × (phase o h ≡ o.rtt → unheard o h ≡ None)
 Answers o h (Hear m source) reply Nothing = Hears o h m source m.kind reply
 Answers o h (Join id peer) (Refused Myself) Nothing = id ≡ o.me

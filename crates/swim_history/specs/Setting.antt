@@ -2,12 +2,13 @@
 use Rattle.std.specs.Prelude.{◌≡◌, ℕ, ◌*◌, ◌<◌, ◌≤◌, ◌^◌, Bool, true, false, ◌&&◌, nat_lt, nat_le, List, length, map}
 use Rattle.std.specs.List.{list_all}
 use Rattle.swim_wire.specs.Ids.{most_members, has, has_twice}
+use Rattle.swim_wire.specs.declared.messages.Version.{Version}
 use Rattle.swim_history.specs.declared.rows.Row.{Row}
 use Rattle.swim_history.specs.declared.rows.RowState.{RowState}
 use Rattle.swim_history.specs.declared.rows.RowState.TheVariants.{Up, Failed}
 
 -- this member, how many relays are asked, the timeout and the period in ticks, the members known at the
--- start, and the last period number that was used
+-- start, the last period number that was used, and the version of this member's own pings and ping-reqs
 pub record Setting : Type 0 where
   pub me : ℕ
   pub k : ℕ
@@ -15,6 +16,7 @@ pub record Setting : Type 0 where
   pub period : ℕ
   pub rows : List Row
   pub last : ℕ
+  pub version : Version
 
 -- the ids of rows, in order
 abbrev pub ids_of : List Row → List ℕ

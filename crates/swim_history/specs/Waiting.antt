@@ -1,5 +1,5 @@
 -- The requests that wait: pings that other members asked for, whose acks are to be forwarded
--- (section 3.1 of the SWIM paper). A request waits with the address that it came from until an ack of its
+-- (section 3.1 of the SWIM paper). A request waits with its version and the address that it came from until an ack of its
 -- probe is forwarded, the probe is asked for again, or a whole period of ticks has passed.
 use Rattle.std.specs.Prelude.{ℕ, ◌-◌, Bool, false, List, [], ◌∷◌, ◌++◌, Option, Some, None, if◌then◌else◌, nat_lt}
 use Rattle.std.specs.Prelude.{option_and_then}
@@ -9,9 +9,10 @@ use Rattle.swim_wire.specs.Address.{Address}
 use Rattle.swim_wire.specs.Probe.{key_of, same_key}
 use Rattle.swim_wire.specs.Requests.{Request}
 use Rattle.swim_wire.specs.declared.messages.Key.{Key}
-use Rattle.swim_wire.specs.declared.messages.Message.{Message}
+use Rattle.swim_wire.specs.Messages.{Message}
 use Rattle.swim_wire.specs.declared.messages.Kind.{Kind}
 use Rattle.swim_wire.specs.declared.messages.Kind.TheVariants.{Ping, PingReq}
+use Rattle.swim_wire.specs.declared.messages.Version.{Version}
 use Rattle.swim_history.specs.declared.calls.Call.{Call}
 use Rattle.swim_history.specs.declared.calls.Call.TheVariants.{Hear}
 use Rattle.swim_history.specs.declared.replies.Reply.{Reply}
@@ -20,13 +21,14 @@ use Rattle.swim_history.specs.declared.entries.Entry.{Entry}
 use Rattle.swim_history.specs.Setting.{Setting}
 use Rattle.swim_history.specs.Clock.{ticks}
 
--- who asked for which probe
+-- who asked for which probe, and in which version
 pub record Asking : Type 0 where
   pub key : Key
   pub peer : Address
+  pub version : Version
 
 abbrev pub asking : Kind → Message → Address → Option Asking
-asking PingReq m source = Some (record { key = key_of m; peer = source })
+asking PingReq m source = Some (record { key = key_of m; peer = source; version = m.version })
 asking kind m source = None
 
 -- the probe that an entry was asked for and pings
@@ -55,7 +57,8 @@ ends key e = is_same key (sent_on_in e.call e.reply)
 abbrev pub left_of : ℕ → List Entry → Asking → Option Request
 left_of period newer a =
     if list_any (ends a.key) newer then None
-    else (if nat_lt (ticks newer) period then Some (record { key = a.key; peer = a.peer; left = period - ticks newer })
+    else (if nat_lt (ticks newer) period
+    then Some (record { key = a.key; peer = a.peer; version = a.version; left = period - ticks newer })
     else None)
 
 -- the requests that wait after these entries and then those, oldest first

@@ -2,6 +2,7 @@
 
 ghost use Rattle.std.specs.Prelude.{◌≡◌, ℕ, ◌↔◌, ◌≤◌, ◌==◌, ◌&&◌, Some, None, length, MatchResult, IsOk, if◌then◌else◌};
 ghost use Rattle.swim_wire.specs.Ids.{has, has_twice as stands_twice};
+ghost use Rattle.swim_wire.specs.declared.messages.Version.{Version};
 ghost use Rattle.swim_history.specs.declared.rows.Change.TheVariants as changes;
 ghost use Rattle.swim_history.specs.declared.rows.RowState.TheVariants.{Failed};
 ghost use Rattle.swim_history.specs.Changes.{after_change};
@@ -14,7 +15,7 @@ use crate::changing::copy_table;
 use crate::journals::Journal;
 use crate::rows::{Row, RowState, Table};
 use std::marker::Model;
-use swim_wire::{Id, KNOWN_MEMBERS, Peer};
+use swim_wire::{Id, KNOWN_MEMBERS, Peer, Version};
 use thiserror::Error;
 
 /// The most members that are asked for an indirect probe.
@@ -59,9 +60,9 @@ impl OpeningFault {
 }
 
 /// What a detector starts from: this member, how many relays it asks, the timeout (`rtt`) and the period
-/// in ticks, the other members that it knows, and the last period number that was used before (sections
-/// 3.1 and 4.3 of the SWIM paper). It is within the limits that `check` tests. A contract sees it as a
-/// `Setting`.
+/// in ticks, the other members that it knows, the last period number that was used before, and the version of
+/// its own pings and ping-reqs (sections 3.1 and 4.3 of the SWIM paper). It is within the limits that `check`
+/// tests. A contract sees it as a `Setting`.
 #[derive(Debug, Drop)]
 pub struct Opening {
     me: Id,
@@ -70,6 +71,7 @@ pub struct Opening {
     period: u32,
     rows: Table,
     last: u64,
+    version: Version,
 }
 
 impl Model for Opening {
@@ -83,16 +85,24 @@ impl Model for Opening {
       rtt = o.rtt;
       period = o.period;
       rows = o.rows.items;
-      last =
-          o.last;
+      last = o.last;
+      version = o.version;
     } };
 
-    ghost invariant = { λ o. IsSetting
-        (record { me = o.me; k = o.k; rtt = o.rtt; period = o.period; rows = o.rows.items; last = o.last }) };
+    ghost invariant = { λ o. IsSetting (record {
+      me = o.me;
+      k = o.k;
+      rtt = o.rtt;
+      period = o.period;
+      rows = o.rows.items;
+      last = o.last;
+      version = o.version;
+    }) };
 }
 
 impl Opening {
-    /// The opening of these parameters, with all members up in the order given, or the first fault.
+    /// The opening of these parameters, with all members up in the order given, or the first fault. The version is that
+    /// of the member's own pings and ping-reqs.
     pub fn check(
         me: Id,
         k: u32,
@@ -100,11 +110,12 @@ impl Opening {
         period: u32,
         rows: &[(Id, Peer)],
         last: u64,
+        version: Version,
     ) -> Result<Opening, OpeningFault>
-        ensures exact { let setting = setting_of me k rtt period rows.now last in MatchResult result
+        ensures exact { let setting = setting_of me k rtt period rows.now last version in MatchResult result
             (λ opening. (first_fault setting ≡ None) × (opening ≡ setting))
             (λ fault. first_fault setting ≡ Some fault) }
-        ensures accepts { IsOk result ↔ IsSetting (setting_of me k rtt period rows.now last) }
+        ensures accepts { IsOk result ↔ IsSetting (setting_of me k rtt period rows.now last version) }
     {
         match fault_of(me, k, rtt, period, rows) {
             Some(fault) => Err(fault),
@@ -115,6 +126,7 @@ impl Opening {
                 period,
                 rows: rows_of(rows),
                 last,
+                version,
             }),
         }
     }
@@ -135,6 +147,7 @@ impl Opening {
             period: opening.period,
             rows: journal.rows(),
             last: journal.last_number(),
+            version: opening.version,
         }
     }
 
@@ -155,6 +168,7 @@ impl Opening {
             period: self.period,
             rows: rows_with_failed(self.rows(), id, number),
             last: self.last,
+            version: self.version,
         })
     }
 
@@ -169,6 +183,7 @@ impl Opening {
             period: self.period,
             rows: copy_table(self.rows()),
             last: self.last,
+            version: self.version,
         }
     }
 
@@ -218,11 +233,19 @@ impl Opening {
     {
         self.last
     }
+
+    /// The version of this member's own pings and ping-reqs.
+    pub fn version(&self) -> Version
+        ensures { result ≡ self.now.version }
+    {
+        self.version
+    }
 }
 
-/// The first fault of these parameters. The last number has none.
+/// The first fault of these parameters. The last number and the version have none.
 fn fault_of(me: Id, k: u32, rtt: u32, period: u32, rows: &[(Id, Peer)]) -> Option<OpeningFault>
-    ensures first { (last : ℕ) → result ≡ first_fault (setting_of me k rtt period rows.now last) }
+    ensures first { (last : ℕ) (version : Version) →
+        result ≡ first_fault (setting_of me k rtt period rows.now last version) }
     ensures room { result ≡ None → length rows.now ≤ KNOWN_MEMBERS }
 {
     if k as usize > MOST_RELAYS {

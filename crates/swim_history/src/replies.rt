@@ -114,10 +114,11 @@ pub enum Reply {
         judged: Option<Id>,
         probe: Option<Probe>,
     },
-    /// The timeout passed without an ack of the aim, so these members are asked to ping it
+    /// The timeout passed without an ack of the aim, so these members are asked to ping it at its address
     /// (section 3.1 of the SWIM paper).
     Asked {
         target: Id,
+        peer: Peer,
         number: u64,
         relays: ArrayVec<Relay, MOST_RELAYS>,
     },
@@ -153,10 +154,12 @@ impl Reply {
             },
             Reply::Asked {
                 target,
+                peer,
                 number,
                 relays,
             } => Reply::Asked {
                 target: *target,
+                peer: *peer,
                 number: *number,
                 relays: copied(relays.as_slice()),
             },

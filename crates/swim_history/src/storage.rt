@@ -24,18 +24,16 @@ use swim_wire::{Id, KNOWN_MEMBERS};
 enum Slot {
     /// A tick in which nothing was to be done, as most ticks are.
     Quiet { seat: u8, number: u32 },
-    /// Any entry, which stands at this place among those that are stored whole.
-    Whole { place: usize },
+    /// Any entry, the rest of which stands at this place among those that are stored whole.
+    Whole { seat: u8, number: u32, place: usize },
 }
 
 const _: () = prove!(size_of::<Slot>() == 16);
 
-/// An entry, but for the ids that were drawn for it and the relays that it asks. It takes 112 bytes, where an `Entry`
-/// takes 696.
+/// An entry, but for its seat and number, which its slot has, and for the ids that were drawn for it and the relays that
+/// it asks. It takes 112 bytes, where an `Entry` takes 704.
 #[derive(Clone, Copy)]
 struct Stored {
-    seat: u8,
-    number: u32,
     drawn: Drawn,
     call: Call,
     reply: StoredReply,
@@ -129,13 +127,17 @@ impl Entries {
         ensures room { self.old.room ≤ self.new.room + 1 }
     {
         let stored = Stored {
-            seat: entry.seat,
-            number: entry.number,
             drawn: store_ids(&mut self.ids, &entry.choice),
             call: entry.call,
             reply: store_reply(&mut self.relays, &entry.reply),
         };
-        store_whole(&mut self.slots, &mut self.whole, &stored);
+        store_whole(
+            &mut self.slots,
+            &mut self.whole,
+            entry.seat,
+            entry.number,
+            &stored,
+        );
     }
 
     /// Puts an entry last for which nothing was drawn. It can't be refused, since room for it was made.
@@ -149,13 +151,11 @@ impl Entries {
             return;
         }
         let stored = Stored {
-            seat,
-            number,
             drawn: Drawn::Nothing,
             call: *call,
             reply: store_reply(&mut self.relays, reply),
         };
-        store_whole(&mut self.slots, &mut self.whole, &stored);
+        store_whole(&mut self.slots, &mut self.whole, seat, number, &stored);
     }
 
     /// The entry at a place, counted from 0 at the oldest.
@@ -170,9 +170,15 @@ impl Entries {
                 choice: Choice::Nothing,
                 reply: Reply::Quiet,
             }),
-            Slot::Whole { place } => Some(entry_among(
+            Slot::Whole {
+                seat,
+                number,
+                place,
+            } => Some(entry_among(
                 self.ids.as_slice(),
                 self.relays.as_slice(),
+                *seat,
+                *number,
                 &self.whole[*place],
             )),
         }
@@ -185,35 +191,45 @@ impl Entries {
     {
         match &self.slots[place] {
             Slot::Quiet { .. } => None,
-            Slot::Whole { place } => start_in(&self.whole[*place].reply),
+            Slot::Whole { place, .. } => start_in(&self.whole[*place].reply),
         }
     }
 }
 
 /// Puts an entry behind those that are stored whole, and its place behind the slots. It takes no memory.
-fn store_whole(slots: &mut Vec<Slot>, whole: &mut Vec<Stored>, stored: &Stored)
+fn store_whole(
+    slots: &mut Vec<Slot>,
+    whole: &mut Vec<Stored>,
+    seat: u8,
+    number: u32,
+    stored: &Stored,
+)
     requires slots { vec_len slots.old < vec_capacity slots.old }
     requires whole { vec_len whole.old < vec_capacity whole.old }
-    ensures slots { slots.new.items ≡ slots.old.items ++ Whole (length whole.old.items) ∷ [] }
+    ensures slots { slots.new.items ≡ slots.old.items ++ Whole seat number (length whole.old.items) ∷ [] }
     ensures whole { whole.new.items ≡ whole.old.items ++ stored.now ∷ [] }
     ensures capacity { (vec_capacity slots.old ≤ vec_capacity slots.new)
         × (vec_capacity whole.old ≤ vec_capacity whole.new) }
 {
     let place = whole.len();
-    let _ = slots.push(Slot::Whole { place });
+    let _ = slots.push(Slot::Whole {
+        seat,
+        number,
+        place,
+    });
     // As a slice of one: the prover has no plan for the move of a value with so many types in it.
     let _ = whole.extend_from_slice(slice::from_ref(stored));
 }
 
 /// An entry, from how it is stored.
-fn entry_among(ids: &[Id], relays: &[Relay], stored: &Stored) -> Entry
+fn entry_among(ids: &[Id], relays: &[Relay], seat: u8, number: u32, stored: &Stored) -> Entry
     requires drawn { IsWithin (length ids.now) stored.now.drawn }
     requires asked { IsAskedWithin (length relays.now) stored.now.reply }
-    ensures { result ≡ entry_among ids.now relays.now stored.now }
+    ensures { result ≡ entry_among ids.now relays.now seat number stored.now }
 {
     Entry {
-        seat: stored.seat,
-        number: stored.number,
+        seat,
+        number,
         call: stored.call,
         choice: choice_among(ids, &stored.drawn),
         reply: reply_among(relays, &stored.reply),

@@ -20,6 +20,7 @@ pub(crate) enum StoredReply {
     },
     Asked {
         target: Id,
+        peer: Peer,
         number: u64,
         count: u8,
         start: usize,
@@ -74,6 +75,7 @@ pub(crate) fn store_reply(relays: &mut Vec<Relay>, reply: &Reply) -> StoredReply
         },
         Reply::Asked {
             target,
+            peer,
             number,
             relays: asked,
         } => {
@@ -81,6 +83,7 @@ pub(crate) fn store_reply(relays: &mut Vec<Relay>, reply: &Reply) -> StoredReply
             let _ = relays.extend_from_slice(asked.as_slice());
             StoredReply::Asked {
                 target: *target,
+                peer: *peer,
                 number: *number,
                 count: asked.len() as u8,
                 start,
@@ -111,6 +114,7 @@ pub(crate) fn reply_among(relays: &[Relay], stored: &StoredReply) -> Reply
         },
         StoredReply::Asked {
             target,
+            peer,
             number,
             count,
             start,
@@ -118,6 +122,7 @@ pub(crate) fn reply_among(relays: &[Relay], stored: &StoredReply) -> Reply
             let end = *start + *count as usize;
             Reply::Asked {
                 target: *target,
+                peer: *peer,
                 number: *number,
                 relays: copied(&relays[*start..end]),
             }

@@ -2,7 +2,7 @@ ghost use Rattle.std.specs.Prelude.{◌≡◌, ◌<◌, [], ◌∷◌};
 
 use std::process::Abort;
 use swim_history::*;
-use swim_wire::{Id, Peer};
+use swim_wire::{Id, Peer, Version};
 
 mod changing;
 mod drawn_laws;
@@ -34,7 +34,7 @@ fn address(last: u8) -> Peer
 fn opening<R: Abort>(rt: &R, last: u64) -> Opening
     ensures { (result.period ≡ 3) × (result.last ≡ last) }
 {
-    match Opening::check(id(1), 2, 1, 3, &[(id(2), address(2))], last) {
+    match Opening::check(id(1), 2, 1, 3, &[(id(2), address(2))], last, Version::One) {
         Ok(opening) => opening,
         Err(_) => panic!(rt; "an opening"),
     }

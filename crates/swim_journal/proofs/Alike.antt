@@ -63,7 +63,7 @@ probed_alike (e ∷ h) (e' ∷ h') a = by e.reply e'.reply a.0.reply (probed_ali
     by : (r r' : Reply) → r ≡ r' → last_probed h ≡ last_probed h' → next h r e ≡ next h' r' e'
     by Quiet r' s again = rw (← s) again
     by (Started judged probe) r' s again = rw (← s) refl
-    by (Asked m number relays) r' s again = rw (← s) again
+    by (Asked m peer number relays) r' s again = rw (← s) again
     by Heard r' s again = rw (← s) again
     by (Send peer message) r' s again = rw (← s) again
     by (Dropped why) r' s again = rw (← s) again

@@ -4,7 +4,7 @@ use Rattle.std.specs.List.{AllByRecursion}
 use Rattle.swim_wire.specs.Address.{Address}
 use Rattle.swim_wire.specs.declared.messages.Kind.{Kind}
 use Rattle.swim_wire.specs.declared.messages.Kind.TheVariants.{Ping, PingReq, Ack}
-use Rattle.swim_wire.specs.declared.messages.Message.{Message}
+use Rattle.swim_wire.specs.Messages.{Message}
 use Rattle.swim_history.specs.declared.calls.Call.{Call}
 use Rattle.swim_history.specs.declared.calls.Call.TheVariants.{Tick, Hear, Join, Remove}
 use Rattle.swim_history.specs.declared.replies.Reply.{Reply}
@@ -68,7 +68,7 @@ hears_alike o h h' m source kind reply a given = absurd given
 pub answers_alike : (o : Setting) (h h' : List Entry) (call : Call) (reply : Reply) (choice : Choice) → Alike h h' → Answers o h call reply choice → Answers o h' call reply choice
 answers_alike o h h' Tick (Refused Spent) Nothing a given = rw (← ticks_alike h h' a) given
 answers_alike o h h' Tick (Started judged probe) choice a given = start_alike o h h' judged probe choice a given
-answers_alike o h h' Tick (Asked m number relays) Nothing a given = (rw (← ticks_alike h h' a) given.0, rw (← unheard_alike o h h' a) given.1, rw (← ticks_alike h h' a) given.2, relays_alike o h h' m relays.items a given.3)
+answers_alike o h h' Tick (Asked m peer number relays) Nothing a given = (rw (← ticks_alike h h' a) given.0, rw (← unheard_alike o h h' a) given.1, rw (← ticks_alike h h' a) given.2, relays_alike o h h' m relays.items a given.3, rw (← row_alike o h h' m a) given.4)
 answers_alike o h h' Tick Quiet Nothing a given = rw (← unheard_alike o h h' a, ← ticks_alike h h' a) given
 answers_alike o h h' (Hear m source) reply Nothing a given = hears_alike o h h' m source m.kind reply a given
 answers_alike o h h' (Join id peer) (Refused Myself) Nothing a given = given

@@ -1,5 +1,5 @@
 -- The line of a call reads back as the call.
-use Rattle.std.proofs.Common.{◌≡◌, ℕ, false, List, [], ◌∷◌, ◌++◌, Some, None, Ok, codes, decimal, refl, sym, ap, ◌∙◌, arith, append_assoc}
+use Rattle.std.proofs.Common.{◌≡◌, ℕ, false, List, [], ◌∷◌, ◌++◌, Some, None, Ok, codes, decimal, refl, sym, ap, ◌∙◌, arith, append_assoc, append-nil}
 use Rattle.hex.specs.Hex.{encode_lower}
 use Rattle.hex.proofs.HexLemmas.{decode_of-encode_lower}
 use Rattle.swim_wire.specs.Address.{Address, IsAddress, address_text}
@@ -10,10 +10,11 @@ use Rattle.swim_wire.specs.Lines.{pieces, has_feed}
 use Rattle.swim_wire.specs.Numbers.{positive_read}
 use Rattle.swim_wire.specs.Parts.{has, cut_at, cut_none}
 use Rattle.swim_wire.specs.Words.{words_of, words_cut}
-use Rattle.swim_wire.specs.declared.messages.Message.{Message}
+use Rattle.swim_wire.specs.Messages.{Message}
 use Rattle.swim_history.specs.declared.calls.Call.{Call}
 use Rattle.swim_history.specs.declared.calls.Call.TheVariants.{Tick, Hear, Join, Remove}
 use Rattle.swim_history.specs.Texts.{feed}
+use Rattle.swim_script.specs.Texts.{datagram_text}
 use Rattle.swim_script.specs.Arguments.{datagram_of}
 use Rattle.swim_script.specs.declared.commands.Stage.{Stage}
 use Rattle.swim_script.specs.declared.commands.Word.TheVariants as words
@@ -93,5 +94,7 @@ pub join_line : (id : ℕ) (peer : Address) → codes "join " ++ (decimal id ++ 
 join_line id peer = ap (λ l. codes "join " ++ l) (sym (append_assoc (decimal id) (codes " " ++ address_text peer) feed))
 
 pub hear_line : (m : Message) (source : Address) →
-    codes "hear " ++ (address_text source ++ (codes " " ++ (encode_lower (text_of m) ++ feed))) ≡ call_line (Hear m source)
-hear_line m source = ap (λ l. codes "hear " ++ l) (sym (append_assoc (address_text source) (codes " " ++ encode_lower (text_of m)) feed))
+    codes "hear " ++ (address_text source ++ (datagram_text m ++ [])) ≡ call_line (Hear m source)
+hear_line m source =
+    ap (λ l. codes "hear " ++ (address_text source ++ l)) (append-nil (datagram_text m))
+    ∙ ap (λ l. codes "hear " ++ l) (sym (append_assoc (address_text source) (codes " " ++ encode_lower (text_of m)) feed))

@@ -1,4 +1,5 @@
 -- A line of a run's file is told otherwise only behind a call that was refused for want of memory.
+use Rattle.std.specs.Prelude.{is_some as is_told}
 use Rattle.std.proofs.Common.{◌≡◌, ◌≢◌, ℕ, suc, ◌<◌, ◌≤◌, ◌+◌, ◌^◌, Bool, true, false, List, [], ◌∷◌, ◌++◌, length, map, drop, Option, Some, None, Result, Ok, Err, refl, sym, ap, subst, ◌∙◌, arith}
 use Rattle.std.proofs.lemmas.Bool.{lt-ltb}
 use Rattle.rand_chacha.specs.ChaCha.{ChaCha}
@@ -41,22 +42,22 @@ stands_not Blank text (Ok (Some command)) stands is =
     let same : command ≡ Answer text = cc is in
     let bad : fault_of_word Blank (word_for (Answer text)) ≡ None = subst (λ (c : Command). fault_of_word Blank (word_for c) ≡ None) same stands in
     absurd (cc bad)
-stands_not (Header draws) text (Ok (Some command)) stands is =
+stands_not (Header draws wired) text (Ok (Some command)) stands is =
     let same : command ≡ Answer text = cc is in
-    let bad : fault_of_word (Header draws) (word_for (Answer text)) ≡ None = subst (λ (c : Command). fault_of_word (Header draws) (word_for c) ≡ None) same stands in
+    let bad : fault_of_word (Header draws wired) (word_for (Answer text)) ≡ None = subst (λ (c : Command). fault_of_word (Header draws wired) (word_for c) ≡ None) same stands in
     absurd (cc bad)
 stands_not Blank text (Ok None) stands is = absurd cc
-stands_not (Header draws) text (Ok None) stands is = absurd cc
+stands_not (Header draws wired) text (Ok None) stands is = absurd cc
 stands_not Blank text (Err fault) stands is = absurd cc
-stands_not (Header draws) text (Err fault) stands is = absurd cc
+stands_not (Header draws wired) text (Err fault) stands is = absurd cc
 
-not_header : (opened : Option Opened) (draws : Draws) → stage_with opened draws ≡ Events → ⊥
-not_header None draws e = cc
-not_header (Some opened) draws e = cc
+not_header : (opened : Option Opened) (draws : Draws) (wired : Bool) → stage_with opened draws wired ≡ Events → ⊥
+not_header None draws wired e = cc
+not_header (Some opened) draws wired e = cc
 
 not_begun : (head : Head) → head.begun ≡ false → stage_of head ≡ Events → ⊥
 not_begun head begun events =
-    not_header head.told.opened (draws_with head.told.orders head.told.places head.told.seed) (rw begun at events)
+    not_header head.told.opened (draws_with head.told.orders head.told.places head.told.seed) (is_told head.told.wire) (rw begun at events)
 
 no_answer : (before : List (List ℕ)) (line text : List ℕ) → (head_of before).begun ≡ false → said before line ≡ Some (Answer text) → ⊥
 no_answer before line text begun is = by (is_mark (length before) (bare line)) is
@@ -99,7 +100,7 @@ reseated_length (e ∷ h) = ap suc (reseated_length h)
 
 -- what is known of a journal file's header, and of the run that it is followed by
 pub record IsFile (before : List (List ℕ)) (told : Told) (start : ChaCha) (h : List Entry) : Type 0 where
-  pub seeded : stage_told told ≡ Header Seeded
+  pub seeded : stage_told told ≡ Header Seeded (is_told told.wire)
   pub at : IsAt before told false
   pub back : CallsReadBack h
   pub drawn : IsDrawnRun (setting_in told) start h

@@ -1,4 +1,5 @@
 -- The lines of a journal file behind its header, and what they say.
+use Rattle.std.specs.Prelude.{is_some}
 use Rattle.std.proofs.Common.{◌≡◌, ℕ, suc, ◌+◌, Bool, true, false, cond, List, [], ◌∷◌, ◌++◌, length, Option, Some, None, codes, decimal, refl, ap, ◌∙◌, arith, append_assoc}
 use Rattle.std.specs.Prelude.{◌==◌}
 use Rattle.swim_wire.specs.Cutting.{bare_at, pieces_at}
@@ -43,7 +44,7 @@ relays_unfed (relay ∷ relays) = both_without 10 (decimal relay.id) (more_relay
 reply_unfed : (reply : Reply) → has_feed (reply_text reply) ≡ false
 reply_unfed Quiet = refl
 reply_unfed (Started judged probe) = both_without 10 (id_text judged) (codes " probe " ++ probe_text probe) (id_unfed judged) (probe_unfed probe)
-reply_unfed (Asked target number relays) =
+reply_unfed (Asked target peer number relays) =
     both_without 10 (decimal target) (codes " " ++ (decimal number ++ (codes " by " ++ relays_text relays.items))) (number_without 10 target (omega arith))
     (both_without 10 (decimal number) (codes " by " ++ relays_text relays.items) (number_without 10 number (omega arith)) (relays_unfed relays.items))
 reply_unfed Heard = refl
@@ -94,7 +95,7 @@ still_journal before line journal = rw journal (either (is_mark (length before) 
     either false = refl
 
 -- a call may stand behind a header with a seed, and behind event lines
-may_call : (told : Told) (begun : Bool) (call : Call) → stage_told told ≡ Header Seeded → fault_of_word (stage_of (record { told = told; begun = begun })) (word_for (command_of call)) ≡ None
+may_call : (told : Told) (begun : Bool) (call : Call) → stage_told told ≡ Header Seeded (is_some told.wire) → fault_of_word (stage_of (record { told = told; begun = begun })) (word_for (command_of call)) ≡ None
 may_call told true Tick seeded = refl
 may_call told true (Hear m source) seeded = refl
 may_call told true (Join id peer) seeded = refl
@@ -104,10 +105,10 @@ may_call told false (Hear m source) seeded = rw seeded refl
 may_call told false (Join id peer) seeded = rw seeded refl
 may_call told false (Remove id) seeded = rw seeded refl
 
-pub call_says : (before : List (List ℕ)) (told : Told) (begun : Bool) (call : Call) → stage_told told ≡ Header Seeded → IsAt before told begun → IsReadBack call → said before (call_line call) ≡ Some (command_of call)
+pub call_says : (before : List (List ℕ)) (told : Told) (begun : Bool) (call : Call) → stage_told told ≡ Header Seeded (is_some told.wire) → IsAt before told begun → IsReadBack call → said before (call_line call) ≡ Some (command_of call)
 call_says before told begun call seeded at back = call_said before call at.form (rw at.head (may_call told begun call seeded)) back
 
-pub call_at : (before : List (List ℕ)) (told : Told) (begun : Bool) (call : Call) → stage_told told ≡ Header Seeded → IsAt before told begun → IsReadBack call → IsAt (call_line call ∷ before) told true
+pub call_at : (before : List (List ℕ)) (told : Told) (begun : Bool) (call : Call) → stage_told told ≡ Header Seeded (is_some told.wire) → IsAt before told begun → IsReadBack call → IsAt (call_line call ∷ before) told true
 call_at before told begun call seeded at back = record {
   form = still_journal before (call_line call) at.form;
   head = rw (call_says before told begun call seeded at back, at.head) (by call);

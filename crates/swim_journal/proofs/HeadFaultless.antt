@@ -6,6 +6,8 @@ use Rattle.hex.proofs.HexLemmas.{length-encode_with}
 use Rattle.swim_wire.specs.Address.{IsAddress}
 use Rattle.swim_wire.specs.Lines.{pieces, bare}
 use Rattle.swim_history.specs.Laws.Check.{no_fault as no_opening_fault}
+use Rattle.swim_wire.specs.declared.messages.Version.{Version}
+use Rattle.swim_wire.specs.declared.messages.Version.TheVariants.{One, Two}
 use Rattle.swim_history.specs.Setting.{Setting}
 use Rattle.swim_history.specs.Texts.{feed}
 use Rattle.swim_history.specs.declared.rows.Row.{Row}
@@ -16,7 +18,7 @@ use Rattle.swim_history.specs.declared.entries.Entry.{Entry}
 use Rattle.swim_node.specs.Following.{filings_of}
 use Rattle.swim_targets.specs.Draws.{of_seed}
 use Rattle.swim_script.specs.declared.arguments.Opened.{Opened}
-use Rattle.swim_script.specs.declared.commands.Command.TheVariants.{Open, Row as RowLine, Seed}
+use Rattle.swim_script.specs.declared.commands.Command.TheVariants.{Open, Row as RowLine, Seed, Wire}
 use Rattle.swim_script.specs.Headers.{Head, head_of}
 use Rattle.swim_script.specs.Script.{bytes_of, fault_at, fault_at_end, fault_of, fault_of_command, are_past, kind_with, opening_at}
 use Rattle.swim_journal.specs.Headings.{mark_line, open_line, row_line, seed_line, header_text, AreTellable, IsTellable}
@@ -24,7 +26,7 @@ use Rattle.swim_journal.specs.Journals.{AreReadBack}
 use Rattle.swim_journal.specs.Replays.{IsDrawnRun, IsJournalFile}
 use Rattle.swim_journal.proofs.Faultless.{AreFaultless, none_from, no_fault}
 use Rattle.swim_journal.proofs.FileLines.{IsAt}
-use Rattle.swim_journal.proofs.Headed.{open_words, open_plain, state_words, row_words, row_plain, row_is, seed_words, seed_plain, opened_by, told_with, rows_onto, open_said, open_at, row_said, row_at, rows_at, seed_said, newest_lines, newest_are, header_at, header_is}
+use Rattle.swim_journal.proofs.Headed.{open_words, open_plain, state_words, row_words, row_plain, row_is, seed_words, seed_plain, opened_by, told_with, wire_line, wire_told, wire_onto, wire_said, wire_at, rows_onto, open_said, open_at, row_said, row_at, rows_at, seed_said, newest_lines, newest_are, header_at, header_is}
 use Rattle.swim_journal.proofs.Short.{number_short, address_short}
 use Rattle.swim_journal.proofs.WordLines.{ArePlain, words_onto, line_bare}
 
@@ -82,14 +84,23 @@ rows_bytes (row ∷ rows) before all =
 
 -- ---- the lines
 
-rows_faultless : (before : List (List ℕ)) (opened : Opened) (known : List Row) (rows : List Row) → IsAt before (told_with opened known None) false → AreTellable rows → AreFaultless before → 600 * length rows + bytes_of before ≤ 1000000 → AreFaultless (rows_onto rows before)
-rows_faultless before opened known [] at all before-is fits = before-is
-rows_faultless before opened known (row ∷ rows) at all before-is fits =
+rows_faultless : (before : List (List ℕ)) (opened : Opened) (wire : Option Version) (known : List Row) (rows : List Row) → IsAt before (told_with opened wire known None) false → AreTellable rows → AreFaultless before → 600 * length rows + bytes_of before ≤ 1000000 → AreFaultless (rows_onto rows before)
+rows_faultless before opened wire known [] at all before-is fits = before-is
+rows_faultless before opened wire known (row ∷ rows) at all before-is fits =
     let short = row_short row all.1 in
     let here : fault_at before (row_line row) ≡ None =
-    no_fault before (row_line row) (RowLine row) at.form (omega (arith, short.whole, fits)) short.bare (row_said before opened known row at (all.0, all.1, all.2))
+    no_fault before (row_line row) (RowLine row) at.form (omega (arith, short.whole, fits)) short.bare (row_said before opened wire known row at (all.0, all.1, all.2))
     (ap (λ (head : Head). fault_of_command head (RowLine row)) at.head) in
-    rows_faultless (row_line row ∷ before) opened (known ++ row ∷ []) rows (row_at before opened known row at (all.0, all.1, all.2)) all.3 (here, before-is) (omega (arith, short.whole, fits))
+    rows_faultless (row_line row ∷ before) opened wire (known ++ row ∷ []) rows (row_at before opened wire known row at (all.0, all.1, all.2)) all.3 (here, before-is) (omega (arith, short.whole, fits))
+
+-- the line of a version has no fault, and few bytes
+wire_faultless : (before : List (List ℕ)) (opened : Opened) (version : Version) → IsAt before (told_with opened None [] None) false → AreFaultless before → bytes_of before ≤ 1000 →
+    AreFaultless (wire_onto version before) × (bytes_of (wire_onto version before) ≤ 7 + bytes_of before)
+wire_faultless before opened One at before-is few = (before-is, omega arith)
+wire_faultless before opened Two at before-is few =
+    let here : fault_at before wire_line ≡ None =
+    no_fault before wire_line (Wire Two) at.form (omega (arith, few)) (omega arith) (wire_said before opened at) (ap (λ (head : Head). fault_of_command head (Wire Two)) at.head) in
+    ((here, before-is), omega arith)
 
 pub header_faultless : (o : Setting) (limit : ℕ) (seed : List ℕ) (life : ℕ) → IsTellable o limit seed life → fault_of (header_text o limit seed life) ≡ None
 header_faultless o limit seed life t =
@@ -101,12 +112,16 @@ header_faultless o limit seed life t =
     let open_none : fault_at first (open_line o limit) ≡ None =
     no_fault first (open_line o limit) (Open (opened_by o limit)) refl (omega (arith, opening_short.whole)) opening_short.bare (open_said o limit seed life t) refl in
     let opens = open_at o limit seed life t in
-    let few : 600 * length o.rows + bytes_of second ≤ 1000000 = omega (arith, opening_short.whole, t.setting.rows) in
-    let rows = rows_faultless second opened [] o.rows opens t.rows (open_none, (refl, tt)) few in
-    let at = rows_at second opened [] o.rows opens t.rows in
-    let seed_none : fault_at (rows_onto o.rows second) (seed_line seed life) ≡ None =
-    no_fault (rows_onto o.rows second) (seed_line seed life) (Seed seed life) at.form (omega (arith, last_short.whole, rows_bytes o.rows second t.rows, few)) last_short.bare
-    (seed_said (rows_onto o.rows second) opened o.rows seed life at t.key.0 t.key.1 t.numbers.1)
+    let wire = wire_told o.version in
+    let third = wire_onto o.version second in
+    let wired = wire_at second opened o.version opens in
+    let version = wire_faultless second opened o.version opens (open_none, (refl, tt)) (omega (arith, opening_short.whole)) in
+    let few : 600 * length o.rows + bytes_of third ≤ 1000000 = omega (arith, version.1, opening_short.whole, t.setting.rows) in
+    let rows = rows_faultless third opened wire [] o.rows wired t.rows version.0 few in
+    let at = rows_at third opened wire [] o.rows wired t.rows in
+    let seed_none : fault_at (rows_onto o.rows third) (seed_line seed life) ≡ None =
+    no_fault (rows_onto o.rows third) (seed_line seed life) (Seed seed life) at.form (omega (arith, last_short.whole, rows_bytes o.rows third t.rows, few)) last_short.bare
+    (seed_said (rows_onto o.rows third) opened wire o.rows seed life at t.key.0 t.key.1 t.numbers.1)
     (ap (λ (head : Head). fault_of_command head (Seed seed life)) at.head) in
     let newest = newest_are o limit seed life t in
     let last = header_at o limit seed life t in

@@ -45,7 +45,7 @@ relays_seeded k ids relays before after (inr some) =
 
 entry_seeded : (o : Setting) (h : List Entry) (call : Call) (reply : Reply) (choice : Choice) (before : ChaCha) (after : Drawer) → DrawsEntry ChoosesOrder ChoosesPlace o h call reply choice (Seeded before) after → IsSeeded after (DrawsEntry DrawsOrder DrawsPlace o h call reply choice before)
 entry_seeded o h Tick (Started judged probe) (Round order) before after given = order_seeded before _ order.items after given
-entry_seeded o h Tick (Asked m number relays) choice before after given = relays_seeded o.k _ _ before after given
+entry_seeded o h Tick (Asked m peer number relays) choice before after given = relays_seeded o.k _ _ before after given
 entry_seeded o h (Join id peer) (Joined place) choice before after given = place_seeded before _ place after given
 entry_seeded o h call reply choice before after given = (before, given, refl)
 

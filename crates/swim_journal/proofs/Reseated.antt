@@ -41,7 +41,7 @@ drawn_reseated orders places o start now (e ∷ h) d =
   where
     by : (call : Call) (reply : Reply) (choice : Choice) → DrawsEntry orders places o h call reply choice d.0 now → DrawsEntry orders places o (reseated h) call reply choice d.0 now
     by Tick (Started judged probe) (Round order) given = rw (← lists_alike o h (reseated h) (alike_reseated h)) given
-    by Tick (Asked m number relays) choice given = rw (← lists_alike o h (reseated h) (alike_reseated h)) given
+    by Tick (Asked m peer number relays) choice given = rw (← lists_alike o h (reseated h) (alike_reseated h)) given
     by (Join id peer) (Joined place) choice given = rw (← lists_alike o h (reseated h) (alike_reseated h)) given
     by call reply choice given = given
 

@@ -1,13 +1,17 @@
 -- The lines of a journal file are no longer than a line may be.
-use Rattle.std.proofs.Common.{◌≡◌, ℕ, zero, suc, ◌+◌, ◌*◌, ◌≤◌, ◌/◌, ◌%◌, Bool, true, false, cond, List, [], ◌∷◌, ◌++◌, length, Option, Some, None, codes, decimal, get_or, sym, subst, arith, length-append}
-use Rattle.std.specs.Prelude.{◌==◌}
+use Rattle.std.proofs.Common.{◌≡◌, ℕ, zero, suc, ◌+◌, ◌*◌, ◌≤◌, ◌/◌, ◌%◌, Bool, true, false, cond, List, [], ◌∷◌, ◌++◌, length, Option, Some, None, Ok, codes, decimal, get_or, refl, sym, subst, arith, length-append}
+use Rattle.std.specs.Prelude.{◌==◌, ◌||◌}
 use Rattle.std.specs.Fmt.{digits, digits_onto, digit_glyph}
 use Rattle.hex.specs.Hex.{encode_lower, lower_digits}
 use Rattle.hex.proofs.HexLemmas.{length-encode_with}
 use Rattle.swim_wire.specs.Address.{Address, IsAddress, dot, colon, address_text}
 use Rattle.swim_wire.specs.AddressLaws.{four_of}
-use Rattle.swim_wire.specs.Layout.{text_of}
-use Rattle.swim_wire.specs.declared.messages.Message.{Message}
+use Rattle.std.proofs.lemmas.Bool.{eqb-true, not-false}
+use Rattle.swim_wire.specs.First.{find_none}
+use Rattle.swim_wire.specs.Layout.{text_of, decoded, read_as, first_fault, has_fault}
+use Rattle.swim_wire.specs.declared.codec.WireFault.{WireFault}
+use Rattle.swim_wire.specs.declared.codec.WireFault.TheVariants.{Length, Magic, Version, UnknownKind, Form, ZeroId, ZeroNumber, ZeroPort}
+use Rattle.swim_wire.specs.Messages.{Message}
 use Rattle.swim_history.specs.declared.calls.Call.{Call}
 use Rattle.swim_history.specs.declared.calls.Call.TheVariants.{Tick, Hear, Join, Remove}
 use Rattle.swim_history.specs.declared.entries.Choice.{Choice}
@@ -23,7 +27,7 @@ use Rattle.swim_history.specs.Run.{Answers}
 use Rattle.swim_wire.specs.declared.messages.Kind.{Kind}
 use Rattle.swim_wire.specs.declared.messages.Kind.TheVariants.{Ping, PingReq, Ack}
 use Rattle.swim_script.specs.Texts.{id_text, probe_text, more_relays_text, relays_text, reply_text}
-use Rattle.swim_journal.specs.Lines.{call_text, answer_text, IsSpoken}
+use Rattle.swim_journal.specs.Lines.{call_text, answer_text, IsDecoded, IsSpoken}
 
 -- ---- numbers
 
@@ -61,13 +65,28 @@ address_short p is = subst (λ (ip : List ℕ). length (address_text (record { i
           length-append (decimal c) (dot ∷ decimal d),
         )
 
-datagram_short : (m : Message) → length (encode_lower (text_of m)) ≡ 48
-datagram_short m = length-encode_with lower_digits (text_of m)
+-- what is read as a message has no more bytes than any datagram
+text_short : (text : List ℕ) (m : Message) → decoded text ≡ Ok m → length text ≤ 30
+text_short text m read = by (first_fault text) refl read
+  where
+    either : (short long : Bool) → (length text == 24) ≡ short → (length text == 30) ≡ long → (short || long) ≡ true → length text ≤ 30
+    either true long is other some = omega (arith, eqb-true (length text) 24 is)
+    either false true is other some = omega (arith, eqb-true (length text) 30 other)
+    either false false is other some = absurd cc
+
+    by : (fault : Option WireFault) → first_fault text ≡ fault → read_as fault text ≡ Ok m → length text ≤ 30
+    by (Some fault) found read = absurd cc
+    by None none read =
+        let parts = find_none (has_fault text) Length (Magic ∷ Version ∷ UnknownKind ∷ Form ∷ ZeroId ∷ ZeroNumber ∷ ZeroPort ∷ []) none in
+        either (length text == 24) (length text == 30) refl refl (not-false _ parts.0)
+
+datagram_short : (m : Message) → IsDecoded m → length (encode_lower (text_of m)) ≤ 60
+datagram_short m is = omega (arith, length-encode_with lower_digits (text_of m), text_short (text_of m) m is.0)
 
 pub call_short : (call : Call) → IsSpoken call → length (call_text call) ≤ 1024
 call_short Tick is = omega arith
 call_short (Hear m source) is =
-    omega (arith, address_short source is.1, length-append (address_text source) (codes " " ++ encode_lower (text_of m)), datagram_short m)
+    omega (arith, address_short source is.1, length-append (address_text source) (codes " " ++ encode_lower (text_of m)), datagram_short m is.0)
 call_short (Join id peer) is =
     omega (arith, number_short id, address_short peer is.1, length-append (decimal id) (codes " " ++ address_text peer))
 call_short (Remove id) is = omega (arith, number_short id)
@@ -92,18 +111,18 @@ relays_short (relay ∷ relays) few = omega (arith, few, more_short relays, numb
 
 -- no more relays than may be asked
 abbrev AsksFew : Reply → Type 0
-AsksFew (Asked m number relays) = length relays.items ≤ 8
+AsksFew (Asked m peer number relays) = length relays.items ≤ 8
 AsksFew reply = Unit {0}
 
 asks_few : (o : Setting) (h : List Entry) (call : Call) (reply : Reply) (choice : Choice) → o.k ≤ 8 → Answers o h call reply choice → AsksFew reply
-asks_few o h Tick (Asked m number relays) Nothing k given = omega (arith, given.3.count, k)
-asks_few o h (Hear m source) (Asked target number relays) Nothing k given = by m.kind given
+asks_few o h Tick (Asked m peer number relays) Nothing k given = omega (arith, given.3.count, k)
+asks_few o h (Hear m source) (Asked target peer number relays) Nothing k given = by m.kind given
   where
-    by : (kind : Kind) → Rattle.swim_history.specs.Run.Hears o h m source kind (Asked target number relays) → length relays.items ≤ 8
+    by : (kind : Kind) → Rattle.swim_history.specs.Run.Hears o h m source kind (Asked target peer number relays) → length relays.items ≤ 8
     by Ping given = absurd given
     by PingReq given = absurd given
     by Ack given = absurd given
-asks_few o h call (Asked m number relays) choice k given = absurd given
+asks_few o h call (Asked m peer number relays) choice k given = absurd given
 asks_few o h call Quiet choice k given = tt
 asks_few o h call (Started judged probe) choice k given = tt
 asks_few o h call Heard choice k given = tt
@@ -116,7 +135,7 @@ asks_few o h call (Refused why) choice k given = tt
 reply_short : (reply : Reply) → AsksFew reply → length (reply_text reply) ≤ 1024
 reply_short Quiet few = omega arith
 reply_short (Started judged probe) few = omega (arith, id_short judged, probe_short probe, length-append (id_text judged) (codes " probe " ++ probe_text probe))
-reply_short (Asked target number relays) few =
+reply_short (Asked target peer number relays) few =
     omega (
       arith,
       number_short target,

@@ -1,4 +1,5 @@
 -- The lines of a journal file, as a session takes them: behind its header each call, and what it was answered.
+use Rattle.std.specs.Prelude.{is_some as is_told}
 use Rattle.std.proofs.Common.{◌≡◌, ℕ, ◌+◌, ◌≤◌, Bool, true, false, cond, List, [], ◌∷◌, length, Option, Some, None, refl, ap, ◌∙◌, arith}
 use Rattle.std.specs.Prelude.{◌||◌}
 use Rattle.swim_history.specs.declared.calls.Call.{Call}
@@ -31,7 +32,7 @@ is_some [] = false
 is_some (x ∷ h) = true
 
 -- behind such lines an event line was met, if there are any
-pub onto_at : (before : List (List ℕ)) (told : Told) (h : List Entry) → stage_told told ≡ Header Seeded → IsAt before told false → CallsReadBack h → IsAt (lines_onto h before) told (is_some h)
+pub onto_at : (before : List (List ℕ)) (told : Told) (h : List Entry) → stage_told told ≡ Header Seeded (is_told told.wire) → IsAt before told false → CallsReadBack h → IsAt (lines_onto h before) told (is_some h)
 onto_at before told [] seeded at back = at
 onto_at before told (x ∷ h) seeded at back =
     answer_at (call_line x.call ∷ lines_onto h before) told (length h) x.reply
@@ -59,7 +60,7 @@ pub record AreTold (before : List (List ℕ)) (h : List Entry) (turns : List Tur
   pub are : lines_of base ≡ before
   pub each : TellEach base h turns
 
-pub are_told : (before : List (List ℕ)) (told : Told) (h : List Entry) (turns : List Turn) → stage_told told ≡ Header Seeded → IsAt before told false → CallsReadBack h → lines_of turns ≡ lines_onto h before → AreTold before h turns
+pub are_told : (before : List (List ℕ)) (told : Told) (h : List Entry) (turns : List Turn) → stage_told told ≡ Header Seeded (is_told told.wire) → IsAt before told false → CallsReadBack h → lines_of turns ≡ lines_onto h before → AreTold before h turns
 are_told before told [] turns seeded at back lines = record { base = turns; are = lines; each = refl }
 are_told before told (x ∷ h) [] seeded at back lines = absurd cc
 are_told before told (x ∷ h) (tells ∷ []) seeded at back lines = absurd cc
@@ -95,6 +96,7 @@ none_then n head (Some (commands.Open arguments)) e = (e, refl)
 none_then n head (Some (commands.Row row)) e = (e, refl)
 none_then n head (Some (commands.Order order)) e = (e, refl)
 none_then n head (Some (commands.Place place)) e = (e, refl)
+none_then n head (Some (commands.Wire version)) e = (e, refl)
 none_then n head (Some (commands.Seed key life)) e = (e, refl)
 none_then n head (Some (commands.Answer text)) e = (e, refl)
 none_then n head (Some command) e = absurd cc

@@ -1,7 +1,10 @@
--- The header of a journal file: its first line, the opening, the members that are known, and the seed with the life.
+-- The header of a journal file: its first line, the opening, the version if it isn't the first, the members that are
+-- known, and the seed with the life.
 use Rattle.std.specs.Prelude.{◌≡◌, ℕ, ◌<◌, ◌^◌, List, [], ◌∷◌, ◌++◌, length, codes, decimal}
 use Rattle.hex.specs.Hex.{encode_lower, IsBytes}
 use Rattle.swim_wire.specs.Address.{IsAddress, address_text}
+use Rattle.swim_wire.specs.declared.messages.Version.{Version}
+use Rattle.swim_wire.specs.declared.messages.Version.TheVariants.{One, Two}
 use Rattle.swim_history.specs.declared.rows.Row.{Row}
 use Rattle.swim_history.specs.declared.rows.RowState.{RowState}
 use Rattle.swim_history.specs.declared.rows.RowState.TheVariants.{Up, Failed}
@@ -18,6 +21,11 @@ abbrev pub open_line : Setting → ℕ → List ℕ
 open_line o limit =
     codes "open " ++ (decimal o.me ++ (codes " " ++ (decimal o.k ++ (codes " " ++ (decimal o.rtt ++
     (codes " " ++ (decimal o.period ++ (codes " " ++ (decimal o.last ++ (codes " " ++ (decimal limit ++ feed)))))))))))
+
+-- the version of the member's own messages; the first isn't told
+abbrev pub wire_text : Version → List ℕ
+wire_text One = []
+wire_text Two = codes "wire 2\n"
 
 -- the end of a member's line: where it failed, the number of that period stands there
 abbrev pub state_end : RowState → List ℕ
@@ -37,7 +45,8 @@ abbrev pub seed_line : List ℕ → ℕ → List ℕ
 seed_line seed life = codes "seed " ++ (encode_lower seed ++ (codes " " ++ (decimal life ++ feed)))
 
 abbrev pub header_text : Setting → ℕ → List ℕ → ℕ → List ℕ
-header_text o limit seed life = mark_line ++ (open_line o limit ++ (row_lines o.rows ++ seed_line seed life))
+header_text o limit seed life =
+    mark_line ++ (open_line o limit ++ (wire_text o.version ++ (row_lines o.rows ++ seed_line seed life)))
 
 -- the number of a period is one of its type
 abbrev pub IsState : RowState → Type 0

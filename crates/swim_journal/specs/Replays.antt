@@ -1,5 +1,5 @@
 -- A journal file, and what it is when it is played.
-use Rattle.std.specs.Prelude.{◌≡◌, ℕ, ◌<◌, ◌≤◌, ◌^◌, true, false, List, [], ◌∷◌, ◌++◌, length}
+use Rattle.std.specs.Prelude.{◌≡◌, ℕ, ◌<◌, ◌≤◌, ◌^◌, true, false, is_some, List, [], ◌∷◌, ◌++◌, length}
 use Rattle.std.specs.Prelude.{reverse, Option, Some, None, Result}
 use Rattle.rand_chacha.specs.ChaCha.{ChaCha}
 use Rattle.swim_wire.specs.Lines.{pieces}
@@ -42,7 +42,7 @@ pub record IsHeader (header : List ℕ) (o : Setting) (limit : ℕ) (start : Cha
   pub lines : (rest : List ℕ) → pieces (header ++ rest) ≡ pieces header ++ pieces rest
   pub form : form_of (lines_in header) ≡ Journal
   pub begun : (head_of (lines_in header)).begun ≡ false
-  pub stage : stage_of (head_of (lines_in header)) ≡ Header Seeded
+  pub stage : stage_of (head_of (lines_in header)) ≡ Header Seeded (is_some (told_by header).wire)
   pub opening : setting_in (told_by header) ≡ o
   pub limit_is : limit_in (told_by header) ≡ limit
   pub chooser : chooser_in (told_by header) ≡ drawers.Seeded start

@@ -5,13 +5,14 @@ ghost use Rattle.hex.specs.Hex.{encode_lower};
 ghost use Rattle.swim_wire.specs.Address.{IsAddress};
 ghost use Rattle.swim_wire.specs.Streams.{Puts, failures_if};
 ghost use Rattle.swim_history.specs.declared.rows.RowState.TheVariants.{Up, Failed};
-ghost use Rattle.swim_journal.specs.Headings.{mark_line, open_line, row_line, row_lines, seed_line, header_text};
+ghost use Rattle.swim_journal.specs.Headings.{mark_line, open_line, wire_text, row_line, row_lines, seed_line};
+ghost use Rattle.swim_journal.specs.Headings.{header_text};
 ghost use Rattle.swim_journal.specs.Headings.{IsState, AreTellable, IsTellable};
 ghost use Rattle.swim_journal.specs.Lines.{IsId};
 
 use crate::lines::check_peer;
 use swim_history::{Opening, Row, RowState};
-use swim_wire::{Id, Peer, Piece, Sink, put_pieces};
+use swim_wire::{Id, Peer, Piece, Sink, Version, put_pieces};
 
 /// The header of the journal file of a detector's life: its opening, how many entries the journal may have, and the seed
 /// with the number of the life, from whose stream it draws. The row of a member that failed tells the number of that
@@ -44,13 +45,36 @@ fn put_opening<W: Sink>(
     life: u64,
 ) -> bool
     ensures bytes { Puts (W.written writer.old) (W.written writer.new)
-        (open_line opening.now limit ++ (row_lines opening.now.rows ++ seed_line seed.now life)) result }
+        (open_line opening.now limit ++ (wire_text opening.now.version
+        ++ (row_lines opening.now.rows ++ seed_line seed.now life))) result }
     ensures failures { W.failures writer.new ≡ failures_if (W.failures writer.old) result }
 {
     if !put_open(writer, opening, limit) {
         return false;
     }
+    put_behind_open(writer, opening, seed, life)
+}
+
+/// The lines behind that of the opening.
+fn put_behind_open<W: Sink>(writer: &mut W, opening: &Opening, seed: &[u8; 32], life: u64) -> bool
+    ensures bytes { Puts (W.written writer.old) (W.written writer.new)
+        (wire_text opening.now.version ++ (row_lines opening.now.rows ++ seed_line seed.now life)) result }
+    ensures failures { W.failures writer.new ≡ failures_if (W.failures writer.old) result }
+{
+    if !writer.put(wire_text(opening.version())) {
+        return false;
+    }
     put_known(writer, opening.rows(), seed, life)
+}
+
+/// The line of a version, if it isn't the first.
+fn wire_text(version: Version) -> &'static [u8]
+    ensures { result.now ≡ wire_text version }
+{
+    match version {
+        Version::One => b"",
+        Version::Two => b"wire 2\n",
+    }
 }
 
 /// The line of an opening.

@@ -1,15 +1,15 @@
 //! The lines of calls, written to a sink. Each function answers whether the sink took its text.
 
 ghost use Rattle.std.specs.Prelude.{◌≡◌};
-ghost use Rattle.hex.specs.Hex.{encode_lower};
+ghost use Rattle.hex.specs.Hex.{IsBytes};
 ghost use Rattle.swim_wire.specs.Address.{IsAddress};
-ghost use Rattle.swim_wire.specs.Layout.{text_of};
 ghost use Rattle.swim_wire.specs.Streams.{Puts, failures_if};
 ghost use Rattle.swim_history.specs.declared.calls.Call.TheVariants.{Hear, Join};
 ghost use Rattle.swim_journal.specs.Lines.{call_line, IsDecoded, IsSpoken, IsReadBack};
 
 use swim_history::Call;
-use swim_wire::{DATAGRAM_BYTES, Id, Message, Peer, Piece, Sink, decode, encode, put_pieces};
+use swim_script::datagram_line;
+use swim_wire::{Id, Message, Peer, Piece, Sink, decode, encode, put_pieces};
 
 /// The line of a call. In a journal file it reads back as that call.
 pub fn put_call<W: Sink>(writer: &mut W, call: &Call) -> bool
@@ -39,13 +39,11 @@ fn put_heard<W: Sink>(writer: &mut W, message: &Message, source: &Peer) -> bool
         (call_line (Hear message.now source.now)) result }
     ensures failures { W.failures writer.new ≡ failures_if (W.failures writer.old) result }
 {
-    let digits = digits_of(message);
+    let datagram = datagram_line(message);
     let pieces = [
         Piece::Text(b"hear "),
         Piece::Address(*source),
-        Piece::Text(b" "),
-        Piece::Text(&digits),
-        Piece::Text(b"\n"),
+        Piece::Text(datagram.as_slice()),
     ];
     put_pieces(writer, &pieces)
 }
@@ -63,16 +61,6 @@ fn put_joined<W: Sink>(writer: &mut W, id: Id, peer: Peer) -> bool
         Piece::Text(b"\n"),
     ];
     put_pieces(writer, &pieces)
-}
-
-/// The datagram of a message in hexadecimal digits.
-fn digits_of(message: &Message) -> [u8; 2 * DATAGRAM_BYTES]
-    ensures { result ≡ encode_lower (text_of message.now) }
-{
-    let bytes = encode(message);
-    let mut text = [b'0'; 2 * DATAGRAM_BYTES];
-    let _ = hex::encode_to_slice(bytes.as_slice(), &mut text);
-    text
 }
 
 /// The line of a call reads back as the call.
@@ -106,7 +94,14 @@ fn check_message(message: &Message)
     ensures { IsDecoded message.now }
 {
     let text = encode(message);
-    let _message = decode(&text);
+    let _message = decode(text.as_slice());
+    check_bytes(text.as_slice());
+}
+
+fn check_bytes(bytes: &[u8])
+    ensures { IsBytes bytes.now }
+{
+    let _count = bytes.len();
 }
 
 pub(crate) fn check_peer(peer: &Peer)

@@ -11,7 +11,7 @@ use swim_journal::*;
 use swim_node::{CallFault, Naming, Node, Parts, Seat};
 use swim_script::{Session, run};
 use swim_targets::Seeded;
-use swim_wire::{Id, Kind, Message, Page, Peer, PeriodNumber, Text, encode};
+use swim_wire::{Id, Kind, Message, Page, Peer, PeriodNumber, Text, Version, encode};
 
 // Member 1 knows member 2, and member 3, which failed in period 4 of 9. It has a timeout of one tick and a period of three, and
 // draws from life 5 of a seed of sevens.
@@ -41,7 +41,9 @@ fn at(last: u8) -> Peer {
 
 fn opening() -> Result<Opening, Fail> {
     let members = [(id(2), at(2)), (id(3), at(3))];
-    let opening = Opening::check(id(1), 1, 1, 3, &members, 9).map_err(|_| "an opening")?;
+    let opening = Opening::check(id(1), 1, 1, 3, &members, 9, Version::One).map_err(
+        |_| "an opening",
+    )?;
     Ok(opening.with_failed(id(3), 4).ok_or("a period 4 was used")?)
 }
 
@@ -140,13 +142,15 @@ fn make_calls<N: PageNaming, R: Wait + Copy + Drop>(
     changes: &mut Seat<N>,
 ) -> Result<(), CallFault> {
     let ping = Message {
+        version: Version::One,
         kind: Kind::Ping,
         sender: id(2),
         initiator: id(2),
         target: id(1),
         number: PeriodNumber::new(1).unwrap_or_default(),
+        at: None,
     };
-    let _sent = node.hear(rt, hears, &encode(&ping), at(2))?;
+    let _sent = node.hear(rt, hears, encode(&ping).as_slice(), at(2))?;
     let _started = node.tick(rt, ticks)?;
     let _removed = node.remove(rt, changes, id(2))?;
     let _quiet = node.tick(rt, ticks)?;

@@ -2,7 +2,7 @@
 use Rattle.std.proofs.Common.{◌≡◌, ℕ, List, Option, Result, Ok, Err, refl, sym, subst, inl, inr}
 use Rattle.std.specs.Prelude.{IfOk, IfErr}
 use Rattle.swim_wire.specs.Address.{Address}
-use Rattle.swim_wire.specs.declared.messages.Message.{Message}
+use Rattle.swim_wire.specs.Messages.{Message}
 use Rattle.swim_wire.specs.Layout.{IsTextOf}
 use Rattle.swim_history.specs.declared.calls.Call.TheVariants.{Hear, Tick}
 use Rattle.swim_history.specs.Setting.{Setting}

@@ -3,7 +3,7 @@ use Rattle.std.proofs.Common.{◌≡◌, ◌⊎◌, ℕ, ◌+◌, ◌<◌, Bool,
 use Rattle.std.specs.Prelude.{IfErr, MatchOption, nat_lt, if◌then◌else◌}
 use Rattle.std.specs.Option.{unwrap_or}
 use Rattle.swim_wire.specs.Address.{Address}
-use Rattle.swim_wire.specs.declared.messages.Message.{Message}
+use Rattle.swim_wire.specs.Messages.{Message}
 use Rattle.swim_wire.specs.declared.short_lines.LineEnd.{LineEnd}
 use Rattle.swim_wire.specs.declared.short_lines.LineEnd.TheVariants as lines
 use Rattle.swim_history.specs.declared.calls.Call.{Call}
@@ -62,7 +62,7 @@ told_full replies.Removed is = cc is
 told_full (replies.Refused why) is = cc is
 told_full replies.Quiet is = is
 told_full (replies.Started judged probe) is = is
-told_full (replies.Asked target number relays) is = is
+told_full (replies.Asked target peer number relays) is = is
 told_full replies.Heard is = is
 told_full (replies.Send to message) is = is
 told_full (replies.Dropped why) is = is

@@ -21,7 +21,7 @@ use Rattle.swim_life.specs.Desk.{AtDesk, IsTold, Tells, TellsRefusal, Calls}
 reply_to_join : (o : Setting) (h : List Entry) (id : ℕ) (peer : Address) (reply : Reply) (choice : Choice) → Answers o h (calls.Join id peer) reply choice → IsTold reply
 reply_to_join o h id peer Quiet choice is = absurd is
 reply_to_join o h id peer (Started judged probe) choice is = absurd is
-reply_to_join o h id peer (Asked target number relays) choice is = absurd is
+reply_to_join o h id peer (Asked target at number relays) choice is = absurd is
 reply_to_join o h id peer Heard choice is = absurd is
 reply_to_join o h id peer (Send to message) choice is = absurd is
 reply_to_join o h id peer (Dropped why) choice is = absurd is
@@ -32,7 +32,7 @@ reply_to_join o h id peer (Refused why) choice is = tt
 reply_to_removal : (o : Setting) (h : List Entry) (id : ℕ) (reply : Reply) (choice : Choice) → Answers o h (calls.Remove id) reply choice → IsTold reply
 reply_to_removal o h id Quiet choice is = absurd is
 reply_to_removal o h id (Started judged probe) choice is = absurd is
-reply_to_removal o h id (Asked target number relays) choice is = absurd is
+reply_to_removal o h id (Asked target peer number relays) choice is = absurd is
 reply_to_removal o h id Heard choice is = absurd is
 reply_to_removal o h id (Send to message) choice is = absurd is
 reply_to_removal o h id (Dropped why) choice is = absurd is

@@ -2,7 +2,7 @@
 use Rattle.std.specs.Prelude.{◌≡◌, ℕ, ◌-◌, ◌^◌, min, Bool, not, List, [], ◌++◌, map, flat_map, count_by}
 use Rattle.std.specs.Prelude.{Option, Some, None}
 use Rattle.swim_wire.specs.Address.{Address}
-use Rattle.swim_wire.specs.declared.messages.Message.{Message}
+use Rattle.swim_wire.specs.Messages.{Message}
 use Rattle.swim_wire.specs.Layout.{text_of}
 use Rattle.swim_history.specs.declared.entries.Entry.{Entry}
 use Rattle.swim_history.specs.declared.seats.Kept.{Kept}

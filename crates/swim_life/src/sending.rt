@@ -49,7 +49,7 @@ fn send_each<R: Wait, O: Post>(rt: &R, post: &mut O, messages: &[(Peer, Message)
 {
     let mut unsent = 0u64;
     for (peer, message) in messages {
-        let is_taken = post.send(rt, &encode(message), *peer);
+        let is_taken = post.send(rt, encode(message).as_slice(), *peer);
         unsent += u64::from(!is_taken);
     }
     unsent

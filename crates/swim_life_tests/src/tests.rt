@@ -19,7 +19,7 @@ use std::thread::Threads;
 use swim_history::{Journal, Opening, Probe, Reply};
 use swim_life::{Hall, Line, Pace, Past, Post, Why, live};
 use swim_targets::Seeded;
-use swim_wire::{Id, Peer};
+use swim_wire::{Id, Peer, Version};
 
 fn id(number: u32) -> Id {
     Id::new(number).unwrap_or_default()
@@ -36,7 +36,7 @@ fn at(last: u8) -> Peer {
 // Member 1, which knows members 2 and 3, asks one relay, and has a timeout of one tick and a period of three.
 fn opening() -> Result<Opening, Fail> {
     let rows = [(id(2), at(2)), (id(3), at(3))];
-    Ok(Opening::check(id(1), 1, 1, 3, &rows, 0).map_err(|_| "an opening")?)
+    Ok(Opening::check(id(1), 1, 1, 3, &rows, 0, Version::One).map_err(|_| "an opening")?)
 }
 
 fn chooser() -> Seeded {

@@ -32,8 +32,9 @@ pub trait Naming {
 
 impl Naming for Brand {
     ghost use Rattle.std.specs.Prelude.{[]};
+    ghost use Rattle.swim_wire.specs.declared.messages.Version.TheVariants.{One};
 
-    ghost opening = { record { me = 0; k = 0; rtt = 0; period = 0; rows = []; last = 0 } };
+    ghost opening = { record { me = 0; k = 0; rtt = 0; period = 0; rows = []; last = 0; version = One } };
 
     ghost limit = { 0 };
 

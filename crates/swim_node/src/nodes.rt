@@ -5,7 +5,7 @@ ghost use mathlib.Core.List.{IsPrefix};
 ghost use Rattle.swim_node.specs.Following.{filings_of};
 ghost use Rattle.swim_node.specs.Draws.{DrawsAll};
 ghost use Rattle.swim_wire.specs.declared.codec.WireFault.{WireFault};
-ghost use Rattle.swim_wire.specs.declared.messages.Message.{Message};
+ghost use Rattle.swim_wire.specs.Messages.{Message};
 ghost use Rattle.swim_wire.specs.Layout.{IsTextOf, first_fault};
 ghost use Rattle.swim_history.specs.declared.calls.Call.TheVariants as call;
 ghost use Rattle.swim_node.specs.News.{SawNothing, EndsWithChange};

@@ -25,7 +25,7 @@ use std::thread::{Threads, join};
 use swim_history::{Call, Journal, Kept, Opening, Probe, Reply, Row, RowState, Table};
 use swim_node::*;
 use swim_targets::{Chooser, Order, Scripted};
-use swim_wire::{Id, Kind, Message, Peer, PeriodNumber, encode};
+use swim_wire::{Id, Kind, Message, Peer, PeriodNumber, Version, encode};
 
 fn id(number: u32) -> Id {
     Id::new(number).unwrap_or_default()
@@ -42,7 +42,7 @@ fn at(last: u8) -> Peer {
 // Member 1, which knows members 2 and 3, asks so many relays, and has a timeout of one tick and a period of three.
 fn opening(k: u32) -> Result<Opening, Fail> {
     let rows = [(id(2), at(2)), (id(3), at(3))];
-    Ok(Opening::check(id(1), k, 1, 3, &rows, 0).map_err(|_| "an opening")?)
+    Ok(Opening::check(id(1), k, 1, 3, &rows, 0, Version::One).map_err(|_| "an opening")?)
 }
 
 // It leaves each order as it is, and takes each last place.
@@ -146,10 +146,12 @@ fn close<N: Naming, C: Chooser, R: Wait + Copy + Drop>(
 // A message of a member, about its own probe.
 fn message(kind: Kind, initiator: u32, target: u32, number: u64) -> Message {
     Message {
+        version: Version::One,
         kind,
         sender: id(if kind == Kind::Ack { target } else { initiator }),
         initiator: id(initiator),
         target: id(target),
         number: PeriodNumber::new(number).unwrap_or_default(),
+        at: None,
     }
 }

@@ -1,5 +1,5 @@
 -- DueRequests that are due at counts of ticks, as the requests that they are.
-use Rattle.std.specs.Prelude.{◌≡◌, ℕ, ◌+◌, ◌-◌, ◌%◌, ◌^◌, ◌<◌, ◌≤◌, Bool, true, false, ◌||◌, ◌==◌, not, nat_lt, List, [], ◌∷◌, ◌++◌, length, remove, drop, position, find, Some, None, is_some, zero, suc}
+use Rattle.std.specs.Prelude.{◌≡◌, ℕ, ◌+◌, ◌-◌, ◌%◌, ◌^◌, ◌<◌, ◌≤◌, Bool, true, false, ◌||◌, ◌==◌, not, nat_lt, List, [], ◌∷◌, ◌++◌, length, remove, drop, position, find, Option, Some, None, is_some, zero, suc}
 use Rattle.std.specs.List.{AllByRecursion, list_any, prefix_len, position_or_len}
 use Rattle.std.specs.List.Sorted.{IsNonDecreasingBy}
 use Rattle.std.specs.Option.{option_map}
@@ -8,9 +8,10 @@ use Rattle.std.proofs.lemmas.List.{length-map, map-append}
 use Rattle.std.proofs.lemmas.Bool.{or_parts, eqb-true, eqb-false, lt-ltb}
 use Rattle.std.proofs.lemmas.Bool.Decides.{nat_tests}
 use Rattle.swim_wire.specs.declared.messages.Key.{Key}
+use Rattle.swim_wire.specs.declared.messages.Version.{Version}
 use Rattle.swim_wire.specs.Address.{Address}
 use Rattle.swim_wire.specs.Probe.{same_key}
-use Rattle.swim_wire.specs.Requests.{Request, waits, forget, peer_for, one_less, aged}
+use Rattle.swim_wire.specs.Requests.{Request, waits, forget, asker_for, one_less, aged}
 use Rattle.swim_wire.specs.RequestLaws.{forget_none}
 use Rattle.swim_relays.specs.declared.waiting.DueRequest.{DueRequest}
 use Rattle.swim_relays.specs.Waiting.{waits_twice}
@@ -95,22 +96,26 @@ pub forget_at : (count : ℕ) (key : Key) (es : List DueRequest) (place : ℕ) �
     → requests_at count (remove es place) ≡ forget key (requests_at count es)
 forget_at count key es place at once = rw (found (λ entry. same_key entry.key key) es place at) (first_gone count key es once)
 
-first_peer : (count : ℕ) (key : Key) (es : List DueRequest) (x : DueRequest) → waits key (requests_at count es) ≡ true
-    → x ≡ get_or es (position_or_len (λ entry. same_key entry.key key) es) x → Some x.peer ≡ peer_for key (requests_at count es)
-first_peer count key [] x there is = absurd cc
-first_peer count key (e ∷ es) x there is = by (same_key e.key key) there is (first_peer count key es x) where
+-- whom an entry names, and in which version
+abbrev asker_in : DueRequest → Option (Address × Version)
+asker_in entry = Some (entry.peer, entry.version)
+
+first_asker : (count : ℕ) (key : Key) (es : List DueRequest) (x : DueRequest) → waits key (requests_at count es) ≡ true
+    → x ≡ get_or es (position_or_len (λ entry. same_key entry.key key) es) x → asker_in x ≡ asker_for key (requests_at count es)
+first_asker count key [] x there is = absurd cc
+first_asker count key (e ∷ es) x there is = by (same_key e.key key) there is (first_asker count key es x) where
   by : (b : Bool) → (b || waits key (requests_at count es)) ≡ true → x ≡ get_or (e ∷ es) (cond (not b) (1 + position_or_len (λ entry. same_key entry.key key) es) 0) x
-      → (waits key (requests_at count es) ≡ true → x ≡ get_or es (position_or_len (λ entry. same_key entry.key key) es) x → Some x.peer ≡ peer_for key (requests_at count es))
-      → Some x.peer ≡ option_map (λ (request : Request). request.peer) (cond b (Some (request_at count e)) (find (λ request. same_key request.key key) (requests_at count es)))
-  by true there is again = ap (λ (entry : DueRequest). Some entry.peer) is
+      → (waits key (requests_at count es) ≡ true → x ≡ get_or es (position_or_len (λ entry. same_key entry.key key) es) x → asker_in x ≡ asker_for key (requests_at count es))
+      → asker_in x ≡ option_map (λ (request : Request). (request.peer, request.version)) (cond b (Some (request_at count e)) (find (λ request. same_key request.key key) (requests_at count es)))
+  by true there is again = ap asker_in is
   by false there is again =
       let is_suc : 1 + position_or_len (λ (entry : DueRequest). same_key entry.key key) es ≡ suc (position_or_len (λ (entry : DueRequest). same_key entry.key key) es) = omega arith in
       again there (rw is_suc at is)
 
-pub peer_at : (count : ℕ) (key : Key) (es : List DueRequest) (place : ℕ) (x : DueRequest) → Some place ≡ position (λ entry. same_key entry.key key) es → x ≡ get_or es place x
-    → Some x.peer ≡ peer_for key (requests_at count es)
-peer_at count key es place x at is =
-    first_peer count key es x (sym (waits_at count key es) ∙ sym (ap is_some at)) (rw (found (λ entry. same_key entry.key key) es place at) at is)
+pub asker_at : (count : ℕ) (key : Key) (es : List DueRequest) (place : ℕ) (x : DueRequest) → Some place ≡ position (λ entry. same_key entry.key key) es → x ≡ get_or es place x
+    → asker_in x ≡ asker_for key (requests_at count es)
+asker_at count key es place x at is =
+    first_asker count key es x (sym (waits_at count key es) ∙ sym (ap is_some at)) (rw (found (λ entry. same_key entry.key key) es place at) at is)
 
 all_removed : {X : Type 0} (P : X → Type 0) (xs : List X) (place : ℕ) → AllByRecursion P xs → AllByRecursion P (remove xs place)
 all_removed P [] zero all = tt
@@ -126,24 +131,24 @@ takes key period count es place at kept = record {
 
 -- ---- one more request
 
-abbrev asked : Key → Address → ℕ → ℕ → DueRequest
-asked key peer period count = record { key = key; peer = peer; due = (count + period) % 2 ^ 32 }
+abbrev asked : Key → Address → Version → ℕ → ℕ → DueRequest
+asked key peer version period count = record { key = key; peer = peer; version = version; due = (count + period) % 2 ^ 32 }
 
 -- there is room for it
 pub room_left : (key : Key) (rs : List Request) (count : ℕ) (es : List DueRequest) → requests_at count es ≡ forget key rs → (waits key rs || nat_lt (length rs) 64) ≡ true → length rs ≤ 64 → length es < 64
 room_left key rs count es left room most = omega (arith, length-map es (request_at count), ap length left, room_after key rs room most)
 
-pub asked_at : (key : Key) (peer : Address) (period count : ℕ) (es : List DueRequest) → AreKept period count es
-    → requests_at count (es ++ asked key peer period count ∷ []) ≡ requests_at count es ++ record { key = key; peer = peer; left = period } ∷ []
-asked_at key peer period count es kept =
-    map-append (request_at count) es (asked key peer period count ∷ [])
-    ∙ ap (λ left. requests_at count es ++ record { key = key; peer = peer; left = left } ∷ []) (ticks_to_sum count period kept.waiting.count (omega (arith, kept.waiting.period.1)))
+pub asked_at : (key : Key) (peer : Address) (version : Version) (period count : ℕ) (es : List DueRequest) → AreKept period count es
+    → requests_at count (es ++ asked key peer version period count ∷ []) ≡ requests_at count es ++ record { key = key; peer = peer; version = version; left = period } ∷ []
+asked_at key peer version period count es kept =
+    map-append (request_at count) es (asked key peer version period count ∷ [])
+    ∙ ap (λ left. requests_at count es ++ record { key = key; peer = peer; version = version; left = left } ∷ []) (ticks_to_sum count period kept.waiting.count (omega (arith, kept.waiting.period.1)))
 
-pub pushes : (key : Key) (peer : Address) (period count : ℕ) (es : List DueRequest) → AreKept period count es → waits key (requests_at count es) ≡ false → length es < 64
-    → AreKept period count (es ++ asked key peer period count ∷ [])
-pushes key peer period count es kept none room = record {
-  waiting = rw (asked_at key peer period count es kept) (asks key peer period count (requests_at count es) kept.waiting none (omega (arith, length-map es (request_at count), room)));
-  due = all_push (λ entry. entry.due < 2 ^ 32) es (asked key peer period count) kept.due (omega arith);
+pub pushes : (key : Key) (peer : Address) (version : Version) (period count : ℕ) (es : List DueRequest) → AreKept period count es → waits key (requests_at count es) ≡ false → length es < 64
+    → AreKept period count (es ++ asked key peer version period count ∷ [])
+pushes key peer version period count es kept none room = record {
+  waiting = rw (asked_at key peer version period count es kept) (asks key peer version period count (requests_at count es) kept.waiting none (omega (arith, length-map es (request_at count), room)));
+  due = all_push (λ entry. entry.due < 2 ^ 32) es (asked key peer version period count) kept.due (omega arith);
 }
 
 -- ---- a tick

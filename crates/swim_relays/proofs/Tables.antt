@@ -9,9 +9,10 @@ use Rattle.std.proofs.lemmas.List.Folds.{list_any-append}
 use Rattle.std.proofs.lemmas.List.Kept.{IsNonDecreasingBy-filter}
 use Rattle.std.proofs.lemmas.List.Sorted.{IsNonDecreasingBy-push}
 use Rattle.swim_wire.specs.declared.messages.Key.{Key}
+use Rattle.swim_wire.specs.declared.messages.Version.{Version}
 use Rattle.swim_wire.specs.Address.{Address}
 use Rattle.swim_wire.specs.Probe.{same_key}
-use Rattle.swim_wire.specs.Requests.{Request, waits, forget, peer_for, one_less, aged}
+use Rattle.swim_wire.specs.Requests.{Request, waits, forget, asker_for, one_less, aged}
 use Rattle.swim_relays.specs.Waiting.{waits_twice, AreWaiting}
 
 -- ---- keys
@@ -34,11 +35,11 @@ other_key a b e = false_from_ne_true (same_key b a) (λ same. both_ways (same_ke
 
 -- ---- one request taken out
 
-pub peer_none : (key : Key) (rs : List Request) → waits key rs ≡ false → None ≡ peer_for key rs
-peer_none key [] none = refl
-peer_none key (r ∷ rs) none =
+pub asker_none : (key : Key) (rs : List Request) → waits key rs ≡ false → None ≡ asker_for key rs
+asker_none key [] none = refl
+asker_none key (r ∷ rs) none =
     let parts = or_parts (same_key r.key key) (waits key rs) none in
-    rw parts.0 (peer_none key rs parts.1)
+    rw parts.0 (asker_none key rs parts.1)
 
 -- ---- what stays true
 
@@ -131,10 +132,10 @@ forgets key period count rs kept = record {
 }
 
 -- and with a new one of it
-pub asks : (key : Key) (peer : Address) (period count : ℕ) (rs : List Request) → AreWaiting (record { period = period; count = count; waiting = rs }) → waits key rs ≡ false → length rs < 64
-    → AreWaiting (record { period = period; count = count; waiting = rs ++ record { key = key; peer = peer; left = period } ∷ [] })
-asks key peer period count rs kept none room =
-    let new : Request = record { key = key; peer = peer; left = period } in
+pub asks : (key : Key) (peer : Address) (version : Version) (period count : ℕ) (rs : List Request) → AreWaiting (record { period = period; count = count; waiting = rs }) → waits key rs ≡ false → length rs < 64
+    → AreWaiting (record { period = period; count = count; waiting = rs ++ record { key = key; peer = peer; version = version; left = period } ∷ [] })
+asks key peer version period count rs kept none room =
+    let new : Request = record { key = key; peer = peer; version = version; left = period } in
     let fits : Request → Type 0 = λ request. (1 ≤ request.left) × (request.left ≤ period) in
     record {
       period = kept.period;

@@ -11,7 +11,8 @@ ticks_to count due = (due + 2 ^ 32 - count) % 2 ^ 32
 
 -- what an entry is at that count
 abbrev pub request_at : ℕ → DueRequest → Request
-request_at count entry = record { key = entry.key; peer = entry.peer; left = ticks_to count entry.due }
+request_at count entry =
+    record { key = entry.key; peer = entry.peer; version = entry.version; left = ticks_to count entry.due }
 
 abbrev pub requests_at : ℕ → List DueRequest → List Request
 requests_at count entries = map (request_at count) entries

@@ -3,12 +3,12 @@
 ghost use Rattle.std.specs.Prelude.{◌≡◌, ◌==◌, ◌||◌, nat_lt, ◌↔◌, ◌≤◌, ◌+◌, ◌%◌, ◌^◌, [], ◌∷◌, ◌++◌, length, false};
 ghost use Rattle.std.specs.Prelude.{IsErr, OnOk, OnErr, slice_get};
 ghost use Rattle.std.specs.Option.{option_map};
-ghost use Rattle.swim_wire.specs.Requests.{waits, forget, peer_for, aged};
+ghost use Rattle.swim_wire.specs.Requests.{waits, forget, asker_for, aged};
 ghost use Rattle.swim_relays.specs.Waiting.{AreWaiting};
 
 use crate::waiting::{DueRequest, DueRequests, MOST_WAITING, expire, place_of};
 use std::marker::Model;
-use swim_wire::{Key, Peer};
+use swim_wire::{Key, Peer, Version};
 use thiserror::Error;
 
 /// 64 requests wait, and none of them is of this probe.
@@ -63,11 +63,11 @@ impl Relays {
         }
     }
 
-    /// A member asks for an ack of that probe. Its request is the last, with a whole period left, and
+    /// A member asks for an ack of that probe, in that version. Its request is the last, with a whole period left, and
     /// takes the place of one of the same probe. An `Err` changes nothing.
-    pub fn ask(&mut self, key: Key, peer: Peer) -> Result<(), TableFull>
+    pub fn ask(&mut self, key: Key, peer: Peer, version: Version) -> Result<(), TableFull>
         ensures ok { OnOk result (self.new ≡ record self.old {
-          waiting = forget key self.old.waiting ++ record { key = key; peer = peer; left = self.old.period } ∷ [];
+          waiting = forget key self.old.waiting ++ record { key = key; peer = peer; version = version; left = self.old.period } ∷ [];
         }) }
         ensures full { IsErr result
             ↔ ((waits key self.old.waiting ≡ false) × (length self.old.waiting ≡ MOST_WAITING)) }
@@ -81,6 +81,7 @@ impl Relays {
         self.entries.push(DueRequest {
             key,
             peer,
+            version,
             due: self.count.wrapping_add(self.period),
         });
         Ok(())
@@ -94,23 +95,24 @@ impl Relays {
         self.waits(key) || !self.entries.is_full()
     }
 
-    /// An ack of that probe came: who is to get it, if anyone asked. The request waits no more.
-    pub fn answer(&mut self, key: &Key) -> Option<Peer>
-        ensures peer { result ≡ peer_for key.now self.old.waiting }
+    /// An ack of that probe came: who is to get it, and in which version, if anyone asked. The request waits no more.
+    pub fn answer(&mut self, key: &Key) -> Option<(Peer, Version)>
+        ensures asker { result ≡ asker_for key.now self.old.waiting }
         ensures waiting { self.new ≡ record self.old { waiting = forget key.now self.old.waiting } }
         ensures kept { AreWaiting self.new }
     {
         self.take(key)
     }
 
-    // Takes the request of that probe out, and answers who is to get the ack.
-    fn take(&mut self, key: &Key) -> Option<Peer>
-        ensures peer { result ≡ peer_for key.now self.old.waiting }
+    // Takes the request of that probe out, and answers who is to get the ack, and in which version.
+    fn take(&mut self, key: &Key) -> Option<(Peer, Version)>
+        ensures asker { result ≡ asker_for key.now self.old.waiting }
         ensures waiting { self.new ≡ record self.old { waiting = forget key.now self.old.waiting } }
         ensures kept { AreWaiting self.new }
     {
         let place = place_of(self.entries.as_slice(), key)?;
-        Some(self.entries.remove(place).peer)
+        let request = self.entries.remove(place);
+        Some((request.peer, request.version))
     }
 
     /// A tick passes and is counted: each request has one tick less, and one that has none left is forgotten.

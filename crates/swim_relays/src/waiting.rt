@@ -5,13 +5,14 @@ ghost use Rattle.std.specs.List.{prefix_len};
 ghost use Rattle.swim_wire.specs.Probe.{same_key};
 
 use arrayvec::ArrayVec;
-use swim_wire::{Key, Peer};
+use swim_wire::{Key, Peer, Version};
 
-/// A request: the probe, who is to get the ack, and the count of ticks at which it waits no more.
+/// A request: the probe, who is to get the ack, in which version, and the count of ticks at which it waits no more.
 #[derive(Clone, Copy)]
 pub(crate) struct DueRequest {
     pub(crate) key: Key,
     pub(crate) peer: Peer,
+    pub(crate) version: Version,
     pub(crate) due: u32,
 }
 
@@ -21,6 +22,7 @@ impl Default for DueRequest {
         DueRequest {
             key: Key::default(),
             peer: Peer::default(),
+            version: Version::default(),
             due: 0,
         }
     }

@@ -155,6 +155,7 @@ calm_call (commands.Open arguments) call run asks = tt
 calm_call (commands.Row row) call run asks = tt
 calm_call (commands.Order order) call run asks = tt
 calm_call (commands.Place place) call run asks = tt
+calm_call (commands.Wire version) call run asks = tt
 calm_call (commands.Seed key life) call run asks = tt
 calm_call commands.Tick call run asks = tt
 calm_call (commands.Hear peer datagram) call run asks = tt

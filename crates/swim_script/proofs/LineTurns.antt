@@ -1,4 +1,5 @@
 -- What a line does to a session, whatever it says.
+use Rattle.std.specs.Prelude.{is_some}
 use Rattle.std.proofs.Common.{◌≡◌, ℕ, ◌+◌, ◌≤◌, cond, Bool, true, false, List, [], ◌∷◌, length, Option, Some, None, Result, Ok, Err, refl, sym, ap, subst, ◌∙◌, inl, inr, arith, append-nil}
 use Rattle.std.specs.Io.KnownBytes.{Keeps}
 use Rattle.swim_wire.specs.Streams.{appends_none}
@@ -11,7 +12,7 @@ use Rattle.swim_detector.specs.Recording.{Recording}
 use Rattle.swim_script.specs.declared.arguments.Opened.{Opened}
 use Rattle.swim_script.specs.declared.choosers.Drawer.{Drawer}
 use Rattle.swim_script.specs.declared.commands.Command.{Command}
-use Rattle.swim_script.specs.declared.commands.Command.TheVariants.{Open, Row as RowLine, Order, Place, Seed, Tick, Hear, Join, Remove, Table, Gap, Answer}
+use Rattle.swim_script.specs.declared.commands.Command.TheVariants.{Open, Row as RowLine, Order, Place, Seed, Wire, Tick, Hear, Join, Remove, Table, Gap, Answer}
 use Rattle.swim_script.specs.declared.commands.Draws.{Draws}
 use Rattle.swim_script.specs.declared.commands.LineFault.TheVariants as faults
 use Rattle.swim_script.specs.declared.commands.Stage.TheVariants.{Blank, Events}
@@ -35,9 +36,9 @@ no_event_yet header None word late stands = refl
 no_event_yet header (Some a) word late stands = absurd (cc (late, stands))
 
 -- an opening stands before an event line, so its fault is its own
-opened_at_event : (opened : Option Opened) (draws : Draws) (word : Word) (fault : Option ScriptFault) → fault_of_word Blank word ≡ Some faults.Word → fault_of_word (stage_with opened draws) word ≡ None → fault ≡ fault_with opened fault
-opened_at_event None draws word fault early stands = absurd (cc (early, stands))
-opened_at_event (Some opened) draws word fault early stands = refl
+opened_at_event : (opened : Option Opened) (draws : Draws) (wired : Bool) (word : Word) (fault : Option ScriptFault) → fault_of_word Blank word ≡ Some faults.Word → fault_of_word (stage_with opened draws wired) word ≡ None → fault ≡ fault_with opened fault
+opened_at_event None draws wired word fault early stands = absurd (cc (early, stands))
+opened_at_event (Some opened) draws wired word fault early stands = refl
 
 -- the opening is refused at the first event line
 refused_at_event : (turns : List Turn) (run : List Entry) (text : List ℕ) (header : Told) (recorded : Option (Recording Drawer)) (command : Command) (fault : ScriptFault) →
@@ -48,7 +49,7 @@ refused_at_event turns run text header None command fault event early stands p n
     let told = (head_of (lines_of turns)).told in
     let before : stage_of (head_of (lines_of turns)) ≡ stage_told told = rw p.begun refl in
     let opening : fault_of_command (head_of (lines_of turns)) command ≡ fault_of_opening told = rw (p.begun, event) refl in
-    opening ∙ opened_at_event told.opened (draws_with told.orders told.places told.seed) (word_for command) (fault_of_opening told) early (rw (← before) stands)
+    opening ∙ opened_at_event told.opened (draws_with told.orders told.places told.seed) (is_some told.wire) (word_for command) (fault_of_opening told) early (rw (← before) stands)
     ∙ sym (fault_of_kept told) ∙ ap fault_of_header (sym p.told) ∙ found
 
 -- the session stopped at an event line
@@ -142,12 +143,12 @@ gap_turn turns run text piece s new id before after (Err fault) read stands h d 
 -- ---- lines that tell of answers
 
 -- a recorder is open
-recorded_by : (opened : Option Opened) (draws : Draws) → fault_of_word (stage_with opened draws) words.Answer ≡ None → ⊥
-recorded_by None draws stands = absurd cc
-recorded_by (Some opened) draws stands = absurd cc
+recorded_by : (opened : Option Opened) (draws : Draws) (wired : Bool) → fault_of_word (stage_with opened draws wired) words.Answer ≡ None → ⊥
+recorded_by None draws wired stands = absurd cc
+recorded_by (Some opened) draws wired stands = absurd cc
 
 begun_by : (turns : List Turn) (run : List Entry) (text : List ℕ) (header : Told) (recorded : Option (Recording Drawer)) → fault_of_word (stage_in header recorded) words.Answer ≡ None → Plays turns run text header recorded → (head_of (lines_of turns)).begun ≡ true
-begun_by turns run text header None stands p = absurd (recorded_by header.opened (draws_with header.orders header.places header.seed) stands)
+begun_by turns run text header None stands p = absurd (recorded_by header.opened (draws_with header.orders header.places header.seed) (is_some header.wire) stands)
 begun_by turns run text header (Some a) stands p = p.0
 
 confirmed_by : (turns : List Turn) (run : List Entry) (text piece told : List ℕ) (header : Told) (recorded : Option (Recording Drawer)) → read_after (lines_of turns) piece ≡ Ok (Some (Answer told)) →
@@ -160,7 +161,7 @@ confirmed_by turns run text piece told header (Some a) read tells p =
     )
 
 contrary_by : (turns : List Turn) (run : List Entry) (text told : List ℕ) (header : Told) (recorded : Option (Recording Drawer)) → fault_of_word (stage_in header recorded) words.Answer ≡ None → TellsOther recorded told → Plays turns run text header recorded → IsContrary (Some (Answer told)) run
-contrary_by turns run text told header None stands other p = absurd (recorded_by header.opened (draws_with header.orders header.places header.seed) stands)
+contrary_by turns run text told header None stands other p = absurd (recorded_by header.opened (draws_with header.orders header.places header.seed) (is_some header.wire) stands)
 contrary_by turns run text told header (Some a) stands other p = λ same. other (ap newest_text p.1.past ∙ same)
 
 answer_turn : (turns : List Turn) (run : List Entry) (text piece told : List ℕ) (s new : Played) (before after : Option (List ℕ)) (result : Result (Unit {0}) ScriptFault) →
@@ -205,6 +206,10 @@ turned_by turns run text piece s new (Seed key life) before after (Ok done) read
     noted_turn turns run text piece s new (told_then (s.lines + 1) (Seed key life) s.header) (Seed key life) before after read refl refl tt refl stands
     (λ t is. ap (told_then (s.lines + 1) (Seed key life)) is) (λ within. omega (arith, within)) h d
 turned_by turns run text piece s new (Seed key life) before after (Err fault) read stands h d = absurd d
+turned_by turns run text piece s new (Wire version) before after (Ok done) read stands h d =
+    noted_turn turns run text piece s new (told_then (s.lines + 1) (Wire version) s.header) (Wire version) before after read refl refl tt refl stands
+    (λ t is. ap (told_then (s.lines + 1) (Wire version)) is) (λ within. omega (arith, within)) h d
+turned_by turns run text piece s new (Wire version) before after (Err fault) read stands h d = absurd d
 turned_by turns run text piece s new Tick before after result read stands h d = calls_turn turns run text piece s new Tick calls.Tick before after result read refl refl refl refl stands h d
 turned_by turns run text piece s new (Hear source (Ok message)) before after result read stands h d =
     calls_turn turns run text piece s new (Hear source (Ok message)) (calls.Hear message source) before after result read refl refl refl refl stands h d

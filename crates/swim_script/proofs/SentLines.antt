@@ -3,7 +3,9 @@ use Rattle.std.proofs.Common.{◌≡◌, ℕ, ◌<◌, List, [], ◌∷◌, ◌+
 use Rattle.std.proofs.lemmas.Bool.{ne_eqb}
 use Rattle.swim_wire.specs.Address.{Address}
 use Rattle.swim_wire.specs.declared.messages.Kind.{Kind}
-use Rattle.swim_wire.specs.declared.messages.Message.{Message}
+use Rattle.swim_wire.specs.Messages.{Message}
+use Rattle.swim_history.specs.Setting.{Setting}
+use Rattle.swim_history.specs.declared.replies.Probe.{Probe}
 use Rattle.swim_history.specs.declared.replies.Relay.{Relay}
 use Rattle.swim_history.specs.Sends.{own, to_each}
 use Rattle.swim_script.specs.Texts.{datagram_text, line_text, lines_text, sends_text}
@@ -18,7 +20,7 @@ lines_of_each message [] = refl
 lines_of_each message (relay ∷ to) = ap (λ (more : List ℕ). line_text relay.peer (datagram_text message) ++ more) (lines_of_each message to)
 
 -- that of a probe in a period with a number
-pub lines_of_own : (kind : Kind) (me target number : ℕ) (to : List Relay) → 0 < number →
-    lines_text to (datagram_text (own kind me target number)) ≡ sends_text (to_each kind me target number (map (λ relay. relay.peer) to))
-lines_of_own kind me target number to numbered =
-    rw (ne_eqb number 0 (λ none. omega (arith, none, numbered))) (lines_of_each (own kind me target number) to)
+pub lines_of_own : (o : Setting) (kind : Kind) (probe : Probe) (to : List Relay) → 0 < probe.number →
+    lines_text to (datagram_text (own o kind probe)) ≡ sends_text (to_each o kind probe (map (λ relay. relay.peer) to))
+lines_of_own o kind probe to numbered =
+    rw (ne_eqb probe.number 0 (λ none. omega (arith, none, numbered))) (lines_of_each (own o kind probe) to)

@@ -8,9 +8,9 @@ use Rattle.swim_script.specs.declared.commands.Word.{Word}
 use Rattle.swim_script.specs.declared.forms.Form.{Form}
 use Rattle.swim_script.specs.declared.commands.Word.TheVariants as words
 use Rattle.swim_script.specs.declared.commands.Command.{Command}
-use Rattle.swim_script.specs.declared.commands.Command.TheVariants.{Open, Row as RowLine, Order, Place, Seed, Tick, Hear, Join, Remove, Table, Gap}
+use Rattle.swim_script.specs.declared.commands.Command.TheVariants.{Open, Row as RowLine, Order, Place, Seed, Wire, Tick, Hear, Join, Remove, Table, Gap}
 use Rattle.swim_wire.specs.Arguments.{◌>>=◌}
-use Rattle.swim_script.specs.Arguments.{take_id, take_number, take_peer, take_order, take_seed, take_life, take_state, take_datagram, open_arguments}
+use Rattle.swim_script.specs.Arguments.{take_version, take_id, take_number, take_peer, take_order, take_seed, take_life, take_state, take_datagram, open_arguments}
 use Rattle.swim_script.specs.Commands.{alone, command_after, word_of, fault_of_word, word_read, known_read, words_read, said_by, is_skipped, answer_in, answer_read, unskipped_read, line_read, word_for, LineStandsAt}
 
 -- the value of a step that did not fail
@@ -60,6 +60,9 @@ word_after form words.Join after command e =
 word_after form words.Remove after command e =
     let id = bind_ok (take_id after) (λ i. alone (Remove i.0) i.1) command e in
     word_alone (Remove id.0.0) command id.0.1 id.2
+word_after form words.Wire after command e =
+    let version = bind_ok (take_version after) (λ i. alone (Wire i.0) i.1) command e in
+    word_alone (Wire version.0.0) command version.0.1 version.2
 word_after form words.Table after command e = word_alone Table command after e
 word_after form words.Gap after command e =
     let id = bind_ok (take_id after) (λ i. alone (Gap i.0) i.1) command e in
@@ -81,7 +84,7 @@ words_stand form stage (word ∷ after) = by (word_of word)
 
 answer_stands : (stage : Stage) (text : List ℕ) → LineStandsAt stage (answer_read stage text)
 answer_stands Blank text = tt
-answer_stands (Header draws) text = tt
+answer_stands (Header draws wired) text = tt
 answer_stands Events text = refl
 
 unskipped_stands : (form : Form) (stage : Stage) (line : List ℕ) (answer : Option (List ℕ)) → LineStandsAt stage (unskipped_read form stage line answer)

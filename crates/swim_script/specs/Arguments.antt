@@ -1,6 +1,6 @@
 -- What the arguments of a line say.
 use Rattle.std.specs.Prelude.{ℕ, nat_lt, List, [], ◌∷◌, length, Option, Some, None, Result, Ok, Err, if◌then◌else◌}
-use Rattle.std.specs.Prelude.{option_and_then, codes}
+use Rattle.std.specs.Prelude.{option_and_then, codes, ◌==◌}
 use Rattle.std.specs.Option.{option_map}
 use Rattle.std.specs.Str.{bytes_eq}
 use Rattle.std.specs.Result.{result_ok}
@@ -11,8 +11,10 @@ use Rattle.swim_wire.specs.Arguments.{◌>>=◌, argument}
 use Rattle.swim_wire.specs.Numbers.{number_of, id_of}
 use Rattle.swim_wire.specs.Layout.{decoded}
 use Rattle.swim_wire.specs.Words.{words_by}
-use Rattle.swim_wire.specs.declared.messages.Message.{Message}
+use Rattle.swim_wire.specs.Messages.{Message}
 use Rattle.swim_wire.specs.declared.codec.WireFault.{WireFault}
+use Rattle.swim_wire.specs.declared.messages.Version.{Version}
+use Rattle.swim_wire.specs.declared.messages.Version.TheVariants.{One, Two}
 use Rattle.swim_history.specs.declared.rows.RowState.{RowState}
 use Rattle.swim_history.specs.declared.rows.RowState.TheVariants.{Up, Failed}
 use Rattle.swim_script.specs.declared.commands.LineFault.{LineFault}
@@ -63,6 +65,14 @@ take_datagram = argument Hex datagram_of
 
 abbrev pub take_seed : List (List ℕ) → Result (List ℕ × List (List ℕ)) LineFault
 take_seed = argument Hex seed_of
+
+-- the version of that number
+abbrev pub version_of : ℕ → Option Version
+version_of number = if number == 1 then Some One else (if number == 2 then Some Two else None)
+
+-- a version, by its number
+abbrev pub take_version : List (List ℕ) → Result (Version × List (List ℕ)) LineFault
+take_version = argument Number (λ text. option_and_then version_of (number_of 2 text))
 
 -- the life of a detector that a seed is followed in: a journal file may tell it, and 0 where none is told
 abbrev pub take_life : Form → List (List ℕ) → Result (ℕ × List (List ℕ)) LineFault

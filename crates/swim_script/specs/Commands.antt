@@ -12,10 +12,10 @@ use Rattle.swim_script.specs.declared.commands.Stage.TheVariants.{Blank, Header,
 use Rattle.swim_script.specs.declared.commands.Word.{Word}
 use Rattle.swim_script.specs.declared.commands.Word.TheVariants as words
 use Rattle.swim_script.specs.declared.commands.Command.{Command}
-use Rattle.swim_script.specs.declared.commands.Command.TheVariants.{Open, Row as RowLine, Order, Place, Seed, Tick, Hear, Join}
+use Rattle.swim_script.specs.declared.commands.Command.TheVariants.{Open, Row as RowLine, Order, Place, Seed, Wire, Tick, Hear, Join}
 use Rattle.swim_script.specs.declared.commands.Command.TheVariants.{Remove, Table, Gap, Answer}
 use Rattle.swim_script.specs.Arguments.{take_id, take_number, take_peer, take_order, take_seed, take_life, take_state, take_datagram}
-use Rattle.swim_script.specs.Arguments.{open_arguments}
+use Rattle.swim_script.specs.Arguments.{open_arguments, take_version}
 use Rattle.swim_script.specs.declared.forms.Form.{Form}
 use Rattle.swim_script.specs.declared.forms.Form.TheVariants.{Script, Journal}
 
@@ -42,23 +42,26 @@ word_of text =
     else (if bytes_eq text (codes "order") then Some words.Order
     else (if bytes_eq text (codes "place") then Some words.Place
     else (if bytes_eq text (codes "seed") then Some words.Seed
-    else (if bytes_eq text (codes "open") then Some words.Open else None))))))))))
+    else (if bytes_eq text (codes "wire") then Some words.Wire
+    else (if bytes_eq text (codes "open") then Some words.Open else None)))))))))))
 
 -- why a word can't stand at that stage, if it can't: the opening stands first and once, header lines stand
--- before event lines, and a seed stands once, with no order and no place
+-- before event lines, a seed stands once, with no order and no place, and a version once
 abbrev pub fault_of_word : Stage → Word → Option LineFault
 fault_of_word Blank words.Open = None
 fault_of_word Blank word = Some faults.Word
 fault_of_word stage words.Open = Some faults.Word
-fault_of_word (Header draws) words.Answer = Some faults.Word
+fault_of_word (Header draws wired) words.Answer = Some faults.Word
 fault_of_word Events words.Row = Some faults.Word
 fault_of_word Events words.Order = Some faults.Word
 fault_of_word Events words.Place = Some faults.Word
 fault_of_word Events words.Seed = Some faults.Word
-fault_of_word (Header Scripted) words.Seed = Some faults.Seed
-fault_of_word (Header Seeded) words.Seed = Some faults.Seed
-fault_of_word (Header Seeded) words.Order = Some faults.Seed
-fault_of_word (Header Seeded) words.Place = Some faults.Seed
+fault_of_word Events words.Wire = Some faults.Word
+fault_of_word (Header draws true) words.Wire = Some faults.Word
+fault_of_word (Header Scripted wired) words.Seed = Some faults.Seed
+fault_of_word (Header Seeded wired) words.Seed = Some faults.Seed
+fault_of_word (Header Seeded wired) words.Order = Some faults.Seed
+fault_of_word (Header Seeded wired) words.Place = Some faults.Seed
 fault_of_word stage word = None
 
 -- the command, where no words are left over
@@ -85,6 +88,9 @@ command_after form words.Seed given = do
   seed ← take_seed given
   life ← take_life form seed.1
   alone (Seed seed.0 life.0) life.1
+command_after form words.Wire given = do
+  version ← take_version given
+  alone (Wire version.0) version.1
 command_after form words.Tick given = alone Tick given
 command_after form words.Hear given = do
   peer ← take_peer given
@@ -157,6 +163,7 @@ word_for (RowLine row) = words.Row
 word_for (Order order) = words.Order
 word_for (Place place) = words.Place
 word_for (Seed key life) = words.Seed
+word_for (Wire version) = words.Wire
 word_for Tick = words.Tick
 word_for (Hear peer datagram) = words.Hear
 word_for (Join id peer) = words.Join

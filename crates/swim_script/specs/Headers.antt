@@ -1,8 +1,10 @@
 -- What the lines of a script tell before the first event line. Lines are lists of bytes with their line feeds; a
 -- list of lines is newest first, so that each line stands before the earlier ones.
 use Rattle.std.specs.Prelude.{ℕ, ◌+◌, Bool, true, false, ◌||◌, List, [], ◌∷◌, ◌++◌, length, Option, Some, None, Result}
-use Rattle.std.specs.Prelude.{Ok, Err, if◌then◌else◌}
+use Rattle.std.specs.Prelude.{Ok, Err, if◌then◌else◌, is_some}
 use Rattle.swim_wire.specs.Lines.{bare}
+use Rattle.swim_wire.specs.declared.messages.Version.{Version}
+use Rattle.swim_wire.specs.declared.messages.Version.TheVariants.{One}
 use Rattle.swim_history.specs.Setting.{Setting}
 use Rattle.swim_history.specs.declared.rows.Row.{Row}
 use Rattle.swim_targets.specs.Draws.{of_seed}
@@ -16,21 +18,23 @@ use Rattle.swim_script.specs.declared.commands.Draws.TheVariants.{Unsaid, Script
 use Rattle.swim_script.specs.declared.commands.Stage.{Stage}
 use Rattle.swim_script.specs.declared.commands.Stage.TheVariants.{Blank, Header, Events}
 use Rattle.swim_script.specs.declared.commands.Command.{Command}
-use Rattle.swim_script.specs.declared.commands.Command.TheVariants.{Open, Row as RowLine, Order, Place, Seed, Answer}
+use Rattle.swim_script.specs.declared.commands.Command.TheVariants.{Open, Row as RowLine, Order, Place, Seed, Wire, Answer}
 use Rattle.swim_script.specs.declared.forms.Form.{Form}
 use Rattle.swim_script.specs.Commands.{line_read}
 use Rattle.swim_script.specs.Forms.{is_mark, form_of}
 
--- what header lines tell: the opening, its rows in order, and who chooses; of a seed also the life
+-- what header lines tell: the opening, its rows in order, who chooses, of a seed also the life, and the version of the
+-- member's own pings and ping-reqs
 pub record Told : Type 0 where
   pub opened : Option Opened
   pub rows : List Row
   pub orders : List (List ℕ)
   pub places : List ℕ
   pub seed : Option (List ℕ × ℕ)
+  pub wire : Option Version
 
 abbrev pub nothing_told : Told
-nothing_told = record { opened = None; rows = []; orders = []; places = []; seed = None }
+nothing_told = record { opened = None; rows = []; orders = []; places = []; seed = None; wire = None }
 
 -- after a line that says this; n is its number
 abbrev pub told_then : ℕ → Command → Told → Told
@@ -39,6 +43,7 @@ told_then n (RowLine row) told = record told { rows = told.rows ++ row ∷ [] }
 told_then n (Order order) told = record told { orders = told.orders ++ order.items ∷ [] }
 told_then n (Place place) told = record told { places = told.places ++ place ∷ [] }
 told_then n (Seed key life) told = record told { seed = Some (key, life) }
+told_then n (Wire version) told = record told { wire = Some version }
 told_then n command told = told
 
 -- an event line
@@ -48,6 +53,7 @@ is_event (RowLine row) = false
 is_event (Order order) = false
 is_event (Place place) = false
 is_event (Seed key life) = false
+is_event (Wire version) = false
 is_event (Answer text) = false
 is_event command = true
 
@@ -63,12 +69,13 @@ draws_with [] [] None = Unsaid
 draws_with orders places None = Scripted
 
 -- how far a script has come: an opening stands first, and header lines before event lines
-abbrev pub stage_with : Option Opened → Draws → Stage
-stage_with None draws = Blank
-stage_with (Some opened) draws = Header draws
+abbrev pub stage_with : Option Opened → Draws → Bool → Stage
+stage_with None draws wired = Blank
+stage_with (Some opened) draws wired = Header draws wired
 
 abbrev pub stage_told : Told → Stage
-stage_told told = stage_with told.opened (draws_with told.orders told.places told.seed)
+stage_told told =
+    stage_with told.opened (draws_with told.orders told.places told.seed) (is_some told.wire)
 
 abbrev pub stage_of : Head → Stage
 stage_of head = if head.begun then Events else stage_told head.told
@@ -104,15 +111,29 @@ said before line = command_in (read_after before line)
 -- ---- what follows from it
 
 -- the opening
-abbrev pub setting_by : OpenArguments → List Row → Setting
-setting_by a rows = record { me = a.me; k = a.k; rtt = a.rtt; period = a.period; rows = rows; last = a.last }
+abbrev pub setting_by : OpenArguments → List Row → Version → Setting
+setting_by a rows version = record {
+  me = a.me;
+  k = a.k;
+  rtt = a.rtt;
+  period = a.period;
+  rows = rows;
+  last = a.last;
+  version = version;
+}
 
-abbrev pub setting_with : Option Opened → List Row → Setting
-setting_with None rows = record { me = 0; k = 0; rtt = 0; period = 0; rows = rows; last = 0 }
-setting_with (Some opened) rows = setting_by opened.arguments rows
+abbrev pub setting_with : Option Opened → List Row → Version → Setting
+setting_with None rows version =
+    record { me = 0; k = 0; rtt = 0; period = 0; rows = rows; last = 0; version = version }
+setting_with (Some opened) rows version = setting_by opened.arguments rows version
+
+-- the version that was told, or else the first
+abbrev pub version_with : Option Version → Version
+version_with None = One
+version_with (Some version) = version
 
 abbrev pub setting_in : Told → Setting
-setting_in told = setting_with told.opened told.rows
+setting_in told = setting_with told.opened told.rows (version_with told.wire)
 
 -- how many entries the journal may have
 abbrev pub limit_with : Option Opened → ℕ

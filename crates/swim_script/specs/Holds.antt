@@ -6,7 +6,7 @@ use Rattle.swim_wire.specs.Address.{Address}
 use Rattle.swim_wire.specs.Lines.{pieces}
 use Rattle.swim_wire.specs.Streams.{Puts}
 use Rattle.swim_wire.specs.declared.codec.WireFault.{WireFault}
-use Rattle.swim_wire.specs.declared.messages.Message.{Message}
+use Rattle.swim_wire.specs.Messages.{Message}
 use Rattle.swim_history.specs.declared.calls.Call.{Call}
 use Rattle.swim_history.specs.declared.calls.Call.TheVariants as calls
 use Rattle.swim_history.specs.declared.entries.Entry.{Entry}
@@ -18,7 +18,7 @@ use Rattle.swim_detector.specs.Recording.{Recording, IsKept, Records}
 use Rattle.swim_script.specs.declared.arguments.Opened.{Opened}
 use Rattle.swim_script.specs.declared.choosers.Drawer.{Drawer}
 use Rattle.swim_script.specs.declared.commands.Command.{Command}
-use Rattle.swim_script.specs.declared.commands.Command.TheVariants.{Open, Row as RowLine, Order, Place, Seed, Tick, Hear, Join}
+use Rattle.swim_script.specs.declared.commands.Command.TheVariants.{Open, Row as RowLine, Order, Place, Seed, Wire, Tick, Hear, Join}
 use Rattle.swim_script.specs.declared.commands.Command.TheVariants.{Remove, Table, Gap, Answer}
 use Rattle.swim_script.specs.declared.commands.Stage.{Stage}
 use Rattle.swim_script.specs.declared.commands.Stage.TheVariants.{Events}
@@ -219,6 +219,8 @@ Done old new (Place place) before after result =
     MayNote old new (told_then (old.lines + 1) (Place place) old.header) before after result
 Done old new (Seed key life) before after result =
     Notes old new (told_then (old.lines + 1) (Seed key life) old.header) before after result
+Done old new (Wire version) before after result =
+    Notes old new (told_then (old.lines + 1) (Wire version) old.header) before after result
 Done old new Tick before after result = PlaysLine old new calls.Tick before after result
 Done old new (Hear source read) before after result = HearsLine old new source read before after result
 Done old new (Join id peer) before after result = PlaysLine old new (calls.Join id peer) before after result

@@ -3,7 +3,7 @@ use Rattle.std.specs.Prelude.{ℕ, List, [], ◌∷◌, ◌++◌, length, Option
 use Rattle.hex.specs.Hex.{encode_lower}
 use Rattle.swim_wire.specs.Address.{Address, address_text}
 use Rattle.swim_wire.specs.Layout.{text_of, fault_number}
-use Rattle.swim_wire.specs.declared.messages.Message.{Message}
+use Rattle.swim_wire.specs.Messages.{Message}
 use Rattle.swim_wire.specs.declared.codec.WireFault.{WireFault}
 use Rattle.swim_history.specs.declared.replies.Reply.{Reply}
 use Rattle.swim_history.specs.declared.entries.Entry.{Entry}
@@ -39,7 +39,7 @@ relays_text (relay ∷ relays) = decimal relay.id ++ more_relays_text relays
 abbrev pub reply_text : Reply → List ℕ
 reply_text Quiet = codes "quiet"
 reply_text (Started judged probe) = codes "started judged " ++ (id_text judged ++ (codes " probe " ++ probe_text probe))
-reply_text (Asked target number relays) =
+reply_text (Asked target peer number relays) =
     codes "asked " ++ (decimal target ++ (codes " " ++ (decimal number ++ (codes " by " ++ relays_text relays.items))))
 reply_text Heard = codes "heard"
 reply_text (Send peer message) = codes "sent"

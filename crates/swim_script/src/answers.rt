@@ -7,13 +7,11 @@ ghost use Rattle.swim_history.specs.Sends.{sends_of, to_each};
 ghost use Rattle.swim_history.specs.Texts.{feed};
 ghost use Rattle.swim_script.specs.Texts.{placed_text, answer_text, reply_text, id_text, probe_text, relays_text};
 ghost use Rattle.swim_script.specs.Texts.{more_relays_text};
-ghost use Rattle.swim_script.specs.Texts.{datagram_text, line_text, lines_text, sends_text, wire_text};
+ghost use Rattle.swim_script.specs.Texts.{line_text, lines_text, sends_text, wire_text};
 
-use swim_history::{Opening, Probe, Relay, Reply};
-use swim_wire::{
-    DATAGRAM_BYTES, Id, Kind, Message, Peer, PeriodNumber, Sink, WireFault, encode, put_address,
-    put_number, put_numbered,
-};
+use crate::datagrams::datagram_line;
+use swim_history::{Opening, Probe, Relay, Reply, own_message};
+use swim_wire::{Id, Kind, Peer, Sink, WireFault, put_address, put_number, put_numbered};
 
 /// The lines of a reply: its text, and a line for each message that it sends.
 pub fn put_answer<W: Sink>(writer: &mut W, reply: &Reply, opening: &Opening) -> bool
@@ -81,6 +79,7 @@ fn put_reply<W: Sink>(writer: &mut W, reply: &Reply) -> bool
             target,
             number,
             relays,
+            ..
         } => put_asked(writer, *target, *number, relays.as_slice()),
         Reply::Heard => writer.put(b"heard"),
         Reply::Send { .. } => writer.put(b"sent"),
@@ -231,7 +230,6 @@ fn put_sends<W: Sink>(writer: &mut W, reply: &Reply, opening: &Opening) -> bool
         (sends_text (sends_of reply.now opening.now)) result }
     ensures failures { W.failures writer.new ≡ failures_if (W.failures writer.old) result }
 {
-    let me = opening.me();
     match reply {
         Reply::Started {
             probe: Some(probe),
@@ -241,21 +239,22 @@ fn put_sends<W: Sink>(writer: &mut W, reply: &Reply, opening: &Opening) -> bool
                 id: probe.target,
                 peer: probe.peer,
             };
-            put_own(writer, Kind::Ping, me, probe.target, probe.number, &[to])
+            put_own(writer, opening, Kind::Ping, probe, &[to])
         }
         Reply::Asked {
             target,
+            peer,
             number,
             relays,
-        } => put_own(
-            writer,
-            Kind::PingReq,
-            me,
-            *target,
-            *number,
-            relays.as_slice(),
-        ),
-        Reply::Send { peer, message } => put_line(writer, peer, &datagram_of(message)),
+        } => {
+            let probe = Probe {
+                target: *target,
+                peer: *peer,
+                number: *number,
+            };
+            put_own(writer, opening, Kind::PingReq, &probe, relays.as_slice())
+        }
+        Reply::Send { peer, message } => put_line(writer, peer, datagram_line(message).as_slice()),
         _ => true,
     }
 }
@@ -263,27 +262,19 @@ fn put_sends<W: Sink>(writer: &mut W, reply: &Reply, opening: &Opening) -> bool
 /// The lines of the same message of this member's own probe to each of them.
 fn put_own<W: Sink>(
     writer: &mut W,
+    opening: &Opening,
     kind: Kind,
-    me: Id,
-    target: Id,
-    number: u64,
+    probe: &Probe,
     to: &[Relay],
 ) -> bool
     ensures bytes { Puts (W.written writer.old) (W.written writer.new)
-        (sends_text (to_each kind me target number (map (λ relay. relay.peer) to.now))) result }
+        (sends_text (to_each opening.now kind probe.now (map (λ relay. relay.peer) to.now))) result }
     ensures failures { W.failures writer.new ≡ failures_if (W.failures writer.old) result }
 {
-    let Some(number) = PeriodNumber::new(number) else {
-        return true;
-    };
-    let message = Message {
-        kind,
-        sender: me,
-        initiator: me,
-        target,
-        number,
-    };
-    put_lines(writer, to, &datagram_of(&message))
+    match own_message(opening, kind, probe) {
+        Some(message) => put_lines(writer, to, datagram_line(&message).as_slice()),
+        None => true,
+    }
 }
 
 /// A line with the same datagram to each of them.
@@ -311,15 +302,4 @@ fn put_line<W: Sink>(writer: &mut W, peer: &Peer, datagram: &[u8]) -> bool
         return false;
     }
     writer.put(datagram)
-}
-
-/// A space, the datagram of a message in hexadecimal digits, and the end of the line.
-fn datagram_of(message: &Message) -> [u8; 2 * DATAGRAM_BYTES + 2]
-    ensures { result ≡ datagram_text message.now }
-{
-    let bytes = encode(message);
-    let mut text = [b'\n'; 2 * DATAGRAM_BYTES + 2];
-    text[0] = b' ';
-    let _ = hex::encode_to_slice(bytes.as_slice(), &mut text[1..=2 * DATAGRAM_BYTES]);
-    text
 }

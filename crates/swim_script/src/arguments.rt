@@ -1,10 +1,11 @@
 //! The arguments of a line.
 
-ghost use Rattle.std.specs.Prelude.{◌≡◌};
+ghost use Rattle.std.specs.Prelude.{◌≡◌, option_and_then};
+ghost use Rattle.swim_wire.specs.Numbers.{number_of};
 ghost use Rattle.swim_wire.specs.Arguments.{TakesFrom};
 ghost use Rattle.swim_script.specs.Arguments.{open_arguments, take_number, take_order, take_seed, take_life};
 ghost use Rattle.swim_script.specs.Arguments.{take_datagram, take_state, state_told};
-ghost use Rattle.swim_script.specs.Arguments.{order_of, seed_of};
+ghost use Rattle.swim_script.specs.Arguments.{order_of, seed_of, take_version, version_of};
 
 use crate::commands::LineFault;
 use crate::datagrams::read_datagram;
@@ -12,7 +13,7 @@ use crate::forms::Form;
 use std::marker::Model;
 use swim_history::RowState;
 use swim_targets::Order;
-use swim_wire::{Id, Message, WireFault, Words, read_number, take_id};
+use swim_wire::{Id, Message, Version, WireFault, Words, read_number, take_id};
 
 /// The arguments of an `open` line. Each number is one that the format allows; that they make an opening is looked for
 /// later.
@@ -138,6 +139,25 @@ pub fn take_seed(words: &mut Words<'_>) -> Result<[u8; 32], LineFault>
 {
     let word = words.next().ok_or(LineFault::Hex)?;
     read_seed(word).ok_or(LineFault::Hex)
+}
+
+/// Takes the next word, which is to be the number of a version, 1 or 2; else the fault is `LineFault::Number`.
+pub fn take_version(words: &mut Words<'_>) -> Result<Version, LineFault>
+    ensures { TakesFrom result words.new (take_version words.old) }
+{
+    let word = words.next().ok_or(LineFault::Number)?;
+    read_version(word).ok_or(LineFault::Number)
+}
+
+/// The version whose number the text is in decimal, if there is one.
+fn read_version(text: &[u8]) -> Option<Version>
+    ensures { result ≡ option_and_then version_of (number_of 2 text.now) }
+{
+    match read_number(text, 2)? {
+        1 => Some(Version::One),
+        2 => Some(Version::Two),
+        _ => None,
+    }
 }
 
 /// Takes the next word, if one is left and the script is of a form that may tell it: it is to be a decimal number from 0

@@ -6,11 +6,11 @@ ghost use Rattle.swim_script.specs.Commands.{line_read, is_skipped, behind_sign,
 
 use crate::arguments::{
     AnswerText, OpenArguments, OrderText, take_datagram, take_life, take_number, take_open,
-    take_order, take_seed, take_state,
+    take_order, take_seed, take_state, take_version,
 };
 use crate::forms::Form;
 use swim_history::Row;
-use swim_wire::{Id, Message, Peer, WireFault, Words, nothing_left, take_id, take_peer};
+use swim_wire::{Id, Message, Peer, Version, WireFault, Words, nothing_left, take_id, take_peer};
 
 /// The longest line of a script, in bytes without its line feed.
 pub const LINE_BYTES: usize = 2048;
@@ -67,13 +67,13 @@ pub enum Draws {
 pub enum Stage {
     /// No line but skipped ones.
     Blank,
-    /// The opening is being told.
-    Header(Draws),
+    /// The opening is being told: what was said of who chooses, and whether a version was told.
+    Header(Draws, bool),
     /// An event line was met.
     Events,
 }
 
-/// The first word of a line, which says what the line is. The first five stand in header lines, and the next six in event
+/// The first word of a line, which says what the line is. The first six stand in header lines, and the next six in event
 /// lines. The last begins a line of a journal file that tells an answer; no other text than `= ` does.
 #[derive(Clone, Copy, Debug, PartialEq, Eq)]
 pub enum Word {
@@ -82,6 +82,7 @@ pub enum Word {
     Order,
     Place,
     Seed,
+    Wire,
     Tick,
     Hear,
     Join,
@@ -104,6 +105,8 @@ pub enum Command<'a> {
     Place(u32),
     /// Orders and places are drawn from this seed, by the detector of that life.
     Seed([u8; 32], u64),
+    /// The detector's own pings and ping-reqs have this version.
+    Wire(Version),
     /// One tick.
     Tick,
     /// A datagram came from that address: a message, or bytes that are none.
@@ -175,7 +178,7 @@ fn read_answer<'a>(stage: Stage, text: &'a [u8]) -> Result<Option<Command<'a>>, 
 {
     match stage {
         Stage::Events => Ok(Some(Command::Answer(AnswerText { text }))),
-        Stage::Blank | Stage::Header(_) => Err(LineFault::Word),
+        Stage::Blank | Stage::Header(..) => Err(LineFault::Word),
     }
 }
 
@@ -231,6 +234,8 @@ pub fn first_word(text: &[u8]) -> Option<Word>
         Some(Word::Place)
     } else if text == b"seed".as_slice() {
         Some(Word::Seed)
+    } else if text == b"wire".as_slice() {
+        Some(Word::Wire)
     } else if text == b"open".as_slice() {
         Some(Word::Open)
     } else {
@@ -245,12 +250,13 @@ fn fault_of_word(stage: Stage, word: Word) -> Option<LineFault>
     match (stage, word) {
         (Stage::Blank, Word::Open) => None,
         (Stage::Blank, _) | (_, Word::Open) => Some(LineFault::Word),
-        (Stage::Header(_), Word::Answer) => Some(LineFault::Word),
-        (Stage::Events, Word::Row | Word::Order | Word::Place | Word::Seed) => {
+        (Stage::Header(..), Word::Answer) => Some(LineFault::Word),
+        (Stage::Events, Word::Row | Word::Order | Word::Place | Word::Seed | Word::Wire) => {
             Some(LineFault::Word)
         }
-        (Stage::Header(Draws::Scripted), Word::Seed) => Some(LineFault::Seed),
-        (Stage::Header(Draws::Seeded), Word::Seed | Word::Order | Word::Place) => {
+        (Stage::Header(_, true), Word::Wire) => Some(LineFault::Word),
+        (Stage::Header(Draws::Scripted, _), Word::Seed) => Some(LineFault::Seed),
+        (Stage::Header(Draws::Seeded, _), Word::Seed | Word::Order | Word::Place) => {
             Some(LineFault::Seed)
         }
         _ => None,
@@ -296,6 +302,11 @@ pub fn read_command<'a>(
             let life = take_life(form, words)?;
             nothing_left(words, LineFault::Extra)?;
             Ok(Some(Command::Seed(seed, life)))
+        }
+        Word::Wire => {
+            let version = take_version(words)?;
+            nothing_left(words, LineFault::Extra)?;
+            Ok(Some(Command::Wire(version)))
         }
         Word::Tick => {
             nothing_left(words, LineFault::Extra)?;

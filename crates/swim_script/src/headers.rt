@@ -4,7 +4,7 @@ ghost use Rattle.std.specs.Prelude.{◌≡◌, ◌∷◌, ◌++◌, [], List, �
 ghost use Rattle.std.specs.Result.{is_ok};
 ghost use Rattle.swim_script.specs.declared.commands.Command.TheVariants as commands;
 ghost use Rattle.swim_script.specs.Headers.{nothing_told, told_then, draws_with, stage_told, setting_in};
-ghost use Rattle.swim_script.specs.Headers.{limit_in, chooser_in};
+ghost use Rattle.swim_script.specs.Headers.{limit_in, chooser_in, version_with};
 ghost use Rattle.swim_script.specs.Script.{fault_of_header};
 ghost use Rattle.swim_script.specs.Holds.{first_rows, kept};
 
@@ -18,6 +18,7 @@ use std::alloc::{AllocError, Global};
 use std::marker::Model;
 use swim_history::{KNOWN_MEMBERS, Opening, Row};
 use swim_targets::{Order, Scripted, Seeded};
+use swim_wire::Version;
 
 /// How many rows are kept: one more than an opening may have, so that its check can tell.
 const KEPT_ROWS: usize = KNOWN_MEMBERS + 1;
@@ -30,6 +31,7 @@ pub struct Header {
     orders: Vec<Order>,
     places: Vec<u32>,
     seed: Option<([u8; 32], u64)>,
+    wire: Option<Version>,
 }
 
 impl Model for Header {
@@ -43,9 +45,9 @@ impl Model for Header {
           opened = h.opened;
           rows = h.rows.items;
           orders = map (λ order. order.items) h.orders.items;
-          places =
-              h.places.items;
+          places = h.places.items;
           seed = h.seed;
+          wire = h.wire;
         } };
 }
 
@@ -60,6 +62,7 @@ impl Header {
             orders: Vec::new(alloc),
             places: Vec::new(alloc),
             seed: None,
+            wire: None,
         }
     }
 
@@ -100,13 +103,20 @@ impl Header {
         self.seed = Some((key, life));
     }
 
+    /// A `wire` line.
+    pub fn set_wire(&mut self, version: Version)
+        ensures { self.new ≡ record self.old { wire = Some version } }
+    {
+        self.wire = Some(version);
+    }
+
     /// How far a script has come that ends with this header.
     pub fn stage(&self) -> Stage
         ensures { result ≡ stage_told self.now }
     {
         match self.opened {
             None => Stage::Blank,
-            Some(_) => Stage::Header(self.draws()),
+            Some(_) => Stage::Header(self.draws(), self.wire.is_some()),
         }
     }
 
@@ -132,8 +142,15 @@ impl Header {
                 line: 0,
                 kind: FaultKind::Words(LineFault::Word),
             }),
-            Some(opened) => checked(opened, self.rows.as_slice()),
+            Some(opened) => checked(opened, self.rows.as_slice(), self.version()),
         }
+    }
+
+    /// The version that was told, or else the first.
+    fn version(&self) -> Version
+        ensures { result ≡ version_with self.now.wire }
+    {
+        self.wire.unwrap_or(Version::One)
     }
 
     /// How many entries the journal may have.

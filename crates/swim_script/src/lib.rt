@@ -18,9 +18,10 @@ mod simulator;
 pub use answers::put_placed;
 pub use arguments::{
     OpenArguments, OrderText, take_datagram, take_life, take_long_number, take_number, take_order,
-    take_seed,
+    take_seed, take_version,
 };
 pub use commands::{Command, LINE_BYTES, LineFault, Word, first_word, read_command};
+pub use datagrams::{LONGEST_DATAGRAM_LINE, datagram_line};
 pub use faults::{FaultKind, ScriptFault};
 pub use forms::Form;
 pub use session::Session;

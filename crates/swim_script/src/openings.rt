@@ -11,16 +11,20 @@ use crate::arguments::{OpenArguments, Opened};
 use crate::faults::{FaultKind, ScriptFault};
 use arrayvec::ArrayVec;
 use swim_history::{Opening, Row, RowState};
-use swim_wire::{Id, Peer};
+use swim_wire::{Id, Peer, Version};
 
-/// The opening of an `open` line and these rows, if it is within the limits.
-pub(crate) fn checked(opened: &Opened, rows: &[Row]) -> Result<Opening, ScriptFault>
+/// The opening of an `open` line, these rows and that version, if it is within the limits.
+pub(crate) fn checked(
+    opened: &Opened,
+    rows: &[Row],
+    version: Version,
+) -> Result<Opening, ScriptFault>
     requires { length rows.now ≤ 129 }
-    ensures { let o = setting_with (Some opened.now) rows.now in MatchResult result
+    ensures { let o = setting_with (Some opened.now) rows.now version in MatchResult result
         (λ opening. (fault_of_setting (Some opened.now) o ≡ None) × (opening ≡ o))
         (λ fault. fault_of_setting (Some opened.now) o ≡ Some fault) }
 {
-    match opening_of(opened.arguments, rows) {
+    match opening_of(opened.arguments, rows, version) {
         Ok(opening) => Ok(opening),
         Err(kind) => Err(ScriptFault {
             line: opened.line,
@@ -30,14 +34,22 @@ pub(crate) fn checked(opened: &Opened, rows: &[Row]) -> Result<Opening, ScriptFa
 }
 
 /// The opening of these arguments and rows, or what is wrong with it.
-fn opening_of(a: OpenArguments, rows: &[Row]) -> Result<Opening, FaultKind>
+fn opening_of(a: OpenArguments, rows: &[Row], version: Version) -> Result<Opening, FaultKind>
     requires { length rows.now ≤ 129 }
-    ensures { let o = setting_by a rows.now in MatchResult result
+    ensures { let o = setting_by a rows.now version in MatchResult result
         (λ opening. (kind_of_setting o ≡ None) × (opening ≡ o))
         (λ kind. kind_of_setting o ≡ Some kind) }
 {
     let members = members_of(rows);
-    match Opening::check(a.me, a.k, a.rtt, a.period, members.as_slice(), a.last) {
+    match Opening::check(
+        a.me,
+        a.k,
+        a.rtt,
+        a.period,
+        members.as_slice(),
+        a.last,
+        version,
+    ) {
         Err(fault) => Err(FaultKind::Opening(fault)),
         Ok(opening) => match with_states(opening, rows) {
             None => Err(FaultKind::Unused),

@@ -22,7 +22,7 @@ use std::alloc::Global;
 use std::marker::Model;
 use swim_detector::Recorder;
 use swim_history::{Call, Journal, Row};
-use swim_wire::Sink;
+use swim_wire::{Sink, Version};
 
 /// Where a script has come: its header, and the recorder once an event line was met.
 #[derive(Drop)]
@@ -156,6 +156,10 @@ impl Session {
                 self.set_seed(key, life);
                 Ok(())
             }
+            Command::Wire(version) => {
+                self.set_wire(version);
+                Ok(())
+            }
             Command::Tick => self.call(Call::Tick, writer),
             Command::Hear(source, read) => self.hear(source, read, writer),
             Command::Join(id, peer) => self.call(Call::Join(id, peer), writer),
@@ -251,6 +255,20 @@ impl Session {
     {
         self.lines += 1;
         self.header.set_seed(key, life);
+    }
+
+    fn set_wire(&mut self, version: Version)
+        requires { self.old.lines < u32.MAX }
+        ensures { self.new ≡
+            record {
+              lines = self.old.lines + 1;
+              header =
+                  told_then (self.old.lines + 1) (commands.Wire version) self.old.header;
+              recorded = self.old.recorded;
+            } }
+    {
+        self.lines += 1;
+        self.header.set_wire(version);
     }
 
     /// Whether the answer of the newest line was written.

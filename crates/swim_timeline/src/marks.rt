@@ -52,6 +52,7 @@ pub(crate) fn add_marks(
             target,
             number,
             relays,
+            ..
         } => {
             let relays = copied(relays.as_slice());
             add(marks, tick, *target, MarkKind::Asked(*number, relays))

@@ -1,10 +1,11 @@
+use std::alloc::Global;
 use std::process::Abort;
 use std::test::Fail;
 use swim_detector::Recorder;
 use swim_history::{Call, Journal, Opening, Row, RowState};
 use swim_targets::Scripted;
 use swim_timeline::{Mark, MarkKind, Span, View, put_timeline, show};
-use swim_wire::{Id, Kind, Message, Page, Peer, PeriodNumber};
+use swim_wire::{Id, Kind, Message, Page, Peer, PeriodNumber, Version};
 
 fn id(value: u32) -> Result<Id, Fail> {
     Ok(Id::new(value).ok_or("an id is not 0")?)
@@ -19,23 +20,25 @@ fn address(last: u8) -> Peer {
 
 // Of member 1, which asks one relay, with a timeout of one tick and a period of three, after period 7. Members 2, 3 and
 // 4 are up.
-fn opening() -> Result<Opening, Fail> {
+fn opening(version: Version) -> Result<Opening, Fail> {
     let rows = [
         (id(2)?, address(2)),
         (id(3)?, address(3)),
         (id(4)?, address(4)),
     ];
-    Ok(Opening::check(id(1)?, 1, 1, 3, &rows, 7).map_err(|_| "an opening")?)
+    Ok(Opening::check(id(1)?, 1, 1, 3, &rows, 7, version).map_err(|_| "an opening")?)
 }
 
 // The ack of member 2 for period 8, as member 3 forwards it.
 fn forwarded_ack() -> Result<Call, Fail> {
     let message = Message {
+        version: Version::One,
         kind: Kind::Ack,
         sender: id(3)?,
         initiator: id(1)?,
         target: id(2)?,
         number: PeriodNumber::new(8).ok_or("a number is not 0")?,
+        at: None,
     };
     Ok(Call::Hear(message, address(3)))
 }
@@ -52,7 +55,7 @@ fn calls() -> Result<[Call; 10], Fail> {
 // The journal of these calls. Orders are left as they are.
 fn journal(rt: HostRuntime) -> Result<Journal, Fail> {
     let chooser = Scripted::new(Vec::new(rt.alloc()), Vec::new(rt.alloc()));
-    let mut recorder = Recorder::open(rt.alloc(), opening()?, chooser, 1000);
+    let mut recorder = Recorder::open(rt.alloc(), opening(Version::One)?, chooser, 1000);
     for call in calls()? {
         if recorder.apply(0, call).is_err() {
             return Err(Fail::new("an entry"));
@@ -177,7 +180,7 @@ fn assert_view<R: Abort>(rt: &R, journal: &Journal, view: View, wanted: Option<S
 
 #[test]
 fn an_empty_run_has_its_lanes(rt: HostRuntime) -> Result<(), Fail> {
-    let journal = Journal::new(rt.alloc(), opening()?);
+    let journal = Journal::new(rt.alloc(), opening(Version::One)?);
     let shown = show(rt.alloc(), &journal, span(0, 10))?;
     assert_eq!(rt; (shown.ticks, shown.entries), (0, 0));
     assert!(rt; shown.marks.is_empty());
@@ -189,9 +192,37 @@ fn an_empty_run_has_its_lanes(rt: HostRuntime) -> Result<(), Fail> {
     Ok(())
 }
 
+// Whether these words stand in the picture of a run without calls, where the member's own messages have that version.
+fn has_words(alloc: Global, version: Version, words: &[u8]) -> Result<bool, Fail> {
+    let journal = Journal::new(alloc, opening(version)?);
+    let mut page = Page::new(alloc);
+    let is_whole = put_timeline(alloc, &journal, span(0, 10), &mut page)?;
+    Ok(is_whole && stands_in(page.text(), words))
+}
+
+fn stands_in(text: &[u8], words: &[u8]) -> bool {
+    for start in 0..text.len() {
+        if text[start..].starts_with(words) {
+            return true;
+        }
+    }
+    false
+}
+
+#[test]
+fn the_head_tells_the_second_version_alone(rt: HostRuntime) -> Result<(), Fail> {
+    let first = b">period 3 ticks, timeout 1, relays 1</text>\n";
+    let second = b">period 3 ticks, timeout 1, relays 1, wire 2</text>\n";
+    assert!(rt; has_words(rt.alloc(), Version::One, first)?);
+    assert!(rt; !has_words(rt.alloc(), Version::One, second)?);
+    assert!(rt; has_words(rt.alloc(), Version::Two, second)?);
+    assert!(rt; !has_words(rt.alloc(), Version::Two, first)?);
+    Ok(())
+}
+
 #[test]
 fn tells_what_was_not_written(rt: HostRuntime) -> Result<(), Fail> {
-    let journal = Journal::new(rt.alloc(), opening()?);
+    let journal = Journal::new(rt.alloc(), opening(Version::One)?);
     let mut page = Page::failing_after(rt.alloc(), Some(0), None);
     assert!(rt; !put_timeline(rt.alloc(), &journal, span(0, 10), &mut page)?);
     Ok(())

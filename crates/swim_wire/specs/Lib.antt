@@ -9,6 +9,7 @@ pub mod IdLaws
 pub mod Layout
 pub mod Lines
 pub mod Memory
+pub mod Messages
 pub mod Numbers
 pub mod Parts
 pub mod Pieces

@@ -3,13 +3,15 @@ use Rattle.std.specs.Prelude.{ℕ, ◌-◌, nat_lt, Bool, not, List, filter, map
 use Rattle.std.specs.List.{list_any}
 use Rattle.std.specs.Option.{option_map}
 use Rattle.swim_wire.specs.declared.messages.Key.{Key}
+use Rattle.swim_wire.specs.declared.messages.Version.{Version}
 use Rattle.swim_wire.specs.Address.{Address}
 use Rattle.swim_wire.specs.Probe.{same_key}
 
--- a probe that was asked for, who is to get the ack, and for how many more ticks it waits
+-- a probe that was asked for, who is to get the ack, in which version, and for how many more ticks it waits
 pub record Request : Type 0 where
   pub key : Key
   pub peer : Address
+  pub version : Version
   pub left : ℕ
 
 -- how many requests may wait
@@ -24,9 +26,10 @@ waits key requests = list_any (λ request. same_key request.key key) requests
 abbrev pub forget : Key → List Request → List Request
 forget key requests = filter (λ request. not (same_key request.key key)) requests
 
--- who is to get the ack of that probe
-abbrev pub peer_for : Key → List Request → Option Address
-peer_for key requests = option_map (λ request. request.peer) (find (λ request. same_key request.key key) requests)
+-- who is to get the ack of that probe, and in which version
+abbrev pub asker_for : Key → List Request → Option (Address × Version)
+asker_for key requests =
+    option_map (λ request. (request.peer, request.version)) (find (λ request. same_key request.key key) requests)
 
 -- the request with one tick less
 abbrev pub one_less : Request → Request

@@ -1,43 +1,57 @@
-//! Datagrams: the layout of a message, version 1.
+//! Datagrams: the layouts of a message, version 1 and version 2.
 
 ghost use Rattle.std.specs.Prelude.{◌≡◌, ◌+◌, ◌<◌, ◌≤◌, Ok, Some, None, IfOk, IfErr, MatchResult, length};
+ghost use Rattle.std.specs.Prelude.{◌++◌, IfSome, true, is_some, if◌then◌else◌};
 ghost use Rattle.std.specs.Option.{SomeIff};
-ghost use Rattle.swim_wire.specs.declared.messages.Message.{Message};
+ghost use Rattle.swim_wire.specs.Address.{IsAddress};
+ghost use Rattle.swim_wire.specs.Messages.{Message, carries};
 ghost use Rattle.swim_wire.specs.Layout.{IsTextOf, first_fault, message_at, code_of, kind_of as kind_at, id_at};
-ghost use Rattle.swim_wire.specs.Layout.{number_at, fault_number, decoded};
+ghost use Rattle.swim_wire.specs.Layout.{version_code as code_of_version, version_of as version_at, address_bytes, length_of as length_by};
+ghost use Rattle.swim_wire.specs.Layout.{number_at, address_at, fault_number, decoded};
 
 use crate::ids::{Id, PeriodNumber};
-use crate::messages::{Kind, Message};
+use crate::messages::{Kind, Message, Version};
+use crate::peers::Peer;
+use arrayvec::ArrayVec;
 use thiserror::Error;
 
-/// The length of a datagram, in bytes.
+/// The length of a datagram that carries no address, in bytes.
 pub const DATAGRAM_BYTES: usize = 24;
+
+/// The length of a datagram that carries the address of its target, in bytes. No datagram is longer.
+pub const LONGEST_DATAGRAM_BYTES: usize = 30;
 
 /// Why bytes are no datagram. The first that applies is told.
 #[derive(Clone, Copy, Debug, PartialEq, Eq, Error)]
 pub enum WireFault {
-    /// Not 24 bytes.
-    #[error("not 24 bytes")]
+    /// Neither 24 nor 30 bytes.
+    #[error("neither 24 nor 30 bytes")]
     Length,
     /// Bytes 0 and 1 are not `53 57`.
     #[error("the first two bytes are not 53 57")]
     Magic,
-    /// Byte 2 is not `01`.
-    #[error("not of version 1")]
+    /// Byte 2 is neither `01` nor `02`.
+    #[error("neither of version 1 nor of version 2")]
     Version,
     /// Byte 3 is none of `01`, `02`, `03`.
     #[error("neither a ping, nor a ping-req, nor an ack")]
     UnknownKind,
+    /// 30 bytes and no ping-req of version 2, or 24 bytes of one.
+    #[error("not as many bytes as its version and kind have")]
+    Form,
     /// One of the three ids is 0.
     #[error("an id is 0")]
     ZeroId,
     /// The period number is 0.
     #[error("the period number is 0")]
     ZeroNumber,
+    /// The port of the target's address is 0.
+    #[error("the port is 0")]
+    ZeroPort,
 }
 
 impl WireFault {
-    /// The number by which a fault is reported: 1 to 6, in the order above.
+    /// The number by which a fault is reported: 1 to 8. That of `Form` is 7.
     pub fn number(self) -> u8
         ensures { result ≡ fault_number self }
     {
@@ -48,22 +62,24 @@ impl WireFault {
             WireFault::UnknownKind => 4,
             WireFault::ZeroId => 5,
             WireFault::ZeroNumber => 6,
+            WireFault::Form => 7,
+            WireFault::ZeroPort => 8,
         }
     }
 }
 
 /// The one datagram of a message.
-pub fn encode(message: &Message) -> [u8; 24]
-    ensures { IsTextOf result message.now }
+pub fn encode(message: &Message) -> ArrayVec<u8, LONGEST_DATAGRAM_BYTES>
+    ensures { IsTextOf result.items message.now }
 {
     let sender = message.sender.get().to_be_bytes();
     let initiator = message.initiator.get().to_be_bytes();
     let target = message.target.get().to_be_bytes();
     let number = message.number.get().to_be_bytes();
-    [
+    let fields = [
         0x53,
         0x57,
-        1,
+        version_code(message.version),
         kind_code(message.kind),
         sender[0],
         sender[1],
@@ -85,7 +101,24 @@ pub fn encode(message: &Message) -> [u8; 24]
         number[5],
         number[6],
         number[7],
-    ]
+    ];
+    with_address(&fields, &message.at)
+}
+
+/// The fields of a message that each datagram has, and behind them an address, if there is one.
+fn with_address(
+    fields: &[u8; DATAGRAM_BYTES],
+    at: &Option<Peer>,
+) -> ArrayVec<u8, LONGEST_DATAGRAM_BYTES>
+    ensures text { result.items ≡ fields.now ++ address_bytes at.now }
+    ensures address { IfSome at.now IsAddress }
+{
+    let mut text = ArrayVec::new();
+    let _ = text.try_extend_from_slice(fields);
+    if let Some(peer) = at {
+        let _ = text.try_extend_from_slice(&peer.to_bytes());
+    }
+    text
 }
 
 /// The message of a datagram, or the first fault of bytes that are none.
@@ -110,27 +143,61 @@ fn parse(bytes: &[u8]) -> Result<Message, WireFault>
         (λ m. (first_fault bytes.now ≡ None) × (m ≡ message_at bytes.now))
         (λ f. first_fault bytes.now ≡ Some f) }
 {
-    if bytes.len() != DATAGRAM_BYTES {
+    if bytes.len() != DATAGRAM_BYTES && bytes.len() != LONGEST_DATAGRAM_BYTES {
         return Err(WireFault::Length);
     }
     if bytes[0] != 0x53 || bytes[1] != 0x57 {
         return Err(WireFault::Magic);
     }
-    if bytes[2] != 1 {
-        return Err(WireFault::Version);
-    }
+    let version = version_of(bytes[2]).ok_or(WireFault::Version)?;
     let kind = kind_of(bytes[3]).ok_or(WireFault::UnknownKind)?;
+    if bytes.len() != length_of(version, kind) {
+        return Err(WireFault::Form);
+    }
     let sender = id_at(bytes, 4)?;
     let initiator = id_at(bytes, 8)?;
     let target = id_at(bytes, 12)?;
     let number = number_at(bytes, 16)?;
+    let at = target_at(bytes, version, kind)?;
     Ok(Message {
+        version,
         kind,
         sender,
         initiator,
         target,
         number,
+        at,
     })
+}
+
+/// How many bytes a datagram of that version and kind has.
+fn length_of(version: Version, kind: Kind) -> usize
+    ensures { result ≡ length_by version kind }
+{
+    if version.carries(kind) {
+        LONGEST_DATAGRAM_BYTES
+    } else {
+        DATAGRAM_BYTES
+    }
+}
+
+fn version_code(version: Version) -> u8
+    ensures { result ≡ code_of_version version }
+{
+    match version {
+        Version::One => 1,
+        Version::Two => 2,
+    }
+}
+
+fn version_of(byte: u8) -> Option<Version>
+    ensures { SomeIff result ((0 < byte) × (byte < 3)) (version_at byte) }
+{
+    match byte {
+        1 => Some(Version::One),
+        2 => Some(Version::Two),
+        _ => None,
+    }
 }
 
 fn kind_code(kind: Kind) -> u8
@@ -182,4 +249,22 @@ fn number_at(bytes: &[u8], at: usize) -> Result<PeriodNumber, WireFault>
         bytes[at + 7],
     ]))
     .ok_or(WireFault::ZeroNumber)
+}
+
+/// The address of the target, where a datagram of that version and kind carries one.
+fn target_at(bytes: &[u8], version: Version, kind: Kind) -> Result<Option<Peer>, WireFault>
+    requires { length bytes.now ≡ length_by version kind }
+    ensures { MatchResult result
+        (λ at. (is_some at ≡ carries version kind) × (at ≡ if carries version kind then Some (address_at bytes.now 24) else None))
+        (λ f. (f ≡ WireFault.ZeroPort) × (carries version kind ≡ true) × ((address_at bytes.now 24).port ≡ 0)) }
+{
+    if !version.carries(kind) {
+        return Ok(None);
+    }
+    let ip = [bytes[24], bytes[25], bytes[26], bytes[27]];
+    let port = u16::from_be_bytes([bytes[28], bytes[29]]);
+    if port == 0 {
+        return Err(WireFault::ZeroPort);
+    }
+    Ok(Some(Peer { ip, port }))
 }

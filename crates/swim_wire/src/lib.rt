@@ -22,11 +22,11 @@ mod texts;
 mod words;
 
 pub use arguments::{nothing_left, take_id, take_peer};
-pub use codec::{DATAGRAM_BYTES, WireFault, decode, encode};
+pub use codec::{DATAGRAM_BYTES, LONGEST_DATAGRAM_BYTES, WireFault, decode, encode};
 pub use ids::{Id, PeriodNumber};
 pub use lines::{Taken, next_line};
 pub use memory::{Page, Text};
-pub use messages::{Key, Kind, Message};
+pub use messages::{Key, Kind, Message, Version};
 pub use numbers::read_number;
 pub use orders::{KNOWN_MEMBERS, Order};
 pub use peers::Peer;

@@ -1,6 +1,7 @@
 //! Addresses of members.
 
 ghost use Rattle.std.specs.Prelude.{◌≡◌, ◌+◌, ◌<◌, ◌≤◌, [], ◌∷◌, ◌++◌, Some, IfSome, decimal};
+ghost use Rattle.std.specs.Int.{w16, to_be_bytes};
 ghost use Rattle.arrayvec.specs.ArrayString.{array_string_len};
 ghost use Rattle.swim_wire.specs.Address.{Address, IsAddress, address_text, address_of, ip_of as octets_of};
 ghost use Rattle.swim_wire.specs.Numbers.{number_of, positive_of};
@@ -60,6 +61,17 @@ impl Peer {
         text.push(':');
         text.push_str(digits.format(self.port));
         text
+    }
+
+    /// The four octets, and the port as two bytes, the higher one first.
+    pub fn to_bytes(&self) -> [u8; 6]
+        ensures bytes { result ≡ self.now.ip ++ to_be_bytes w16 self.now.port }
+        ensures address { IsAddress self.now }
+    {
+        let port = self.port.to_be_bytes();
+        [
+            self.ip[0], self.ip[1], self.ip[2], self.ip[3], port[0], port[1],
+        ]
     }
 }
 

@@ -35,6 +35,7 @@ pub enum Cause {
     TooManyIds(usize),
     NoLine,
     SecondOpen,
+    SecondVersion,
     EventLine(u32),
     SeedLine(u32),
     DrawnLine(u32),
@@ -117,6 +118,7 @@ impl Cause {
             Cause::HostName => "a host's name stands there: an address has numbers alone",
             Cause::NoLine => "the script has no line but empty ones and comments",
             Cause::SecondOpen => "the opening stands once, as the first line",
+            Cause::SecondVersion => "the version is told once",
             _ => "",
         }
     }

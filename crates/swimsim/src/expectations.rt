@@ -46,7 +46,8 @@ impl Expected {
     fn text(&self) -> &'static str {
         match self {
             Expected::Opening => "open ME K RTT PERIOD LAST LIMIT, before any other line",
-            Expected::AnyLine => "row, order, place, seed, tick, hear, join, remove, table or gap",
+            Expected::AnyLine =>
+                "wire, row, order, place, seed, tick, hear, join, remove, table or gap",
             Expected::Event => "tick, hear, join, remove, table or gap",
             Expected::EventOrAnswer => "tick, hear, join, remove, table, gap or =",
             Expected::Call => "a call before it: tick, hear, join or remove",

@@ -157,8 +157,17 @@ fn of_first_word(first: Option<Word>, word: &[u8], told: &Told) -> (Expected, Op
         (Some(Word::Open), Some(_)) => (event_in(told.form), Some(Cause::SecondOpen)),
         (Some(Word::Open), None) => (Expected::AnyLine, Some(Cause::SecondOpen)),
         (Some(_), Some(line)) => (event_in(told.form), Some(Cause::EventLine(line))),
-        (_, Some(_)) => (event_in(told.form), spelling),
-        (_, None) => (Expected::AnyLine, spelling),
+        (Some(word), None) => (Expected::AnyLine, cause_in_header(word).or(spelling)),
+        (None, Some(_)) => (event_in(told.form), spelling),
+        (None, None) => (Expected::AnyLine, spelling),
+    }
+}
+
+/// Why a word can't stand in a header behind the `open` line.
+fn cause_in_header(word: Word) -> Option<Cause> {
+    match word {
+        Word::Wire => Some(Cause::SecondVersion),
+        _ => None,
     }
 }
 

@@ -3,7 +3,7 @@
 use std::fmt;
 use swim_script::{
     Form, LineFault, Word, take_datagram, take_life, take_long_number, take_number, take_order,
-    take_seed,
+    take_seed, take_version,
 };
 use swim_wire::{Words, take_id, take_peer};
 
@@ -26,6 +26,7 @@ pub enum Argument {
     Place,
     Seed,
     Life,
+    Version,
     Datagram,
 }
 
@@ -57,6 +58,8 @@ static OF_SEED: [Argument; 1] = [Argument::Seed];
 
 static OF_SEED_IN_JOURNAL: [Argument; 2] = [Argument::Seed, Argument::Life];
 
+static OF_WIRE: [Argument; 1] = [Argument::Version];
+
 static OF_HEAR: [Argument; 2] = [Argument::Address, Argument::Datagram];
 
 static OF_NONE: [Argument; 0] = [];
@@ -72,6 +75,7 @@ pub fn arguments_of(form: Form, word: Word) -> &'static [Argument] {
         Word::Place => &OF_PLACE,
         Word::Seed if form == Form::Journal => &OF_SEED_IN_JOURNAL,
         Word::Seed => &OF_SEED,
+        Word::Wire => &OF_WIRE,
         Word::Hear => &OF_HEAR,
         Word::Tick | Word::Table | Word::Answer => &OF_NONE,
     }
@@ -94,6 +98,7 @@ pub fn take_argument(argument: Argument, words: &mut Words<'_>) -> bool {
         Argument::Ids => take_order(words).is_ok(),
         Argument::Seed => take_seed(words).is_ok(),
         Argument::Life => take_life(Form::Journal, words).is_ok(),
+        Argument::Version => take_version(words).is_ok(),
         Argument::Datagram => take_datagram(words).is_ok(),
     }
 }
@@ -120,6 +125,7 @@ impl fmt::Display for Argument {
             Argument::Place => "a place: 0 to 4294967295",
             Argument::Seed => "a seed: 64 hexadecimal digits",
             Argument::Life => "LIFE, the stream of the seed: 0 to 18446744073709551615",
+            Argument::Version => "V, the version of its own pings and ping-reqs: 1 or 2",
             Argument::Datagram => "HEX: hexadecimal digits, an even number of them",
         })
     }

@@ -28,6 +28,8 @@ pub struct Told {
     pub places: Vec<u32>,
     /// The line of the seed.
     pub seed: Option<u32>,
+    /// Whether a version was told.
+    pub is_version_told: bool,
     /// The first event line.
     pub event: Option<u32>,
     /// Whether each order and each place was kept.
@@ -43,6 +45,7 @@ impl Told {
             orders: Vec::new(alloc),
             places: Vec::new(alloc),
             seed: None,
+            is_version_told: false,
             event: None,
             kept: Ok(()),
         }
@@ -80,6 +83,7 @@ impl Told {
             Command::Order(order) => self.orders.push((number, order.read()))?,
             Command::Place(_) => self.places.push(number)?,
             Command::Seed(_, _) => self.seed = Some(number),
+            Command::Wire(_) => self.is_version_told = true,
             _ => {
                 if self.event.is_none() {
                     self.event = Some(number);

@@ -11,7 +11,7 @@ use swim_history::{DropReason, Refusal};
 use swim_wire::{WireFault, read_number};
 
 /// The greatest number of a reason.
-pub const MOST_NUMBER: u8 = 7;
+pub const MOST_NUMBER: u8 = 8;
 
 /// Why a message was dropped, or a call refused, or bytes are no datagram. It is shown in words.
 #[derive(Clone, Copy, Debug, PartialEq, Eq)]
@@ -49,7 +49,7 @@ pub fn reason_in(line: &[u8]) -> Option<Reason>
 /// The number of a reason behind a word.
 fn number_after(line: &[u8], word: &[u8]) -> Option<u64>
     ensures number { IfSome result (λ number. word.now ++ decimal number ≡ line.now) }
-    ensures every { (number : ℕ) → number ≤ 7 → word.now ++ decimal number ≡ line.now → result ≡ Some number }
+    ensures every { (number : ℕ) → number ≤ 8 → word.now ++ decimal number ≡ line.now → result ≡ Some number }
 {
     if line.len() < word.len() {
         return None;
@@ -105,6 +105,8 @@ pub fn wire(number: u64) -> Option<WireFault>
         4 => Some(WireFault::UnknownKind),
         5 => Some(WireFault::ZeroId),
         6 => Some(WireFault::ZeroNumber),
+        7 => Some(WireFault::Form),
+        8 => Some(WireFault::ZeroPort),
         _ => None,
     }
 }

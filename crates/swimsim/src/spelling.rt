@@ -2,8 +2,9 @@
 
 use swim_script::Word;
 
-static FIRST_WORDS: [Word; 11] = [
+static FIRST_WORDS: [Word; 12] = [
     Word::Open,
+    Word::Wire,
     Word::Row,
     Word::Order,
     Word::Place,
@@ -34,6 +35,7 @@ pub fn text_of(word: Word) -> &'static str {
         Word::Order => "order",
         Word::Place => "place",
         Word::Seed => "seed",
+        Word::Wire => "wire",
         Word::Tick => "tick",
         Word::Hear => "hear",
         Word::Join => "join",

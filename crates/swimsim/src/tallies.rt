@@ -1,9 +1,9 @@
 //! Counts of answers.
 
-use crate::reasons::Reason;
+use crate::reasons::{MOST_NUMBER, Reason};
 
 /// More than the greatest number of a reason.
-const NUMBERS: usize = 8;
+const NUMBERS: usize = MOST_NUMBER as usize + 1;
 
 /// How often each reason was told, by its number. The counts stop at 4294967295.
 #[derive(Clone, Copy, Debug, Default, PartialEq, Eq)]

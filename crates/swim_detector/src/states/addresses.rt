@@ -4,7 +4,7 @@ ghost use Rattle.std.specs.Prelude.{◌≡◌, ◌≢◌, ◌+◌, ◌≤◌, tr
 ghost use Rattle.std.specs.Prelude.{IsPermutation};
 ghost use Rattle.std.specs.List.{AllByRecursion};
 ghost use Rattle.swim_wire.specs.Round.{Lists};
-ghost use Rattle.swim_history.specs.Rows.{up, row_of, is_listed};
+ghost use Rattle.swim_history.specs.Rows.{up, row_of, where_listed, is_listed};
 ghost use Rattle.swim_history.specs.Round.{lists};
 ghost use Rattle.swim_history.specs.Run.{IsProbe, AreRelays, candidates};
 ghost use Rattle.swim_history.specs.Drawn.{DrawsRelays};
@@ -17,9 +17,10 @@ use swim_wire::{Id, Peer};
 
 /// The address of a member, if it is listed.
 pub(super) fn listed_at(journal: &Journal, id: Id) -> Option<Peer>
-    ensures { MatchOption result
+    ensures row { MatchOption result
         (is_listed journal.now.opening journal.now.past id ≡ false)
         (λ peer. row_of journal.now.opening journal.now.past id ≡ Some (up id peer)) }
+    ensures value { result ≡ where_listed (row_of journal.now.opening journal.now.past id) }
 {
     match journal.row(id) {
         Some(row) => match row.state {
@@ -31,7 +32,7 @@ pub(super) fn listed_at(journal: &Journal, id: Id) -> Option<Peer>
 }
 
 /// The address of a listed member.
-fn address_of(journal: &Journal, id: Id) -> Peer
+pub(super) fn address_of(journal: &Journal, id: Id) -> Peer
     requires { is_listed journal.now.opening journal.now.past id ≡ true }
     ensures { row_of journal.now.opening journal.now.past id ≡ Some (up id result) }
 {

@@ -7,8 +7,7 @@ ghost use Rattle.swim_history.specs.declared.calls.Call.TheVariants.{Hear};
 ghost use Rattle.swim_history.specs.declared.replies.Reply.TheVariants.{Dropped};
 ghost use Rattle.swim_history.specs.Clock.{period_number};
 ghost use Rattle.swim_history.specs.Aim.{aim};
-ghost use Rattle.swim_history.specs.Rows.{up, row_of};
-ghost use Rattle.swim_history.specs.Run.{IsRequest, Hears};
+ghost use Rattle.swim_history.specs.Run.{IsRequest, target_at, Hears};
 ghost use Rattle.swim_detector.specs.Mirrors.{Mirrors, IsSettled};
 
 use super::State;
@@ -43,7 +42,7 @@ impl State {
         if message.target == me {
             Answer::of(Reply::Send {
                 peer: source,
-                message: message.passed_on(Kind::Ack, me),
+                message: message.ack_by(me, message.version),
             })
         } else {
             Answer::of(Reply::Dropped(DropReason::NotForMe))
@@ -86,15 +85,14 @@ impl State {
         requires kind { message.now.kind ≡ PingReq }
         requires own { IsRequest journal.now.opening.me message.now }
         requires other { message.now.target ≢ journal.now.opening.me }
-        requires listed { row_of journal.now.opening journal.now.past message.now.target ≡ Some
-            (up message.now.target peer) }
+        requires target { target_at journal.now.opening journal.now.past message.now ≡ Some peer }
         ensures { IsSettled journal.now.opening journal.now.past (Hear message.now source) result self.new }
     {
         let me = journal.opening().me();
-        match self.requests.ask(message.key(), source) {
+        match self.requests.ask(message.key(), source, message.version) {
             Ok(()) => Answer::of(Reply::Send {
                 peer,
-                message: message.passed_on(Kind::Ping, me),
+                message: message.ping_by(me),
             }),
             Err(TableFull) => Answer::of(Reply::Dropped(DropReason::TableFull)),
         }
@@ -150,20 +148,21 @@ impl State {
     {
         let me = journal.opening().me();
         match self.requests.answer(&message.key()) {
-            Some(peer) => Answer::of(Reply::Send {
-                peer,
-                message: message.passed_on(Kind::Ack, me),
+            Some(asker) => Answer::of(Reply::Send {
+                peer: asker.0,
+                message: message.ack_by(me, asker.1),
             }),
             None => Answer::of(Reply::Dropped(DropReason::NoRequest)),
         }
     }
 }
 
-/// Where the target of a request is to be pinged, or why the request is dropped.
+/// Where the target of a request is to be pinged: where it is listed, else where the request says. Or why the request is
+/// dropped.
 fn requested_at(journal: &Journal, message: &Message) -> Result<Peer, DropReason>
     ensures { MatchResult result
         (λ peer. IsRequest journal.now.opening.me message.now × (message.now.target ≢ journal.now.opening.me)
-        × (row_of journal.now.opening journal.now.past message.now.target ≡ Some (up message.now.target peer)))
+        × (target_at journal.now.opening journal.now.past message.now ≡ Some peer))
         (λ why. (source : Address) →
         Hears journal.now.opening journal.now.past message.now source PingReq (Dropped why)) }
 {
@@ -177,5 +176,7 @@ fn requested_at(journal: &Journal, message: &Message) -> Result<Peer, DropReason
     if message.target == me {
         return Err(DropReason::AboutMe);
     }
-    listed_at(journal, message.target).ok_or(DropReason::Unlisted)
+    listed_at(journal, message.target)
+        .or(message.at)
+        .ok_or(DropReason::Unlisted)
 }

@@ -11,7 +11,7 @@ ghost use Rattle.swim_history.specs.Run.{greatest_number};
 ghost use Rattle.swim_detector.specs.Mirrors.{Mirrors, IsAnswered, IsSettled};
 
 use super::State;
-use super::addresses::{probe_of, relays_for};
+use super::addresses::{address_of, probe_of, relays_for};
 use crate::answers::Answer;
 use swim_history::{Call, Journal, Refusal, Reply};
 use swim_targets::{Chooser, Targets};
@@ -90,6 +90,7 @@ impl State {
         self.pass(journal.opening().period());
         Answer::of(Reply::Asked {
             target,
+            peer: address_of(journal, target),
             number: journal.last_number(),
             relays: relays_for(journal, &self.targets, target, chooser),
         })

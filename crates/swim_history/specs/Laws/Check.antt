@@ -5,6 +5,7 @@ use Rattle.std.proofs.lemmas.Bool.{ltb-false, le-ltb, eqb-false, ne_eqb, or_part
 use Rattle.std.specs.List.{list_all}
 use Rattle.swim_wire.specs.Address.{Address}
 use Rattle.swim_wire.specs.First.{find_none}
+use Rattle.swim_wire.specs.declared.messages.Version.{Version}
 use Rattle.swim_history.specs.Setting.{Setting, IsSetting, is_state_past}
 use Rattle.swim_history.specs.Check.{setting_of, rows_up, has_fault, first_fault}
 use Rattle.swim_history.specs.declared.openings.OpeningFault.TheVariants.{Relays, Timing, TooManyRows, Myself, Twice}
@@ -15,11 +16,11 @@ are_past : (last : ℕ) (members : List (ℕ × Address)) → list_all (λ row. 
 are_past last [] = refl
 are_past last (member ∷ members) = are_past last members
 
-pub is_setting : (me k rtt period : ℕ) (members : List (ℕ × Address)) (last : ℕ) → last < 2 ^ 64 →
-    first_fault (setting_of me k rtt period members last) ≡ None → IsSetting (setting_of me k rtt period members last)
-is_setting me k rtt period members last lt none =
+pub is_setting : (me k rtt period : ℕ) (members : List (ℕ × Address)) (last : ℕ) (version : Version) → last < 2 ^ 64 →
+    first_fault (setting_of me k rtt period members last version) ≡ None → IsSetting (setting_of me k rtt period members last version)
+is_setting me k rtt period members last version lt none =
     let rows = rows_up members in
-    let test = has_fault (setting_of me k rtt period members last) in
+    let test = has_fault (setting_of me k rtt period members last version) in
     let relays = find_none test Relays (Timing ∷ TooManyRows ∷ Myself ∷ Twice ∷ []) none in
     let timing = find_none test Timing (TooManyRows ∷ Myself ∷ Twice ∷ []) relays.1 in
     let many = find_none test TooManyRows (Myself ∷ Twice ∷ []) timing.1 in

@@ -6,12 +6,13 @@ use Rattle.std.proofs.Common.{◌<◌, ◌+◌, sym, ap, subst, ◌∙◌, inl, 
 use Rattle.std.proofs.lemmas.Bool.{ne_eqb, eq-eqb, eqb-true, lt-leb, le-leb, or_right}
 use Rattle.std.proofs.lemmas.Option.{same_Some}
 use Rattle.swim_wire.specs.Address.{Address}
-use Rattle.swim_wire.specs.Probe.{key_of, passed_on}
-use Rattle.swim_wire.specs.Requests.{peer_for}
+use Rattle.swim_wire.specs.Probe.{key_of, ping_by, ack_by}
+use Rattle.swim_wire.specs.Requests.{asker_for}
 use Rattle.swim_wire.specs.Ids.{front}
 use Rattle.swim_wire.specs.declared.messages.Kind.{Kind}
 use Rattle.swim_wire.specs.declared.messages.Kind.TheVariants.{Ping, PingReq, Ack}
-use Rattle.swim_wire.specs.declared.messages.Message.{Message}
+use Rattle.swim_wire.specs.Messages.{Message}
+use Rattle.swim_wire.specs.declared.messages.Version.{Version}
 use Rattle.swim_history.specs.declared.calls.Call.{Call}
 use Rattle.swim_history.specs.declared.calls.Call.TheVariants.{Tick, Hear, Join, Remove}
 use Rattle.swim_history.specs.declared.replies.Reply.{Reply}
@@ -34,47 +35,58 @@ use Rattle.swim_history.specs.Gap.{is_member}
 use Rattle.swim_history.specs.Rows.{up, row_of, is_listed}
 use Rattle.swim_history.specs.Changes.{known_count}
 use Rattle.swim_history.specs.Waiting.{waiting}
-use Rattle.swim_history.specs.Run.{Answers, Hears, IsProbe, greatest_number, is_waiting}
+use Rattle.swim_history.specs.Run.{Answers, Hears, IsProbe, greatest_number, is_waiting, target_at}
 use Rattle.swim_wire.specs.Requests.{most_waiting}
 
 -- a reply without what is free
 abbrev pub settled : Reply → Reply
 settled (Started judged probe) = Started judged None
-settled (Asked target number relays) = Asked target number (record { items = [] })
+settled (Asked target peer number relays) = Asked target peer number (record { items = [] })
 settled (Joined place) = Joined 0
 settled reply = reply
 
-abbrev pub reply_to_timeout : ℕ → Option ℕ → Reply
-reply_to_timeout number None = Quiet
-reply_to_timeout number (Some target) = Asked target number (record { items = [] })
+-- the address in a row, if there is one
+abbrev pub address_in : Option Row → Option Address
+address_in None = None
+address_in (Some row) = Some row.peer
+
+-- others are asked to ping the aim, which is at an address
+abbrev pub ask_for : ℕ → ℕ → Option Address → Reply
+ask_for target number None = Quiet
+ask_for target number (Some peer) = Asked target peer number (record { items = [] })
+
+abbrev pub reply_to_timeout : Setting → List Entry → Option ℕ → Reply
+reply_to_timeout o h None = Quiet
+reply_to_timeout o h (Some target) = ask_for target (period_number o h) (address_in (row_of o h target))
 
 abbrev pub reply_to_tick : Setting → List Entry → Reply
 reply_to_tick o h =
     if phase o h == 0
     then (if period_number o h == greatest_number then Refused Spent else Started (unheard o h) None)
-    else (if phase o h == o.rtt then reply_to_timeout (period_number o h) (unheard o h) else Quiet)
+    else (if phase o h == o.rtt then reply_to_timeout o h (unheard o h) else Quiet)
 
 -- sent to an address, if there is one
 abbrev pub send_to : Option Address → Message → Reply → Reply
 send_to None message otherwise = otherwise
 send_to (Some peer) message otherwise = Send peer message
 
-abbrev pub address_in : Option Row → Option Address
-address_in None = None
-address_in (Some row) = Some row.peer
+-- an ack is sent on to whoever waits for it, in the version in which it was asked for
+abbrev pub send_on : Option (Address × Version) → (Version → Message) → Reply → Reply
+send_on None ack otherwise = otherwise
+send_on (Some asker) ack otherwise = Send asker.0 (ack asker.1)
 
 abbrev pub reply_to_message : Setting → List Entry → Message → Address → Kind → Reply
-reply_to_message o h m source Ping = if m.target == o.me then Send source (passed_on Ack o.me m) else Dropped NotForMe
+reply_to_message o h m source Ping = if m.target == o.me then Send source (ack_by m.version o.me m) else Dropped NotForMe
 reply_to_message o h m source PingReq =
     if not (m.initiator == m.sender) || m.initiator == o.me then Dropped Borrowed
     else (if m.target == o.me then Dropped AboutMe
-    else (if not (is_listed o h m.target) then Dropped Unlisted
+    else (if is_none (target_at o h m) then Dropped Unlisted
     else (if not (is_waiting o h m) && nat_le most_waiting (length (waiting o h)) then Dropped TableFull
-    else send_to (address_in (row_of o h m.target)) (passed_on Ping o.me m) (Dropped Unlisted))))
+    else send_to (target_at o h m) (ping_by o.me m) (Dropped Unlisted))))
 reply_to_message o h m source Ack =
     if m.initiator == o.me
     then (if is_member m.target (aim h) && m.number == period_number o h then Heard else Dropped Stray)
-    else send_to (peer_for (key_of m) (waiting o h)) (passed_on Ack o.me m) (Dropped NoRequest)
+    else send_on (asker_for (key_of m) (waiting o h)) (λ version. ack_by version o.me m) (Dropped NoRequest)
 
 abbrev pub reply_to : Setting → List Entry → Call → Reply
 reply_to o h Tick = reply_to_tick o h
@@ -109,10 +121,10 @@ is_known-or_room None count room = ne_eqb count 128 (room refl)
 is_known-or_room (Some row) count room = refl
 
 -- a tick in which nothing is to be done
-quiet : (at_timeout : Bool) (number : ℕ) (aimed : Option ℕ) → (at_timeout ≡ true → aimed ≡ None) →
-    Quiet ≡ (if at_timeout then reply_to_timeout number aimed else Quiet)
-quiet true number aimed none = rw (none refl) refl
-quiet false number aimed none = refl
+quiet : (o : Setting) (h : List Entry) (at_timeout : Bool) (aimed : Option ℕ) → (at_timeout ≡ true → aimed ≡ None) →
+    Quiet ≡ (if at_timeout then reply_to_timeout o h aimed else Quiet)
+quiet o h true aimed none = rw (none refl) refl
+quiet o h false aimed none = refl
 
 is_none-some : {A : Type 0} (o : Option A) → (o ≡ None → ⊥) → is_none o ≡ false
 is_none-some None h = absurd (h refl)
@@ -137,7 +149,7 @@ hear_settled o h m source PingReq (Dropped TableFull) a =
       eq-eqb m.initiator m.sender a.0.0,
       ne_eqb m.initiator o.me a.0.1,
       ne_eqb m.target o.me a.1,
-      a.2,
+      is_none-some (target_at o h m) a.2,
       a.3,
       le-leb most_waiting (length (waiting o h)) a.4,
     ) refl
@@ -155,7 +167,7 @@ hear_settled o h m source Ack Heard a =
     rw (eq-eqb m.initiator o.me a.0, a.1, eq-eqb m.target m.target refl, eq-eqb m.number (period_number o h) a.2) refl
 hear_settled o h m source Ack (Dropped Stray) a =
     rw (eq-eqb m.initiator o.me a.0, not_aim (aim h) m.target m.number (period_number o h) a.1) refl
-hear_settled o h m source Ack (Send peer ack) a = rw (ne_eqb m.initiator o.me a.0, a.1, a.2) refl
+hear_settled o h m source Ack (Send peer ack) a = rw (ne_eqb m.initiator o.me a.0, a.2, a.3) refl
 hear_settled o h m source Ack (Dropped NoRequest) a = rw (ne_eqb m.initiator o.me a.0, a.1) refl
 hear_settled o h m source kind reply a = absurd a
 
@@ -170,11 +182,11 @@ answers_settled o h Tick (Started judged probe) choice s a =
       ne_eqb (period_number o h) greatest_number (λ e. omega (arith, a.unspent)),
       a.judges,
     ) refl
-answers_settled o h Tick (Asked m number relays) Nothing s a =
-    rw (ne_eqb (phase o h) 0 (λ e. omega (arith, a.0, s.timing.0)), eq-eqb (phase o h) o.rtt a.0, a.1, a.2) refl
+answers_settled o h Tick (Asked m peer number relays) Nothing s a =
+    rw (ne_eqb (phase o h) 0 (λ e. omega (arith, a.0, s.timing.0)), eq-eqb (phase o h) o.rtt a.0, a.1, a.2, a.4) refl
 answers_settled o h Tick Quiet Nothing s a =
     rw (ne_eqb (phase o h) 0 a.0)
-    (quiet (phase o h == o.rtt) (period_number o h) (unheard o h) (λ e. a.1 (eqb-true (phase o h) o.rtt e)))
+    (quiet o h (phase o h == o.rtt) (unheard o h) (λ e. a.1 (eqb-true (phase o h) o.rtt e)))
 answers_settled o h (Hear m source) reply Nothing s a = hear_settled o h m source m.kind reply a
 answers_settled o h (Join id peer) (Refused Myself) Nothing s a = rw (eq-eqb id o.me a) refl
 answers_settled o h (Join id peer) (Refused Listed) Nothing s a = rw (ne_eqb id o.me a.0, a.1) refl
@@ -197,7 +209,7 @@ fits_once o s h call first second one other a b =
     answers_settled o h call first one s a ∙ sym (answers_settled o h call second other s b)
 
 -- the address of a member that is up
-address_once : (row : Option Row) (m : ℕ) (one other : Address) → row ≡ Some (up m one) → row ≡ Some (up m other) →
+pub address_once : (row : Option Row) (m : ℕ) (one other : Address) → row ≡ Some (up m one) → row ≡ Some (up m other) →
     one ≡ other
 address_once row m one other a b = same_Some one other (sym (ap address_in a) ∙ ap address_in b)
 

@@ -10,7 +10,7 @@ use Rattle.swim_wire.specs.Ids.{has}
 use Rattle.swim_wire.specs.Round.{leave_judged}
 use Rattle.swim_wire.specs.declared.messages.Kind.{Kind}
 use Rattle.swim_wire.specs.declared.messages.Kind.TheVariants.{Ping, PingReq, Ack}
-use Rattle.swim_wire.specs.declared.messages.Message.{Message}
+use Rattle.swim_wire.specs.Messages.{Message}
 use Rattle.swim_history.specs.declared.calls.Call.{Call}
 use Rattle.swim_history.specs.declared.calls.Call.TheVariants.{Tick, Hear, Join, Remove}
 use Rattle.swim_history.specs.declared.replies.Reply.{Reply}
@@ -25,7 +25,7 @@ use Rattle.swim_history.specs.Setting.{Setting, IsSetting}
 use Rattle.swim_history.specs.Rows.{up, row_of}
 use Rattle.swim_history.specs.Round.{lists, listed}
 use Rattle.swim_history.specs.Run.{IsStart, candidates, AreRelays, Hears, Answers, calls_of, Continues, IsRun}
-use Rattle.swim_history.specs.Laws.Determined.{settled, fits_once, starts_once, address_in}
+use Rattle.swim_history.specs.Laws.Determined.{address_in, address_once, settled, fits_once, starts_once}
 use Rattle.swim_history.specs.Drawn.{DrawsRelays, DrawsEntry, IsDrawn}
 
 -- choosers that are the same answer the same, and are the same afterwards
@@ -53,13 +53,13 @@ DrawsOnce {S} orders places same o =
 -- the reply has a part that is free
 abbrev is_free : Call → Reply → Bool
 is_free Tick (Started judged probe) = true
-is_free Tick (Asked target number relays) = true
+is_free Tick (Asked target peer number relays) = true
 is_free (Join id peer) (Joined place) = true
 is_free call reply = false
 
 is_free-settled : (call : Call) (reply : Reply) → is_free call (settled reply) ≡ is_free call reply
 is_free-settled Tick (Started judged probe) = refl
-is_free-settled Tick (Asked target number relays) = refl
+is_free-settled Tick (Asked target peer number relays) = refl
 is_free-settled (Join id peer) (Joined place) = refl
 is_free-settled call reply = refl
 
@@ -71,13 +71,13 @@ record IsFixed (reply : Reply) (choice : Choice) : Type 0 where
 hears_fixed : (o : Setting) (h : List Entry) (m : Message) (source : Address) (kind : Kind) (reply : Reply) →
     Hears o h m source kind reply → settled reply ≡ reply
 hears_fixed o h m source Ping (Started judged probe) a = absurd a
-hears_fixed o h m source Ping (Asked target number relays) a = absurd a
+hears_fixed o h m source Ping (Asked target peer number relays) a = absurd a
 hears_fixed o h m source Ping (Joined place) a = absurd a
 hears_fixed o h m source PingReq (Started judged probe) a = absurd a
-hears_fixed o h m source PingReq (Asked target number relays) a = absurd a
+hears_fixed o h m source PingReq (Asked target peer number relays) a = absurd a
 hears_fixed o h m source PingReq (Joined place) a = absurd a
 hears_fixed o h m source Ack (Started judged probe) a = absurd a
-hears_fixed o h m source Ack (Asked target number relays) a = absurd a
+hears_fixed o h m source Ack (Asked target peer number relays) a = absurd a
 hears_fixed o h m source Ack (Joined place) a = absurd a
 hears_fixed o h m source kind reply a = refl
 
@@ -86,7 +86,7 @@ fixed : (o : Setting) (h : List Entry) (call : Call) (reply : Reply) (choice : C
 fixed o h Tick (Refused Spent) Nothing a none = record { settles = refl; drawn = refl }
 fixed o h Tick Quiet Nothing a none = record { settles = refl; drawn = refl }
 fixed o h Tick (Started judged probe) choice a none = absurd cc
-fixed o h Tick (Asked target number relays) choice a none = absurd cc
+fixed o h Tick (Asked target peer number relays) choice a none = absurd cc
 fixed o h (Hear m source) reply Nothing a none =
     record { settles = hears_fixed o h m source m.kind reply a; drawn = refl }
 fixed o h (Join id peer) (Refused Myself) Nothing a none = record { settles = refl; drawn = refl }
@@ -103,7 +103,7 @@ undrawn : {S : Type 0} (orders : S → List ℕ → List ℕ → S → Type 0) (
     (h : List Entry) (call : Call) (reply : Reply) (choice : Choice) (before after : S)
     → DrawsEntry orders places o h call reply choice before after → is_free call reply ≡ false → after ≡ before
 undrawn orders places o h Tick (Started judged probe) choice before after d none = absurd cc
-undrawn orders places o h Tick (Asked target number relays) choice before after d none = absurd cc
+undrawn orders places o h Tick (Asked target peer number relays) choice before after d none = absurd cc
 undrawn orders places o h (Join id peer) (Joined place) choice before after d none = absurd cc
 undrawn orders places o h call reply choice before after d none = d
 
@@ -216,16 +216,16 @@ module _ {S : Type 0} (orders : S → List ℕ → List ℕ → S → Type 0) (p
       let drawn = f.order before before' after after' ids some.2 some'.2 alike some.3 some'.3 in
       (some.4 ∙ ap (take o.k) drawn.0 ∙ sym some'.4, drawn.1)
 
-  asked_same : (target number : ℕ) (rs rs' : ArrayVec Relay) → AreRelays o h target rs.items →
+  asked_same : (target : ℕ) (peer : Address) (number : ℕ) (rs rs' : ArrayVec Relay) → AreRelays o h target rs.items →
       AreRelays o h target rs'.items
-      → Draws Tick (Asked target number rs) Nothing → Draws' Tick (Asked target number rs') Nothing →
-      Same (Asked target number rs) (Asked target number rs') Nothing Nothing
-  asked_same target number rs rs' a a' d d' =
+      → Draws Tick (Asked target peer number rs) Nothing → Draws' Tick (Asked target peer number rs') Nothing →
+      Same (Asked target peer number rs) (Asked target peer number rs') Nothing Nothing
+  asked_same target peer number rs rs' a a' d d' =
       let drawn = relay_ids_same (candidates o h target) rs.items rs'.items a.count a'.count d d' in
       let items = relays_same o h
       (λ relay. has (candidates o h target) relay.id ≡ true) rs.items rs'.items drawn.0 a.each a'.each in
       record {
-        replies = ap (λ (xs : List Relay). Asked target number (record { items = xs })) items;
+        replies = ap (λ (xs : List Relay). Asked target peer number (record { items = xs })) items;
         choices =
             refl;
         choosers = drawn.1;
@@ -240,15 +240,19 @@ module _ {S : Type 0} (orders : S → List ℕ → List ℕ → S → Type 0) (p
       subst (λ (j : Option ℕ). IsStart o h j probe' choice' → Draws' Tick (Started j probe') choice' →
       Same (Started judged probe) (Started j probe') choice choice')
       (a.judges ∙ sym a'.judges) (λ a' d'. start_same judged probe probe' choice choice' a a' d d') a' d'
-  free_same Tick (Asked target number rs) (Asked target' number' rs') Nothing Nothing a a' e d d' free =
-      subst (λ (t : ℕ). AreRelays o h t rs'.items → Draws' Tick (Asked t number' rs') Nothing →
-      Same (Asked target number rs) (Asked t number' rs') Nothing Nothing)
+  free_same Tick (Asked target peer number rs) (Asked target' peer' number' rs') Nothing Nothing a a' e d d' free =
+      subst (λ (t : ℕ). AreRelays o h t rs'.items → row_of o h t ≡ Some (up t peer') →
+      Draws' Tick (Asked t peer' number' rs') Nothing →
+      Same (Asked target peer number rs) (Asked t peer' number' rs') Nothing Nothing)
       (same_Some target target' (sym a.1 ∙ a'.1))
-      (λ relays d'. subst (λ (n : ℕ). Same (Asked target number rs) (Asked target n rs') Nothing Nothing)
-      (a.2 ∙ sym a'.2) (asked_same target number rs rs' a.3 relays d d')) a'.3 d'
-  free_same Tick (Asked target number rs) (Asked target' number' rs') Nothing (Round order') a a' e d d' free =
+      (λ relays row d'. subst
+      (λ (p : Address). Same (Asked target peer number rs) (Asked target p number' rs') Nothing Nothing)
+      (address_once (row_of o h target) target peer peer' a.4 row)
+      (subst (λ (n : ℕ). Same (Asked target peer number rs) (Asked target peer n rs') Nothing Nothing)
+      (a.2 ∙ sym a'.2) (asked_same target peer number rs rs' a.3 relays d d'))) a'.3 a'.4 d'
+  free_same Tick (Asked target peer number rs) (Asked target' peer' number' rs') Nothing (Round order') a a' e d d' free =
       absurd a'
-  free_same Tick (Asked target number rs) (Asked target' number' rs') (Round order) choice' a a' e d d' free = absurd a
+  free_same Tick (Asked target peer number rs) (Asked target' peer' number' rs') (Round order) choice' a a' e d d' free = absurd a
   free_same (Join id peer) (Joined place) (Joined place') Nothing Nothing a a' e d d' free =
       let drawn = f.place before before' after after' (length (listed o h)) place place' alike d d' in
       record { replies = ap Joined drawn.0; choices = refl; choosers = drawn.1 }

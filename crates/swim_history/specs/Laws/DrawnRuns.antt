@@ -36,7 +36,7 @@ use Rattle.swim_history.specs.Run.{greatest_number, IsProbe, candidates}
 use Rattle.swim_history.specs.Run.{Answers, calls_of, IsRun}
 use Rattle.swim_history.specs.Laws.Run.{begins, number_then}
 use Rattle.swim_history.specs.Laws.Listed.{no_longer, all-redraw, next_is_in, stays_from, once_judged, listed_is}
-use Rattle.swim_history.specs.Laws.Listed.{listed_once, listed_bound, room_to_join}
+use Rattle.swim_history.specs.Laws.Listed.{listed_once, listed_bound, room_to_join, unheard_aim, aim_listed}
 use Rattle.swim_history.specs.Laws.HeardReplies.{hear_reply}
 use Rattle.swim_history.specs.Drawn.{DrawsEntry, IsDrawn}
 use Rattle.swim_history.specs.Laws.Drawn.{calls_in}
@@ -188,6 +188,10 @@ module _ {S : Type 0} (orders : S → List ℕ → List ℕ → S → Type 0) (p
         each = ((first, row.1), others.each);
       }
 
+  -- the aim is listed, and has an address
+  aim_row : (target : ℕ) → unheard o h ≡ Some target → (peer : Address) × (row_of o h target ≡ Some (up target peer))
+  aim_row target silent = listed_row o h target (aim_listed o h target s run (unheard_aim o h target silent))
+
   nobody_asked : (target : ℕ) → phase o h ≡ o.rtt → unheard o h ≡ Some target →
       (o.k ≡ 0) ⊎ (candidates o h target ≡ []) → HasAnswer orders places o h Tick before
   nobody_asked target timeout silent none =
@@ -196,17 +200,19 @@ module _ {S : Type 0} (orders : S → List ℕ → List ℕ → S → Type 0) (p
         | inl zero ↦ omega arith
         | inr empty ↦ omega (arith, ap (λ (xs : List ℕ). length xs) empty)
       ] in
+      let row = aim_row target silent in
       record {
-        reply = Asked target (period_number o h) (record { items = [] });
+        reply = Asked target row.0 (period_number o h) (record { items = [] });
         choice = Nothing;
         after = before;
-        fits = (timeout, silent, refl, record { count = count; once = refl; each = tt });
+        fits = (timeout, silent, refl, record { count = count; once = refl; each = tt }, row.1);
         draws = inl (none, refl);
       }
 
   some_asked : (target : ℕ) → phase o h ≡ o.rtt → unheard o h ≡ Some target → o.k ≢ 0 → candidates o h target ≢ [] →
       HasAnswer orders places o h Tick before
   some_asked target timeout silent some others =
+      let row = aim_row target silent in
       let ids = candidates o h target in
       let once : has_twice ids ≡ false =
       once_part (λ other. not (nat_eq other target)) (listed o h) (listed_once o h s run) in
@@ -223,7 +229,7 @@ module _ {S : Type 0} (orders : S → List ℕ → List ℕ → S → Type 0) (p
       let differ : has_twice front ≡ false =
       once_front front (drop o.k order.0) (ap has_twice whole ∙ once-IsPermutation ids order.0 order.2 once) in
       record {
-        reply = Asked target (period_number o h) (record { items = drawn.relays });
+        reply = Asked target row.0 (period_number o h) (record { items = drawn.relays });
         choice = Nothing;
         after = order.1;
         fits = (
@@ -236,6 +242,7 @@ module _ {S : Type 0} (orders : S → List ℕ → List ℕ → S → Type 0) (p
             each =
                 drawn.each;
           },
+          row.1,
         );
         draws = inr (some, others, order.0, order.3, drawn.are);
       }

@@ -4,11 +4,12 @@ use Rattle.std.proofs.Common.{Option, Some, None, refl, sym, ap, ◌∙◌, inl,
 use Rattle.std.proofs.lemmas.Option.{same_Some}
 use Rattle.std.proofs.lemmas.Bool.{false≢true, cases_eq, cases_lt}
 use Rattle.swim_wire.specs.Address.{Address}
-use Rattle.swim_wire.specs.Probe.{key_of, passed_on}
-use Rattle.swim_wire.specs.Requests.{peer_for}
+use Rattle.swim_wire.specs.Probe.{key_of, ping_by, ack_by}
+use Rattle.swim_wire.specs.Requests.{asker_for}
 use Rattle.swim_wire.specs.declared.messages.Kind.{Kind}
 use Rattle.swim_wire.specs.declared.messages.Kind.TheVariants.{Ping, PingReq, Ack}
-use Rattle.swim_wire.specs.declared.messages.Message.{Message}
+use Rattle.swim_wire.specs.Messages.{Message}
+use Rattle.swim_wire.specs.declared.messages.Version.{Version}
 use Rattle.swim_history.specs.declared.replies.Reply.{Reply}
 use Rattle.swim_history.specs.declared.replies.Reply.TheVariants.{Heard, Send, Dropped}
 use Rattle.swim_history.specs.declared.replies.DropReason.TheVariants.{NotForMe, Borrowed, AboutMe, Unlisted, TableFull}
@@ -17,10 +18,8 @@ use Rattle.swim_history.specs.declared.entries.Entry.{Entry}
 use Rattle.swim_history.specs.Setting.{Setting}
 use Rattle.swim_history.specs.Clock.{period_number}
 use Rattle.swim_history.specs.Aim.{aim}
-use Rattle.swim_history.specs.Rows.{is_listed}
-use Rattle.swim_history.specs.Laws.Table.{listed_row}
 use Rattle.swim_history.specs.Waiting.{waiting}
-use Rattle.swim_history.specs.Run.{IsRequest, is_waiting, Hears}
+use Rattle.swim_history.specs.Run.{IsRequest, is_waiting, target_at, Hears}
 use Rattle.swim_wire.specs.Requests.{most_waiting}
 
 -- an answer to a message
@@ -29,21 +28,20 @@ HasReply o h m source kind = (reply : Reply) × Hears o h m source kind reply
 
 relay_reply : (o : Setting) (h : List Entry) (m : Message) (source : Address) → IsRequest o.me m → m.target ≢ o.me →
     HasReply o h m source PingReq
-relay_reply o h m source request away = by (is_listed o h m.target) refl where
-  found : is_listed o h m.target ≡ true → (waits : Bool) → is_waiting o h m ≡ waits → HasReply o h m source PingReq
-  found is true waits =
-      let row = listed_row o h m.target is in
-      (Send row.0 (passed_on Ping o.me m), (request, away, row.1, λ none. absurd (false≢true (sym none ∙ waits)), refl))
-  found is false waits =
-      let row = listed_row o h m.target is in
+relay_reply o h m source request away = by (target_at o h m) refl where
+  found : (peer : Address) → target_at o h m ≡ Some peer → (waits : Bool) → is_waiting o h m ≡ waits →
+      HasReply o h m source PingReq
+  found peer is true waits =
+      (Send peer (ping_by o.me m), (request, away, is, λ none. absurd (false≢true (sym none ∙ waits)), refl))
+  found peer is false waits =
       elim (cases_lt (length (waiting o h)) most_waiting) [
-        | inl room ↦ (Send row.0 (passed_on Ping o.me m), (request, away, row.1, λ none. room, refl))
-        | inr full ↦ (Dropped TableFull, (request, away, is, waits, full))
+        | inl room ↦ (Send peer (ping_by o.me m), (request, away, is, λ none. room, refl))
+        | inr full ↦ (Dropped TableFull, (request, away, (λ none. absurd (cc (is, none))), waits, full))
       ]
 
-  by : (b : Bool) → is_listed o h m.target ≡ b → HasReply o h m source PingReq
-  by false is = (Dropped Unlisted, (request, away, is))
-  by true is = found is (is_waiting o h m) refl
+  by : (peer : Option Address) → target_at o h m ≡ peer → HasReply o h m source PingReq
+  by None is = (Dropped Unlisted, (request, away, is))
+  by (Some peer) is = found peer is (is_waiting o h m) refl
 
 ack_reply : (o : Setting) (h : List Entry) (m : Message) (source : Address) → m.initiator ≡ o.me →
     HasReply o h m source Ack
@@ -62,16 +60,16 @@ ack_reply o h m source mine = by (aim h) refl where
 
 forward_reply : (o : Setting) (h : List Entry) (m : Message) (source : Address) → m.initiator ≢ o.me →
     HasReply o h m source Ack
-forward_reply o h m source other = by (peer_for (key_of m) (waiting o h)) refl where
-  by : (peer : Option Address) → peer_for (key_of m) (waiting o h) ≡ peer → HasReply o h m source Ack
+forward_reply o h m source other = by (asker_for (key_of m) (waiting o h)) refl where
+  by : (asker : Option (Address × Version)) → asker_for (key_of m) (waiting o h) ≡ asker → HasReply o h m source Ack
   by None is = (Dropped NoRequest, (other, is))
-  by (Some peer) is = (Send peer (passed_on Ack o.me m), (other, is, refl))
+  by (Some asker) is = (Send asker.0 (ack_by asker.1 o.me m), (other, asker.1, is, refl))
 
 pub hear_reply : (o : Setting) (h : List Entry) (m : Message) (source : Address) (kind : Kind) →
     HasReply o h m source kind
 hear_reply o h m source Ping =
     elim (cases_eq m.target o.me) [
-      | inl mine ↦ (Send source (passed_on Ack o.me m), (mine, refl, refl))
+      | inl mine ↦ (Send source (ack_by m.version o.me m), (mine, refl, refl))
       | inr other ↦ (Dropped NotForMe, other)
     ]
 hear_reply o h m source PingReq =

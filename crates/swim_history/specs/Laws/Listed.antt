@@ -33,7 +33,7 @@ use Rattle.swim_history.specs.declared.entries.Entry.{Entry}
 use Rattle.swim_history.specs.Setting.{Setting, IsSetting, ids_of, is_state_up}
 use Rattle.swim_history.specs.Events.{is_starting, is_start, probe_in, is_removing, removes}
 use Rattle.swim_history.specs.Clock.{period_number}
-use Rattle.swim_history.specs.Aim.{since, unless, last_probed, aim}
+use Rattle.swim_history.specs.Aim.{since, unless, last_probed, aim, was_heard, unheard}
 use Rattle.swim_history.specs.Rows.{up, failed, row_at, row_then, row_of, is_up, is_listed}
 use Rattle.swim_history.specs.Round.{drawn, lists_then, lists, listed}
 use Rattle.swim_history.specs.Run.{IsProbe, Answers, IsRun}
@@ -273,6 +273,16 @@ up_then (Join joiner peer) (Joined place) number m row starts removes is = by (n
   by false = is
 up_then (Remove gone) Removed number m row starts removes is = rw removes is
 up_then call reply number m row starts removes is = is
+
+-- who went unheard is the aim
+pub unheard_aim : (o : Setting) (h : List Entry) (m : ℕ) → unheard o h ≡ Some m → aim h ≡ Some m
+unheard_aim o h m silent = by (aim h) silent where
+  by : (aimed : Option ℕ) → option_and_then (λ m. unless (was_heard o h m) m) aimed ≡ Some m → aimed ≡ Some m
+  by None is = absurd cc
+  by (Some target) is = heard (was_heard o h target) is where
+    heard : (b : Bool) → unless b target ≡ Some m → Some target ≡ Some m
+    heard true is = absurd cc
+    heard false is = is
 
 -- the aim is listed
 pub aim_listed : (o : Setting) (h : List Entry) (m : ℕ) → IsSetting o → IsRun o h → aim h ≡ Some m →

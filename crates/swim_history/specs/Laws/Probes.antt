@@ -67,7 +67,7 @@ adds o h Tick (Started None probe) choice a same =
     ap (λ first. first ++ (advance r).rest) (next_probed o h _ (front r.rest) probe a.probes)
     ∙ front_and_rest r
     ∙ rest_redrawn (drawn choice) (lists o h) a.draws
-adds o h Tick (Asked m number relays) Nothing a same = sym (append-nil (lists o h).rest)
+adds o h Tick (Asked m peer number relays) Nothing a same = sym (append-nil (lists o h).rest)
 adds o h Tick Quiet Nothing a same = sym (append-nil (lists o h).rest)
 adds o h (Hear m source) reply Nothing a same =
     rw (no_probe reply (hears_no_start o h m source m.kind reply a)) (sym (append-nil (lists o h).rest))

@@ -6,7 +6,7 @@ use Rattle.std.specs.List.{list_any}
 use Rattle.swim_wire.specs.Address.{Address}
 use Rattle.swim_wire.specs.declared.messages.Kind.{Kind}
 use Rattle.swim_wire.specs.declared.messages.Kind.TheVariants.{Ping, PingReq, Ack}
-use Rattle.swim_wire.specs.declared.messages.Message.{Message}
+use Rattle.swim_wire.specs.Messages.{Message}
 use Rattle.swim_history.specs.declared.calls.Call.{Call}
 use Rattle.swim_history.specs.declared.calls.Call.TheVariants.{Tick, Hear, Join, Remove}
 use Rattle.swim_history.specs.declared.replies.Reply.{Reply}
@@ -71,7 +71,7 @@ pub moves : (o : Setting) (h : List Entry) (call : Call) (reply : Reply) (choice
     Answers o h call reply choice → Starts o h call reply ⊎ (Passes o h call reply ⊎ Stands call reply)
 moves o h Tick (Refused Spent) Nothing s a = inr (inr (record { ticks = refl; starts = refl }))
 moves o h Tick (Started judged probe) choice s a = inl (record { ticks = refl; starts = refl; at = a.begins })
-moves o h Tick (Asked m number relays) Nothing s a =
+moves o h Tick (Asked m peer number relays) Nothing s a =
     inr (inl (record { ticks = refl; starts = refl; within = λ e. omega (arith, a.0, s.timing.0) }))
 moves o h Tick Quiet Nothing s a = inr (inl (record { ticks = refl; starts = refl; within = a.0 }))
 moves o h (Hear m source) reply Nothing s a =

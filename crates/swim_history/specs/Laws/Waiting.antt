@@ -15,7 +15,7 @@ use Rattle.swim_wire.specs.Address.{Address}
 use Rattle.swim_wire.specs.Probe.{key_of, same_key}
 use Rattle.swim_wire.specs.Requests.{Request, forget, one_less, aged}
 use Rattle.swim_wire.specs.declared.messages.Key.{Key}
-use Rattle.swim_wire.specs.declared.messages.Message.{Message}
+use Rattle.swim_wire.specs.Messages.{Message}
 use Rattle.swim_wire.specs.declared.messages.Kind.TheVariants.{PingReq, Ack}
 use Rattle.swim_history.specs.declared.calls.Call.{Call}
 use Rattle.swim_history.specs.declared.calls.Call.TheVariants.{Tick, Hear, Join, Remove}
@@ -33,7 +33,7 @@ use Rattle.swim_history.specs.Waiting.{Asking, asked_in, sent_on_in, ends, left_
 abbrev left_by : ℕ → Asking → Bool → ℕ → Option Request
 left_by period a ended passed =
     cond ended None
-    (cond (nat_lt passed period) (Some (record { key = a.key; peer = a.peer; left = period - passed })) None)
+    (cond (nat_lt passed period) (Some (record { key = a.key; peer = a.peer; version = a.version; left = period - passed })) None)
 
 -- one more entry after a request
 ended_more : (e : Entry) (newer : List Entry) (key : Key) → list_any (ends key) (newer ++ e ∷ []) ≡
@@ -52,7 +52,7 @@ left_tick period a false t =
     elim (cases_lt (t + 1) period) [
       | inl lt ↦
           rw (lt-ltb (t + 1) period lt, lt-ltb t period (omega arith), lt-ltb 0 (period - t - 1) (omega arith))
-          (ap (λ (n : ℕ). record { key = a.key; peer = a.peer; left = n } ∷ []) (omega arith))
+          (ap (λ (n : ℕ). record { key = a.key; peer = a.peer; version = a.version; left = n } ∷ []) (omega arith))
       | inr le ↦
           elim (cases_lt t period) [
             | inl lt ↦ rw (le-ltb (t + 1) period le, lt-ltb t period lt, le-ltb 0 (period - t - 1) (omega arith)) refl
@@ -79,8 +79,8 @@ left_ended period a key false t = rw (same_key_comm key a.key) (by (same_key a.k
     by : (same : Bool) → same_key a.key key ≡ same → (waits : Bool) →
         option_to_list
         (cond (same || false) None
-        (cond waits (Some (record { key = a.key; peer = a.peer; left = period - t })) None)) ≡ forget key
-        (option_to_list (cond waits (Some (record { key = a.key; peer = a.peer; left = period - t })) None))
+        (cond waits (Some (record { key = a.key; peer = a.peer; version = a.version; left = period - t })) None)) ≡ forget key
+        (option_to_list (cond waits (Some (record { key = a.key; peer = a.peer; version = a.version; left = period - t })) None))
     by true is true = rw is refl
     by true is false = refl
     by false is true = rw is refl
@@ -186,12 +186,12 @@ waiting_tick o h e ticking =
 pub waiting_asked : (o : Setting) (h : List Entry) (e : Entry) (m : Message) (source peer : Address) (ping : Message) →
     0 < o.period → e.call ≡ Hear m source → m.kind ≡ PingReq → e.reply ≡ Send peer ping
     → waiting o (e ∷ h) ≡ forget (key_of m) (waiting o h) ++
-    record { key = key_of m; peer = source; left = o.period } ∷ []
+    record { key = key_of m; peer = source; version = m.version; left = o.period } ∷ []
 waiting_asked o h e m source peer ping positive call kind reply =
     waiting_then o e (forget (key_of m)) (forget_each (key_of m))
     (sent_each o.period e (key_of m) (rw call refl) (rw (call, reply, kind) refl)) h
     ∙ (rw (call, reply, kind, lt-ltb 0 o.period positive)
-    (ap (λ (n : ℕ). forget (key_of m) (waiting o h) ++ record { key = key_of m; peer = source; left = n } ∷ [])
+    (ap (λ (n : ℕ). forget (key_of m) (waiting o h) ++ record { key = key_of m; peer = source; version = m.version; left = n } ∷ [])
     (omega arith)))
 
 -- an ack that is passed on ends what waits for it

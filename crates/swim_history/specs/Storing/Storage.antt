@@ -37,13 +37,12 @@ choice_among ids Nothing = choices.Nothing
 choice_among ids (Round count start) = choices.Round (record { items = take count (drop start ids) })
 
 -- an entry that is stored whole, among the ids of all orders and all relays
-abbrev pub entry_among : List ℕ → List Relay → Stored → Entry
-entry_among ids relays stored = record {
-  seat = stored.seat;
-  number = stored.number;
+abbrev pub entry_among : List ℕ → List Relay → ℕ → ℕ → Stored → Entry
+entry_among ids relays seat number stored = record {
+  seat = seat;
+  number = number;
   call = stored.call;
-  choice =
-      choice_among ids stored.drawn;
+  choice = choice_among ids stored.drawn;
   reply = reply_among relays stored.reply;
 }
 
@@ -61,18 +60,19 @@ AreWithin ids relays entries = AllByRecursion (IsStoredWithin ids relays) entrie
 
 -- some stored entry, for a place where there is none
 abbrev pub no_stored : Stored
-no_stored = record { seat = 0; number = 0; drawn = Nothing; call = Tick; reply = stored_replies.Quiet }
+no_stored = record { drawn = Nothing; call = Tick; reply = stored_replies.Quiet }
 
 -- an entry, among those that are stored whole
 abbrev pub entry_in : List ℕ → List Relay → List Stored → Slot → Entry
 entry_in ids relays whole (Quiet seat number) =
     record { seat = seat; number = number; call = Tick; choice = choices.Nothing; reply = replies.Quiet }
-entry_in ids relays whole (Whole place) = entry_among ids relays (slice_index_or whole place no_stored)
+entry_in ids relays whole (Whole seat number place) =
+    entry_among ids relays seat number (slice_index_or whole place no_stored)
 
 -- an entry that is stored whole stands among so many of them
 abbrev pub IsPlaced : ℕ → Slot → Type 0
 IsPlaced count (Quiet seat number) = Unit {0}
-IsPlaced count (Whole place) = place < count
+IsPlaced count (Whole seat number place) = place < count
 
 -- so does each of them
 abbrev pub ArePlaced : ℕ → List Slot → Type 0

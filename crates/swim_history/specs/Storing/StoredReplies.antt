@@ -9,14 +9,14 @@ use Rattle.swim_history.specs.declared.stored_replies.StoredReply.TheVariants as
 
 -- the relays that a reply asks
 abbrev pub relays_in : Reply → List Relay
-relays_in (replies.Asked target number relays) = relays.items
+relays_in (replies.Asked target peer number relays) = relays.items
 relays_in reply = []
 
 -- how it is stored where its relays stand behind so many others
 abbrev pub reply_at : ℕ → Reply → StoredReply
 reply_at start replies.Quiet = stored.Quiet
 reply_at start (replies.Started judged probe) = stored.Started judged probe
-reply_at start (replies.Asked target number relays) = stored.Asked target number (length relays.items) start
+reply_at start (replies.Asked target peer number relays) = stored.Asked target peer number (length relays.items) start
 reply_at start replies.Heard = stored.Heard
 reply_at start (replies.Send peer message) = stored.Send peer message
 reply_at start (replies.Dropped reason) = stored.Dropped reason
@@ -28,8 +28,8 @@ reply_at start (replies.Refused reason) = stored.Refused reason
 abbrev pub reply_among : List Relay → StoredReply → Reply
 reply_among relays stored.Quiet = replies.Quiet
 reply_among relays (stored.Started judged probe) = replies.Started judged probe
-reply_among relays (stored.Asked target number count start) =
-    replies.Asked target number (record { items = take count (drop start relays) })
+reply_among relays (stored.Asked target peer number count start) =
+    replies.Asked target peer number (record { items = take count (drop start relays) })
 reply_among relays stored.Heard = replies.Heard
 reply_among relays (stored.Send peer message) = replies.Send peer message
 reply_among relays (stored.Dropped reason) = replies.Dropped reason
@@ -44,5 +44,5 @@ start_in reply = None
 
 -- its relays stand within so many, and a reply has room for them
 abbrev pub IsAskedWithin : ℕ → StoredReply → Type 0
-IsAskedWithin relays (stored.Asked target number count start) = (count ≤ 8) × (start + count ≤ relays)
+IsAskedWithin relays (stored.Asked target peer number count start) = (count ≤ 8) × (start + count ≤ relays)
 IsAskedWithin relays reply = Unit {0}

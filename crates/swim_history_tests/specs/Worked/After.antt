@@ -55,7 +55,7 @@ asks_nobody : Continues later (third_start ∷ []) (asking 1 3 3 [])
 asks_nobody = record {
   seat = lit< tt;
   number = refl;
-  answer = (refl, refl, refl, record { count = refl; once = refl; each = tt });
+  answer = (refl, refl, refl, record { count = refl; once = refl; each = tt }, refl);
 }
 
 -- who failed can be removed

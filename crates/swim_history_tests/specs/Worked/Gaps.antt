@@ -8,6 +8,7 @@ use Rattle.swim_history.specs.declared.replies.Reply.TheVariants.{Quiet, Heard, 
 use Rattle.swim_history.specs.declared.entries.Choice.TheVariants.{Nothing}
 use Rattle.swim_history.specs.declared.entries.Entry.{Entry}
 use Rattle.swim_wire.specs.declared.messages.Kind.TheVariants.{Ack}
+use Rattle.swim_wire.specs.declared.messages.Version.TheVariants.{One}
 use Rattle.swim_history.specs.Setting.{Setting}
 use Rattle.swim_history.specs.Events.{is_start}
 use Rattle.swim_history.specs.Clock.{period_number, phase}
@@ -19,7 +20,9 @@ use Rattle.swim_history_tests.specs.Worked.Histories.{at, known, of_members, ent
 -- the entries of a period after its start: the aim's ack, then two quiet ticks
 abbrev pub heard : ℕ → ℕ → ℕ → Entry
 heard place target number =
-    entry place (Hear (record { kind = Ack; sender = target; initiator = 1; target = target; number = number })
+    entry place
+    (Hear
+    (record { version = One; kind = Ack; sender = target; initiator = 1; target = target; number = number; at = None })
     (at target)) Heard Nothing
 
 abbrev pub quiet : ℕ → Entry

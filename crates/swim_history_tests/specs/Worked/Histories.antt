@@ -4,6 +4,7 @@ use Rattle.std.proofs.Common.{lit<, arith}
 use Rattle.std.proofs.lemmas.List.Sorted.{IsPermutation-refl}
 use Rattle.swim_wire.specs.Address.{Address}
 use Rattle.swim_wire.specs.declared.messages.Kind.TheVariants.{Ping, PingReq, Ack}
+use Rattle.swim_wire.specs.declared.messages.Version.TheVariants.{One}
 use Rattle.swim_history.specs.declared.rows.Row.{Row}
 use Rattle.swim_history.specs.declared.rows.RowState.TheVariants.{Failed}
 use Rattle.swim_history.specs.declared.calls.Call.{Call}
@@ -37,7 +38,7 @@ known n = up n (at n)
 
 -- a detector of member 1 with a timeout of one tick and a period of three
 abbrev pub of_members : ℕ → ℕ → List Row → Setting
-of_members k last rows = record { me = 1; k = k; rtt = 1; period = 3; rows = rows; last = last }
+of_members k last rows = record { me = 1; k = k; rtt = 1; period = 3; rows = rows; last = last; version = One }
 
 -- an entry of the one caller
 abbrev pub entry : ℕ → Call → Reply → Choice → Entry
@@ -51,7 +52,8 @@ starting place judged target number choice =
     entry place Tick (Started judged (Some (record { target = target; peer = at target; number = number }))) choice
 
 abbrev pub asking : ℕ → ℕ → ℕ → List Relay → Entry
-asking place target number relays = entry place Tick (Asked target number (record { items = relays })) Nothing
+asking place target number relays =
+    entry place Tick (Asked target (at target) number (record { items = relays })) Nothing
 
 -- one member and no relays: the probe, the empty ask, a quiet tick and the judgement
 abbrev silent_member : Setting
@@ -89,7 +91,7 @@ silence_is_run = (
         seat = lit< tt;
         number = refl;
         answer =
-            (refl, refl, refl, record { count = refl; once = refl; each = tt });
+            (refl, refl, refl, record { count = refl; once = refl; each = tt }, refl);
       },
       (
         record {
@@ -150,7 +152,7 @@ two_periods_are_run = (
         seat = lit< tt;
         number = refl;
         answer =
-            (refl, refl, refl, record { count = refl; once = refl; each = ((refl, refl), tt) });
+            (refl, refl, refl, record { count = refl; once = refl; each = ((refl, refl), tt) }, refl);
       },
       (
         record {
@@ -193,7 +195,8 @@ one_for_another_is_run = (
 
 -- acks of member 2, of this member's period with that number, from the relay
 abbrev ack : ℕ → Call
-ack number = Hear (record { kind = Ack; sender = 3; initiator = 1; target = 2; number = number }) (at 3)
+ack number =
+    Hear (record { version = One; kind = Ack; sender = 3; initiator = 1; target = 2; number = number; at = None }) (at 3)
 
 -- an ack counts that comes in its period, whoever sent it, and no other
 ack_counts : unheard two_members (entry 1 (ack 1) Heard Nothing ∷ first_start ∷ []) ≡ None
@@ -227,16 +230,16 @@ joins_later = refl
 -- a request of member 2 for a ping of member 3, which waits for a period of ticks and no longer
 abbrev request : ℕ → Entry
 request place =
-    entry place (Hear (record { kind = PingReq; sender = 2; initiator = 2; target = 3; number = 9 }) (at 2))
-    (Send (at 3) (record { kind = Ping; sender = 1; initiator = 2; target = 3; number = 9 })) Nothing
+    entry place (Hear (record { version = One; kind = PingReq; sender = 2; initiator = 2; target = 3; number = 9; at = None }) (at 2))
+    (Send (at 3) (record { version = One; kind = Ping; sender = 1; initiator = 2; target = 3; number = 9; at = None })) Nothing
 
 abbrev forwarded : ℕ → Entry
 forwarded place =
-    entry place (Hear (record { kind = Ack; sender = 3; initiator = 2; target = 3; number = 9 }) (at 3))
-    (Send (at 2) (record { kind = Ack; sender = 1; initiator = 2; target = 3; number = 9 })) Nothing
+    entry place (Hear (record { version = One; kind = Ack; sender = 3; initiator = 2; target = 3; number = 9; at = None }) (at 3))
+    (Send (at 2) (record { version = One; kind = Ack; sender = 1; initiator = 2; target = 3; number = 9; at = None })) Nothing
 
 waits : waiting two_members (asking 2 2 1 [] ∷ first_start ∷ request 0 ∷ []) ≡
-    record { key = record { initiator = 2; target = 3; number = 9 }; peer = at 2; left = 1 } ∷ []
+    record { key = record { initiator = 2; target = 3; number = 9 }; peer = at 2; version = One; left = 1 } ∷ []
 waits = refl
 
 expires : waiting two_members (entry 3 Tick Quiet Nothing ∷ asking 2 2 1 [] ∷ first_start ∷ request 0 ∷ []) ≡ []

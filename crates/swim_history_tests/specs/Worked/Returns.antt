@@ -135,7 +135,7 @@ silent_is_run = (
       seat = lit< tt;
       number = refl;
       answer =
-          (refl, refl, refl, record { count = refl; once = refl; each = tt });
+          (refl, refl, refl, record { count = refl; once = refl; each = tt }, refl);
     },
     four_periods_are_run,
   ),

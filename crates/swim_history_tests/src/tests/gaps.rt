@@ -13,14 +13,14 @@ use arrayvec::ArrayVec;
 use std::alloc::Global;
 use std::process::Abort;
 use swim_history::*;
-use swim_wire::{Id, Kind, Message, PeriodNumber};
+use swim_wire::{Id, Kind, Message, PeriodNumber, Version};
 
 // Of member 1, with no relays, a timeout of one tick and a period of three. Members 2 and 3 are up.
 fn no_relays<R: Abort>(rt: &R) -> Opening
     ensures { result ≡ no_relays }
 {
     let members = [(id(2), address(2)), (id(3), address(3))];
-    match Opening::check(id(1), 0, 1, 3, &members, 0) {
+    match Opening::check(id(1), 0, 1, 3, &members, 0, Version::One) {
         Ok(opening) => opening,
         Err(_) => panic!(rt; "an opening"),
     }
@@ -40,11 +40,13 @@ fn heard(place: u32, target: u8, number: u64) -> Entry
 {
     let member = id(u32::from(target));
     let ack = Message {
+        version: Version::One,
         kind: Kind::Ack,
         sender: member,
         initiator: id(1),
         target: member,
         number: period_number(number),
+        at: None,
     };
     let call = Call::Hear(ack, address(target));
     entry(place, call, Reply::Heard, Choice::Nothing)
@@ -266,6 +268,7 @@ fn silence(place: u32) -> Entry
 {
     let reply = Reply::Asked {
         target: id(2),
+        peer: address(2),
         number: 4,
         relays: ArrayVec::new(),
     };

@@ -12,7 +12,7 @@ use arrayvec::ArrayVec;
 use std::alloc::Global;
 use std::process::Abort;
 use swim_history::*;
-use swim_wire::Id;
+use swim_wire::{Id, Version};
 
 fn assert_judged<R: Abort>(rt: &R, journal: &Journal, expected: &[Judged]) {
     match journal.judgements() {
@@ -69,7 +69,7 @@ fn two_members<R: Abort>(rt: &R) -> Opening
     ensures { result ≡ two_members }
 {
     let members = [(id(2), address(2)), (id(3), address(3))];
-    match Opening::check(id(1), 1, 1, 3, &members, 0) {
+    match Opening::check(id(1), 1, 1, 3, &members, 0, Version::One) {
         Ok(opening) => opening,
         Err(_) => panic!(rt; "an opening"),
     }
@@ -135,6 +135,7 @@ fn ask() -> Entry
     });
     let reply = Reply::Asked {
         target: id(2),
+        peer: address(2),
         number: 1,
         relays,
     };

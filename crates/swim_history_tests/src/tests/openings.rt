@@ -5,7 +5,7 @@ use arrayvec::ArrayVec;
 use std::process::Abort;
 use std::test::Fail;
 use swim_history::*;
-use swim_wire::{Id, Peer};
+use swim_wire::{Id, Peer, Version};
 
 fn member(number: u8) -> (Id, Peer)
     requires { 0 < number }
@@ -22,7 +22,7 @@ fn assert_fault<R: Abort>(
     members: &[(Id, Peer)],
     number: u8,
 ) {
-    match Opening::check(id(1), k, rtt, period, members, 0) {
+    match Opening::check(id(1), k, rtt, period, members, 0, Version::One) {
         Ok(_) => panic!(rt; "fault {number}"),
         Err(fault) => assert_eq!(rt; fault.number(), number),
     }
@@ -41,8 +41,8 @@ fn checks_openings(rt: HostRuntime) {
     assert_fault(&rt, 1, 1, 3, &twice, 5);
     assert_fault(&rt, 9, 0, 3, &twice, 1);
     assert_fault(&rt, 1, 0, 3, &twice, 2);
-    assert!(rt; Opening::check(id(1), 8, 2, 6, &rows, u64::MAX).is_ok());
-    assert!(rt; Opening::check(id(1), 0, 21845, 65535, &[], 0).is_ok());
+    assert!(rt; Opening::check(id(1), 8, 2, 6, &rows, u64::MAX, Version::Two).is_ok());
+    assert!(rt; Opening::check(id(1), 0, 21845, 65535, &[], 0, Version::One).is_ok());
 }
 
 // So many members, from 2 on.
@@ -60,7 +60,7 @@ fn members(count: u8) -> ArrayVec<(Id, Peer), 129>
 fn members_fit_up_to_128(rt: HostRuntime) {
     let most = members(128);
     assert_eq!(rt; most.len(), 128);
-    assert!(rt; Opening::check(id(1), 1, 1, 3, most.as_slice(), 0).is_ok());
+    assert!(rt; Opening::check(id(1), 1, 1, 3, most.as_slice(), 0, Version::One).is_ok());
     let more = members(129);
     assert_eq!(rt; more.len(), 129);
     assert_fault(&rt, 1, 1, 3, more.as_slice(), 3);
@@ -74,11 +74,12 @@ fn assert_copied<R: Abort>(rt: &R, opening: &Opening) {
         (3, 2, 6, 9)
     );
     assert!(rt; copy.rows() == opening.rows());
+    assert_eq!(rt; copy.version(), Version::Two);
 }
 
 #[test]
 fn copies_an_opening(rt: HostRuntime) {
-    match Opening::check(id(1), 3, 2, 6, &[member(2)], 9) {
+    match Opening::check(id(1), 3, 2, 6, &[member(2)], 9, Version::Two) {
         Ok(opening) => assert_copied(&rt, &opening),
         Err(_) => panic!(rt; "an opening"),
     }
@@ -86,7 +87,8 @@ fn copies_an_opening(rt: HostRuntime) {
 
 #[test]
 fn members_that_failed(rt: HostRuntime) -> Result<(), Fail> {
-    let opening = match Opening::check(id(1), 1, 1, 3, &[member(2), member(3)], 9) {
+    let members = [member(2), member(3)];
+    let opening = match Opening::check(id(1), 1, 1, 3, &members, 9, Version::Two) {
         Ok(opening) => opening,
         Err(_) => return Err("the parameters are within the limits".into()),
     };
@@ -100,5 +102,6 @@ fn members_that_failed(rt: HostRuntime) -> Result<(), Fail> {
     assert_eq!(rt; failed.rows()[1].state, RowState::Failed(9));
     assert_eq!(rt; failed.rows()[1].peer, address(3));
     assert_eq!(rt; failed.last(), 9);
+    assert_eq!(rt; failed.version(), Version::Two);
     Ok(())
 }

@@ -10,7 +10,7 @@ use super::*;
 use std::sync::atomic::AtomicBool;
 use swim_life::{ClockSleeper, Hall, LivesEnd, Shelf, SleepingPace, Terms, run_lives};
 use swim_script::{Session, run};
-use swim_wire::{Page, Sink, Text};
+use swim_wire::{Page, Sink, Text, Version};
 
 // A file that takes so many bytes, and no text that is longer than what is left.
 #[derive(Drop)]
@@ -116,7 +116,7 @@ fn live_twice<R: Threads + Wait + Clock + Send + Sync + Copy + Drop>(
     room: usize,
 ) -> Result<(Player, Page), Fail> {
     let rows = [(id(2), at(2))];
-    let opening = Opening::check(id(1), 0, 1, 3, &rows, 0).map_err(|_| "an opening")?;
+    let opening = Opening::check(id(1), 0, 1, 3, &rows, 0, Version::One).map_err(|_| "an opening")?;
     let signals = Signals::new(false);
     let is_told = AtomicBool::new(true);
     let mut line = line(rt, &signals, 0);

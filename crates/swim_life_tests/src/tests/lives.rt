@@ -7,7 +7,7 @@ use super::gates::{
 use super::*;
 use std::sync::atomic::{AtomicBool, Ordering};
 use swim_life::{Beat, Got, Hall, LivesEnd, Never, NoShelf, Post, Terms, run_lives};
-use swim_wire::Page;
+use swim_wire::{Page, Version};
 
 pub fn line<'s, K: Clock + Drop>(clock: K, signals: &'s Signals, faults: u32) -> PingLine<'s, K> {
     PingLine {
@@ -129,7 +129,7 @@ fn a_full_journal(rt: HostRuntime) -> Result<(), Fail> {
 #[test]
 fn two_lives(rt: HostRuntime) -> Result<(), Fail> {
     let rows = [(id(2), at(2))];
-    let opening = Opening::check(id(1), 0, 1, 3, &rows, 0).map_err(|_| "an opening")?;
+    let opening = Opening::check(id(1), 0, 1, 3, &rows, 0, Version::One).map_err(|_| "an opening")?;
     let signals = Signals::new(false);
     let is_told = AtomicBool::new(true);
     let mut line = line(rt, &signals, 0);
@@ -281,7 +281,7 @@ impl<'f, 'g, K: Clock + Drop> Pace for FillingPace<'f, 'g, K> {
 #[test]
 fn a_stop_at_a_full_journal(rt: HostRuntime) -> Result<(), Fail> {
     let rows = [(id(2), at(2))];
-    let opening = Opening::check(id(1), 0, 1, 3, &rows, 0).map_err(|_| "an opening")?;
+    let opening = Opening::check(id(1), 0, 1, 3, &rows, 0, Version::One).map_err(|_| "an opening")?;
     let is_full = AtomicBool::new(false);
     let was_given = AtomicBool::new(false);
     let signals = Signals::new(true);

@@ -79,8 +79,12 @@ fn two_daemons(rt: HostRuntime) -> Result<(), Fail> {
     let (first, _first_peer) = line(&rt)?;
     let (second, second_peer) = line(&rt)?;
     let rows = [(id(2), second_peer)];
-    let first_opening = Opening::check(id(1), 0, 1, 3, &rows, 0).map_err(|_| "an opening")?;
-    let second_opening = Opening::check(id(2), 0, 1, 3, &[], 0).map_err(|_| "an opening")?;
+    let first_opening = Opening::check(id(1), 0, 1, 3, &rows, 0, Version::One).map_err(
+        |_| "an opening",
+    )?;
+    let second_opening = Opening::check(id(2), 0, 1, 3, &[], 0, Version::One).map_err(
+        |_| "an opening",
+    )?;
     let has_ended = AtomicBool::new(false);
     let (past, other) = join(
         &rt,

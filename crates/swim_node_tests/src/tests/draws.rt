@@ -50,11 +50,13 @@ impl Draws {
             _ => (Kind::Ack, me, member),
         };
         Message {
+            version: Version::One,
             kind,
             sender: member,
             initiator,
             target,
             number: PeriodNumber::new(self.next() % 1000 + 1).unwrap_or_default(),
+            at: None,
         }
     }
 }

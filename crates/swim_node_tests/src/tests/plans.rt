@@ -49,14 +49,15 @@ fn started(judged: Option<Id>, target: u8, number: u64) -> Reply {
     }
 }
 
-fn asked_of(target: u32, number: u64, relay: u8) -> Reply {
+fn asked_of(target: u8, number: u64, relay: u8) -> Reply {
     let mut relays = ArrayVec::new();
     let _ = relays.try_push(Relay {
         id: id(u32::from(relay)),
         peer: at(relay),
     });
     Reply::Asked {
-        target: id(target),
+        target: id(u32::from(target)),
+        peer: at(target),
         number,
         relays,
     }
@@ -88,11 +89,13 @@ fn heard(kind: Kind, from: u8) -> Call {
 // What member 1 sends for that probe.
 fn sent(kind: Kind, to: u8) -> Reply {
     let message = Message {
+        version: Version::One,
         kind,
         sender: id(1),
         initiator: id(2),
         target: id(3),
         number: PeriodNumber::new(9).unwrap_or_default(),
+        at: None,
     };
     Reply::Send {
         peer: at(to),

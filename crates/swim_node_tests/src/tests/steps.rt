@@ -130,7 +130,7 @@ pub(crate) fn make<N: Naming, C: Chooser, R: Wait + Copy + Drop>(
 {
     match call {
         Call::Tick => node.tick(rt, seat),
-        Call::Hear(message, source) => node.hear(rt, seat, &encode(message), *source),
+        Call::Hear(message, source) => node.hear(rt, seat, encode(message).as_slice(), *source),
         Call::Join(id, peer) => node.join(rt, seat, *id, *peer),
         Call::Remove(id) => node.remove(rt, seat, *id),
     }

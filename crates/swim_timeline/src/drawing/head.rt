@@ -8,6 +8,7 @@ use crate::shown::Shown;
 use crate::style::STYLE;
 use std::alloc::AllocError;
 use swim_history::{Journal, Opening};
+use swim_wire::Version;
 
 /// How high the head is, and how much higher with a remark.
 const HEAD: u16 = 160;
@@ -150,9 +151,18 @@ fn put_setting(text: &mut String, opening: &Opening) -> Result<(), AllocError> {
     let k = opening.k();
     write!(
         text,
-        r##"<text x="{NAMES}" y="54">period {period} ticks, timeout {rtt}, relays {k}</text>"##
+        r##"<text x="{NAMES}" y="54">period {period} ticks, timeout {rtt}, relays {k}"##
     )?;
-    text.push_str("\n")
+    put_version(text, opening.version())?;
+    text.push_str("</text>\n")
+}
+
+/// The version of this member's own messages, where it is the second.
+fn put_version(text: &mut String, version: Version) -> Result<(), AllocError> {
+    match version {
+        Version::One => Ok(()),
+        Version::Two => Ok(text.push_str(", wire 2")?),
+    }
 }
 
 fn put_remark(text: &mut String, cut: &Cut) -> Result<(), AllocError> {

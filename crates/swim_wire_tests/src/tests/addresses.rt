@@ -25,6 +25,15 @@ fn read_and_written(rt: HostRuntime) {
 }
 
 #[test]
+fn as_bytes(rt: HostRuntime) {
+    let peer = Peer {
+        ip: [10, 0, 0, 2],
+        port: 7000,
+    };
+    assert_eq!(rt; peer.to_bytes(), [10, 0, 0, 2, 0x1b, 0x58]);
+}
+
+#[test]
 fn refused(rt: HostRuntime) {
     for text in [
         "",

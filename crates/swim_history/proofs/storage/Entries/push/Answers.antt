@@ -16,6 +16,6 @@ invariant_of-self c =
     let more : length e.ids.items ≤ length c.store_ids.new.ids.items = rw c.store_ids.ensures.ids (omega (arith, length-append e.ids.items (ids_in c.args.entry.now.choice))) in
     let asked : length e.relays.items ≤ length c.store_reply.new.relays.items = rw c.store_reply.ensures.relays (omega (arith, length-append e.relays.items (relays_in c.args.entry.now.reply))) in
     rw (c.store_whole.ensures.slots, c.store_whole.ensures.whole) (
-      placed_then e.whole.items _ e.slots.items c.self.invariant.0,
+      placed_then e.whole.items _ e.slots.items _ _ c.self.invariant.0,
       within_then (length e.ids.items) (length c.store_ids.new.ids.items) (length e.relays.items) (length c.store_reply.new.relays.items) e.whole.items _ more asked c.self.invariant.1 (c.store_ids.ensures.within, c.store_reply.ensures.within),
     )

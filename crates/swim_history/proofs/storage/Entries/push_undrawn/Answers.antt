@@ -15,6 +15,6 @@ invariant_of-self-2 c =
     let e = c.self.inside in
     let asked : length e.relays.items ≤ length c.store_reply.new.relays.items = rw c.store_reply.ensures.relays (omega (arith, length-append e.relays.items (relays_in c.args.reply.now))) in
     rw (c.store_whole.ensures.slots, c.store_whole.ensures.whole) (
-      placed_then e.whole.items _ e.slots.items c.self.invariant.0,
+      placed_then e.whole.items _ e.slots.items _ _ c.self.invariant.0,
       within_then (length e.ids.items) (length e.ids.items) (length e.relays.items) (length c.store_reply.new.relays.items) e.whole.items _ (omega arith) asked c.self.invariant.1 (tt, c.store_reply.ensures.within),
     )

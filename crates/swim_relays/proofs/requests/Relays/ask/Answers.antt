@@ -24,7 +24,7 @@ invariant_of-self c =
     let left = ap (λ (w : Waiting). w.waiting) (c.self.view_is ∙ c.take.ensures.waiting) in
     let none : waits c.args.key (requests_at c.self.inside.count items) ≡ false = ap (waits c.args.key) left ∙ gone c.args.key c.args.self.now.waiting in
     let room = room_left c.args.key c.args.self.now.waiting c.self.inside.count items left (sym c.has_room.ensures.value ∙ c.if-not-has_room.false) c.has_room.ensures.kept.bound in
-    rw c.push.ensures.items (pushes c.args.key c.args.peer c.self.inside.period c.self.inside.count items c.self.invariant none room)
+    rw c.push.ensures.items (pushes c.args.key c.args.peer c.args.version c.self.inside.period c.self.inside.count items c.self.invariant none room)
 
 pub returns-clause-kept : goal.returns-clause-kept
 returns-clause-kept c = (invariant_of-self c).waiting
