@@ -11,6 +11,7 @@ from tests.generators.random_lines import random_life, without_end
 from tests.generators.random_scripts import random_script
 from tests.models.control_model import Model
 from tests.models.datagram_model import fault_of
+from tests.models.hearing_model import walked
 from tests.support.daemons import Machine, talk
 from tests.support.written import differences, run
 from tests.swimd.compared_configs import compared_config
@@ -56,27 +57,29 @@ class Scripts(Kind):
 
 
 class Datagrams(Scripts):
-    """Datagrams that member 1 of four hears, judged by the model and by the reference."""
+    """Datagrams of both versions that member 1 of four hears, judged by models and by the reference."""
 
     def case(self, r):
         return [mutated(r, self.datagram(r), self.datagram(r)) for _ in range(DATAGRAMS)]
 
     def datagram(self, r):
         ids = [r.choice([*MEMBERS, 1, 77]) for _ in range(3)]
-        return bytes.fromhex(datagram(r.choice([PING, REQUEST, ACK]), *ids, r.choice([1, 1, 2, 2**64 - 1])))
+        kind, number, version = r.choice([PING, REQUEST, ACK]), r.choice([1, 1, 2, 2**64 - 1]), r.choice([1, 2])
+        return bytes.fromhex(datagram(kind, *ids, number, version))
 
     def said(self, texts):
         # A line has room for 1,024 bytes at the most; an argument that is none has a fault of its own.
         heard = [it[:900] for it in texts if it]
         script = HEAD + "".join(f"hear {address(2)} {it.hex()}\n" for it in heard)
-        written = run([self.programs.swimsim], script.encode())
+        written, right = (run([it], script.encode()) for it in (self.programs.swimsim, self.programs.reference))
         answers = [it for it in written.stdout.split(b"\n")[1:-1] if not it.startswith(b">")]
         wanted = [fault_of(it) for it in heard]
         found = [int(it[5:]) if it.startswith(b"wire ") else None for it in answers]
         unlike = [(it.hex(), one, two) for it, one, two in zip(heard, wanted, found) if one != two]
         said = [f"{len(heard)} datagrams have {len(found)} answers"] if len(heard) != len(found) else []
         said += [f"{text} is told as {two}, and its first fault is {one}" for text, one, two in unlike]
-        return said + differences(("swimsim", "the reference"), written, run([self.programs.reference], script.encode()))
+        said += walked(script.encode(), right.stdout, right.stderr.decode())[0]
+        return said + differences(("swimsim", "the reference"), written, right)
 
 
 class Configurations(Kind):

@@ -13,7 +13,8 @@ BAD_PEERS += ["256.2.3.4:5", "1.2.3.4:05", "01.2.3.4:5", "x"]
 BAD_DIGITS = ["5", "5g", "535", "0x53", "-", "53\t"]
 BAD_SEEDS = ["", "00", SEED[:63], SEED[:62], SEED + "0", SEED + "00", SEED[:63] + "g"]
 BAD_ORDERS = [MANY, MANY, MANY + ",0", "0," + MANY, MANY[:-4], ",", "2,", ",2", "2,,3", "2,x", "02", "2, 3"]
-BAD_WORDS = ["tock", "Tick", "TABLE", " tick", "\ttick", "wire 1", "ticks", "-", "\xff", "row\t2", "open"]
+BAD_WORDS = ["tock", "Tick", "TABLE", " tick", "\ttick", "wires 1", "ticks", "-", "\xff", "row\t2", "open"]
+BAD_VERSIONS = ["", "0", "3", "3", "02", "+2", "-1", "1.", "x", "258", "4294967298", "18446744073709551617", "2\t", "\xb2"]
 
 
 def bad_header_line(r, number, peer):
@@ -26,6 +27,7 @@ def bad_header_line(r, number, peer):
             f"place {r.choice([number, '0'])}",
             f"seed {r.choice([*BAD_SEEDS, SEED])}",
             f"seed {SEED}",
+            f"wire {r.choice([*BAD_VERSIONS, '1', '2'])}",
         ]
     )
 
@@ -66,9 +68,9 @@ def broken(r):
     return lines[: place + 20]
 
 
-GOOD = {"id": "3", "peer": "10.0.0.3:7000", "number": "7", "digits": "53", "seed": SEED, "order": "3,2"}
-BAD = {"peer": BAD_PEERS, "digits": BAD_DIGITS, "seed": BAD_SEEDS, "order": BAD_ORDERS}
-SPELT = ["row id peer", "order order", "place number", "seed seed", "hear peer digits", "join id peer"]
+GOOD = {"id": "3", "peer": "10.0.0.3:7000", "number": "7", "digits": "53", "seed": SEED, "order": "3,2", "version": "2"}
+BAD = {"peer": BAD_PEERS, "digits": BAD_DIGITS, "seed": BAD_SEEDS, "order": BAD_ORDERS, "version": BAD_VERSIONS}
+SPELT = ["row id peer", "order order", "place number", "seed seed", "wire version", "hear peer digits", "join id peer"]
 SPELT += ["remove id", "gap id"]
 
 
@@ -79,7 +81,7 @@ def misspelt(r):
     argument = r.choice(BAD.get(words[bad], BAD_NUMBERS))
     line = " ".join([words[0], *(argument if place == bad else GOOD[words[place]] for place in range(1, len(words)))])
     lines = ["row 2 10.0.0.2:7000", line]
-    lines += r.sample(["", "seed " + SEED, "order 2", "place 0", line], r.choice([0, 0, 1, 2]))
+    lines += r.sample(["", "seed " + SEED, "order 2", "place 0", "wire 1", line], r.choice([0, 0, 1, 2]))
     r.shuffle(lines)
     return [r.choice(["open 1 1 1 3 0 100"] * 3 + ["open 1 9 1 3 0 100"]), *lines, "tick", "table"]
 

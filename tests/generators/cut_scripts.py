@@ -13,9 +13,11 @@ from typing import NamedTuple
 
 from tests.generators.detector_scripts import churning, crowded, growing_from_nobody, mixed, near_the_last_number, planned
 from tests.generators.detector_scripts import relaying, seeded, with_a_small_journal
-from tests.models.draws import Draws
 from tests.generators.gap_scripts import returning
 from tests.generators.growing_scripts import Script, joined
+from tests.generators.version_scripts import asking_about_anybody
+from tests.models.draws import Draws
+from tests.models.hearing_model import ASKED, FAILED, walked
 
 MOST_EVENTS = 40
 SHOWN_BYTES = 400
@@ -23,7 +25,7 @@ KNOWN_MEMBERS = 128
 SHOWN, REMOVED, BACK = (f"a member that failed before: {it}" for it in ("shown", "removed", "joined again"))
 FULL, ORDERED = "a join at a table that is full with those that failed before", "a first round of all that are left"
 # What has to be met after a cut.
-CASES = [SHOWN, REMOVED, BACK, FULL, ORDERED]
+CASES = [SHOWN, REMOVED, BACK, FULL, ORDERED, FAILED, *ASKED]
 
 
 def filled(r):
@@ -42,7 +44,7 @@ def filled(r):
 
 
 KINDS = [mixed, churning, planned, growing_from_nobody, crowded, relaying, near_the_last_number, with_a_small_journal, seeded]
-KINDS += [returning, filled, churning]
+KINDS += [returning, filled, churning, asking_about_anybody]
 
 
 class Left(NamedTuple):
@@ -107,7 +109,8 @@ def named(event):
 def second_script(script, left, events):
     """A journal file, as its rows tell who failed."""
     rows = [f"row {' '.join(row).replace(' up', '')}" for _, row in sorted(left.rows.items())]
-    return ["journal 1", opening(script, left.last), *rows, *script.chooser, *events]
+    version = ["wire 2"] * (script.version == 2)
+    return ["journal 1", opening(script, left.last), *version, *rows, *script.chooser, *events]
 
 
 def note_cases(left, events, found, met):
@@ -166,6 +169,9 @@ def cut_at(run, program, reference, script, place, left, met):
         if found != it:
             said.append(f"`{event}` is answered {str(found)[:SHOWN_BYTES]}, and not {str(it)[:SHOWN_BYTES]}")
     said += begins_otherwise(script, left, events, within, met)
+    unlike, cases = walked(second, right.stdout, right.stderr.decode())
+    met.update(cases)
+    said += unlike
     return [f"cut at {place}: {it}" for it in said] + ([f"second script:\n{second.decode()}"] if said else [])
 
 

@@ -164,7 +164,7 @@ def with_a_small_journal(r):
     for _ in range(r.randint(5, 50)):
         any_event(script)
         if r.random() < 0.1:
-            script.put(f"hear 1.2.3.4:5 {r.choice(['', '53', '00' * 24])}")
+            script.put(f"hear 1.2.3.4:5 {r.choice(['', '53', '00' * 24, '00' * 30])}")
     return script
 
 
@@ -183,15 +183,15 @@ def seeded(r):
 
 def spoiled(r, text):
     """A datagram with a byte, or its length, changed."""
-    step = r.random()
+    step, last = r.random(), len(text) // 2 - 1
     if step < 0.2:
-        return text[: 2 * r.randint(0, 23)]
+        return text[: 2 * r.choice([24, r.randint(0, max(0, last))])]
     if step < 0.3:
-        return text + "00" * r.randint(1, 50)
+        return text + "00" * r.choice([6, r.randint(1, 50)])
     if step < 0.5:
-        place = r.choice([8, 16, 24, 32])
-        return text[:place] + "0" * (16 if place == 32 else 8) + text[place + (16 if place == 32 else 8) :]
-    place = 2 * r.choice([0, 1, 2, 3, 3, 3, r.randint(0, 23)])
+        place, digits = r.choice([(8, 8), (16, 8), (24, 8), (32, 16), (56, 4), (56, 4)])
+        return text[:place] + "0" * len(text[place : place + digits]) + text[place + digits :]
+    place = 2 * r.choice([0, 1, 2, 2, 3, 3, 3, r.randint(0, max(0, last))])
     return text[:place] + f"{r.choice([0, 1, 2, 3, 4, r.randint(0, 255)]):02x}" + text[place + 2 :]
 
 
@@ -201,7 +201,8 @@ def misread(r):
     for _ in range(r.randint(10, 60)):
         any_event(script)
         sender, target = script.member(), script.member()
-        text = datagram(r.choice([PING, REQUEST, ACK]), sender, r.choice([sender, script.me]), target, script.number())
+        kind, version = r.choice([PING, REQUEST, REQUEST, ACK]), r.choice([1, 2])
+        text = datagram(kind, sender, r.choice([sender, script.me]), target, script.number(), version)
         for _ in range(r.choice([1, 1, 2])):
             text = spoiled(r, text)
         script.put(f"hear {address(sender)} {text}")

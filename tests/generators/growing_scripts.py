@@ -3,21 +3,31 @@
 LARGEST_ID = 2**32 - 1
 LARGEST_NUMBER = 2**64 - 1
 PING, REQUEST, ACK = 1, 2, 3
+# Where nobody is that a row or a join of these scripts tells of.
+ELSEWHERE = "192.168.7.9:65535"
 
 
-def datagram(kind, sender, initiator, target, number):
-    return f"535701{kind:02x}{sender:08x}{initiator:08x}{target:08x}{number:016x}"
+def datagram(kind, sender, initiator, target, number, version=1, at=None):
+    """Its digits. A ping-req of version 2 has an address behind it, where nothing else is said the one at which its target would be."""
+    text = f"5357{version:02x}{kind:02x}{sender:08x}{initiator:08x}{target:08x}{number:016x}"
+    return text + address_digits(at or address(target)) if (kind, version) == (REQUEST, 2) else text
 
 
 def address(id):
     return f"10.{id >> 16 & 255}.{id >> 8 & 255}.{id & 255}:{7000 + id % 1000}"
 
 
+def address_digits(at):
+    ip, port = at.split(":")
+    return bytes(map(int, ip.split("."))).hex() + f"{int(port):04x}"
+
+
 class Script:
-    """A script that grows, and what is known of its detector: the number of its period, and who may be listed."""
+    """A script that grows, and what is known of its detector: its version, the number of its period, and who may be listed."""
 
     def __init__(self, r, k=None, rtt=None, period=None, last=None, limit=None, rows=None):
         self.r = r
+        self.version = r.choice([1, 1, 2])
         self.me = r.choice([1, 1, 1, 7, LARGEST_ID])
         self.k = r.choice([0, 0, 0, 1, 1, 1, 2, 3, 4, 5, 6, 7, 8]) if k is None else k
         self.rtt = r.choice([1, 1, 1, 2, 3]) if rtt is None else rtt
@@ -27,6 +37,8 @@ class Script:
         count = r.choice([0, 1, 2, 2, 3, 3, 4, 5, 8]) if rows is None else rows
         self.members = r.sample([id for id in range(1, 140) if id != self.me], count)
         self.header = [f"row {id} {address(id)}" for id in self.members]
+        if self.version == 2 or r.random() < 0.2:
+            self.header.insert(r.randint(0, len(self.header)), f"wire {self.version}")
         self.chooser = []
         self.events = []
         self.ticks = 0
@@ -50,8 +62,10 @@ class Script:
         self.ticks += count
         self.events += ["tick"] * count
 
-    def hear(self, source, *message):
-        text = datagram(*message)
+    def hear(self, source, *message, version=None, at=None):
+        """A message of any version, whatever this member's own is."""
+        version = version or self.r.choice([1, 1, 2])
+        text = datagram(*message, version, at or self.r.choice([None, None, None, ELSEWHERE]))
         self.put(f"hear {address(source)} {text.upper() if self.r.random() < 0.05 else text}")
 
     def member(self):

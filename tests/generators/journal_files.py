@@ -12,9 +12,10 @@ from tests.generators.cut_scripts import answers
 from tests.generators.detector_scripts import churning, crowded, flooding, growing_from_nobody, misread, mixed, planned
 from tests.generators.detector_scripts import near_the_last_number, relaying, seeded, with_a_small_journal
 from tests.generators.growing_scripts import Script, joined
+from tests.generators.version_scripts import asking_about_anybody, telling_versions
 
 KINDS = [mixed, churning, planned, growing_from_nobody, relaying, flooding, crowded, near_the_last_number, with_a_small_journal]
-KINDS += [seeded, seeded, misread]
+KINDS += [seeded, seeded, misread, asking_about_anybody]
 FIRST = "journal 1"
 LIVES = [0, 1, 2, 3, 2**32 - 1, 2**32, 2**64 - 1]
 
@@ -42,7 +43,8 @@ def with_failed(r, script):
     """The same, some of whose members failed in periods that were used before, where there are such."""
     numbers = lambda: r.choice([1, script.last, r.randint(1, script.last)])
     if script.last:
-        script.header = [f"{line} failed {numbers()}" if r.random() < 0.3 else line for line in script.header]
+        fails = lambda line: line.startswith("row ") and r.random() < 0.3
+        script.header = [f"{line} failed {numbers()}" if fails(line) else line for line in script.header]
     return script
 
 
@@ -94,7 +96,7 @@ STATES_OF_ANY_KIND += [" failed 18446744073709551616", " failed 1844674407370955
 def spoiled(seed):
     """The kind of the script and the file."""
     r = random.Random(seed)
-    kind = r.choice([broken, misspelt, noisy, mixed, seeded])
+    kind = r.choice([broken, misspelt, noisy, mixed, seeded, telling_versions])
     made = kind(r)
     made = made.lines() if isinstance(made, Script) else made
     lines = (made if isinstance(made, bytes) else joined(made)).decode("latin-1").split("\n")

@@ -12,7 +12,7 @@ HEX = "0123456789abcdefABCDEF"
 PATHS = ["control", "journal_dir"]
 STRINGS = ["listen", "seed", "at", *PATHS]
 # Keys that may be left out, with values.
-OPTIONAL = {"last": "0", "journal_dir": "'files'", "journal_keep": "3"}
+OPTIONAL = {"last": "0", "wire": "2", "journal_dir": "'files'", "journal_keep": "3"}
 # A brace that isn't closed in its line could be one of a newer TOML where the text around it is changed.
 PRINTABLE = "".join(map(chr, range(0x20, 0x7F))).replace("{", "")
 NUMBERS = [-(2**63), -1_000, -2, -1, -1, -1, 0, 1, 2, 3, 8, 9, 1000, 60_000, 60_001, 65_535, 65_536, 10**6, 10**6 + 1]
@@ -22,7 +22,7 @@ BAD_PEERS += ["1.2.3.4:05", "01.2.3.4:5", "1.2.3.4: 5", "1.2.3.4:+5", "localhost
 BAD_PEERS += ["1.2.3.4:5\n"]
 OTHER_KINDS = ["true", "false", "1.5", "-0.0", "inf", "nan", "1e3", "[]", "[1]", "{}", "{ a = 1 }", "'text'", "7"]
 OTHER_KINDS += ["2020-02-29", "2020-02-29T01:02:03Z", "01:02:03", '""', "[[]]", '"""\ntext"""']
-UNKNOWN = ["journal_dirs", "journal-keep", "journal.dir", "name", "ID", "members", "K", '""', "'id '", "tick-ms", "wire", "3", "more.id", '"\\u0000"']
+UNKNOWN = ["journal_dirs", "journal-keep", "journal.dir", "name", "ID", "members", "K", '""', "'id '", "tick-ms", "wires", "3", "more.id", '"\\u0000"']
 NO_TOML = ["id", "= 1", "id = ", "[", "[[member]", "x = 'a", 'x = "\\q"', "x = 01", "x = 1__0", "x = [1,,2]", "x = +0x1"]
 NO_TOML += ["x = 1.", "x = 2020-13-01", "x = tru", "a.b = 1\na = 1", "[id]\n[id]", "x = {a = 1, a = 2}", "x = 'a' 'b'"]
 NO_TOML += ["x = \x01", "x = '\x7f'", "x = 1 # \x00", 'x = "\\ud800"', "\ufeffx = 1\ufeff", "[member]\n[[member]]"]
@@ -78,6 +78,8 @@ class Config:
         values.update(tick_ms=r.choice([1, 10, 1_000, 60_000]), journal=r.choice([1, 1_000, 10**6]))
         if r.random() < 0.5:
             values["last"] = r.choice([0, 1, 2**32, 2**63 - 1, r.randint(0, 2**63 - 1)])
+        if r.random() < 0.4:
+            values["wire"] = r.choice([1, 2])
         if r.random() < 0.3:
             values["journal_keep"] = r.choice([0, 1, 16, 10**6, LARGEST_ID])
         path = lambda: "".join(r.choice(PRINTABLE) for _ in range(r.choice([1, 5, 20, 99, 100])))

@@ -1,6 +1,6 @@
 """Random courses of a daemon whose members are played here: some answer its pings, some only through a relay, some never. Whom
-it pings and whom it asks, in which order and with which numbers, is what the reference sends that plays the same ticks and acks
-as a script.
+it pings and whom it asks, in which order, with which numbers and in which version, is what the reference sends that plays the same
+ticks and acks as a script.
 
 In every second course the journal is full every few periods, so that life follows life: the call that meets the full journal is
 in no life, and the next one begins with the members that are known, up or failed, and the last number. What the lives tell in the
@@ -14,8 +14,9 @@ import random
 import re
 import subprocess
 
-from tests.support.daemons import ACK, HOST, PING, datagram, fields, must, until
 from tests.generators.random_configs import seed_text
+from tests.support.daemons import HOST, must, until
+from tests.support.datagrams import ACK, PING, datagram, fields, version_of
 
 TICKS = {"rtt": 2, "period": 6, "tick_ms": 50}
 PERIODS = 12
@@ -30,13 +31,14 @@ class Course:
         ids = r.sample(range(2, 100), r.randint(2, 10))
         self.answers = {id: r.choice([DIRECT, DIRECT, RELAYED, NEVER]) for id in ids}
         self.k, self.last, self.chooser = r.randint(0, 4), r.choice([0, 7, 2**63 - 1]), seed_text(r)
-        self.limit = r.randint(8, 30) if seed % 2 else 1_000_000
-        values = {"k": self.k, "last": self.last, "seed": self.chooser, "journal": self.limit, **TICKS}
+        self.limit, self.version = r.randint(8, 30) if seed % 2 else 1_000_000, r.choice([1, 2])
+        values = {"k": self.k, "last": self.last, "seed": self.chooser, "journal": self.limit, "wire": self.version, **TICKS}
         self.answered = set()
         self.daemon = machine.daemon(1, members=[(id, self.peer) for id in ids], **values)
 
     def opening(self):
         yield f"open 1 {self.k} {TICKS['rtt']} {TICKS['period']} {self.last} {self.limit}"
+        yield f"wire {self.version}"
         yield f"seed {self.chooser}"
         yield from (f"row {id} {self.peer}" for id in self.answers)
 
@@ -61,12 +63,12 @@ class Course:
         return sent
 
     def ack(self, text):
-        """What a datagram is answered with, if it is."""
+        """What a datagram is answered with in its version, if it is."""
         kind, _, _, target, number = fields(text)
         if self.answers[target] != (DIRECT if kind == PING else RELAYED) or (target, number) in self.answered:
             return None
         self.answered.add((target, number))
-        return datagram(ACK, target, 1, target, number)
+        return datagram(ACK, target, 1, target, number, version_of(text))
 
     def play(self, wanted):
         self.daemon.start()

@@ -28,6 +28,7 @@ TOP = [
     Key("seed", "seed", (), None, "what orders and places are drawn from"),
     Key("journal", "integer", (1, 1_000_000), None, "the most entries of the journal"),
     Key("last", "integer", (0, 2**63 - 1), 0, "the last period number that was used before"),
+    Key("wire", "integer", (1, 2), 1, "the version of its own pings and ping-reqs"),
     Key("journal_dir", "path", (), "", "the folder of the journal files"),
     Key("journal_keep", "integer", (0, LARGEST_ID), 16, "how many journal files stay, 0 for all"),
     Key("member", "members", (), [], "the other members, at most 128"),

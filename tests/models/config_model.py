@@ -177,6 +177,7 @@ def opening_fault(config):
 
 def summary(config):
     numbers = " ".join(f"{key} {config[key]}" for key in ("k", "rtt", "period", "tick_ms", "last", "journal"))
+    numbers += " wire 2" if config["wire"] == 2 else ""
     files = config["journal_dir"] != ""
     lines = [f"{key} {config[key]}" for key in ("id", "listen", "control", *["journal_dir"] * files)]
     lines += [numbers, *[f"journal_keep {config['journal_keep']}"] * files, f"members {len(config['member'])}"]

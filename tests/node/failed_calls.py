@@ -7,8 +7,9 @@ import re
 import subprocess
 import time
 
-from tests.support.daemons import LIVES_AND_CLOSING, PING, PORTS_TRIED, DaemonFault, Machine, PortTaken, datagram, fields, first_line_of
-from tests.support.daemons import must, talk, until
+from tests.support.daemons import LIVES_AND_CLOSING, PORTS_TRIED, DaemonFault, Machine, PortTaken, first_line_of, must, talk
+from tests.support.daemons import until
+from tests.support.datagrams import PING, datagram, fields
 from tests.support.journals import front, journals, must_play, told
 from tests.swimsim.worked_scripts import ASKED, JUDGED_2, STARTED, TWO
 

@@ -6,7 +6,8 @@ import re
 import subprocess
 
 from tests.generators.cut_scripts import answers
-from tests.support.daemons import PING, PORTS_TRIED, DaemonFault, Machine, PortTaken, datagram, fields, first_line_of, must, until
+from tests.support.daemons import PORTS_TRIED, DaemonFault, Machine, PortTaken, first_line_of, must, until
+from tests.support.datagrams import PING, datagram, fields
 from tests.support.journals import front, journals, must_play, told
 from tests.generators.growing_scripts import joined
 from tests.node.refusing import REFUSED, Ran

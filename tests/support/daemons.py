@@ -17,7 +17,6 @@ HOST = "127.0.0.1"
 SECONDS = 20
 # So many ports are tried: one that was free a moment ago may be taken.
 PORTS_TRIED = 10
-PING, REQUEST, ACK = 1, 2, 3
 COUNTS = rb"entries (\d+) judged (\d+) unsent (\d+) wire (\d+) refused (\d+)( journal cut)?\n"
 LIFE = re.compile(rb"life (\d+) " + COUNTS)
 LIVES_AND_CLOSING = re.compile(rb"((?:life [^\n]*\n)*)ended (no memory|socket|stopped) " + COUNTS)
@@ -115,17 +114,6 @@ def udp_socket():
     it.bind((HOST, 0))
     it.settimeout(SECONDS)
     return it
-
-
-def datagram(kind, sender, initiator, target, number):
-    numbers = b"".join(it.to_bytes(4, "big") for it in (sender, initiator, target))
-    return b"SW\x01" + bytes([kind]) + numbers + number.to_bytes(8, "big")
-
-
-def fields(bytes_of_one):
-    """The kind, the sender, the initiator, the target and the number of a datagram."""
-    numbers = [int.from_bytes(bytes_of_one[at : at + 4], "big") for at in (4, 8, 12)]
-    return (bytes_of_one[3], *numbers, int.from_bytes(bytes_of_one[16:24], "big"))
 
 
 def configuration(**values):

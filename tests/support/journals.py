@@ -33,7 +33,7 @@ class File(NamedTuple):
     def header(self):
         """Its lines before the first call, without comments."""
         lines = self.text.split(b"\n")[:-1]
-        words = (b"journal", b"open", b"row", b"seed")
+        words = (b"journal", b"open", b"wire", b"row", b"seed")
         count = next((at for at, it in enumerate(lines) if not it.startswith(b"#") and it.split(b" ")[0] not in words), len(lines))
         return [it.decode() for it in lines[:count] if not it.startswith(b"#")]
 

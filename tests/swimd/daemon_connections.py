@@ -6,7 +6,8 @@ import subprocess
 import threading
 import time
 
-from tests.support.daemons import ACK, PING, SECONDS, connected, datagram, fields, must, stop_all, talk, until
+from tests.support.daemons import SECONDS, connected, must, stop_all, talk, until
+from tests.support.datagrams import ACK, PING, datagram, fields
 
 MINUTE = 60_000
 EACH = 8

@@ -8,7 +8,8 @@ import time
 
 from tests.generators.forgeries import forgeries
 from tests.models.datagram_model import fault_of
-from tests.support.daemons import ACK, PING, SECONDS, but_for_notices, configuration, datagram, fields, first_line_of, must, until
+from tests.support.daemons import SECONDS, but_for_notices, configuration, first_line_of, must, until
+from tests.support.datagrams import ACK, PING, REQUEST, datagram, fields, version_of
 
 MINUTE = 60_000
 MEGABYTE = 2**20
@@ -28,8 +29,11 @@ def datagrams_that_are_none(machine):
     """They are counted, and nothing is sent for them."""
     daemon, peer = machine.started(tick_ms=MINUTE), machine.socket()
     ping = datagram(PING, 9, 9, 1, 1)
-    texts = [(ping + bytes(2_000))[:length] for length in (0, 23, 25, 64, 65, 1_400)]
-    texts += [b"XW" + ping[2:], b"SX" + ping[2:], ping[:2] + b"\x02" + ping[3:], ping[:3] + b"\x00" + ping[4:]]
+    request = datagram(REQUEST, 9, 9, 8, 1, 2, daemon.port)
+    texts = [(ping + bytes(2_000))[:length] for length in (0, 23, 25, 30, 31, 64, 65, 1_400)]
+    texts += [(request + b"\x01" * 2_000)[:length] for length in (24, 25, 29, 31, 64, 1_400)]
+    texts += [request[:28] + bytes(2), request[:2] + b"\x01" + request[3:]]
+    texts += [b"XW" + ping[2:], b"SX" + ping[2:], ping[:2] + b"\x03" + ping[3:], ping[:3] + b"\x00" + ping[4:]]
     texts += [ping[:3] + b"\x04" + ping[4:], datagram(PING, 0, 9, 1, 1), datagram(PING, 9, 9, 1, 0), bytes(24)]
     for place, text in enumerate(texts, 1):
         peer.sendto(text, daemon.address)
@@ -49,8 +53,9 @@ def forged_datagrams(machine):
     for place, text in enumerate(texts):
         other.sendto(text, daemon.address)
         if fault_of(text) is None and (fields(text)[0], fields(text)[3]) == (PING, daemon.id):
-            found, (_, _, initiator, _, number) = fields(other.recv(100)), fields(text)
-            must(found == (ACK, daemon.id, initiator, daemon.id, number), f"the ping {text.hex()} is answered {found}")
+            found, (_, _, initiator, _, number) = other.recv(100), fields(text)
+            wanted = datagram(ACK, daemon.id, initiator, daemon.id, number, version_of(text))
+            must(found == wanted, f"the ping {text.hex()} is answered {found.hex()}")
         elif place % 32 == 0:
             # No more are under way than a socket keeps.
             markers += 1

@@ -5,7 +5,8 @@ import shutil
 import threading
 import time
 
-from tests.support.daemons import ACK, ONE_ARENA, PING, REQUEST, datagram, fields, introduced, memory_of, must, stop_all, until
+from tests.support.daemons import ONE_ARENA, introduced, memory_of, must, stop_all, until
+from tests.support.datagrams import ACK, PING, REQUEST, datagram, fields, version_of
 from tests.support.parts import leave_out, reference
 
 FLOOD_SECONDS = 10
@@ -15,11 +16,11 @@ MOST_PINGS = 75_000
 
 
 class Answerer(threading.Thread):
-    """A member that isn't a daemon: it answers the pings that it is told to, and keeps which came."""
+    """A member that isn't a daemon: it answers the pings that it is told to, each in its version, and keeps which came."""
 
     def __init__(self, socket, id, answers):
         super().__init__(daemon=True)
-        self.socket, self.id, self.answers, self.pings = socket, id, answers, []
+        self.socket, self.id, self.answers, self.pings, self.versions = socket, id, answers, [], set()
         self.port = socket.getsockname()[1]
         self.start()
 
@@ -32,8 +33,9 @@ class Answerer(threading.Thread):
             kind, sender, initiator, target, number = fields(text)
             if kind == PING and target == self.id:
                 self.pings.append((sender, initiator))
+                self.versions.add((sender, version_of(text)))
                 if self.answers(sender, initiator):
-                    self.socket.sendto(datagram(ACK, self.id, initiator, self.id, number), source)
+                    self.socket.sendto(datagram(ACK, self.id, initiator, self.id, number, version_of(text)), source)
 
 
 def all_up(daemons):

@@ -10,7 +10,8 @@ import socket
 import subprocess
 import time
 
-from tests.support.daemons import ACK, PING, REQUEST, SECONDS, TIME, datagram, fields, must, until
+from tests.support.daemons import SECONDS, TIME, must, until
+from tests.support.datagrams import ACK, PING, REQUEST, datagram, fields
 from tests.support.journals import front, in_one_folder, journals, must_play, told
 from tests.swimd.daemon_journals import ROWS, filled, must_be_told, pinged
 from tests.swimd.daemon_starting import NOBODY

@@ -11,7 +11,8 @@ import sys
 import threading
 import time
 
-from tests.support.daemons import ACK, ONE_ARENA, PING, SECONDS, TIME, datagram, fields, memory_of, must, until
+from tests.support.daemons import ONE_ARENA, SECONDS, TIME, memory_of, must, until
+from tests.support.datagrams import ACK, PING, datagram, fields
 from tests.support.documents import code_in
 from tests.support.journals import front, in_one_folder, journals, must_play, must_verify, must_verify_each, told, written
 from tests.swimd.daemon_groups import MOST_GROWTH, Answerer
@@ -71,15 +72,16 @@ def header(daemon, members, life, last):
     it = daemon.values
     numbers = [it["id"], it["k"], it["rtt"], it["period"], last, it["journal"]]
     rows = [f"row {id} {at}" for id, at in members]
-    return ["journal 1", "open " + " ".join(map(str, numbers)), *rows, f"seed {it['seed']} {life}"]
+    version = ["wire 2"] * (it.get("wire") == 2)
+    return ["journal 1", "open " + " ".join(map(str, numbers)), *version, *rows, f"seed {it['seed']} {life}"]
 
 
 def each_life_has_a_file(machine):
     """Of its name, its owner's alone whatever the mask, with the header of its life, and played without a difference."""
-    for id, mask in enumerate((0, 0o022, 0o077), 1):
+    for id, (mask, version) in enumerate(((0, {}), (0o022, {"wire": 2}), (0o077, {"wire": 1})), 1):
         before, peer = int(time.time()), machine.socket()
         how = {"preexec_fn": lambda: os.umask(mask)}
-        daemon = machine.started(id, how=how, members=ROWS[: id - 1], last=7, tick_ms=MINUTE, journal=5)
+        daemon = machine.started(id, how=how, members=ROWS[: id - 1], last=7, tick_ms=MINUTE, journal=5, **version)
         after = int(time.time())
         filled(daemon, peer, 3)
         closing, files = daemon.stop(), journals(machine.journals, id)

@@ -6,7 +6,8 @@ import stat
 import subprocess
 import time
 
-from tests.support.daemons import ACK, PING, SECONDS, connected, datagram, fields, must, talk, until
+from tests.support.daemons import SECONDS, connected, must, talk, until
+from tests.support.datagrams import ACK, PING, datagram, fields
 
 MINUTE = 60_000
 ROWS = [(2, "10.0.0.2:7000"), (3, "10.0.0.3:7000")]

@@ -5,7 +5,7 @@ stood there, and the warnings of what can't work. All is worked out by hand from
 """
 
 from tests.swimd.worked_configs import ALONE, FULL, SUMMARY, SUMMARY_ALONE, numbered_members, replaced, with_member, with_value
-from tests.swimd.worked_configs import LINES, with_files
+from tests.swimd.worked_configs import LINES, with_keys
 
 
 def caused(name, document, fault, *lines):
@@ -31,9 +31,11 @@ def keys():
     yield caused("an unknown key", unknown, "3", "found: tick-ms; the nearest known key: tick_ms", "line 7: tick-ms = 1000")
     table = FULL + "\n[[jurnal]]\nsize = 3\n"
     yield caused("an unknown table", table, "3", "found: jurnal; the nearest known key: journal", "line 19: [[jurnal]]")
-    for name, known in {"journal_dirs": "journal_dir", "journal-keep": "journal_keep", "journals": "journal"}.items():
+    near = {"journal_dirs": "journal_dir", "journal-keep": "journal_keep", "journals": "journal"}
+    near.update(wires="wire", wir="wire", Wire="wire", wier="wire")
+    for name, known in near.items():
         found = f"found: {name}; the nearest known key: {known}"
-        yield caused(f"`{name}`", with_files(f"{name} = 1"), "3", found, f"line 1: {name} = 1")
+        yield caused(f"`{name}`", with_keys(f"{name} = 1"), "3", found, f"line 1: {name} = 1")
     quoted = replaced(LINES["k"], '"k\\u001b" = 1')
     yield caused("an unknown key with a sign", quoted, "3", "found: k?; the nearest known key: k", 'line 4: "k\\u001b" = 1')
     more = with_member('id = 2\nat = "10.0.0.2:7000"\nadress = 3')
@@ -63,13 +65,18 @@ def values():
     yield caused("a long journal", with_value("journal", "1_000_001"), "6 journal", journal, "line 9: journal = 1_000_001")
     last = "expected: an integer from 0 to 9223372036854775807 (the last period number that was used before)"
     yield caused("`last` below 0", "\n last= -1\n" + FULL, "6 last", last, "line 2:  last= -1")
+    version = "expected: an integer from 1 to 2 (the version of its own pings and ping-reqs)"
+    yield caused("version 3", with_keys("wire = 3"), "6 wire", version, "line 1: wire = 3")
+    yield caused("version 0", with_keys("\nwire = 0 # none"), "6 wire", version, "line 2: wire = 0 # none")
+    yield caused("a version in quotes", with_keys('wire = "2"'), "5 wire", version, 'line 1: wire = "2"')
+    yield caused("a version that is a table", FULL + "\n[wire]\n", "5 wire", version, "line 19: [wire]")
     folder = "expected: a string of 1 to 100 characters of ASCII that print (the folder of the journal files)"
-    yield caused("no folder", with_files('journal_dir = ""'), "6 journal_dir", folder, 'line 1: journal_dir = ""')
-    yield caused("a folder in two lines", with_files('journal_dir = "a\\nb"'), "6 journal_dir", folder, 'line 1: journal_dir = "a\\nb"')
-    yield caused("many folders", with_files("journal_dir = [\n]"), "5 journal_dir", folder, "line 1: journal_dir = [")
+    yield caused("no folder", with_keys('journal_dir = ""'), "6 journal_dir", folder, 'line 1: journal_dir = ""')
+    yield caused("a folder in two lines", with_keys('journal_dir = "a\\nb"'), "6 journal_dir", folder, 'line 1: journal_dir = "a\\nb"')
+    yield caused("many folders", with_keys("journal_dir = [\n]"), "5 journal_dir", folder, "line 1: journal_dir = [")
     keep = "expected: an integer from 0 to 4294967295 (how many journal files stay, 0 for all)"
-    yield caused("fewer than none", with_files("\njournal_keep = -1"), "6 journal_keep", keep, "line 2: journal_keep = -1")
-    yield caused("files in quotes", with_files('journal_keep = "1"'), "5 journal_keep", keep, 'line 1: journal_keep = "1"')
+    yield caused("fewer than none", with_keys("\njournal_keep = -1"), "6 journal_keep", keep, "line 2: journal_keep = -1")
+    yield caused("files in quotes", with_keys('journal_keep = "1"'), "5 journal_keep", keep, 'line 1: journal_keep = "1"')
     text = with_value("control", '"""\\\nlisten = 1"""', replaced(LINES["listen"], "")) + ""
     hidden = text.replace("k = 1\n", "listen = 2 # \u00e9\nk = 1\n")
     yield caused("a key within a text", hidden, "5 listen", port, "line 4: listen = 2 # ??")

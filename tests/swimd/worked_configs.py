@@ -116,7 +116,7 @@ def accepted():
     yield good("as long as may be", FULL + padding, SUMMARY)
 
 
-def with_files(lines, document=FULL):
+def with_keys(lines, document=FULL):
     """The document with these lines in front, where keys of the whole stand."""
     return f"{lines}\n{document}"
 
@@ -124,26 +124,52 @@ def with_files(lines, document=FULL):
 def files():
     """The two keys of journal files: their lines stand in the summary where there is a folder."""
     told = lambda dir, keep: with_summary("\nk 1 ", f"\njournal_dir {dir}\nk 1 ").replace("\nmembers", f"\njournal_keep {keep}\nmembers")
-    yield good("a folder", with_files('journal_dir = "/var/lib/swimd"'), told("/var/lib/swimd", 16))
-    yield good("a folder, and how many", with_files('journal_dir = "files"\njournal_keep = 3'), told("files", 3))
-    yield good("a folder, and all", with_files('journal_keep = 0\njournal_dir = "."'), told(".", 0))
-    yield good("a folder, and the most", with_files('journal_dir = " "\njournal_keep = 4294967295'), told(" ", 2**32 - 1))
-    yield good("no folder, and how many", with_files("journal_keep = 3"), SUMMARY)
-    yield good("the longest folder", with_files(f'journal_dir = "{"~" * 100}"'), told("~" * 100, 16))
+    yield good("a folder", with_keys('journal_dir = "/var/lib/swimd"'), told("/var/lib/swimd", 16))
+    yield good("a folder, and how many", with_keys('journal_dir = "files"\njournal_keep = 3'), told("files", 3))
+    yield good("a folder, and all", with_keys('journal_keep = 0\njournal_dir = "."'), told(".", 0))
+    yield good("a folder, and the most", with_keys('journal_dir = " "\njournal_keep = 4294967295'), told(" ", 2**32 - 1))
+    yield good("no folder, and how many", with_keys("journal_keep = 3"), SUMMARY)
+    yield good("the longest folder", with_keys(f'journal_dir = "{"~" * 100}"'), told("~" * 100, 16))
     for text in ("1", "true", "[]", "{}", "2020-01-01"):
-        yield bad(f"`journal_dir` is {text}", with_files(f"journal_dir = {text}"), "5 journal_dir")
+        yield bad(f"`journal_dir` is {text}", with_keys(f"journal_dir = {text}"), "5 journal_dir")
     for text in ('"3"', "3.0", "false", "[3]"):
-        yield bad(f"`journal_keep` is {text}", with_files(f"journal_keep = {text}"), "5 journal_keep")
+        yield bad(f"`journal_keep` is {text}", with_keys(f"journal_keep = {text}"), "5 journal_keep")
     for text in ('""', f'"{"x" * 101}"', '"\\t"', '"\\u007f"', '"\u00e9"', '"a\\nb"', '"a\\u0000"'):
-        yield bad(f"`journal_dir` is {text[:20]!r}", with_files(f"journal_dir = {text}"), "6 journal_dir")
+        yield bad(f"`journal_dir` is {text[:20]!r}", with_keys(f"journal_dir = {text}"), "6 journal_dir")
     for text in ("-1", "4294967296", "9223372036854775807"):
-        yield bad(f"`journal_keep` is {text}", with_files(f"journal_keep = {text}"), "6 journal_keep")
-    yield bad("a folder before how many", with_files('journal_keep = -1\njournal_dir = ""'), "6 journal_dir")
-    yield bad("the range of `last` before a folder", with_files('journal_dir = ""\nlast = -1'), "6 last")
-    yield bad("how many before a member", with_files("journal_keep = -1", with_member("id = 0")), "6 journal_keep")
+        yield bad(f"`journal_keep` is {text}", with_keys(f"journal_keep = {text}"), "6 journal_keep")
+    yield bad("a folder before how many", with_keys('journal_keep = -1\njournal_dir = ""'), "6 journal_dir")
+    yield bad("the range of `last` before a folder", with_keys('journal_dir = ""\nlast = -1'), "6 last")
+    yield bad("how many before a member", with_keys("journal_keep = -1", with_member("id = 0")), "6 journal_keep")
     for name in ("journal_dirs", "journal_dir2", "journal-dir", "journal_keeps", "Journal_dir", "journals"):
-        yield bad(f"`{name}`", with_files(f'{name} = "x"'), "3")
+        yield bad(f"`{name}`", with_keys(f'{name} = "x"'), "3")
     yield bad("a folder of a member", FULL + 'journal_dir = "x"\n', "3")
+
+
+def versions():
+    """Version 2 stands in the summary, at the end of the line of numbers; version 1, told or not, doesn't."""
+    of_2 = with_summary("journal 1000\n", "journal 1000 wire 2\n")
+    yield good("version 1", with_keys("wire = 1"), SUMMARY)
+    yield good("version 2", with_keys("wire = 2"), of_2)
+    for text in ("+2", "0x2", "0b10", "0o2"):
+        yield good(f"version {text}", with_keys(f"wire = {text}"), of_2)
+    yield good("version 2, and nobody else", with_keys("wire = 2", ALONE), SUMMARY_ALONE.replace("journal 1000\n", "journal 1000 wire 2\n"))
+    files = of_2.replace("\nk 1 ", "\njournal_dir files\nk 1 ").replace("\nmembers", "\njournal_keep 16\nmembers")
+    yield good("version 2, and a folder", with_keys('wire = 2\njournal_dir = "files"'), files)
+    for text in ("0", "3", "-1", "-2", "256", "9223372036854775807"):
+        yield bad(f"`wire` is {text}", with_keys(f"wire = {text}"), "6 wire")
+    for text in ('"2"', "2.0", "true", "[2]", "[]", "{}", "{version = 2}", "2020-01-02"):
+        yield bad(f"`wire` is {text}", with_keys(f"wire = {text}"), "5 wire")
+    yield bad("`wire` is a table", FULL + "\n[wire]\n", "5 wire")
+    yield bad("`wire` is an array of tables", FULL + "\n[[wire]]\nversion = 2\n", "5 wire")
+    yield bad("`wire` twice", with_keys("wire = 1\nwire = 2"), "2")
+    yield bad("the range of `last` before a version", with_keys("wire = 3\nlast = -1"), "6 last")
+    yield bad("a version before a folder", with_keys('journal_dir = ""\nwire = 3'), "6 wire")
+    yield bad("a version before a member", with_keys("wire = 3", with_member("id = 0")), "6 wire")
+    yield bad("a version before the opening", with_keys("wire = 0", with_value("k", "9")), "6 wire")
+    for name in ("wires", "wir", "Wire", "wire_", "wire2", "version", "wire-version"):
+        yield bad(f"`{name}`", with_keys(f"{name} = 2"), "3")
+    yield bad("a version of a member", FULL + "wire = 2\n", "3")
 
 
 def texts():
@@ -229,5 +255,5 @@ def openings():
 
 
 def worked_configs():
-    for part in (accepted, files, texts, keys, ranges, members, openings):
+    for part in (accepted, files, versions, texts, keys, ranges, members, openings):
         yield from part()

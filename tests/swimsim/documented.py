@@ -10,10 +10,12 @@ from tests.support.documents import code_in
 
 SECONDS = 60
 MOST = 2**64 - 1
-# rtt, period, last, limit and ticks; and what stands behind the other member's address.
+# rtt, period, last, limit and ticks; and what stands behind the other member's address, or before its row.
 FILES = [
     (1, 3, 0, 100, 12, ""),
+    (1, 3, 0, 100, 12, "", "wire 2"),
     (2, 7, 41, 100, 30, ""),
+    (2, 7, 41, 100, 30, "", "wire 1"),
     (1, 3, MOST - 1, 100, 12, ""),
     (1, 3, MOST, 100, 5, ""),
     (1, 5, 9, 11, 11, ""),
@@ -27,9 +29,9 @@ def ran(words, text):
     return subprocess.run(words, input=text, capture_output=True, text=True, timeout=SECONDS)
 
 
-def told_file(program, rtt, period, last, limit, ticks, state):
+def told_file(program, rtt, period, last, limit, ticks, state, *version):
     """A journal file of that many ticks, with what swimsim answers."""
-    head = [f"open 1 0 {rtt} {period} {last} {limit}", *([] if state is None else [f"row 2 10.0.0.2:7000{state}"])]
+    head = [f"open 1 0 {rtt} {period} {last} {limit}", *version, *([] if state is None else [f"row 2 10.0.0.2:7000{state}"])]
     head = ["journal 1", "# a comment", *head, "seed " + "5" * 64 + " 0"]
     played = ran([program], "\n".join([*head, *["tick"] * ticks, ""]))
     answers = [it for it in played.stdout.splitlines() if not it.startswith("> ")]

@@ -7,7 +7,8 @@ ID = "an ID: 1 to 4294967295"
 IDS = "1 to 128 IDs with commas between, each 1 to 4294967295"
 SEED = "a seed: 64 hexadecimal digits"
 HEX = "HEX: hexadecimal digits, an even number of them"
-ANY = "row, order, place, seed, tick, hear, join, remove, table or gap"
+VERSION = "V, the version of its own pings and ping-reqs: 1 or 2"
+ANY = "wire, row, order, place, seed, tick, hear, join, remove, table or gap"
 EVENT = "tick, hear, join, remove, table or gap"
 FIRST = "open ME K RTT PERIOD LAST LIMIT, before any other line"
 CHOOSER = "one seed, or orders and places"
@@ -89,6 +90,7 @@ CAUSES = [
     # two letters that are swapped, at the end and in front
     (OPEN + b"tikc\n", told("line 2: word", ["tikc", "^^^^"], ANY, "two letters of tick are swapped")),
     (b"poen 1 0 1 3 0 100\n", told("line 1: word", ["poen 1 0 1 3 0 100", "^^^^"], FIRST, "two letters of open are swapped")),
+    (OPEN + b"wrie 2\n", told("line 2: word", ["wrie 2", "^^^^"], ANY, "two letters of wire are swapped")),
     (OPEN + b"ticck\n", told("line 2: word", ["ticck", "^^^^^"], ANY)),
     (OPEN + b"itkc\n", told("line 2: word", ["itkc", "^^^^"], ANY)),
     # text of another encoding, with its mark in either order and without one
@@ -128,6 +130,14 @@ FAULTS = [
     (OPEN + b"order " + b",".join([b"7"] * 129) + b"\n", told("line 2: order",
      ["order " + ",".join("7" * 129), "      " + "^" * 257], IDS, "it has 129 IDs")),
     (OPEN + b"row 2 10.0.0.256:7000\n", told("line 2: peer", ["row 2 10.0.0.256:7000", "      ^^^^^^^^^^^^^^^"], PEER)),
+    (OPEN + b"wire 3\n", told("line 2: number", ["wire 3", "     ^"], VERSION)),
+    (OPEN + b"wire 02 x\n", told("line 2: number", ["wire 02 x", "     ^^"], VERSION, "a number has no sign and no zero in front")),
+    (OPEN + b"wire\n", told("line 2: number", ["wire", "    ^"], VERSION, "the line ends before it")),
+    (OPEN + b"wire 2 1\n", told("line 2: extra", ["wire 2 1", "       ^"], "the end of the line")),
+    (OPEN + b"wire 2\nwire 1\n", told("line 3: word", ["wire 1", "^^^^"], ANY, "the version is told once")),
+    (OPEN + b"tick\nwire 2\n", told("line 3: word", ["wire 2", "^^^^"], EVENT,
+     "line 2 is an event line: header lines stand before the first", ONE)),
+    (b"wire 2\n" + OPEN, told("line 1: word", ["wire 2", "^^^^"], FIRST)),
     (OPEN + b"seed 0g\n", told("line 2: hex", ["seed 0g", "     ^^"], SEED)),
     (OPEN + b"hear 10.0.0.2:7000 0g\n", told("line 2: hex", ["hear 10.0.0.2:7000 0g", "                   ^^"], HEX)),
     (OPEN + b"tick now\n", told("line 2: extra", ["tick now", "     ^^^"], "the end of the line")),
@@ -159,11 +169,19 @@ OPENINGS = [
 
 # what a run came to
 ACK = b"hear 10.0.0.2:7000 535701030000000200000001000000020000000000000001\n"
+REQUEST = b"hear 10.0.0.2:7000 535702020000000200000002000000090000000000000009"
 RUNS = [
     (OPEN, NOTHING),
     # the member never answers, and two acks come for no probe
     (OPEN + ROW + b"tick\ntick\ntick\ntick\n" + ACK + ACK + b"join 1 10.0.0.1:7000\nhear 10.0.0.2:7000 00\ntable\ngap 2\n",
-     "entries 7\nperiods 2\njudged 2 in period 1\ndropped 6 stray: 2\nrefused 1 myself: 1\nwire 1 not 24 bytes: 1\n"),
+     "entries 7\nperiods 2\njudged 2 in period 1\ndropped 6 stray: 2\nrefused 1 myself: 1\nwire 1 neither 24 nor 30 bytes: 1\n"),
+    # bytes that are nearly a ping-req of version 2: without its address, with an address whose port is 0, twice, and with a byte more
+    (OPEN + ROW + REQUEST + b"\n" + (REQUEST + b"0a0000090000\n") * 2 + REQUEST + b"0a0000091b5800\n",
+     "entries 0\nperiods 0\nwire 1 neither 24 nor 30 bytes: 1\n"
+     "wire 7 not as many bytes as its version and kind have: 1\nwire 8 the port is 0: 2\n"),
+    # another version, and no datagram at all
+    (OPEN + ROW + b"hear 10.0.0.2:7000 535703010000000000000000000000000000000000000000\nhear 10.0.0.2:7000 %s\n" % (b"0" * 60),
+     "entries 0\nperiods 0\nwire 2 the first two bytes are not 53 57: 1\nwire 3 neither of version 1 nor of version 2: 1\n"),
     # a journal with room for one entry
     (b"open 1 0 1 3 0 1\ntick\ntick\ntick\n", "entries 1\nperiods 1\njournal full: 2\n"),
     # the first order is none of the two members, and no other round begins; one place is drawn

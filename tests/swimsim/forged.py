@@ -3,18 +3,10 @@
 import subprocess
 
 from tests.generators.forgeries import forgeries
-from tests.models.datagram_model import fault_of
+from tests.models.datagram_model import fault_of, in_words
 from tests.swimsim.cases import SECONDS
 
 HEAD = b"open 7 0 1 3 0 1000000\n"
-KINDS = {1: "ping", 2: "ping-req", 3: "ack"}
-
-
-def message(text):
-    """The words of a datagram, each read from the bytes where it stands."""
-    sender, initiator, target = (int.from_bytes(text[place : place + 4], "big") for place in (4, 8, 12))
-    number = int.from_bytes(text[16:24], "big")
-    return f"  {KINDS[text[3]]}: sender {sender}, initiator {initiator}, target {target}, number {number}"
 
 
 def with_forged_datagrams(program):
@@ -26,7 +18,7 @@ def with_forged_datagrams(program):
     line = next(lines, None)
     for text in texts:
         fault = fault_of(text)
-        wanted = f"wire {fault}" if fault else message(text)
+        wanted = f"wire {fault}" if fault else in_words(text)
         said += [] if line == wanted else [f"{text.hex()} is told as {line!r}, and not {wanted!r}"]
         line = next(lines, None)
         if not fault:

@@ -14,12 +14,13 @@ from tests.swimsim.cases import SECONDS, difference
 FIRST = "journal 1\n"
 ROWS = ["row 2 10.0.0.2:7000\n", "row 3 10.0.0.3:7000\n"]
 HEAD = [FIRST, "open 1 1 1 3 0 1000\n", *ROWS]
+HEAD_2 = [FIRST, "open 1 1 1 3 0 1000\n", "wire 2\n", *ROWS]
 SEED = "0" * 64
 
 
-def ack(member, number):
+def ack(member, number, version=1):
     """An ack of that member for a probe of member 1 in the period of that number."""
-    return f"hear 10.0.0.{member}:7000 53570103{member:08x}00000001{member:08x}{number:016x}\n"
+    return f"hear 10.0.0.{member}:7000 5357{version:02x}03{member:08x}00000001{member:08x}{number:016x}\n"
 
 
 def told(*calls):
@@ -77,6 +78,36 @@ def judgements():
     joined = [STARTED, ASKED, QUIET, JUDGED, again, (ack(2, 1), "dropped 6")]
     tells = "a: entries 6 confirmed 6 periods 2 judged 1\n" + EVIDENCE + "ack of 2 for period 1 at entry 5: too late\n"
     yield one("too late, and listed again", [*HEAD, *told(*joined)], 0, tells)
+
+
+def versions():
+    """What is told of a judgement is the same in version 2, and so it is of acks."""
+    yield one("a judgement in version 2", [*HEAD_2, *WHOLE[4:]], 0, TELLS)
+    yield one("no call in version 2", HEAD_2, 0, "a: entries 0 confirmed 0 periods 0 judged 0\n")
+    yield one("version 1, told", [*HEAD[:2], "wire 1\n", *WHOLE[2:]], 0, TELLS)
+    calls = [STARTED, (ack(2, 8, 2), "dropped 6"), ASKED, QUIET, JUDGED, (ack(2, 1, 2), "dropped 6")]
+    tells = "a: entries 6 confirmed 6 periods 2 judged 1\n"
+    tells += "judged 2 in period 1: probed at entry 0, relays 3 asked at entry 2, no ack of period 1 until entry 4\n"
+    tells += "ack of 2 for period 8 at entry 1: another period\nack of 2 for period 1 at entry 5: too late\n"
+    for name, head in (("of version 1", HEAD), ("of version 2", HEAD_2)):
+        yield one(f"acks of version 2, heard by a member {name}", [*head, *told(*calls)], 0, tells)
+    request = "hear 10.0.0.2:7000 5357020200000002000000020000000900000000000000090a0000091b58\n"
+    relayed = told((request, "sent"), (request.replace("5357020", "5357010").replace("0a0000091b58", ""), "dropped 4"))
+    yield one("requests of both versions", [*HEAD_2, *relayed], 0, "a: entries 2 confirmed 2 periods 0 judged 0\n")
+    twice = [*HEAD_2, "wire 2\n", *WHOLE[4:]]
+    stderr = "swimsim: a: line 6: word, before entry 0\n"
+    yield one("a version that is told twice", twice, 1, "a: entries 0 confirmed 0 periods 0 judged 0\n", stderr)
+    both = [("one", of_version_2(ONE)), ("two", of_version_2(TWO))]
+    yield Verified("two lives of version 2", both, 0, ONE_TELLS + TWO_TELLS)
+    header = "".join(of_version_2(TWO).splitlines(True)[:3])
+    empty = "two: entries 0 confirmed 0 periods 0 judged 0\n"
+    yield Verified("a second life of version 2 whose header is cut", [both[0], ("two", header)], 0, ONE_TELLS + empty)
+
+
+def of_version_2(file):
+    """The file with the line that tells version 2 behind its opening."""
+    lines = file.splitlines(True)
+    return "".join([*lines[:2], "wire 2\n", *lines[2:]])
 
 
 def times():
@@ -161,6 +192,7 @@ def lives():
         "it is another member's": ("open 1 1", "open 9 1"),
         "another number of relays is asked": ("open 1 1", "open 1 2"),
         "the timeout or the period is another": ("1 3 2 4", "1 4 2 4"),
+        "the version of its own messages is another": ("open 1 1 1 3 2 4\n", "open 1 1 1 3 2 4\nwire 2\n"),
         "the members aren't those that were left": (" failed 1", " failed 2"),
         "the last period number isn't the one that was left": ("1 3 2 4", "1 3 3 4"),
         "the journal may have another number of entries": ("1 3 2 4", "1 3 2 5"),
@@ -207,13 +239,14 @@ def expected_of_front(text):
 
 
 def cuts():
-    """A file, cut at each byte."""
+    """Two files, of either version, cut at each byte."""
     text = "".join([*WHOLE[:6], "# 1764072000\n", *WHOLE[6:], "# 1764072003\n"])
-    for count in range(len(text) + 1):
-        yield one(f"cut behind {count} bytes", [text[:count]], 0, expected_of_front(text[:count]))
+    for file, name in ((text, ""), (of_version_2(text), ", of version 2")):
+        for count in range(len(file) + 1):
+            yield one(f"cut behind {count} bytes{name}", [file[:count]], 0, expected_of_front(file[:count]))
 
 
-CASES = [judgements, times, differences, lives, cuts]
+CASES = [judgements, versions, times, differences, lives, cuts]
 
 
 def verified(program, case):
@@ -235,6 +268,22 @@ def verified_with_other_digits(program):
     for at in (at for at, byte in enumerate(text) if byte.isdigit()):
         for other in "0123456789".replace(text[at], ""):
             said += same_or_told(program, text[:at] + other + text[at + 1 :])
+    return said
+
+
+def verified_with_another_version(program):
+    """A life of another version than the one before it doesn't follow it."""
+    said = []
+    for files in ((ONE, of_version_2(TWO)), (of_version_2(ONE), TWO)):
+        with tempfile.TemporaryDirectory() as folder:
+            paths = [f"{folder}/{name}" for name in ("one", "two")]
+            for path, text in zip(paths, files):
+                with open(path, "w", encoding="ascii") as file:
+                    file.write(text)
+            ran = subprocess.run([program, "--verify", *paths], capture_output=True, timeout=SECONDS)
+        wanted = f"swimsim: {paths[1]}: does not follow {paths[0]}: ".encode()
+        is_told = ran.stderr.startswith(wanted) and ran.stderr.count(b"\n") == 1
+        said += [] if ran.returncode == 1 and is_told else [f"lives of two versions: {ran}"]
     return said
 
 
@@ -275,5 +324,5 @@ def verified_cases():
     for make in CASES:
         for case in make():
             yield f"verified: {make.__name__}: {case.name}", lambda program, case=case: verified(program, case)
-    for attempt in (verified_with_other_digits, verified_with_moved_lines, verified_with_other_words):
+    for attempt in (verified_with_other_digits, verified_with_another_version, verified_with_moved_lines, verified_with_other_words):
         yield attempt.__name__, attempt

@@ -3,12 +3,12 @@
 import os
 import re
 import shutil
-import struct
 import subprocess
 import tempfile
 from typing import NamedTuple
 
 from tests.generators.made_scripts import known_members, waiting_requests
+from tests.models.datagram_model import in_words
 from tests.swimsim.cases import EVENTS, OPENED, SCRIPTS, SECONDS, STARTED, Case
 from tests.swimsim.cases import content, difference, kept_scripts, short_scripts
 from tests.swimsim.explanations import CAUSES, FAULTS, JOURNALS, OPENINGS, READ_FAILED, RUNS, WRITE_FAILED
@@ -51,12 +51,6 @@ def with_a_file(program):
         return called(program, [*calls, Called([path], 1, re.escape(STARTED), b"line 7: word\n")])
 
 
-def in_words(digits):
-    kind, *numbers = struct.unpack(">3xBIIIQ", bytes.fromhex(digits))
-    named = "  {}: sender {}, initiator {}, target {}, number {}\n"
-    return named.format({1: "ping", 2: "ping-req", 3: "ack"}[kind], *numbers)
-
-
 def decoded(script, stdout):
     """What is written for a script with its datagrams in words, from what is written without."""
     lines, wanted = stdout.decode().splitlines(True), []
@@ -65,13 +59,17 @@ def decoded(script, stdout):
         if word not in ("tick", "hear", "join", "remove", "table", "gap") or not lines:
             continue
         if word == "hear" and not lines[0].startswith("wire "):
-            wanted.append(in_words(arguments[1]))
+            wanted.append(words_of(arguments[1]))
         wanted.append(lines.pop(0))
         while word == "table" and wanted[-1] != ".\n":
             wanted.append(lines.pop(0))
         while lines and lines[0].startswith("> "):
-            wanted += [lines[0], in_words(lines.pop(0).split()[2])]
+            wanted += [lines[0], words_of(lines.pop(0).split()[2])]
     return "".join(wanted).encode()
+
+
+def words_of(digits):
+    return f"{in_words(bytes.fromhex(digits))}\n"
 
 
 def with_decode(program):
@@ -114,8 +112,8 @@ def with_names(program):
         found += [] if ran.stderr.startswith(case.stderr) else [f"standard error begins with {ran.stderr[:200]!r}"]
         found += [] if ran.returncode == case.status else [f"status {ran.returncode}, and not {case.status}"]
         said += [f"{case.name}: {it}" for it in found]
-    if len(names) != 18:
-        said.append(f"docs/FORMATS.md has names of {len(names)} reasons, and not of 18")
+    if len(names) != 20:
+        said.append(f"docs/FORMATS.md has names of {len(names)} reasons, and not of 20")
     return said + [f"no script is answered {it.decode()}" for it in sorted(set(names) - met)]
 
 

@@ -2,10 +2,11 @@
 
 tests/swimsim/run gives them to swimsim. They are also the ground on which the reference stands: tests/swimsim/compare gives them
 to both programs first. Each is (name, script,
-standard output, standard error, status), as in made_scripts.py. Those of worked_journals.py are among them.
+standard output, standard error, status), as in made_scripts.py. Those of worked_journals.py and worked_versions.py are among them.
 """
 
 from tests.swimsim.worked_journals import worked_journals
+from tests.swimsim.worked_versions import worked_versions
 
 ROWS = "row 2 10.0.0.2:7000\nrow 3 10.0.0.3:7000\n"
 TWO = "open 1 1 1 3 0 1000\n" + ROWS
@@ -70,7 +71,7 @@ def datagrams():
         ("53", "wire 1"),
         ("", "wire 1"),
         ("000000000000000000000000000000000000000000000000", "wire 2"),
-        ("535702010000000100000001000000020000000000000001", "wire 3"),
+        ("535703010000000100000001000000020000000000000001", "wire 3"),
         ("535701000000000100000001000000020000000000000001", "wire 4"),
         ("535701040000000100000001000000020000000000000001", "wire 4"),
         ("535701010000000100000001000000000000000000000000", "wire 5"),
@@ -307,3 +308,4 @@ def worked_scripts():
     for part in (as_many_as_may_be_known, pings, requests, full_tables_of_requests, small_journals, bad_scripts):
         yield from part()
     yield from worked_journals()
+    yield from worked_versions()

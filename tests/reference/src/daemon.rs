@@ -137,11 +137,9 @@ impl Daemon {
     }
 
     fn send_one(&self, peer: Peer, message: &Message) {
-        if self
-            .socket
-            .send_to(&message.bytes(), address(peer))
-            .is_err()
-        {
+        let (bytes, length) = message.datagram();
+        let sent = self.socket.send_to(&bytes[..length], address(peer));
+        if sent.is_err() {
             self.unsent.fetch_add(1, Relaxed);
         }
     }
@@ -153,10 +151,9 @@ impl Daemon {
             let Ok((length, SocketAddr::V4(source))) = self.socket.recv_from(&mut bytes) else {
                 continue;
             };
-            let datagram = bytes[..length].try_into();
-            match datagram.ok().and_then(|it| Message::of_bytes(it).ok()) {
-                Some(message) => self.call(Event::Hear(peer(source), Ok(message))),
-                None => drop(self.wire.fetch_add(1, Relaxed)),
+            match Message::of_datagram(&bytes[..length]) {
+                Ok(message) => self.call(Event::Hear(peer(source), Ok(message))),
+                Err(_) => drop(self.wire.fetch_add(1, Relaxed)),
             }
         }
     }

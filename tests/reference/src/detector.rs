@@ -6,15 +6,17 @@ use crate::header::Opening;
 use crate::journal::Drawn;
 use crate::members::{Members, State};
 use crate::replies::{DropReason, Probe, Refusal, Reply};
-use crate::requests::Requests;
+use crate::requests::{Asker, Requests};
 use crate::round::Round;
-use crate::wire::{Key, Kind, Message, Peer};
+use crate::wire::{Key, Kind, Message, Peer, Version};
 
 pub struct Detector {
     me: u32,
     k: usize,
     rtt: u32,
     period: u32,
+    /// The version of its own pings and ping-reqs.
+    version: Version,
     /// The last period number that was used, and how many ticks of its period there were.
     number: u64,
     phase: u32,
@@ -42,6 +44,7 @@ impl Detector {
             k: opening.k as usize,
             rtt: opening.rtt,
             period: opening.period,
+            version: opening.version,
             number: opening.last,
             phase: 0,
             aim: None,
@@ -63,6 +66,7 @@ impl Detector {
             k: self.k as u32,
             rtt: self.rtt,
             period: self.period,
+            version: self.version,
             last: self.number,
             rows: self.members.rows().to_vec(),
         };
@@ -88,7 +92,7 @@ impl Detector {
             Reply::Started { probe: Some(_), .. } if self.round.is_new() => {
                 Drawn::Round(self.round.ids().into())
             }
-            Reply::Asked { .. } if !self.relays.is_empty() => {
+            Reply::Asked(_) if !self.relays.is_empty() => {
                 Drawn::Relays(self.relays.as_slice().into())
             }
             _ => Drawn::Nothing,
@@ -106,10 +110,13 @@ impl Detector {
         }
         self.requests.tick();
         self.phase = (phase + 1) % self.period;
-        match self.aim {
-            _ if phase == 0 => self.start(),
-            Some(aim) if phase == self.rtt && !self.heard => self.ask(aim),
-            _ => Reply::Quiet,
+        if phase == 0 {
+            return self.start();
+        }
+        let silent = self.aim.filter(|_| phase == self.rtt && !self.heard);
+        match silent.and_then(|aim| self.probe(aim)) {
+            Some(probe) => self.ask(probe),
+            None => Reply::Quiet,
         }
     }
 
@@ -127,23 +134,26 @@ impl Detector {
         if let Some(id) = self.aim {
             self.gaps.probe(id, number, self.round.ids().len());
         }
-        let probe = self.aim.and_then(|target| {
-            let peer = self.members.listed(target)?;
-            Some(Probe {
-                target,
-                peer,
-                number,
-            })
-        });
+        let probe = self.aim.and_then(|target| self.probe(target));
         Reply::Started { judged, probe }
     }
 
+    /// The probe of a listed member in the period that runs.
+    fn probe(&self, target: u32) -> Option<Probe> {
+        Some(Probe {
+            version: self.version,
+            target,
+            peer: self.members.listed(target)?,
+            number: self.number,
+        })
+    }
+
     /// Draws relays for the aim.
-    fn ask(&mut self, aim: u32) -> Reply {
+    fn ask(&mut self, probe: Probe) -> Reply {
         self.relays.clear();
         self.candidates.clear();
         self.candidates
-            .extend(self.round.ids().iter().filter(|id| **id != aim));
+            .extend(self.round.ids().iter().filter(|id| **id != probe.target));
         if self.k > 0 && !self.candidates.is_empty() {
             self.chooser.order(&mut self.candidates);
             let members = &self.members;
@@ -151,10 +161,7 @@ impl Detector {
             self.relays
                 .extend(self.candidates.iter().take(self.k).filter_map(relay));
         }
-        Reply::Asked {
-            target: aim,
-            number: self.number,
-        }
+        Reply::Asked(probe)
     }
 
     /// The member leaves the list.
@@ -165,29 +172,31 @@ impl Detector {
 
     pub fn hear(&mut self, message: Message, source: Peer) -> Reply {
         match message.kind {
-            Kind::Ping => self.hear_ping(message.key, source),
+            Kind::Ping => self.hear_ping(message, source),
             Kind::PingReq => self.hear_request(message, source),
             Kind::Ack => self.hear_ack(message.key),
         }
     }
 
-    /// A message of this member.
-    fn send(&self, kind: Kind, key: Key, peer: Peer) -> Reply {
+    /// A ping or an ack of this member, in the version of what it was asked by.
+    fn send(&self, version: Version, kind: Kind, key: Key, peer: Peer) -> Reply {
         Reply::Send(
             peer,
             Message {
+                version,
                 kind,
                 sender: self.me,
                 key,
+                at: None,
             },
         )
     }
 
-    fn hear_ping(&self, key: Key, source: Peer) -> Reply {
-        if key.target != self.me {
+    fn hear_ping(&self, message: Message, source: Peer) -> Reply {
+        if message.key.target != self.me {
             return Reply::Dropped(DropReason::NotForMe);
         }
-        self.send(Kind::Ack, key, source)
+        self.send(message.version, Kind::Ack, message.key, source)
     }
 
     fn hear_request(&mut self, message: Message, source: Peer) -> Reply {
@@ -198,10 +207,19 @@ impl Detector {
         if key.target == self.me {
             return Reply::Dropped(DropReason::AboutMe);
         }
-        match self.members.listed(key.target) {
-            None => Reply::Dropped(DropReason::Unlisted),
-            Some(peer) if self.requests.ask(key, source) => self.send(Kind::Ping, key, peer),
-            Some(_) => Reply::Dropped(DropReason::TableFull),
+        // Where the target is listed, its row says better than the asker where it is.
+        let Some(peer) = self.members.listed(key.target).or(message.at) else {
+            return Reply::Dropped(DropReason::Unlisted);
+        };
+        let version = message.version;
+        let asker = Asker {
+            peer: source,
+            version,
+        };
+        if self.requests.ask(key, asker) {
+            self.send(version, Kind::Ping, key, peer)
+        } else {
+            Reply::Dropped(DropReason::TableFull)
         }
     }
 
@@ -216,7 +234,7 @@ impl Detector {
             };
         }
         match self.requests.answer(&key) {
-            Some(peer) => self.send(Kind::Ack, key, peer),
+            Some(asker) => self.send(asker.version, Kind::Ack, key, asker.peer),
             None => Reply::Dropped(DropReason::NoRequest),
         }
     }

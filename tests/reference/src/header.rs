@@ -5,6 +5,7 @@ use crate::choosers::{Chooser, Scripted};
 use crate::faults::Fault;
 use crate::fields::Words;
 use crate::members::{Row, State, KNOWN_MEMBERS};
+use crate::wire::Version;
 
 /// What a detector starts from.
 pub struct Opening {
@@ -12,6 +13,7 @@ pub struct Opening {
     pub k: u32,
     pub rtt: u32,
     pub period: u32,
+    pub version: Version,
     pub last: u64,
     pub rows: Vec<Row>,
 }
@@ -55,6 +57,8 @@ pub struct Header {
     seed: Option<[u8; 32]>,
     /// The life of a daemon that draws from the seed.
     life: u64,
+    /// Whether a line told the version.
+    has_version: bool,
 }
 
 impl Header {
@@ -65,6 +69,7 @@ impl Header {
             k: words.short()?,
             rtt: words.short()?,
             period: words.short()?,
+            version: Version::One,
             last: words.number(u64::MAX)?,
             rows: Vec::new(),
         };
@@ -76,6 +81,7 @@ impl Header {
             script: Scripted::default(),
             seed: None,
             life: 0,
+            has_version: false,
         })
     }
 
@@ -101,6 +107,11 @@ impl Header {
                 if is_journal && words.end().is_err() {
                     self.life = words.number(u64::MAX)?;
                 }
+            }
+            b"wire" if !self.has_version => {
+                let version = Version::of(words.number(u64::MAX)?);
+                self.opening.version = version.ok_or(Fault::Number)?;
+                self.has_version = true;
             }
             _ => return Err(Fault::Word),
         }

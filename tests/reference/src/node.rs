@@ -6,7 +6,7 @@ use crate::events::Event;
 use crate::header::Opening;
 use crate::journal::{Entry, Journal};
 use crate::replies::Reply;
-use crate::wire::{Kind, Message, Peer};
+use crate::wire::{Message, Peer};
 
 pub struct Node {
     detector: Detector,
@@ -88,16 +88,10 @@ impl Node {
             Reply::Send(peer, message) => Outgoing::One(*peer, *message),
             Reply::Started {
                 probe: Some(probe), ..
-            } => {
-                let ping = Message::of_probe(Kind::Ping, me, probe.target, probe.number);
-                Outgoing::One(probe.peer, ping)
-            }
-            Reply::Asked { target, number } => {
+            } => Outgoing::One(probe.peer, Message::of_probe(me, probe)),
+            Reply::Asked(probe) => {
                 let relays = self.detector.relays().iter().map(|relay| relay.1).collect();
-                Outgoing::Requests(
-                    relays,
-                    Message::of_probe(Kind::PingReq, me, *target, *number),
-                )
+                Outgoing::Requests(relays, Message::of_ask(me, probe))
             }
             _ => Outgoing::Nothing,
         }

@@ -24,7 +24,8 @@ use crate::detector::Detector;
 use crate::header::Opening;
 use crate::members::{Row, State};
 use crate::plain_node::{Call, Caller, Node, Recorder};
-use crate::wire::{Kind, Message, Peer};
+use crate::replies::Probe;
+use crate::wire::{Message, Peer, Version};
 use std::process::ExitCode;
 use std::sync::atomic::{AtomicBool, Ordering};
 use std::thread;
@@ -81,6 +82,7 @@ fn detector() -> Detector {
         k: 0,
         rtt: 1,
         period: 65_535,
+        version: Version::One,
         last: 0,
         rows: vec![Row {
             id: OTHER,
@@ -92,7 +94,13 @@ fn detector() -> Detector {
 }
 
 fn ping() -> Message {
-    Message::of_probe(Kind::Ping, OTHER, ME, 1)
+    let probe = Probe {
+        version: Version::One,
+        target: ME,
+        peer: SOMEWHERE,
+        number: 1,
+    };
+    Message::of_probe(OTHER, &probe)
 }
 
 fn record(mut recorder: Recorder, calls: u32) -> u32 {
@@ -110,9 +118,9 @@ fn call_often(node: &Node, calls: u32, call: impl Fn(u32) -> Call) -> u32 {
 fn hear(node: &Node, calls: u32, beside: u32) -> u32 {
     let by_one = |number: u32| {
         let mut caller = Caller::new(number as u8);
-        let datagram = ping().bytes();
+        let (bytes, length) = ping().datagram();
         (0..calls / (beside + 1))
-            .filter(|_| node.hear(&mut caller, &datagram, SOMEWHERE).is_ok())
+            .filter(|_| node.hear(&mut caller, &bytes[..length], SOMEWHERE).is_ok())
             .count() as u32
     };
     thread::scope(|scope| {

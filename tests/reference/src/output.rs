@@ -3,7 +3,7 @@
 use crate::gaps::Gap;
 use crate::members::{Members, State};
 use crate::replies::{Probe, Reply};
-use crate::wire::{Kind, Message, Peer, WireFault};
+use crate::wire::{Message, Peer, WireFault};
 use std::io::{self, Write};
 
 /// How many bytes are gathered before they are handed on.
@@ -75,11 +75,10 @@ impl<W: Write> Output<W> {
             Reply::Dropped(reason) => self.numbered("dropped ", *reason as u64),
             Reply::Refused(refusal) => self.numbered("refused ", *refusal as u64),
             Reply::Started { judged, probe } => self.started(*judged, probe.as_ref(), me),
-            Reply::Asked { target, number } => {
-                self.asked(*target, *number, relays);
+            Reply::Asked(probe) => {
+                self.asked(probe.target, probe.number, relays);
                 for (_, peer) in relays {
-                    let request = Message::of_probe(Kind::PingReq, me, *target, *number);
-                    self.send(*peer, request);
+                    self.send(*peer, Message::of_ask(me, probe));
                 }
             }
             Reply::Send(peer, message) => {
@@ -98,8 +97,7 @@ impl<W: Write> Output<W> {
             None => self.put("\n"),
             Some(probe) => {
                 self.numbered(" ", probe.number);
-                let ping = Message::of_probe(Kind::Ping, me, probe.target, probe.number);
-                self.send(probe.peer, ping);
+                self.send(probe.peer, Message::of_probe(me, probe));
             }
         }
     }
@@ -156,8 +154,9 @@ impl<W: Write> Output<W> {
         self.put("> ");
         self.peer(peer);
         self.put(" ");
-        let digits = message.bytes().map(|byte| DIGITS[usize::from(byte)]);
-        self.text.extend_from_slice(digits.as_flattened());
+        let (bytes, length) = message.datagram();
+        let digits = bytes.map(|byte| DIGITS[usize::from(byte)]);
+        self.text.extend_from_slice(digits[..length].as_flattened());
         self.put("\n");
     }
 

@@ -1,6 +1,6 @@
 //! What the detector answers.
 
-use crate::wire::{Message, Peer};
+use crate::wire::{Message, Peer, Version};
 
 /// What a call is answered. The relays of an ask are the detector's.
 #[derive(Clone, Copy, Debug, PartialEq)]
@@ -10,10 +10,7 @@ pub enum Reply {
         judged: Option<u32>,
         probe: Option<Probe>,
     },
-    Asked {
-        target: u32,
-        number: u64,
-    },
+    Asked(Probe),
     Heard,
     Send(Peer, Message),
     Dropped(DropReason),
@@ -22,8 +19,10 @@ pub enum Reply {
     Refused(Refusal),
 }
 
+/// Who is probed, where, and in which version, in the period of that number.
 #[derive(Clone, Copy, Debug, PartialEq)]
 pub struct Probe {
+    pub version: Version,
     pub target: u32,
     pub peer: Peer,
     pub number: u64,

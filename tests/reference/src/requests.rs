@@ -1,13 +1,20 @@
 //! Ping-reqs that wait for an ack. All wait equally long, so those that are due first stand in front.
 
-use crate::wire::{Key, Peer};
+use crate::wire::{Key, Peer, Version};
 use std::collections::VecDeque;
 
 const WAITING: usize = 64;
 
+/// Who waits for the ack of a key, and of which version the request was.
+#[derive(Clone, Copy)]
+pub struct Asker {
+    pub peer: Peer,
+    pub version: Version,
+}
+
 struct Request {
     key: Key,
-    peer: Peer,
+    asker: Asker,
     due: u64,
 }
 
@@ -26,30 +33,30 @@ impl Requests {
         }
     }
 
-    fn take(&mut self, key: &Key) -> Option<Peer> {
+    fn take(&mut self, key: &Key) -> Option<Asker> {
         let place = self
             .waiting
             .iter()
             .position(|request| request.key == *key)?;
-        self.waiting.remove(place).map(|request| request.peer)
+        self.waiting.remove(place).map(|request| request.asker)
     }
 
-    /// The key waits with that address, for a whole period. False where the table is full of others.
-    pub fn ask(&mut self, key: Key, peer: Peer) -> bool {
+    /// The asker waits for the key's ack, for a whole period, and nobody else does. False where the table is full of others.
+    pub fn ask(&mut self, key: Key, asker: Asker) -> bool {
         self.take(&key);
         if self.waiting.len() == WAITING {
             return false;
         }
         self.waiting.push_back(Request {
             key,
-            peer,
+            asker,
             due: self.ticks + self.period,
         });
         true
     }
 
-    /// The address to which the ack of the key is sent. It waits no more.
-    pub fn answer(&mut self, key: &Key) -> Option<Peer> {
+    /// Who waits for the ack of the key, and waits no more.
+    pub fn answer(&mut self, key: &Key) -> Option<Asker> {
         self.take(key)
     }
 

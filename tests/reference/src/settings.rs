@@ -3,7 +3,7 @@
 use crate::fields::{bytes_of, number_of, peer_of};
 use crate::header::Opening;
 use crate::members::{Row, State};
-use crate::wire::Peer;
+use crate::wire::{Peer, Version};
 use std::collections::HashMap;
 
 pub struct Settings {
@@ -36,6 +36,7 @@ impl Settings {
             k: short("k")? as u32,
             rtt: short("rtt")? as u32,
             period: short("period")? as u32,
+            version: Version::of(number(top.get("wire").unwrap_or(&"1"), 2)?)?,
             last: number(top.get("last").unwrap_or(&"0"), i64::MAX as u64)?,
             rows: rows.collect::<Option<_>>()?,
         };

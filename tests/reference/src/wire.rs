@@ -1,6 +1,7 @@
 //! Datagrams and addresses.
 
 use crate::fields::bytes_of;
+use crate::replies::Probe;
 
 #[derive(Clone, Copy, Debug, PartialEq)]
 pub struct Peer {
@@ -8,11 +9,42 @@ pub struct Peer {
     pub port: u16,
 }
 
+/// The bytes of a datagram, and of a ping-req of version 2, which tells where its target is.
+const BYTES: usize = 24;
+pub const MOST_BYTES: usize = 30;
+
+#[derive(Clone, Copy, Debug, PartialEq)]
+pub enum Version {
+    One = 1,
+    Two = 2,
+}
+
+impl Version {
+    pub fn of(number: u64) -> Option<Version> {
+        match number {
+            1 => Some(Version::One),
+            2 => Some(Version::Two),
+            _ => None,
+        }
+    }
+}
+
 #[derive(Clone, Copy, Debug, PartialEq)]
 pub enum Kind {
     Ping = 1,
     PingReq = 2,
     Ack = 3,
+}
+
+impl Kind {
+    fn of(byte: u8) -> Option<Kind> {
+        match byte {
+            1 => Some(Kind::Ping),
+            2 => Some(Kind::PingReq),
+            3 => Some(Kind::Ack),
+            _ => None,
+        }
+    }
 }
 
 /// What one probe is known by in the whole group.
@@ -25,9 +57,12 @@ pub struct Key {
 
 #[derive(Clone, Copy, Debug, PartialEq)]
 pub struct Message {
+    pub version: Version,
     pub kind: Kind,
     pub sender: u32,
     pub key: Key,
+    /// Where the target is. A ping-req of version 2 tells it, and no other message.
+    pub at: Option<Peer>,
 }
 
 /// Why bytes are no datagram.
@@ -39,84 +74,111 @@ pub enum WireFault {
     UnknownKind,
     ZeroId,
     ZeroNumber,
+    Form,
+    ZeroPort,
 }
 
 impl Message {
-    /// A message of the member that began the probe.
-    pub fn of_probe(kind: Kind, initiator: u32, target: u32, number: u64) -> Message {
-        let key = Key {
-            initiator,
-            target,
-            number,
-        };
+    /// A ping of the member that begins the probe.
+    pub fn of_probe(initiator: u32, probe: &Probe) -> Message {
         Message {
-            kind,
+            version: probe.version,
+            kind: Kind::Ping,
             sender: initiator,
-            key,
+            key: Key {
+                initiator,
+                target: probe.target,
+                number: probe.number,
+            },
+            at: None,
         }
     }
 
-    /// The message of a datagram, or the first fault.
-    #[allow(dead_code)] // The plain node alone hears datagrams as bytes.
-    pub fn of_datagram(datagram: &[u8]) -> Result<Message, WireFault> {
-        match datagram.try_into() {
-            Ok(bytes) => Message::of_bytes(bytes),
-            Err(_) => Err(WireFault::Length),
+    /// What that member asks relays.
+    pub fn of_ask(initiator: u32, probe: &Probe) -> Message {
+        Message {
+            kind: Kind::PingReq,
+            at: (probe.version == Version::Two).then_some(probe.peer),
+            ..Message::of_probe(initiator, probe)
         }
     }
 
     /// The message that an even number of hexadecimal digits spell, or the first fault.
     pub fn of_digits(digits: &[u8]) -> Result<Message, WireFault> {
-        match bytes_of(digits) {
-            Some(bytes) => Message::of_bytes(&bytes),
-            None => Err(WireFault::Length),
-        }
+        let short = bytes_of::<BYTES>(digits).map(|bytes| Message::of_datagram(&bytes));
+        let long = || bytes_of::<MOST_BYTES>(digits).map(|bytes| Message::of_datagram(&bytes));
+        short.or_else(long).unwrap_or(Err(WireFault::Length))
     }
 
-    pub fn of_bytes(bytes: &[u8; 24]) -> Result<Message, WireFault> {
+    /// The message of a datagram, or the first fault.
+    pub fn of_datagram(bytes: &[u8]) -> Result<Message, WireFault> {
+        if bytes.len() != BYTES && bytes.len() != MOST_BYTES {
+            return Err(WireFault::Length);
+        }
         if bytes[..2] != [0x53, 0x57] {
             return Err(WireFault::Magic);
         }
-        if bytes[2] != 1 {
-            return Err(WireFault::Version);
+        let version = Version::of(u64::from(bytes[2])).ok_or(WireFault::Version)?;
+        let kind = Kind::of(bytes[3]).ok_or(WireFault::UnknownKind)?;
+        let tells_address = version == Version::Two && kind == Kind::PingReq;
+        if tells_address != (bytes.len() == MOST_BYTES) {
+            return Err(WireFault::Form);
         }
-        let kind = match bytes[3] {
-            1 => Kind::Ping,
-            2 => Kind::PingReq,
-            3 => Kind::Ack,
-            _ => return Err(WireFault::UnknownKind),
-        };
-        let id = |at: usize| {
-            bytes[at..at + 4]
-                .iter()
-                .fold(0, |id, byte| id << 8 | u32::from(*byte))
-        };
-        let (sender, initiator, target) = (id(4), id(8), id(12));
-        let number = u64::from(id(16)) << 32 | u64::from(id(20));
-        if sender == 0 || initiator == 0 || target == 0 {
+        let (sender, key) = (number_at::<4>(bytes, 4) as u32, key_of(bytes));
+        if sender == 0 || key.initiator == 0 || key.target == 0 {
             return Err(WireFault::ZeroId);
         }
-        if number == 0 {
+        if key.number == 0 {
             return Err(WireFault::ZeroNumber);
         }
+        let at = tells_address.then(|| peer_behind(&bytes[BYTES..]));
+        if at.is_some_and(|peer| peer.port == 0) {
+            return Err(WireFault::ZeroPort);
+        }
         Ok(Message {
+            version,
             kind,
             sender,
-            key: Key {
-                initiator,
-                target,
-                number,
-            },
+            key,
+            at,
         })
     }
 
-    pub fn bytes(&self) -> [u8; 24] {
-        let mut bytes = [0; 24];
-        bytes[..4].copy_from_slice(&[0x53, 0x57, 1, self.kind as u8]);
+    /// The datagram, in front of as many bytes as one may have, and how many it has.
+    pub fn datagram(&self) -> ([u8; MOST_BYTES], usize) {
+        let mut bytes = [0; MOST_BYTES];
+        bytes[..4].copy_from_slice(&[0x53, 0x57, self.version as u8, self.kind as u8]);
         bytes[4..8].copy_from_slice(&self.sender.to_be_bytes());
         bytes[8..12].copy_from_slice(&self.key.initiator.to_be_bytes());
         bytes[12..16].copy_from_slice(&self.key.target.to_be_bytes());
-        bytes[16..].copy_from_slice(&self.key.number.to_be_bytes());
-        bytes
+        bytes[16..24].copy_from_slice(&self.key.number.to_be_bytes());
+        let Some(peer) = self.at else {
+            return (bytes, BYTES);
+        };
+        bytes[24..28].copy_from_slice(&peer.ip);
+        bytes[28..].copy_from_slice(&peer.port.to_be_bytes());
+        (bytes, MOST_BYTES)
+    }
+}
+
+/// The number of so many bytes that begin at that place.
+fn number_at<const COUNT: usize>(bytes: &[u8], place: usize) -> u64 {
+    bytes[place..place + COUNT]
+        .iter()
+        .fold(0, |number, byte| number << 8 | u64::from(*byte))
+}
+
+fn key_of(bytes: &[u8]) -> Key {
+    Key {
+        initiator: number_at::<4>(bytes, 8) as u32,
+        target: number_at::<4>(bytes, 12) as u32,
+        number: number_at::<8>(bytes, 16),
+    }
+}
+
+fn peer_behind(bytes: &[u8]) -> Peer {
+    Peer {
+        ip: [bytes[0], bytes[1], bytes[2], bytes[3]],
+        port: number_at::<2>(bytes, 4) as u16,
     }
 }
