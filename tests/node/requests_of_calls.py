@@ -3,8 +3,8 @@
 A run of many calls asks for more than one of few. What it asks for beyond that is known from what a call keeps:
 
 - the box that the cell of its entry is set to, once a call. It has no bytes, and the least request is one of 1 byte;
-- what grows by doubling, and so once between few and many calls: the calls of its seat, of 168 bytes each; the journal's slots,
-  of 16; but for ticks in which nothing was to be done, the journal's entries, of 112; and the two lists of notes, one of the seat
+- what grows by doubling, and so once between few and many calls: the calls of its seat, of 176 bytes each; the journal's slots,
+  of 16; but for ticks in which nothing was to be done, the journal's entries, of 104; and the two lists of notes, one of the seat
   and one under the lock, whose notes have no bytes.
 
 So nothing else asks: neither the lock, nor the detector's answer, nor the publication of a change. Joins and removals, each of
@@ -15,7 +15,7 @@ both copies of the published table stay as they were when the node was opened.
 from collections import Counter
 
 FEW, MANY = 1_024, 2_048
-CALL, SLOT, ENTRY, CELL, NO_BYTES = 168, 16, 112, 8, 1
+CALL, SLOT, ENTRY, CELL, NO_BYTES = 176, 16, 104, 8, 1
 LISTS_OF_NOTES = 2
 # What is done, and what grows with it.
 CALLS = {"hear": [CALL, SLOT, ENTRY], "tick": [CALL, SLOT], "change": [CALL, SLOT, ENTRY]}

@@ -10,7 +10,7 @@ pub(crate) fn record(alloc: Global, calls: u32) -> Option<u32> {
     let mut recorder = Recorder::open(alloc, opening()?, no_script(alloc), calls);
     let mut answered = 0_u32;
     for _turn in 0..calls {
-        recorder.record(0, Call::Hear(ping(), SOMEWHERE)).ok()?;
+        recorder.record(0, Call::Hear(SOMEWHERE, ping())).ok()?;
         answered = answered.saturating_add(1);
     }
     Some(answered)

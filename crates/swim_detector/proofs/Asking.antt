@@ -23,8 +23,8 @@ use Rattle.swim_history.specs.Laws.Listed.{listed_is, listed_once, aim_listed, u
 use Rattle.swim_history.specs.Run.{IsRun, AreRelays, candidates}
 use Rattle.swim_history.specs.Drawn.{DrawsRelays}
 use Rattle.swim_detector.specs.declared.states.State.{State}
-use Rattle.swim_detector.specs.Mirrors.{Mirrors, AreListed, AreAt, IsAnswered}
-use Rattle.swim_detector.proofs.Settling.{plain, Passes, passed}
+use Rattle.swim_detector.specs.Mirrors.{Mirrors, plain, AreListed, AreAt, IsAnswered}
+use Rattle.swim_detector.proofs.Settling.{Passes, passed}
 
 -- ---- the first ids of a list
 

@@ -21,8 +21,8 @@ use Rattle.swim_history.specs.Run.{IsRun}
 use Rattle.swim_targets.specs.declared.rounds.JoinFault.{JoinFault}
 use Rattle.swim_targets.specs.declared.rounds.JoinFault.TheVariants.{Listed, Full}
 use Rattle.swim_detector.specs.declared.states.State.{State}
-use Rattle.swim_detector.specs.Mirrors.{Mirrors, MayList, IsAnswered, IsSettled}
-use Rattle.swim_detector.proofs.Settling.{plain, plain_entry, requests_same}
+use Rattle.swim_detector.specs.Mirrors.{Mirrors, plain, MayList, IsAnswered, IsSettled}
+use Rattle.swim_detector.proofs.Settling.{plain_entry, requests_same}
 
 -- a member that isn't listed, nor refused, may be listed
 pub may_list : (o : Setting) (h : List Entry) (id : ℕ) → IsSetting o → IsRun o h → id ≢ o.me → is_listed o h id ≡ false → (row_of o h id ≡ None → known_count o h ≢ 128) → MayList o h id

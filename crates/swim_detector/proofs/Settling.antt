@@ -23,9 +23,8 @@ use Rattle.swim_history.specs.Laws.Unchanged.{no_refusal}
 use Rattle.swim_history.specs.Run.{Answers}
 use Rattle.swim_history.specs.Drawn.{DrawsEntry}
 use Rattle.swim_detector.specs.declared.states.State.{State}
-use Rattle.swim_detector.specs.declared.answers.Answer.{Answer}
 use Rattle.swim_relays.specs.Waiting.{Waiting}
-use Rattle.swim_detector.specs.Mirrors.{Mirrors, AreRequests, choice_of, may_draw, IsSettled, IsAnswered}
+use Rattle.swim_detector.specs.Mirrors.{Mirrors, Answer, plain, AreRequests, choice_of, may_draw, IsSettled, IsAnswered}
 
 -- where the chooser isn't asked, it stays
 undrawn : {S : Type 0} (orders : S → List ℕ → List ℕ → S → Type 0) (places : S → ℕ → ℕ → S → Type 0) (o : Setting) (h : List Entry) (call : Call) (reply : Reply) (choice : Choice) (c : S) →
@@ -39,10 +38,6 @@ undrawn orders places o h call reply choice c none = refl
 pub settled : {S : Type 0} (orders : S → List ℕ → List ℕ → S → Type 0) (places : S → ℕ → ℕ → S → Type 0) (o : Setting) (h : List Entry) (call : Call) (answer : Answer) (state : State) (c : S) →
     IsSettled o h call answer state → IsAnswered orders places o h call answer state c c
 settled orders places o h call answer state c s = (s.0, undrawn orders places o h call answer.reply (choice_of answer state) c s.1, s.2)
-
--- the answer that says no more than the reply
-abbrev pub plain : Reply → Answer
-plain reply = record { reply = reply; begins_round = false }
 
 abbrev pub plain_entry : ℕ → ℕ → Call → Reply → Entry
 plain_entry seat number call reply = record { seat = seat; number = number; call = call; choice = Nothing; reply = reply }
@@ -69,7 +64,7 @@ stays o h s e m idle goes_on same unremoved unacked unasked unsent =
 -- a call is refused: nothing changes
 pub refused : (o : Setting) (h : List Entry) (s : State) (call : Call) (why : Refusal) → Mirrors o h s → Answers o h call (Refused why) Nothing → IsSettled o h call (plain (Refused why)) s
 refused o h s Tick why m fits = (fits, refl, λ seat number. stays o h s (plain_entry seat number Tick (Refused why)) m refl refl refl (λ n. refl) (λ n k. refl) refl refl)
-refused o h s (Hear message source) why m fits = absurd (no_refusal o h message source message.kind why fits)
+refused o h s (Hear source message) why m fits = absurd (no_refusal o h message source message.kind why fits)
 refused o h s (Join id peer) why m fits = (fits, refl, λ seat number. stays o h s (plain_entry seat number (Join id peer) (Refused why)) m refl refl refl (λ n. refl) (λ n k. refl) refl refl)
 refused o h s (Remove id) why m fits = (fits, refl, λ seat number. stays o h s (plain_entry seat number (Remove id) (Refused why)) m refl refl refl (λ n. refl) (λ n k. refl) refl refl)
 

@@ -25,7 +25,15 @@ use Rattle.swim_history.specs.Waiting.{waiting}
 use Rattle.swim_history.specs.Run.{seats, calls_of, Answers}
 use Rattle.swim_history.specs.Drawn.{DrawsEntry}
 use Rattle.swim_detector.specs.declared.states.State.{State}
-use Rattle.swim_detector.specs.declared.answers.Answer.{Answer}
+
+-- what a call is answered, and whether a round began by it
+pub record Answer : Type 0 where
+  pub reply : Reply
+  pub begins_round : Bool
+
+-- no round began by it
+abbrev pub plain : Reply → Answer
+plain reply = record { reply = reply; begins_round = false }
 
 -- the requests that wait by the history, for as many ticks as its period has; where their count began is nobody's
 -- concern

@@ -1,7 +1,6 @@
 //! The sequential detector: it answers calls one after the other, and keeps the journal of them.
 #![tactic(auto)]
 
-mod answers;
 pub mod laws;
 mod recorder;
 mod states;

@@ -6,7 +6,6 @@ ghost use Rattle.swim_detector.specs.Recording.{IsKept, IsLatest, Records, Recor
 ghost use Rattle.swim_detector.specs.Mirrors.{entry_of, round_entry};
 ghost use Rattle.swim_history.specs.Run.{Continues};
 
-use crate::answers::Answer;
 use crate::states::State;
 use std::alloc::Global;
 use std::marker::Model;
@@ -32,8 +31,8 @@ pub enum ApplyFault {
 pub struct Recorder<C: Chooser> {
     journal: Journal,
     state: State,
-    // The answer to the newest call, which stands here so that its reply can be lent.
-    answer: Answer,
+    // That of the newest call, which stands here so that it can be lent.
+    reply: Reply,
     // How many calls each seat made.
     counts: [u32; SEATS as usize],
     chooser: C,
@@ -56,7 +55,7 @@ impl<C: Chooser> Model for Recorder<C> {
     } };
 
     ghost invariant = { λ r. Mirrors r.journal.opening r.journal.past r.state × Counts r.journal.past r.counts r.limit
-        × IsLatest r.journal.past r.answer.reply };
+        × IsLatest r.journal.past r.reply };
 }
 
 impl<C: Chooser> Recorder<C> {
@@ -71,7 +70,7 @@ impl<C: Chooser> Recorder<C> {
         Recorder {
             journal: Journal::new(alloc, opening),
             state,
-            answer: Answer::of(Reply::Quiet),
+            reply: Reply::Quiet,
             counts: [0; SEATS as usize],
             chooser,
             limit,
@@ -136,9 +135,20 @@ impl<C: Chooser> Recorder<C> {
         ensures { RecordsCall C.orders C.places self.old self.new seat call.now }
     {
         let number = self.counts[seat as usize];
-        self.answer = self.state.answer(&self.journal, &mut self.chooser, call);
+        let mut begins_round = false;
+        self.reply = self
+            .state
+            .answer(&self.journal, &mut self.chooser, call, &mut begins_round);
         let (journal, state) = (&mut self.journal, &self.state);
-        add(journal, state, seat, number, call, &self.answer);
+        add(
+            journal,
+            state,
+            seat,
+            number,
+            call,
+            &self.reply,
+            begins_round,
+        );
         self.counts[seat as usize] = number + 1;
     }
 
@@ -146,7 +156,7 @@ impl<C: Chooser> Recorder<C> {
     pub fn reply(&self) -> &Reply
         ensures { IsLatest self.now.past result.now }
     {
-        &self.answer.reply
+        &self.reply
     }
 
     /// The change that a call would make to the member table now, if it would make one.
@@ -182,18 +192,27 @@ impl<C: Chooser> Recorder<C> {
 }
 
 /// Adds the entry of a call.
-fn add(journal: &mut Journal, state: &State, seat: u8, number: u32, call: &Call, answer: &Answer)
+fn add(
+    journal: &mut Journal,
+    state: &State,
+    seat: u8,
+    number: u32,
+    call: &Call,
+    reply: &Reply,
+    begins_round: bool,
+)
     requires room { 0 < journal.old.room }
     requires count { length journal.old.past < u32.MAX }
     requires continues { Continues journal.old.opening journal.old.past
-        (entry_of seat number call.now answer.now state.now) }
+        (entry_of seat number call.now (record { reply = reply.now; begins_round = begins_round }) state.now) }
     ensures opening { journal.new.opening ≡ journal.old.opening }
-    ensures past { journal.new.past ≡ entry_of seat number call.now answer.now state.now ∷ journal.old.past }
+    ensures past { journal.new.past ≡
+        entry_of seat number call.now (record { reply = reply.now; begins_round = begins_round }) state.now ∷ journal.old.past }
 {
-    if answer.begins_round {
-        add_start(journal, state, seat, number, call, &answer.reply);
+    if begins_round {
+        add_start(journal, state, seat, number, call, reply);
     } else {
-        journal.add_undrawn(seat, number, call, &answer.reply);
+        journal.add_undrawn(seat, number, call, reply);
     }
 }
 

@@ -10,8 +10,7 @@ ghost use Rattle.std.specs.Prelude.{◌≡◌, ◌≤◌, [], length, filter, tr
 ghost use Rattle.swim_history.specs.Setting.{ids_of, is_state_up};
 ghost use Rattle.swim_detector.specs.Mirrors.{Mirrors, IsAnswered, choice_after};
 
-use crate::answers::Answer;
-use swim_history::{Call, Choice, Journal, KNOWN_MEMBERS, Opening, Order, Row, RowState};
+use swim_history::{Call, Choice, Journal, KNOWN_MEMBERS, Opening, Order, Reply, Row, RowState};
 use swim_relays::Relays;
 use swim_targets::{Chooser, Targets};
 use swim_wire::Id;
@@ -41,20 +40,24 @@ impl State {
         }
     }
 
-    /// Answers a call that follows the journal.
+    /// Answers a call that follows the journal, and tells whether a round begins by it. The order that was drawn is then
+    /// that in which the members are listed.
+    // Not told beside the reply, since that is moved in place as it is, and by a call of the library if it were larger.
     pub(crate) fn answer<C: Chooser>(
         &mut self,
         journal: &Journal,
         chooser: &mut C,
         call: &Call,
-    ) -> Answer
+        begins_round: &mut bool,
+    ) -> Reply
         requires { Mirrors journal.now.opening journal.now.past self.old }
         ensures { IsAnswered C.orders C.places journal.now.opening journal.now.past
-            call.now result self.new chooser.old chooser.new }
+            call.now (record { reply = result; begins_round = begins_round.new }) self.new chooser.old chooser.new }
     {
+        *begins_round = false;
         match call {
-            Call::Tick => self.tick(journal, chooser),
-            Call::Hear(message, source) => self.hear(journal, message, *source),
+            Call::Tick => self.tick(journal, chooser, begins_round),
+            Call::Hear(source, message) => self.hear(journal, message, *source),
             Call::Join(id, peer) => self.join(journal, chooser, *id, *peer),
             Call::Remove(id) => self.remove(journal, *id),
         }

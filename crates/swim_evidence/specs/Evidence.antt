@@ -39,7 +39,7 @@ asked (e ∷ before) = if is_start e then None else ask_in (length before) e.rep
 
 -- an ack that came in an entry at that place, and wasn't one of the aim for the period that ran
 abbrev pub stray_in : ℕ → Call → Reply → Option Stray
-stray_in place (Hear m source) (Dropped AsStray) = Some (record { place = place; member = m.target; number = m.number })
+stray_in place (Hear source m) (Dropped AsStray) = Some (record { place = place; member = m.target; number = m.number })
 stray_in place call reply = None
 
 -- the member is the one that was probed, if any was

@@ -177,7 +177,7 @@ fn stray_at(place: u32, call: Call) -> Option<Stray>
     ensures { result ≡ stray_in place call (Reply.Dropped DropReason.Stray) }
 {
     match call {
-        Call::Hear(message, _) => Some(Stray {
+        Call::Hear(_, message) => Some(Stray {
             place,
             member: message.target,
             number: message.number.get(),

@@ -59,7 +59,7 @@ is_ack Ack = true
 
 -- an ack came of the target, of the initiator's period with that number
 abbrev pub is_acking : ℕ → ℕ → ℕ → Call → Bool
-is_acking initiator target number (Hear m source) =
+is_acking initiator target number (Hear source m) =
     is_ack m.kind && m.initiator == initiator && m.target == target && m.number == number
 is_acking initiator target number call = false
 

@@ -108,7 +108,7 @@ Answers o h Tick (Asked m peer number relays) Nothing =
     (phase o h ≡ o.rtt) × (unheard o h ≡ Some m) × (number ≡ period_number o h) × AreRelays o h m relays.items
     × (row_of o h m ≡ Some (up m peer))
 Answers o h Tick Quiet Nothing = (phase o h ≢ 0) × (phase o h ≡ o.rtt → unheard o h ≡ None)
-Answers o h (Hear m source) reply Nothing = Hears o h m source m.kind reply
+Answers o h (Hear source m) reply Nothing = Hears o h m source m.kind reply
 Answers o h (Join id peer) (Refused Myself) Nothing = id ≡ o.me
 Answers o h (Join id peer) (Refused Listed) Nothing = (id ≢ o.me) × (is_listed o h id ≡ true)
 Answers o h (Join id peer) (Refused Full) Nothing =

@@ -33,7 +33,7 @@ asking kind m source = None
 
 -- the probe that an entry was asked for and pings
 abbrev pub asked_in : Call → Reply → Option Asking
-asked_in (Hear m source) (Send peer ping) = asking m.kind m source
+asked_in (Hear source m) (Send peer ping) = asking m.kind m source
 asked_in call reply = None
 
 -- the probe whose ping or ack an entry sends on
@@ -42,7 +42,7 @@ sent_on Ping m = None
 sent_on kind m = Some (key_of m)
 
 abbrev pub sent_on_in : Call → Reply → Option Key
-sent_on_in (Hear m source) (Send peer message) = sent_on m.kind m
+sent_on_in (Hear source m) (Send peer message) = sent_on m.kind m
 sent_on_in call reply = None
 
 abbrev pub is_same : Key → Option Key → Bool

@@ -54,12 +54,12 @@ join_says stage id peer may is address =
     ap (λ l. said_by (words_read Journal stage l)) words
     ∙ rw (may, positive_read 4294967295 id is.0 (omega (arith, is.1)) (omega (arith, is.1)), address_read peer address) refl
 
-hear_says : (stage : Stage) (m : Message) (source : Address) → fault_of_word stage words.Hear ≡ None → IsDecoded m → IsAddress source → line_read Journal stage (call_text (Hear m source)) ≡ Ok (Some (command_of (Hear m source)))
+hear_says : (stage : Stage) (m : Message) (source : Address) → fault_of_word stage words.Hear ≡ None → IsDecoded m → IsAddress source → line_read Journal stage (call_text (Hear source m)) ≡ Ok (Some (command_of (Hear source m)))
 unfolding command_after
 hear_says stage m source may is address =
     let digits = encode_lower (text_of m) in
     let read : datagram_of digits ≡ Some (Ok m) = rw (decode_of-encode_lower (text_of m) is.1, is.0) refl in
-    let words : words_of (call_text (Hear m source)) ≡ codes "hear" ∷ address_text source ∷ digits ∷ [] =
+    let words : words_of (call_text (Hear source m)) ≡ codes "hear" ∷ address_text source ∷ digits ∷ [] =
     words_at (codes "hear") (address_text source ++ (codes " " ++ digits)) refl
     ∙ ap (λ l. codes "hear" ∷ l) (words_at (address_text source) digits (address_without 32 source (omega arith))
     ∙ ap (λ l. address_text source ∷ l) (words_last digits (hex_without 32 (text_of m) (omega arith) is.1))) in
@@ -68,7 +68,7 @@ hear_says stage m source may is address =
 
 says : (call : Call) → IsSpoken call → (stage : Stage) → fault_of_word stage (word_for (command_of call)) ≡ None → line_read Journal stage (call_text call) ≡ Ok (Some (command_of call))
 says Tick is stage may = tick_says stage may
-says (Hear m source) is stage may = hear_says stage m source may is.0 is.1
+says (Hear source m) is stage may = hear_says stage m source may is.0 is.1
 says (Join id peer) is stage may = join_says stage id peer may is.0 is.1
 says (Remove id) is stage may = remove_says stage id may is
 
@@ -76,7 +76,7 @@ says (Remove id) is stage may = remove_says stage id may is
 
 unfed : (call : Call) → IsSpoken call → has_feed (call_text call) ≡ false
 unfed Tick is = refl
-unfed (Hear m source) is = both_without 10 (address_text source) (codes " " ++ encode_lower (text_of m)) (address_without 10 source (omega arith)) (hex_without 10 (text_of m) (omega arith) is.0.1)
+unfed (Hear source m) is = both_without 10 (address_text source) (codes " " ++ encode_lower (text_of m)) (address_without 10 source (omega arith)) (hex_without 10 (text_of m) (omega arith) is.0.1)
 unfed (Join id peer) is = both_without 10 (decimal id) (codes " " ++ address_text peer) (number_without 10 id (omega arith)) (address_without 10 peer (omega arith))
 unfed (Remove id) is = number_without 10 id (omega arith)
 
@@ -94,7 +94,7 @@ pub join_line : (id : ℕ) (peer : Address) → codes "join " ++ (decimal id ++ 
 join_line id peer = ap (λ l. codes "join " ++ l) (sym (append_assoc (decimal id) (codes " " ++ address_text peer) feed))
 
 pub hear_line : (m : Message) (source : Address) →
-    codes "hear " ++ (address_text source ++ (datagram_text m ++ [])) ≡ call_line (Hear m source)
+    codes "hear " ++ (address_text source ++ (datagram_text m ++ [])) ≡ call_line (Hear source m)
 hear_line m source =
     ap (λ l. codes "hear " ++ (address_text source ++ l)) (append-nil (datagram_text m))
     ∙ ap (λ l. codes "hear " ++ l) (sym (append_assoc (address_text source) (codes " " ++ encode_lower (text_of m)) feed))

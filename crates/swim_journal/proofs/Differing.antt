@@ -88,7 +88,7 @@ tells_other (Some command) run contrary = absurd contrary
 
 call_agrees : (call : Call) (run : List Entry) → IsContrary (Some (command_of call)) run → ⊥
 call_agrees Tick run contrary = contrary
-call_agrees (Hear m source) run contrary = contrary
+call_agrees (Hear source m) run contrary = contrary
 call_agrees (Join id peer) run contrary = contrary
 call_agrees (Remove id) run contrary = contrary
 

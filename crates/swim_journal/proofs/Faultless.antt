@@ -86,7 +86,7 @@ no_fault before line command journal fits short says none =
 call_opens : (told : Told) (begun : Bool) (call : Call) → fault_of_opening told ≡ None → fault_of_command (record { told = told; begun = begun }) (command_of call) ≡ None
 call_opens told true call e = refl
 call_opens told false Tick e = e
-call_opens told false (Hear m source) e = e
+call_opens told false (Hear source m) e = e
 call_opens told false (Join id peer) e = e
 call_opens told false (Remove id) e = e
 

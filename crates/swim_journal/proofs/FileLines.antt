@@ -97,11 +97,11 @@ still_journal before line journal = rw journal (either (is_mark (length before) 
 -- a call may stand behind a header with a seed, and behind event lines
 may_call : (told : Told) (begun : Bool) (call : Call) → stage_told told ≡ Header Seeded (is_some told.wire) → fault_of_word (stage_of (record { told = told; begun = begun })) (word_for (command_of call)) ≡ None
 may_call told true Tick seeded = refl
-may_call told true (Hear m source) seeded = refl
+may_call told true (Hear source m) seeded = refl
 may_call told true (Join id peer) seeded = refl
 may_call told true (Remove id) seeded = refl
 may_call told false Tick seeded = rw seeded refl
-may_call told false (Hear m source) seeded = rw seeded refl
+may_call told false (Hear source m) seeded = rw seeded refl
 may_call told false (Join id peer) seeded = rw seeded refl
 may_call told false (Remove id) seeded = rw seeded refl
 
@@ -116,7 +116,7 @@ call_at before told begun call seeded at back = record {
   where
     by : (call : Call) → Rattle.swim_script.specs.Headers.head_then (length before + 1) (Some (command_of call)) (record { told = told; begun = begun }) ≡ record { told = told; begun = true }
     by Tick = refl
-    by (Hear m source) = refl
+    by (Hear source m) = refl
     by (Join id peer) = refl
     by (Remove id) = refl
 

@@ -85,7 +85,7 @@ datagram_short m is = omega (arith, length-encode_with lower_digits (text_of m),
 
 pub call_short : (call : Call) → IsSpoken call → length (call_text call) ≤ 1024
 call_short Tick is = omega arith
-call_short (Hear m source) is =
+call_short (Hear source m) is =
     omega (arith, address_short source is.1, length-append (address_text source) (codes " " ++ encode_lower (text_of m)), datagram_short m is.0)
 call_short (Join id peer) is =
     omega (arith, number_short id, address_short peer is.1, length-append (decimal id) (codes " " ++ address_text peer))
@@ -116,7 +116,7 @@ AsksFew reply = Unit {0}
 
 asks_few : (o : Setting) (h : List Entry) (call : Call) (reply : Reply) (choice : Choice) → o.k ≤ 8 → Answers o h call reply choice → AsksFew reply
 asks_few o h Tick (Asked m peer number relays) Nothing k given = omega (arith, given.3.count, k)
-asks_few o h (Hear m source) (Asked target peer number relays) Nothing k given = by m.kind given
+asks_few o h (Hear source m) (Asked target peer number relays) Nothing k given = by m.kind given
   where
     by : (kind : Kind) → Rattle.swim_history.specs.Run.Hears o h m source kind (Asked target peer number relays) → length relays.items ≤ 8
     by Ping given = absurd given

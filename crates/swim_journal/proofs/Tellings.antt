@@ -50,7 +50,7 @@ TellEach base (x ∷ h) turns =
 
 pub asked_of : (call : Call) → asked_by (Some (command_of call)) ≡ Calls call
 asked_of Tick = refl
-asked_of (Hear m source) = refl
+asked_of (Hear source m) = refl
 asked_of (Join id peer) = refl
 asked_of (Remove id) = refl
 

@@ -19,7 +19,7 @@ use Rattle.swim_script.specs.Texts.{placed_text}
 -- the text of a call
 abbrev pub call_text : Call → List ℕ
 call_text Tick = codes "tick"
-call_text (Hear m source) = codes "hear " ++ (address_text source ++ (codes " " ++ encode_lower (text_of m)))
+call_text (Hear source m) = codes "hear " ++ (address_text source ++ (codes " " ++ encode_lower (text_of m)))
 call_text (Join id peer) = codes "join " ++ (decimal id ++ (codes " " ++ address_text peer))
 call_text (Remove id) = codes "remove " ++ decimal id
 
@@ -36,7 +36,7 @@ answer_line place reply = answer_text place reply ++ feed
 -- what a script's line of a call says
 abbrev pub command_of : Call → Command
 command_of Tick = commands.Tick
-command_of (Hear m source) = commands.Hear source (Ok m)
+command_of (Hear source m) = commands.Hear source (Ok m)
 command_of (Join id peer) = commands.Join id peer
 command_of (Remove id) = commands.Remove id
 
@@ -61,6 +61,6 @@ IsDecoded m = (decoded (text_of m) ≡ Ok m) × IsBytes (text_of m)
 -- its ids, its address and its message are such
 abbrev pub IsSpoken : Call → Type 0
 IsSpoken Tick = Unit {0}
-IsSpoken (Hear m source) = IsDecoded m × IsAddress source
+IsSpoken (Hear source m) = IsDecoded m × IsAddress source
 IsSpoken (Join id peer) = IsId id × IsAddress peer
 IsSpoken (Remove id) = IsId id

@@ -20,7 +20,7 @@ pub fn put_call<W: Sink>(writer: &mut W, call: &Call) -> bool
     read_back(call);
     match call {
         Call::Tick => writer.put(b"tick\n"),
-        Call::Hear(message, source) => put_heard(writer, message, source),
+        Call::Hear(source, message) => put_heard(writer, message, source),
         Call::Join(id, peer) => put_joined(writer, *id, *peer),
         Call::Remove(id) => put_pieces(
             writer,
@@ -76,7 +76,7 @@ fn check_spoken(call: &Call)
 {
     match call {
         Call::Tick => {}
-        Call::Hear(message, source) => {
+        Call::Hear(source, message) => {
             check_message(message);
             check_peer(source);
         }

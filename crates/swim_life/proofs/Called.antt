@@ -42,13 +42,13 @@ pub heard_so : {O N : Type 0} (posted : O → Option (List Posted)) (messages : 
     (limit : ℕ) (bytes : List ℕ) (source : Address) (old new : Seated) (answer : Result (Receipt N) CallFault) (boxed post after : O)
     (counts next : Counts) (end : Option Why) → post ≡ boxed →
     IfOk answer (λ r. (m : Message) × IsTextOf bytes m
-    × IsAnswered o old new (Hear m source) (kept r.position r.number r.call r.reply) r.news) →
+    × IsAnswered o old new (Hear source m) (kept r.position r.number r.call r.reply) r.news) →
     IfErr answer (λ fault. new ≡ refused fault old) → IfErr answer (MayRefuseBytes bytes o limit old) →
     IsFinished posted answer messages post counts end after next →
     Hears o limit bytes source (at_sender old boxed counts) end (at_sender new after next)
 heard_so posted messages o limit bytes source old new (Ok r) boxed post after counts next end in_box ok err refuses done =
     inl (
-      Hear ok.0 source,
+      Hear source ok.0,
       (ok.0, ok.1, refl),
       record {
         kept = kept r.position r.number r.call r.reply;

@@ -52,7 +52,7 @@ Calls o may_ask may_refuse old end new =
 -- bytes came from this address: the node was called with their message, or told why it wasn't
 abbrev pub Hears : {O : Type 0} → Setting → ℕ → List ℕ → Address → AtSender O → Option Why → AtSender O → Type 0
 Hears o limit bytes source old end new =
-    Calls o (λ call. (m : Message) × IsTextOf bytes m × (call ≡ Hear m source)) (MayRefuseBytes bytes o limit old.seat) old end new
+    Calls o (λ call. (m : Message) × IsTextOf bytes m × (call ≡ Hear source m)) (MayRefuseBytes bytes o limit old.seat) old end new
 
 -- one tick of time passed
 abbrev pub Ticks : {O : Type 0} → Setting → ℕ → AtSender O → Option Why → AtSender O → Type 0

@@ -96,7 +96,7 @@ impl<N: Naming, C: Chooser, H: Wait + Drop> Node<N, C, H> {
         ensures wire { (f : WireFault) → first_fault bytes.now ≡ Some f → result ≡ Err (CallFault.Wire f) }
     {
         match decode(bytes) {
-            Ok(message) => self.call(rt, seat, &Call::Hear(message, source)),
+            Ok(message) => self.call(rt, seat, &Call::Hear(source, message)),
             Err(fault) => Err(CallFault::Wire(fault)),
         }
     }

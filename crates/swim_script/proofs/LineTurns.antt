@@ -212,7 +212,7 @@ turned_by turns run text piece s new (Wire version) before after (Ok done) read 
 turned_by turns run text piece s new (Wire version) before after (Err fault) read stands h d = absurd d
 turned_by turns run text piece s new Tick before after result read stands h d = calls_turn turns run text piece s new Tick calls.Tick before after result read refl refl refl refl stands h d
 turned_by turns run text piece s new (Hear source (Ok message)) before after result read stands h d =
-    calls_turn turns run text piece s new (Hear source (Ok message)) (calls.Hear message source) before after result read refl refl refl refl stands h d
+    calls_turn turns run text piece s new (Hear source (Ok message)) (calls.Hear source message) before after result read refl refl refl refl stands h d
 turned_by turns run text piece s new (Hear source (Err wire)) before after result read stands h d = unread_turn turns run text piece s new source wire before after result read stands h d
 turned_by turns run text piece s new (Join id peer) before after result read stands h d = calls_turn turns run text piece s new (Join id peer) (calls.Join id peer) before after result read refl refl refl refl stands h d
 turned_by turns run text piece s new (Remove id) before after result read stands h d = calls_turn turns run text piece s new (Remove id) (calls.Remove id) before after result read refl refl refl refl stands h d

@@ -172,7 +172,7 @@ ShowsLine old new text before after (Err fault) = IsStopped old fault before aft
 abbrev pub HearsLine : Played → Played → Address → Result Message WireFault → Option (List ℕ) → Option (List ℕ) →
     Result (Unit {0}) ScriptFault → Type 0
 HearsLine old new source (Ok message) before after result =
-    PlaysLine old new (calls.Hear message source) before after result
+    PlaysLine old new (calls.Hear source message) before after result
 HearsLine old new source (Err wire) before after result = ShowsLine old new (λ a. wire_text wire) before after result
 
 -- a header line was kept

@@ -140,7 +140,7 @@ pub data Asked : Type 0 where
 
 abbrev pub asked_by : Option Command → Asked
 asked_by (Some Tick) = Calls calls.Tick
-asked_by (Some (Hear peer (Ok message))) = Calls (calls.Hear message peer)
+asked_by (Some (Hear peer (Ok message))) = Calls (calls.Hear peer message)
 asked_by (Some (Hear peer (Err fault))) = Unread fault
 asked_by (Some (Join id peer)) = Calls (calls.Join id peer)
 asked_by (Some (Remove id)) = Calls (calls.Remove id)

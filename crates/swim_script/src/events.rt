@@ -64,7 +64,7 @@ impl Session {
         ensures failures { W.failures writer.new ≡ failures_if (W.failures writer.old) (not (is_write result)) }
     {
         match read {
-            Ok(message) => self.call(Call::Hear(message, source), writer),
+            Ok(message) => self.call(Call::Hear(source, message), writer),
             Err(fault) => self.tell_fault(fault, writer),
         }
     }

@@ -30,7 +30,7 @@ marks_of_probe tick (Some probe) = mark_at tick probe.target (kind.Probed probe.
 abbrev pub marks_by : ℕ → ℕ → Call → Reply → List Mark
 marks_by tick ended call (Started judged probe) = marks_of_judged tick ended judged ++ marks_of_probe tick probe
 marks_by tick ended call (Asked target peer number relays) = mark_at tick target (kind.Asked number relays)
-marks_by tick ended (Hear message source) Heard = mark_at tick message.target (kind.Heard message.number)
+marks_by tick ended (Hear source message) Heard = mark_at tick message.target (kind.Heard message.number)
 marks_by tick ended (Join id peer) (Joined place) = mark_at tick id kind.Joined
 marks_by tick ended (Remove id) Removed = mark_at tick id kind.Removed
 marks_by tick ended call reply = []

@@ -58,7 +58,7 @@ pub(crate) fn add_marks(
             add(marks, tick, *target, MarkKind::Asked(*number, relays))
         }
         Reply::Heard => match &entry.call {
-            Call::Hear(ack, _) => add(marks, tick, ack.target, MarkKind::Heard(ack.number.get())),
+            Call::Hear(_, ack) => add(marks, tick, ack.target, MarkKind::Heard(ack.number.get())),
             _ => Ok(()),
         },
         Reply::Joined { .. } => match &entry.call {

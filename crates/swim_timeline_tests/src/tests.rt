@@ -40,7 +40,7 @@ fn forwarded_ack() -> Result<Call, Fail> {
         number: PeriodNumber::new(8).ok_or("a number is not 0")?,
         at: None,
     };
-    Ok(Call::Hear(message, address(3)))
+    Ok(Call::Hear(address(3), message))
 }
 
 // Member 2 acks by a relay, 5 joins and leaves, and 3 is judged.

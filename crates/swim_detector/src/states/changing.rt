@@ -23,7 +23,7 @@ impl State {
     {
         match call {
             Call::Tick => self.change_by_tick(journal),
-            Call::Hear(_message, _source) => None,
+            Call::Hear(_source, _message) => None,
             Call::Join(id, peer) => change_by_join(journal, *id, *peer),
             Call::Remove(id) => change_by_removal(journal, *id),
         }

@@ -8,11 +8,10 @@ ghost use Rattle.swim_history.specs.declared.replies.Reply.TheVariants.{Dropped}
 ghost use Rattle.swim_history.specs.Clock.{period_number};
 ghost use Rattle.swim_history.specs.Aim.{aim};
 ghost use Rattle.swim_history.specs.Run.{IsRequest, target_at, Hears};
-ghost use Rattle.swim_detector.specs.Mirrors.{Mirrors, IsSettled};
+ghost use Rattle.swim_detector.specs.Mirrors.{Mirrors, IsSettled, plain};
 
 use super::State;
 use super::addresses::listed_at;
-use crate::answers::Answer;
 use swim_history::{DropReason, Journal, Reply};
 use swim_relays::TableFull;
 use swim_wire::{Kind, Message, Peer};
@@ -21,9 +20,9 @@ impl State {
     /// A message came from this address.
     // Out of line, so that its locals are cleared only where it is called.
     #[inline(never)]
-    pub(super) fn hear(&mut self, journal: &Journal, message: &Message, source: Peer) -> Answer
+    pub(super) fn hear(&mut self, journal: &Journal, message: &Message, source: Peer) -> Reply
         requires { Mirrors journal.now.opening journal.now.past self.old }
-        ensures { IsSettled journal.now.opening journal.now.past (Hear message.now source) result self.new }
+        ensures { IsSettled journal.now.opening journal.now.past (Hear source message.now) (plain result) self.new }
     {
         match message.kind {
             Kind::Ping => self.hear_ping(journal, message, source),
@@ -33,27 +32,27 @@ impl State {
     }
 
     /// A ping for this member is answered by an ack.
-    fn hear_ping(&self, journal: &Journal, message: &Message, source: Peer) -> Answer
+    fn hear_ping(&self, journal: &Journal, message: &Message, source: Peer) -> Reply
         requires mirrors { Mirrors journal.now.opening journal.now.past self.now }
         requires kind { message.now.kind ≡ Ping }
-        ensures { IsSettled journal.now.opening journal.now.past (Hear message.now source) result self.now }
+        ensures { IsSettled journal.now.opening journal.now.past (Hear source message.now) (plain result) self.now }
     {
         let me = journal.opening().me();
         if message.target == me {
-            Answer::of(Reply::Send {
+            Reply::Send {
                 peer: source,
                 message: message.ack_by(me, message.version),
-            })
+            }
         } else {
-            Answer::of(Reply::Dropped(DropReason::NotForMe))
+            Reply::Dropped(DropReason::NotForMe)
         }
     }
 
     /// A request for an indirect probe: the target is pinged, and the request waits for its ack.
-    fn hear_request(&mut self, journal: &Journal, message: &Message, source: Peer) -> Answer
+    fn hear_request(&mut self, journal: &Journal, message: &Message, source: Peer) -> Reply
         requires mirrors { Mirrors journal.now.opening journal.now.past self.old }
         requires kind { message.now.kind ≡ PingReq }
-        ensures { IsSettled journal.now.opening journal.now.past (Hear message.now source) result self.new }
+        ensures { IsSettled journal.now.opening journal.now.past (Hear source message.now) (plain result) self.new }
     {
         match requested_at(journal, message) {
             Ok(peer) => self.take_request(journal, message, source, peer),
@@ -62,15 +61,15 @@ impl State {
     }
 
     /// The request is dropped, wherever it came from.
-    fn drop_request(&self, journal: &Journal, message: &Message, why: DropReason) -> Answer
+    fn drop_request(&self, journal: &Journal, message: &Message, why: DropReason) -> Reply
         requires mirrors { Mirrors journal.now.opening journal.now.past self.now }
         requires kind { message.now.kind ≡ PingReq }
         requires fits { (source : Address) →
             Hears journal.now.opening journal.now.past message.now source PingReq (Dropped why) }
         ensures { (source : Address) →
-            IsSettled journal.now.opening journal.now.past (Hear message.now source) result self.now }
+            IsSettled journal.now.opening journal.now.past (Hear source message.now) (plain result) self.now }
     {
-        Answer::of(Reply::Dropped(why))
+        Reply::Dropped(why)
     }
 
     /// The request waits, unless too many do.
@@ -80,30 +79,30 @@ impl State {
         message: &Message,
         source: Peer,
         peer: Peer,
-    ) -> Answer
+    ) -> Reply
         requires mirrors { Mirrors journal.now.opening journal.now.past self.old }
         requires kind { message.now.kind ≡ PingReq }
         requires own { IsRequest journal.now.opening.me message.now }
         requires other { message.now.target ≢ journal.now.opening.me }
         requires target { target_at journal.now.opening journal.now.past message.now ≡ Some peer }
-        ensures { IsSettled journal.now.opening journal.now.past (Hear message.now source) result self.new }
+        ensures { IsSettled journal.now.opening journal.now.past (Hear source message.now) (plain result) self.new }
     {
         let me = journal.opening().me();
         match self.requests.ask(message.key(), source, message.version) {
-            Ok(()) => Answer::of(Reply::Send {
+            Ok(()) => Reply::Send {
                 peer,
                 message: message.ping_by(me),
-            }),
-            Err(TableFull) => Answer::of(Reply::Dropped(DropReason::TableFull)),
+            },
+            Err(TableFull) => Reply::Dropped(DropReason::TableFull),
         }
     }
 
     /// An ack: of this member's own probe, or one that another member waits for.
-    fn hear_ack(&mut self, journal: &Journal, message: &Message) -> Answer
+    fn hear_ack(&mut self, journal: &Journal, message: &Message) -> Reply
         requires mirrors { Mirrors journal.now.opening journal.now.past self.old }
         requires kind { message.now.kind ≡ Ack }
         ensures { (source : Address) →
-            IsSettled journal.now.opening journal.now.past (Hear message.now source) result self.new }
+            IsSettled journal.now.opening journal.now.past (Hear source message.now) (plain result) self.new }
     {
         if message.initiator == journal.opening().me() {
             self.hear_own_ack(journal, message)
@@ -113,18 +112,18 @@ impl State {
     }
 
     /// An ack of this member's own probe counts if it is awaited.
-    fn hear_own_ack(&mut self, journal: &Journal, message: &Message) -> Answer
+    fn hear_own_ack(&mut self, journal: &Journal, message: &Message) -> Reply
         requires mirrors { Mirrors journal.now.opening journal.now.past self.old }
         requires kind { message.now.kind ≡ Ack }
         requires own { message.now.initiator ≡ journal.now.opening.me }
         ensures { (source : Address) →
-            IsSettled journal.now.opening journal.now.past (Hear message.now source) result self.new }
+            IsSettled journal.now.opening journal.now.past (Hear source message.now) (plain result) self.new }
     {
         if self.awaits(journal, message) {
             self.heard = true;
-            Answer::of(Reply::Heard)
+            Reply::Heard
         } else {
-            Answer::of(Reply::Dropped(DropReason::Stray))
+            Reply::Dropped(DropReason::Stray)
         }
     }
 
@@ -139,20 +138,20 @@ impl State {
     }
 
     /// An ack of another member's probe is sent on, if that member waits for it.
-    fn forward_ack(&mut self, journal: &Journal, message: &Message) -> Answer
+    fn forward_ack(&mut self, journal: &Journal, message: &Message) -> Reply
         requires mirrors { Mirrors journal.now.opening journal.now.past self.old }
         requires kind { message.now.kind ≡ Ack }
         requires other { message.now.initiator ≢ journal.now.opening.me }
         ensures { (source : Address) →
-            IsSettled journal.now.opening journal.now.past (Hear message.now source) result self.new }
+            IsSettled journal.now.opening journal.now.past (Hear source message.now) (plain result) self.new }
     {
         let me = journal.opening().me();
         match self.requests.answer(&message.key()) {
-            Some(asker) => Answer::of(Reply::Send {
+            Some(asker) => Reply::Send {
                 peer: asker.0,
                 message: message.ack_by(me, asker.1),
-            }),
-            None => Answer::of(Reply::Dropped(DropReason::NoRequest)),
+            },
+            None => Reply::Dropped(DropReason::NoRequest),
         }
     }
 }

@@ -8,10 +8,9 @@ ghost use Rattle.swim_history.specs.declared.replies.Reply.TheVariants.{Refused}
 ghost use Rattle.swim_history.specs.declared.entries.Choice.TheVariants.{Nothing};
 ghost use Rattle.swim_history.specs.Rows.{row_of};
 ghost use Rattle.swim_history.specs.Run.{Answers};
-ghost use Rattle.swim_detector.specs.Mirrors.{Mirrors, IsAnswered, IsSettled, MayList, JoinsOr, RemovesOr};
+ghost use Rattle.swim_detector.specs.Mirrors.{Mirrors, IsAnswered, IsSettled, plain, MayList, JoinsOr, RemovesOr};
 
 use super::State;
-use crate::answers::Answer;
 use swim_history::{Call, Journal, KNOWN_MEMBERS, Refusal, Reply, RowState};
 use swim_targets::Chooser;
 use swim_wire::{Id, Peer};
@@ -26,10 +25,10 @@ impl State {
         chooser: &mut C,
         id: Id,
         peer: Peer,
-    ) -> Answer
+    ) -> Reply
         requires { Mirrors journal.now.opening journal.now.past self.old }
         ensures { IsAnswered C.orders C.places journal.now.opening journal.now.past
-            (Join id peer) result self.new chooser.old chooser.new }
+            (Join id peer) (plain result) self.new chooser.old chooser.new }
     {
         match refusal_to_join(journal, id) {
             Some(refusal) => self.refuse(journal, &Call::Join(id, peer), refusal),
@@ -38,14 +37,14 @@ impl State {
     }
 
     /// The joiner is listed at a place that the chooser draws.
-    fn list<C: Chooser>(&mut self, journal: &Journal, chooser: &mut C, id: Id) -> Answer
+    fn list<C: Chooser>(&mut self, journal: &Journal, chooser: &mut C, id: Id) -> Reply
         requires mirrors { Mirrors journal.now.opening journal.now.past self.old }
         requires listing { MayList journal.now.opening journal.now.past id }
         ensures { (peer : Address) → IsAnswered C.orders C.places journal.now.opening journal.now.past
-            (Join id peer) result self.new chooser.old chooser.new }
+            (Join id peer) (plain result) self.new chooser.old chooser.new }
     {
         match self.targets.join(id, chooser) {
-            Ok(place) => Answer::of(Reply::Joined { place }),
+            Ok(place) => Reply::Joined { place },
             Err(_) => unreachable!(),
         }
     }
@@ -53,9 +52,9 @@ impl State {
     /// A member is to be forgotten.
     // Out of line, so that its locals are cleared only where it is called.
     #[inline(never)]
-    pub(super) fn remove(&mut self, journal: &Journal, id: Id) -> Answer
+    pub(super) fn remove(&mut self, journal: &Journal, id: Id) -> Reply
         requires { Mirrors journal.now.opening journal.now.past self.old }
-        ensures { IsSettled journal.now.opening journal.now.past (Remove id) result self.new }
+        ensures { IsSettled journal.now.opening journal.now.past (Remove id) (plain result) self.new }
     {
         match refusal_to_remove(journal, id) {
             Some(refusal) => self.refuse(journal, &Call::Remove(id), refusal),
@@ -64,24 +63,24 @@ impl State {
     }
 
     /// The member is known no more, and is no aim.
-    fn forget(&mut self, journal: &Journal, id: Id) -> Answer
+    fn forget(&mut self, journal: &Journal, id: Id) -> Reply
         requires mirrors { Mirrors journal.now.opening journal.now.past self.old }
         requires other { id ≢ journal.now.opening.me }
         requires known { row_of journal.now.opening journal.now.past id ≢ None }
-        ensures { IsSettled journal.now.opening journal.now.past (Remove id) result self.new }
+        ensures { IsSettled journal.now.opening journal.now.past (Remove id) (plain result) self.new }
     {
         self.targets.remove(id);
         self.aim = unless_removed(self.aim, id);
-        Answer::of(Reply::Removed)
+        Reply::Removed
     }
 
     /// A call is refused.
-    pub(super) fn refuse(&self, journal: &Journal, call: &Call, refusal: Refusal) -> Answer
+    pub(super) fn refuse(&self, journal: &Journal, call: &Call, refusal: Refusal) -> Reply
         requires mirrors { Mirrors journal.now.opening journal.now.past self.now }
         requires fits { Answers journal.now.opening journal.now.past call.now (Refused refusal) Nothing }
-        ensures { IsSettled journal.now.opening journal.now.past call.now result self.now }
+        ensures { IsSettled journal.now.opening journal.now.past call.now (plain result) self.now }
     {
-        Answer::of(Reply::Refused(refusal))
+        Reply::Refused(refusal)
     }
 }
 

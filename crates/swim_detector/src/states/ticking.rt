@@ -1,6 +1,6 @@
 //! Ticks (sections 3.1 and 4.3 of the SWIM paper).
 
-ghost use Rattle.std.specs.Prelude.{◌≡◌, ◌≢◌, ◌+◌, ◌<◌, ◌%◌, ℕ, Some, None};
+ghost use Rattle.std.specs.Prelude.{◌≡◌, ◌≢◌, ◌+◌, ◌<◌, ◌%◌, ℕ, Some, None, false};
 ghost use Rattle.std.specs.Option.{option_and_then};
 ghost use Rattle.swim_wire.specs.Requests.{aged};
 ghost use Rattle.swim_wire.specs.Round.{leave_judged};
@@ -8,11 +8,10 @@ ghost use Rattle.swim_history.specs.declared.calls.Call.TheVariants.{Tick};
 ghost use Rattle.swim_history.specs.Clock.{phase, period_number};
 ghost use Rattle.swim_history.specs.Aim.{unless, unheard};
 ghost use Rattle.swim_history.specs.Run.{greatest_number};
-ghost use Rattle.swim_detector.specs.Mirrors.{Mirrors, IsAnswered, IsSettled};
+ghost use Rattle.swim_detector.specs.Mirrors.{Mirrors, IsAnswered, IsSettled, plain};
 
 use super::State;
 use super::addresses::{address_of, probe_of, relays_for};
-use crate::answers::Answer;
 use swim_history::{Call, Journal, Refusal, Reply};
 use swim_targets::{Chooser, Targets};
 use swim_wire::Id;
@@ -21,16 +20,22 @@ impl State {
     /// One tick passes.
     // Out of line, so that its locals are cleared only where it is called.
     #[inline(never)]
-    pub(super) fn tick<C: Chooser>(&mut self, journal: &Journal, chooser: &mut C) -> Answer
-        requires { Mirrors journal.now.opening journal.now.past self.old }
+    pub(super) fn tick<C: Chooser>(
+        &mut self,
+        journal: &Journal,
+        chooser: &mut C,
+        begins_round: &mut bool,
+    ) -> Reply
+        requires mirrors { Mirrors journal.now.opening journal.now.past self.old }
+        requires none { begins_round.old ≡ false }
         ensures { IsAnswered C.orders C.places journal.now.opening journal.now.past
-            Tick result self.new chooser.old chooser.new }
+            Tick (record { reply = result; begins_round = begins_round.new }) self.new chooser.old chooser.new }
     {
         if self.phase == 0 {
             if journal.last_number() == u64::MAX {
                 self.refuse(journal, &Call::Tick, Refusal::Spent)
             } else {
-                self.start(journal, chooser)
+                self.start(journal, chooser, begins_round)
             }
         } else if self.phase == journal.opening().rtt() {
             self.time_out(journal, chooser)
@@ -43,12 +48,17 @@ impl State {
     /// member is probed.
     // Out of line, so that its locals are cleared only where it is called.
     #[inline(never)]
-    fn start<C: Chooser>(&mut self, journal: &Journal, chooser: &mut C) -> Answer
+    fn start<C: Chooser>(
+        &mut self,
+        journal: &Journal,
+        chooser: &mut C,
+        begins_round: &mut bool,
+    ) -> Reply
         requires mirrors { Mirrors journal.now.opening journal.now.past self.old }
         requires begins { phase journal.now.opening journal.now.past ≡ 0 }
         requires unspent { period_number journal.now.opening journal.now.past < greatest_number }
         ensures { IsAnswered C.orders C.places journal.now.opening journal.now.past
-            Tick result self.new chooser.old chooser.new }
+            Tick (record { reply = result; begins_round = begins_round.new }) self.new chooser.old chooser.new }
     {
         let judged = unheard(self.heard, self.aim);
         leave(&mut self.targets, &judged);
@@ -57,19 +67,17 @@ impl State {
         self.aim = next.member;
         self.heard = false;
         let probe = probe_of(journal, &self.aim, journal.last_number() + 1);
-        Answer {
-            reply: Reply::Started { judged, probe },
-            begins_round: next.drawn.is_some(),
-        }
+        *begins_round = next.drawn.is_some();
+        Reply::Started { judged, probe }
     }
 
     /// The timeout passed: where no ack of the aim came, other members are asked to ping it.
-    fn time_out<C: Chooser>(&mut self, journal: &Journal, chooser: &mut C) -> Answer
+    fn time_out<C: Chooser>(&mut self, journal: &Journal, chooser: &mut C) -> Reply
         requires mirrors { Mirrors journal.now.opening journal.now.past self.old }
         requires timeout { phase journal.now.opening journal.now.past ≡ journal.now.opening.rtt }
         requires inside { phase journal.now.opening journal.now.past ≢ 0 }
         ensures { IsAnswered C.orders C.places journal.now.opening journal.now.past
-            Tick result self.new chooser.old chooser.new }
+            Tick (plain result) self.new chooser.old chooser.new }
     {
         match unheard(self.heard, self.aim) {
             None => self.quiet_tick(journal),
@@ -80,32 +88,32 @@ impl State {
     /// Relays are asked to ping the aim, as no ack of it came.
     // Out of line, so that its locals are cleared only where it is called.
     #[inline(never)]
-    fn ask<C: Chooser>(&mut self, journal: &Journal, chooser: &mut C, target: Id) -> Answer
+    fn ask<C: Chooser>(&mut self, journal: &Journal, chooser: &mut C, target: Id) -> Reply
         requires mirrors { Mirrors journal.now.opening journal.now.past self.old }
         requires timeout { phase journal.now.opening journal.now.past ≡ journal.now.opening.rtt }
         requires unheard { unheard journal.now.opening journal.now.past ≡ Some target }
         ensures { IsAnswered C.orders C.places journal.now.opening journal.now.past
-            Tick result self.new chooser.old chooser.new }
+            Tick (plain result) self.new chooser.old chooser.new }
     {
         self.pass(journal.opening().period());
-        Answer::of(Reply::Asked {
+        Reply::Asked {
             target,
             peer: address_of(journal, target),
             number: journal.last_number(),
             relays: relays_for(journal, &self.targets, target, chooser),
-        })
+        }
     }
 
     /// Nothing is to be done in this tick.
-    fn quiet_tick(&mut self, journal: &Journal) -> Answer
+    fn quiet_tick(&mut self, journal: &Journal) -> Reply
         requires mirrors { Mirrors journal.now.opening journal.now.past self.old }
         requires inside { phase journal.now.opening journal.now.past ≢ 0 }
         requires quiet { phase journal.now.opening journal.now.past ≡ journal.now.opening.rtt →
             unheard journal.now.opening journal.now.past ≡ None }
-        ensures { IsSettled journal.now.opening journal.now.past Tick result self.new }
+        ensures { IsSettled journal.now.opening journal.now.past Tick (plain result) self.new }
     {
         self.pass(journal.opening().period());
-        Answer::of(Reply::Quiet)
+        Reply::Quiet
     }
 
     /// The period goes on by a tick, and so do the requests that wait.

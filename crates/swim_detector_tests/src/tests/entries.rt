@@ -73,7 +73,7 @@ fn three_periods<R: Abort>(rt: &R, alloc: Global) -> Result<Journal, Fail> {
     let mut recorder = opened_with(alloc, opening(rt, 0, &[2, 3], 0), orders)?;
     for (aim, number) in [(3, 1), (2, 2)] {
         let ack = message(Kind::Ack, u32::from(aim), 1, u32::from(aim), number);
-        let calls = [Call::Tick, Call::Hear(ack, at(aim)), Call::Tick, Call::Tick];
+        let calls = [Call::Tick, Call::Hear(at(aim), ack), Call::Tick, Call::Tick];
         call_each(rt, &mut recorder, &calls);
     }
     call_each(rt, &mut recorder, &[Call::Tick]);

@@ -75,7 +75,7 @@ fn a_start_would_judge(rt: HostRuntime) {
 
 // Member 2's ack in the first period.
 fn first_ack() -> Call {
-    Call::Hear(message(Kind::Ack, 2, 1, 2, 1), at(2))
+    Call::Hear(at(2), message(Kind::Ack, 2, 1, 2, 1))
 }
 
 #[test]

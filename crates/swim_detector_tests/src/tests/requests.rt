@@ -4,11 +4,11 @@ use swim_history::DropReason;
 
 // Member 2's request to ping member 3 in its period of that number, and member 3's ack.
 pub(super) fn request(number: u64) -> Call {
-    Call::Hear(message(Kind::PingReq, 2, 2, 3, number), at(2))
+    Call::Hear(at(2), message(Kind::PingReq, 2, 2, 3, number))
 }
 
 pub(super) fn ack(number: u64) -> Call {
-    Call::Hear(message(Kind::Ack, 3, 2, 3, number), at(3))
+    Call::Hear(at(3), message(Kind::Ack, 3, 2, 3, number))
 }
 
 // The ping of member 3 for the request, and the ack that is forwarded to member 2.
@@ -85,7 +85,7 @@ fn a_request_outlives_its_target(rt: HostRuntime) {
 
 // Member 2's message is dropped, as this says.
 fn dropped(kind: Kind, sender: u32, initiator: u32, target: u32, why: DropReason) -> Step {
-    let call = Call::Hear(message(kind, sender, initiator, target, 9), at(2));
+    let call = Call::Hear(at(2), message(kind, sender, initiator, target, 9));
     Step::Told(call, Reply::Dropped(why))
 }
 

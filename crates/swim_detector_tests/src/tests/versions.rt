@@ -22,7 +22,7 @@ fn in_version_2(message: Message) -> Message {
 fn asked_by(member: u8, target: u32) -> Call {
     let asker = u32::from(member);
     let request = message(Kind::PingReq, asker, asker, target, 9);
-    Call::Hear(in_version_2(request), at(member))
+    Call::Hear(at(member), in_version_2(request))
 }
 
 // The ping of version 2 that is sent for it, to that address.
@@ -43,7 +43,7 @@ fn forwarded_in_2(target: u32, number: u64) -> Reply {
 
 // The same request in version 2, and the ping that is sent for it.
 fn request_in_2(number: u64) -> Call {
-    Call::Hear(in_version_2(message(Kind::PingReq, 2, 2, 3, number)), at(2))
+    Call::Hear(at(2), in_version_2(message(Kind::PingReq, 2, 2, 3, number)))
 }
 
 fn pinged_in_2(number: u64) -> Reply {
@@ -55,7 +55,7 @@ fn pinged_in_2(number: u64) -> Reply {
 
 // The ack of member 9, in version 1.
 fn ack_of_9() -> Call {
-    Call::Hear(message(Kind::Ack, 9, 2, 9, 9), at(9))
+    Call::Hear(at(9), message(Kind::Ack, 9, 2, 9, 9))
 }
 
 #[test]
@@ -79,7 +79,7 @@ fn ack_of_me() -> Message {
 
 fn acked(ping: Message, message: Message) -> Step {
     Step::Told(
-        Call::Hear(ping, at(7)),
+        Call::Hear(at(7), ping),
         Reply::Send {
             peer: at(7),
             message,
@@ -108,7 +108,7 @@ fn assert_steps_in<R: Abort>(rt: &R, alloc: Global, version: Version, steps: &[S
 // Member 2 failed after four ticks, and member 3 is listed.
 #[test]
 fn a_listed_target_is_pinged_where_it_is_listed(rt: HostRuntime) {
-    let unlisted = Call::Hear(message(Kind::PingReq, 4, 4, 2, 8), at(4));
+    let unlisted = Call::Hear(at(4), message(Kind::PingReq, 4, 4, 2, 8));
     let steps = [
         Step::Ticks(4),
         Step::Told(asked_by(4, 2), pinged_for(4, 2, at(9))),
@@ -123,7 +123,7 @@ fn requests_of_version_2_are_dropped(rt: HostRuntime) {
     let borrowed = in_version_2(message(Kind::PingReq, 2, 3, 1, 9));
     let steps = [
         Step::Told(
-            Call::Hear(borrowed, at(2)),
+            Call::Hear(at(2), borrowed),
             Reply::Dropped(DropReason::Borrowed),
         ),
         Step::Told(asked_by(1, 9), Reply::Dropped(DropReason::Borrowed)),
@@ -177,9 +177,9 @@ fn the_version_of_an_ack_is_not_looked_at(rt: HostRuntime) {
     let another = in_version_2(message(Kind::Ack, 3, 2, 3, 9));
     let steps = [
         Step::Ticks(1),
-        Step::Told(Call::Hear(own, at(2)), Reply::Heard),
+        Step::Told(Call::Hear(at(2), own), Reply::Heard),
         Step::Made(request(9)),
-        Step::Told(Call::Hear(another, at(3)), forwarded(9)),
+        Step::Told(Call::Hear(at(3), another), forwarded(9)),
         Step::Ticks(2),
         Step::Told(Call::Tick, started(None, 3, 2)),
     ];
@@ -193,7 +193,7 @@ fn an_own_version_is_not_that_of_the_acks(rt: HostRuntime) {
     let steps = [
         Step::Told(Call::Tick, started(None, 2, 1)),
         Step::Told(Call::Tick, asked_of(2, 1, &[3])),
-        Step::Told(Call::Hear(own, at(2)), Reply::Heard),
+        Step::Told(Call::Hear(at(2), own), Reply::Heard),
     ];
     assert_steps_in(&rt, rt.alloc(), Version::Two, &steps);
 }

@@ -90,7 +90,7 @@ reply_to_message o h m source Ack =
 
 abbrev pub reply_to : Setting → List Entry → Call → Reply
 reply_to o h Tick = reply_to_tick o h
-reply_to o h (Hear m source) = reply_to_message o h m source m.kind
+reply_to o h (Hear source m) = reply_to_message o h m source m.kind
 reply_to o h (Join id peer) =
     if id == o.me then Refused Myself
     else (if is_listed o h id then Refused Listed
@@ -187,7 +187,7 @@ answers_settled o h Tick (Asked m peer number relays) Nothing s a =
 answers_settled o h Tick Quiet Nothing s a =
     rw (ne_eqb (phase o h) 0 a.0)
     (quiet o h (phase o h == o.rtt) (unheard o h) (λ e. a.1 (eqb-true (phase o h) o.rtt e)))
-answers_settled o h (Hear m source) reply Nothing s a = hear_settled o h m source m.kind reply a
+answers_settled o h (Hear source m) reply Nothing s a = hear_settled o h m source m.kind reply a
 answers_settled o h (Join id peer) (Refused Myself) Nothing s a = rw (eq-eqb id o.me a) refl
 answers_settled o h (Join id peer) (Refused Listed) Nothing s a = rw (ne_eqb id o.me a.0, a.1) refl
 answers_settled o h (Join id peer) (Refused Full) Nothing s a =

@@ -87,7 +87,7 @@ fixed o h Tick (Refused Spent) Nothing a none = record { settles = refl; drawn =
 fixed o h Tick Quiet Nothing a none = record { settles = refl; drawn = refl }
 fixed o h Tick (Started judged probe) choice a none = absurd cc
 fixed o h Tick (Asked target peer number relays) choice a none = absurd cc
-fixed o h (Hear m source) reply Nothing a none =
+fixed o h (Hear source m) reply Nothing a none =
     record { settles = hears_fixed o h m source m.kind reply a; drawn = refl }
 fixed o h (Join id peer) (Refused Myself) Nothing a none = record { settles = refl; drawn = refl }
 fixed o h (Join id peer) (Refused Listed) Nothing a none = record { settles = refl; drawn = refl }

@@ -328,7 +328,7 @@ module _ {S : Type 0} (orders : S → List ℕ → List ℕ → S → Type 0) (p
 
   answered : (call : Call) → HasAnswer orders places o h call before
   answered Tick = ticked
-  answered (Hear m source) = let reply = hear_reply o h m source m.kind in plain (Hear m source) reply.0 reply.1 refl
+  answered (Hear source m) = let reply = hear_reply o h m source m.kind in plain (Hear source m) reply.0 reply.1 refl
   answered (Join id peer) = joined id peer
   answered (Remove id) = removed id
 

@@ -69,7 +69,7 @@ adds o h Tick (Started None probe) choice a same =
     ∙ rest_redrawn (drawn choice) (lists o h) a.draws
 adds o h Tick (Asked m peer number relays) Nothing a same = sym (append-nil (lists o h).rest)
 adds o h Tick Quiet Nothing a same = sym (append-nil (lists o h).rest)
-adds o h (Hear m source) reply Nothing a same =
+adds o h (Hear source m) reply Nothing a same =
     rw (no_probe reply (hears_no_start o h m source m.kind reply a)) (sym (append-nil (lists o h).rest))
 adds o h (Join id peer) (Refused Myself) Nothing a same = sym (append-nil (lists o h).rest)
 adds o h (Join id peer) (Refused Listed) Nothing a same = sym (append-nil (lists o h).rest)

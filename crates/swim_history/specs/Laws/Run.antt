@@ -42,9 +42,9 @@ pub begins : (o : Setting) (h : List Entry) (call : Call) (reply : Reply) (choic
     Answers o h call reply choice → is_starting reply ≡ true → Begins o h call reply choice
 begins o h Tick (Started judged probe) choice a starts =
     record { judged = judged; probe = probe; ticks = refl; says = refl; fits = a }
-begins o h (Hear m source) reply Nothing a starts =
+begins o h (Hear source m) reply Nothing a starts =
     absurd (false≢true (sym (hears_no_start o h m source m.kind reply a) ∙ starts))
-begins o h (Hear m source) reply (Round order) a starts = absurd a
+begins o h (Hear source m) reply (Round order) a starts = absurd a
 begins o h (Join id peer) (Started judged probe) choice a starts = absurd a
 begins o h (Remove id) (Started judged probe) choice a starts = absurd a
 begins o h call reply choice a starts = absurd cc
@@ -74,7 +74,7 @@ moves o h Tick (Started judged probe) choice s a = inl (record { ticks = refl; s
 moves o h Tick (Asked m peer number relays) Nothing s a =
     inr (inl (record { ticks = refl; starts = refl; within = λ e. omega (arith, a.0, s.timing.0) }))
 moves o h Tick Quiet Nothing s a = inr (inl (record { ticks = refl; starts = refl; within = a.0 }))
-moves o h (Hear m source) reply Nothing s a =
+moves o h (Hear source m) reply Nothing s a =
     inr (inr (record { ticks = refl; starts = hears_no_start o h m source m.kind reply a }))
 moves o h (Join id peer) (Refused why) choice s a = inr (inr (record { ticks = refl; starts = refl }))
 moves o h (Join id peer) (Joined place) choice s a = inr (inr (record { ticks = refl; starts = refl }))

@@ -121,8 +121,8 @@ no_ack o h m source Ack why a target aimed = absurd a
 refused : (o : Setting) (h : List Entry) (seat number : ℕ) (call : Call) (why : Refusal) (choice : Choice) →
     Answers o h call (Refused why) choice →
     ChangesNothing o h (record { seat = seat; number = number; call = call; choice = choice; reply = Refused why })
-refused o h seat number (Hear m source) why Nothing a = absurd (no_refusal o h m source m.kind why a)
-refused o h seat number (Hear m source) why (Round order) a = absurd a
+refused o h seat number (Hear source m) why Nothing a = absurd (no_refusal o h m source m.kind why a)
+refused o h seat number (Hear source m) why (Round order) a = absurd a
 refused o h seat number Tick why choice a = record {
   idle = refl;
   goes_on = refl;
@@ -163,8 +163,8 @@ dropped : (o : Setting) (h : List Entry) (seat number : ℕ) (call : Call) (why 
 dropped o h seat number Tick why choice a = absurd a
 dropped o h seat number (Join id peer) why choice a = absurd a
 dropped o h seat number (Remove id) why choice a = absurd a
-dropped o h seat number (Hear m source) why (Round order) a = absurd a
-dropped o h seat number (Hear m source) why Nothing a = record {
+dropped o h seat number (Hear source m) why (Round order) a = absurd a
+dropped o h seat number (Hear source m) why Nothing a = record {
   idle = refl;
   goes_on = refl;
   lists_stay = refl;

@@ -145,7 +145,7 @@ record IsIdle (call : Call) (reply : Reply) : Type 0 where
 
 ticking_idle : (call : Call) (reply : Reply) → is_ticking call reply ≡ true → IsIdle call reply
 ticking_idle Tick reply ticking = record { asked = refl; sent = refl }
-ticking_idle (Hear m source) reply ticking = absurd cc
+ticking_idle (Hear source m) reply ticking = absurd cc
 ticking_idle (Join id peer) reply ticking = absurd cc
 ticking_idle (Remove id) reply ticking = absurd cc
 
@@ -184,7 +184,7 @@ waiting_tick o h e ticking =
 
 -- a request that is passed on waits from then on, in the place of those of its probe
 pub waiting_asked : (o : Setting) (h : List Entry) (e : Entry) (m : Message) (source peer : Address) (ping : Message) →
-    0 < o.period → e.call ≡ Hear m source → m.kind ≡ PingReq → e.reply ≡ Send peer ping
+    0 < o.period → e.call ≡ Hear source m → m.kind ≡ PingReq → e.reply ≡ Send peer ping
     → waiting o (e ∷ h) ≡ forget (key_of m) (waiting o h) ++
     record { key = key_of m; peer = source; version = m.version; left = o.period } ∷ []
 waiting_asked o h e m source peer ping positive call kind reply =
@@ -196,7 +196,7 @@ waiting_asked o h e m source peer ping positive call kind reply =
 
 -- an ack that is passed on ends what waits for it
 pub waiting_answered : (o : Setting) (h : List Entry) (e : Entry) (m : Message) (source peer : Address)
-    (ack : Message) → e.call ≡ Hear m source → m.kind ≡ Ack → e.reply ≡ Send peer ack
+    (ack : Message) → e.call ≡ Hear source m → m.kind ≡ Ack → e.reply ≡ Send peer ack
     → waiting o (e ∷ h) ≡ forget (key_of m) (waiting o h)
 waiting_answered o h e m source peer ack call kind reply =
     waiting_then o e (forget (key_of m)) (forget_each (key_of m))

@@ -48,7 +48,7 @@ fn heard(place: u32, target: u8, number: u64) -> Entry
         number: period_number(number),
         at: None,
     };
-    let call = Call::Hear(ack, address(target));
+    let call = Call::Hear(address(target), ack);
     entry(place, call, Reply::Heard, Choice::Nothing)
 }
 

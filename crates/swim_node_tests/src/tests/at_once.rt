@@ -21,7 +21,7 @@ impl Asked {
     // After so many others.
     fn next(&mut self, turn: u32) -> Call {
         match self {
-            Asked::Pings => Call::Hear(message(Kind::Ping, 2, 1, u64::from(turn) + 1), at(2)),
+            Asked::Pings => Call::Hear(at(2), message(Kind::Ping, 2, 1, u64::from(turn) + 1)),
             Asked::Same(call) => *call,
             Asked::Drawn(draws) => draws.call(),
         }

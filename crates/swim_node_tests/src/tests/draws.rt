@@ -21,7 +21,7 @@ impl Draws {
             0 | 1 => Call::Tick,
             2 => Call::Join(member, source),
             3 => Call::Remove(member),
-            _ => Call::Hear(self.message(member), source),
+            _ => Call::Hear(source, self.message(member)),
         }
     }
 

@@ -22,7 +22,7 @@ fn a_full_journal_refuses(rt: HostRuntime) -> Result<(), Fail> {
 }
 
 fn refused_after_two() -> [Step; 6] {
-    let ping = Call::Hear(message(Kind::Ping, 2, 1, 5), at(2));
+    let ping = Call::Hear(at(2), message(Kind::Ping, 2, 1, 5));
     [
         Step::Made(Call::Tick),
         Step::Made(Call::Tick),

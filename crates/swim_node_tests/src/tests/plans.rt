@@ -83,7 +83,7 @@ pub(crate) fn four_ticks() -> [Kept; 4] {
 
 // A message of a member about the probe of member 3 by member 2.
 fn heard(kind: Kind, from: u8) -> Call {
-    Call::Hear(message(kind, 2, 3, 9), at(from))
+    Call::Hear(at(from), message(kind, 2, 3, 9))
 }
 
 // What member 1 sends for that probe.
@@ -133,7 +133,7 @@ pub(crate) fn each_call() -> [Call; 4] {
     let ping = message(Kind::Ping, 2, 1, 5);
     [
         Call::Tick,
-        Call::Hear(ping, at(2)),
+        Call::Hear(at(2), ping),
         Call::Join(id(4), at(4)),
         Call::Remove(id(2)),
     ]

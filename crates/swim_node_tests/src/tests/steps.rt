@@ -49,7 +49,7 @@ fn take<N: Naming, R: Wait + Abort + Copy + Drop>(
         Step::Made(call) => assert_made(rt, make(rt, node, seat, call)),
         Step::Told(call, reply) => assert_told(rt, make(rt, node, seat, call), reply),
         Step::Acked(target, number) => {
-            let ack = Call::Hear(message(Kind::Ack, 1, *target, *number), at(2));
+            let ack = Call::Hear(at(2), message(Kind::Ack, 1, *target, *number));
             assert_made(rt, make(rt, node, seat, &Call::Tick));
             assert_made(rt, make(rt, node, seat, &ack));
             assert_made(rt, make(rt, node, seat, &Call::Tick));
@@ -130,7 +130,7 @@ pub(crate) fn make<N: Naming, C: Chooser, R: Wait + Copy + Drop>(
 {
     match call {
         Call::Tick => node.tick(rt, seat),
-        Call::Hear(message, source) => node.hear(rt, seat, encode(message).as_slice(), *source),
+        Call::Hear(source, message) => node.hear(rt, seat, encode(message).as_slice(), *source),
         Call::Join(id, peer) => node.join(rt, seat, *id, *peer),
         Call::Remove(id) => node.remove(rt, seat, *id),
     }

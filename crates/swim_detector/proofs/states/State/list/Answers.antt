@@ -10,5 +10,5 @@ unreachable-requires g c =
 
 pub returns : goal.returns
 returns g c peer =
-    rw c.of.ensures (joined g.C.Chooser.orders g.C.Chooser.places c.args.journal.now.opening c.args.journal.now.past c.args.id c.in-Ok.place peer c.args.self.now _ c.args.chooser.now c.join.new.chooser
+    (joined g.C.Chooser.orders g.C.Chooser.places c.args.journal.now.opening c.args.journal.now.past c.args.id c.in-Ok.place peer c.args.self.now _ c.args.chooser.now c.join.new.chooser
     c.requires.mirrors c.requires.listing c.in-Ok.ensures.place c.in-Ok.ensures.drawn c.in-Ok.ensures.ok refl refl refl refl)
