@@ -88,7 +88,7 @@ impl<N: Naming, C: Chooser, H: Wait + Drop> Node<N, C, H> {
     ) -> Result<Receipt<N>, CallFault>
         ensures ok { IfOk result (λ r. let k = kept r.position r.number r.call r.reply in
             (m : Message) × IsTextOf bytes.now m
-            × IsAnswered N.opening seat.old seat.new (call.Hear m source) k r.news) }
+            × IsAnswered N.opening seat.old seat.new (call.Hear source m) k r.news) }
         ensures change { IfOk result (λ r. EndsWithChange r.call r.reply r.news) }
         ensures number { seat.new.number ≡ seat.old.number }
         ensures err { IfErr result (λ fault. seat.new ≡ refused fault seat.old) }

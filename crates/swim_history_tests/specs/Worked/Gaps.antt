@@ -21,9 +21,9 @@ use Rattle.swim_history_tests.specs.Worked.Histories.{at, known, of_members, ent
 abbrev pub heard : ℕ → ℕ → ℕ → Entry
 heard place target number =
     entry place
-    (Hear
-    (record { version = One; kind = Ack; sender = target; initiator = 1; target = target; number = number; at = None })
-    (at target)) Heard Nothing
+    (Hear (at target)
+    (record { version = One; kind = Ack; sender = target; initiator = 1; target = target; number = number; at = None }))
+    Heard Nothing
 
 abbrev pub quiet : ℕ → Entry
 quiet place = entry place Tick Quiet Nothing
