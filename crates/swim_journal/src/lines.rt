@@ -36,7 +36,7 @@ pub fn put_call<W: Sink>(writer: &mut W, call: &Call) -> bool
 /// The line of a message that was heard.
 fn put_heard<W: Sink>(writer: &mut W, message: &Message, source: &Peer) -> bool
     ensures bytes { Puts (W.written writer.old) (W.written writer.new)
-        (call_line (Hear message.now source.now)) result }
+        (call_line (Hear source.now message.now)) result }
     ensures failures { W.failures writer.new ≡ failures_if (W.failures writer.old) result }
 {
     let datagram = datagram_line(message);
