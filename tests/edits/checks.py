@@ -14,6 +14,8 @@ from tests.support.crates import SOURCES
 ONLY_NAMES = re.compile(r"has no field|is not in scope|has no `|was not admitted|which was rejected, was not checked")
 ERROR = re.compile(r"(?:\./)?(\S+?):\d+:\d+: error: .*")
 SEARCH = re.compile(r"`search` did not prove .*")
+# What the prover says last, where a crate got as far as to it.
+VERDICTS = ("logic=proved", "logic=not-proved", "only=")
 REFUSED, NOT_REFUSED, BAD_EDIT = "refused", "NOT REFUSED", "BAD EDIT"
 
 
@@ -24,6 +26,7 @@ class Check:
         self.lines = lines
         self.unproved = [it for it in lines if it.startswith("fn ") and not it.endswith(": proved")]
         self.errors = [it for it in lines if ERROR.match(it)]
+        self.is_told = any(it.startswith(VERDICTS) for it in lines)
 
     def refusal(self, crate, path):
         """The error that stands inside a function or in its own answers: that something isn't proved. None where there is none."""
@@ -39,7 +42,7 @@ class Check:
 
     def ending(self):
         """What came of an edit that was checked with the whole crate, and the error or the reason."""
-        verdicts = [it for it in self.lines if it.startswith(("logic=proved", "logic=not-proved"))]
+        verdicts = [it for it in self.lines if it.startswith(VERDICTS)]
         if not verdicts:
             rejections = [it for it in self.lines if it.startswith("error")]
             return BAD_EDIT, f"it did not reach the prover: {next(iter(rejections), ' '.join(self.lines[:3]))}"

@@ -55,14 +55,21 @@ def owner_of(head, file, texts):
     return [*home_of(names[0], file, texts), "".join(["Ref" if reference else "", *names])]
 
 
-def functions_in(file, texts):
-    """The functions of a file of src/: the path of each, and where its body begins and ends. None in another file."""
+def matches_in(file, texts):
+    """The functions of a file of src/: the path of each, the head of the `impl` that it stands in, if it stands in one, and its match.
+    None in another file."""
     text = texts[file] if file.startswith("src/") else ""
     for found in FUNCTION.finditer(text):
         heads = [it[1] for it in IMPL.finditer(text, 0, found.start())]
-        is_inside = found["indent"] and heads and heads[-1]
-        above = owner_of(heads[-1], file, texts) if is_inside else module_of(file)
-        yield "::".join([*above, found["name"]]), found.start("body"), found.end("body")
+        head = heads[-1] if found["indent"] and heads else None
+        above = owner_of(head, file, texts) if head else module_of(file)
+        yield "::".join([*above, found["name"]]), head, found
+
+
+def functions_in(file, texts):
+    """The functions of a file of src/: the path of each, and where its body begins and ends."""
+    for path, _, found in matches_in(file, texts):
+        yield path, found.start("body"), found.end("body")
 
 
 def function_around(part, file, texts):

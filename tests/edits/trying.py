@@ -1,4 +1,5 @@
-"""Tries the edits of a crate: together where they change bodies of different functions, and else alone.
+"""Tries the edits of a crate: together, each in a copy of the function that it changes (copies.py), and those of functions that have no
+copy together where they change different ones.
 
 A function is proved against the contracts of what it calls, and not against their bodies. So such edits don't see one another, and
 one among others is refused exactly where an error stands inside the function that it changed or in that function's own answers. One
@@ -8,6 +9,7 @@ of which no such error is told is tried alone: refused is then what the prover r
 from typing import NamedTuple
 
 from tests.edits.checks import BAD_EDIT, REFUSED, Check
+from tests.edits.copies import with_copies
 from tests.edits.edits import BadEdit, Edit
 from tests.edits.functions import with_holes
 
@@ -21,6 +23,14 @@ class Tried(NamedTuple):
     how: str
 
 
+class Beside(NamedTuple):
+    """Which edits were tried in copies, the errors that are told of their copies, and of which functions no error is told as they are."""
+
+    copied: set
+    errors: dict
+    clear: set
+
+
 def try_edits(room, paths):
     """Tries the edits of these paths in the room of their crate, and gives what came of each. A function of which an error is told
     without any edit, as for the holes around it, tells nothing: its edits are tried in the whole crate."""
@@ -30,17 +40,34 @@ def try_edits(room, paths):
             edits.append(Edit(path, room.texts))
         except BadEdit as fault:
             tried.append(Tried(path.rpartition("/")[2], BAD_EDIT, str(fault), "read"))
-    near = sorted({it for edit in edits for it in edit.near})
-    clear = {*near} - {*refusals(room, room.texts, near)}
-    alone, left = [it for it in edits if it.function not in clear], [it for it in edits if it.function in clear]
+    beside = try_beside(room, edits)
+    seen = {it: why for it, why in beside.errors.items() if it.function in beside.clear}
+    tried += [Tried(it.name, REFUSED, why, f"one of {len(beside.copied)} copies") for it, why in seen.items()]
+    alone = [it for it in edits if it not in seen and (it in beside.copied or it.function not in beside.clear)]
+    left = [it for it in edits if it not in seen and it not in alone]
     while left:
         batch, texts = together(left, room.texts)
         left = [it for it in left if it not in batch]
         errors = refusals(room, texts, [it.function for it in batch]) if len(batch) > 1 else {}
-        seen = [it for it in batch if it.function in errors]
-        tried += [Tried(it.name, REFUSED, errors[it.function], f"one of {len(batch)} together") for it in seen]
-        alone += [it for it in batch if it not in seen]
-    return sorted([*tried, *(try_alone(room, it, clear) for it in alone)])
+        refused = [it for it in batch if it.function in errors]
+        tried += [Tried(it.name, REFUSED, errors[it.function], f"one of {len(batch)} together") for it in refused]
+        alone += [it for it in batch if it not in refused]
+    return sorted([*tried, *(try_alone(room, it, beside) for it in alone)])
+
+
+def try_beside(room, edits):
+    """Tries these edits in copies, and by the same check the functions as they are. Where that doesn't reach the prover, as a copy isn't
+    read or typed, half of them is tried after the other."""
+    texts, copies, bases = with_copies(room.name, room.texts, edits)
+    near = {it: bases.get(it, it) for edit in edits for it in edit.near}
+    said = checked(room, texts, sorted([*near.values(), *copies.values()]))
+    if said.is_told:
+        errors = {it: why for it, path in copies.items() for why in [said.refusal(room.name, path)] if why}
+        return Beside({*copies}, errors, {it for it, path in near.items() if not said.refusal(room.name, path)})
+    if len(edits) < 2:
+        return Beside(set(), {}, set())
+    one, other = (try_beside(room, it) for it in (edits[::2], edits[1::2]))
+    return Beside(one.copied | other.copied, {**one.errors, **other.errors}, one.clear | other.clear)
 
 
 def together(edits, texts):
@@ -55,16 +82,23 @@ def together(edits, texts):
     return list(first.values()), texts
 
 
-def refusals(room, texts, functions):
-    """The errors that are told of these functions, the others being taken at the word of their contracts."""
+def checked(room, texts, functions):
+    """What a check says of these functions, the others being taken at the word of their contracts."""
     only = [word for it in functions for word in ("--only", it)]
-    said = room.check(with_holes(room.name, texts, functions), "--allow-holes", *only) if only else Check([])
+    return room.check(with_holes(room.name, texts, functions), "--allow-holes", *only) if only else Check([])
+
+
+def refusals(room, texts, functions):
+    """The errors that are told of these functions."""
+    said = checked(room, texts, functions)
     return {it: error for it in functions for error in [said.refusal(room.name, it)] if error}
 
 
-def try_alone(room, edit, clear):
-    """Tries one edit: what it was planted in by itself, and where no error is told there, the whole crate."""
+def try_alone(room, edit, beside):
+    """Tries one edit: what it was planted in by itself, unless a copy of that was tried; and where no error is told there, the whole
+    crate."""
     texts = edit.planted(room.texts)
-    for error in refusals(room, texts, [it for it in edit.near if it in clear]).values():
+    near = [] if edit in beside.copied else [it for it in edit.near if it in beside.clear]
+    for error in refusals(room, texts, near).values():
         return Tried(edit.name, REFUSED, error, "alone")
     return Tried(edit.name, *room.check(texts).ending(), "alone, in the whole crate")

@@ -1,0 +1,65 @@
+"""Edited functions beside what they were: copies under names of their own, so that one check tells of all edits.
+
+A function is proved against the contracts of what it calls, and nobody calls a copy. So the prover says of a copy what it would say of
+the function with that body. That it does is tried: beside them stands a copy without an edit. A method of a trait has no copy, since an
+`impl` of a trait has its methods and no others; nor has a function that calls itself, or stands neither at the margin nor in an `impl`.
+"""
+
+import os
+
+from tests.edits.functions import matches_in, without_arguments
+
+
+def with_copies(crate, texts, edits):
+    """The texts of a crate with copies of the functions that these edits change: one with each edit, and one of each as it is. Beside
+    them the path of each edit's copy, and of each function's."""
+    made, of_edits, of_functions = dict(texts), {}, {}
+    for number, edit in enumerate(edits):
+        if not edit.function or not is_copyable(edit, texts):
+            continue
+        if edit.function not in of_functions:
+            of_functions[edit.function] = with_copy(crate, made, texts, edit, "as_it_is")
+        of_edits[edit] = with_copy(crate, made, edit.planted(texts), edit, f"edit_{number}")
+    return made, of_edits, of_functions
+
+
+def file_of(edit):
+    return edit.pairs[0][0]
+
+
+def found_in(edit, texts):
+    """The head of the `impl` that an edit's function stands in, if it stands in one, and the function's match."""
+    return next((head, found) for path, head, found in matches_in(file_of(edit), texts) if path == edit.function)
+
+
+def is_copyable(edit, texts):
+    head, found = found_in(edit, texts)
+    *above, name = edit.function.split("::")
+    calls_itself = any(os.path.dirname(it) == "/".join(["proofs", *above, f"+{name}"]) for it in texts)
+    is_of_trait = head is not None and " for " in without_arguments(head).split("{")[0]
+    return not calls_itself and not is_of_trait and (head is not None or not found["indent"])
+
+
+def with_copy(crate, made, texts, edit, word):
+    """Puts an edit's function as it stands in these texts behind the function of those that are made, under its name and a word, and its
+    proof beside the function's. Answers its path."""
+    *above, name = edit.function.split("::")
+    copied = f"{name}_{word}"
+    _, found = found_in(edit, made)
+    text, end = made[file_of(edit)], found.end()
+    made[file_of(edit)] = f"{text[:end]}\n\n{item(edit, texts, name, copied)}{text[end:]}"
+    home, beside = (f"{'/'.join(['proofs', *above, it])}/" for it in (name, copied))
+    said, says = (".".join(["Rattle", crate, "proofs", *above, it, ""]) for it in (name, copied))
+    for path in [it for it in texts if it.startswith(home)]:
+        made[path.replace(home, beside, 1)] = texts[path].replace(said, says)
+    return "::".join([*above, copied])
+
+
+def item(edit, texts, name, copied):
+    """An edit's function as it stands in these texts, with its attributes, under another name."""
+    _, found = found_in(edit, texts)
+    above, attributes = texts[file_of(edit)][:found.start()].split("\n")[:-1], []
+    while above and above[-1].strip().startswith(("#[", "//")):
+        attributes.insert(0, above.pop())
+    head = found[0].replace(f"fn {name}", f"fn {copied}", 1)
+    return "\n".join([*(it for it in attributes if it.strip().startswith("#[")), head])
