@@ -1,0 +1,68 @@
+-- The stream of what was sent and is to be sent, as texts are put and bytes are sent.
+use Rattle.std.proofs.Common.{◌≡◌, ℕ, Bool, true, false, cond, List, [], ◌∷◌, ◌++◌, take, drop, refl, sym, ap, subst, ◌∙◌, append_assoc, append-nil}
+use Rattle.std.proofs.lemmas.List.{take-append-drop}
+use Rattle.std.proofs.lemmas.List.Folds.{concat-append}
+use Rattle.std.specs.List.{concat}
+use Rattle.swim_events.specs.declared.watchers.Standing.{Standing}
+use Rattle.swim_events.specs.declared.watchers.Standing.TheVariants.{Following, Losing, Lost}
+use Rattle.swim_events.specs.Texts.{lost_text}
+use Rattle.swim_events.specs.Watchers.{AtWatcher, fits, losing, text_then, after_text, left_then, after_sent, IsFront, Streams, IsStream}
+
+-- the first texts stay so where more texts come
+front_more : (texts : List (List ℕ)) (text stream : List ℕ) → IsFront texts stream → IsFront (texts ++ text ∷ []) stream
+front_more texts text stream front = record {
+  whole = front.whole;
+  unfit = front.unfit;
+  rest = front.rest ++ text ∷ [];
+  cut = ap (λ l. l ++ text ∷ []) front.cut ∙ append_assoc front.whole (front.unfit ∷ front.rest) (text ∷ []);
+  stream_is = front.stream_is;
+}
+
+-- who can't be told all any more
+losing_streams : (texts : List (List ℕ)) (sent pending : List ℕ) → IsFront texts (sent ++ pending) →
+    IsStream texts sent (losing pending)
+losing_streams texts sent pending front = by (fits pending lost_text)
+  where
+    by : (fit : Bool) → IsStream texts sent
+        (cond fit (record { pending = pending ++ lost_text; standing = Lost }) (record { pending = pending; standing = Losing }))
+    by true = (sent ++ pending, front, sym (append_assoc sent pending lost_text))
+    by false = front
+
+text_streams : (standing : Standing) (texts : List (List ℕ)) (sent pending text : List ℕ) →
+    Streams standing texts (sent ++ pending) → IsStream (texts ++ text ∷ []) sent (text_then standing text pending)
+text_streams Following texts sent pending text all = by (fits pending text)
+  where
+    longer : sent ++ (pending ++ text) ≡ concat (texts ++ text ∷ [])
+    longer =
+        sym (append_assoc sent pending text) ∙ ap (λ l. l ++ text) all ∙ ap (λ l. concat texts ++ l) (sym (append-nil text))
+        ∙ sym (concat-append texts (text ∷ []))
+
+    by : (fit : Bool) → IsStream (texts ++ text ∷ []) sent
+        (cond fit (record { pending = pending ++ text; standing = Following }) (losing pending))
+    by true = longer
+    by false =
+        losing_streams (texts ++ text ∷ []) sent pending
+        (record { whole = texts; unfit = text; rest = []; cut = refl; stream_is = all })
+text_streams Losing texts sent pending text front = front_more texts text (sent ++ pending) front
+text_streams Lost texts sent pending text lost = (lost.0, front_more texts text lost.0 lost.1, lost.2)
+
+-- a text was put
+pub put_streams : (texts : List (List ℕ)) (sent text : List ℕ) (w : AtWatcher) → IsStream texts sent w →
+    IsStream (texts ++ text ∷ []) sent (after_text text w)
+put_streams texts sent text w is = text_streams w.standing texts sent w.pending text is
+
+left_streams : (standing : Standing) (texts : List (List ℕ)) (sent left : List ℕ) → Streams standing texts (sent ++ left) →
+    IsStream texts sent (left_then standing left)
+left_streams Following texts sent left is = is
+left_streams Losing texts sent left is = losing_streams texts sent left is
+left_streams Lost texts sent left is = is
+
+-- the first bytes were sent
+pub sent_streams : (texts : List (List ℕ)) (sent : List ℕ) (count : ℕ) (w : AtWatcher) → IsStream texts sent w →
+    IsStream texts (sent ++ take count w.pending) (after_sent count w)
+sent_streams texts sent count w is =
+    let same : sent ++ w.pending ≡ (sent ++ take count w.pending) ++ drop count w.pending =
+    ap (λ l. sent ++ l) (sym (take-append-drop count w.pending))
+    ∙ sym (append_assoc sent (take count w.pending) (drop count w.pending)) in
+    left_streams w.standing texts (sent ++ take count w.pending) (drop count w.pending)
+    (subst (λ (stream : List ℕ). Streams w.standing texts stream) same is)

@@ -1,0 +1,4 @@
+pub mod Texts
+pub mod Watching
+pub mod Watchers
+pub mod Watched

@@ -1,0 +1,63 @@
+-- What is to be sent to a watcher, and what a watcher was told.
+use Rattle.std.specs.Prelude.{◌≡◌, ℕ, ◌+◌, nat_le, Bool, List, ◌∷◌, ◌++◌, length, drop, if◌then◌else◌}
+use Rattle.std.specs.List.{concat}
+use Rattle.swim_events.specs.declared.watchers.Standing.{Standing}
+use Rattle.swim_events.specs.declared.watchers.Standing.TheVariants.{Following, Losing, Lost}
+use Rattle.swim_events.specs.Texts.{lost_text}
+
+-- the bytes that are to be sent, and whether the watcher keeps up
+pub record AtWatcher : Type 0 where
+  pub pending : List ℕ
+  pub standing : Standing
+
+-- how many bytes may wait
+abbrev pub watcher_bytes : ℕ
+watcher_bytes = 65536
+
+-- whether a text fits behind those bytes
+abbrev pub fits : List ℕ → List ℕ → Bool
+fits pending text = nat_le (length pending + length text) watcher_bytes
+
+-- who can't be told all any more is told so, as soon as that fits
+abbrev pub losing : List ℕ → AtWatcher
+losing pending =
+    if fits pending lost_text then record { pending = pending ++ lost_text; standing = Lost }
+    else record { pending = pending; standing = Losing }
+
+-- after a text: all of it is to be sent, or nothing
+abbrev pub text_then : Standing → List ℕ → List ℕ → AtWatcher
+text_then Following text pending =
+    if fits pending text then record { pending = pending ++ text; standing = Following } else losing pending
+text_then Losing text pending = record { pending = pending; standing = Losing }
+text_then Lost text pending = record { pending = pending; standing = Lost }
+
+abbrev pub after_text : List ℕ → AtWatcher → AtWatcher
+after_text text w = text_then w.standing text w.pending
+
+-- after the first bytes were sent, so many
+abbrev pub left_then : Standing → List ℕ → AtWatcher
+left_then Following left = record { pending = left; standing = Following }
+left_then Losing left = losing left
+left_then Lost left = record { pending = left; standing = Lost }
+
+abbrev pub after_sent : ℕ → AtWatcher → AtWatcher
+after_sent count w = left_then w.standing (drop count w.pending)
+
+-- the texts before the first that didn't fit, each whole, and nothing else
+pub record IsFront (texts : List (List ℕ)) (stream : List ℕ) : Type 0 where
+  pub whole : List (List ℕ)
+  pub unfit : List ℕ
+  pub rest : List (List ℕ)
+  pub cut : texts ≡ whole ++ unfit ∷ rest
+  pub stream_is : stream ≡ concat whole
+
+-- a stream of these texts: all of them, or those before the first that didn't fit, and then `lost`, at the latest once it
+-- fits
+abbrev pub Streams : Standing → List (List ℕ) → List ℕ → Type 0
+Streams Following texts stream = stream ≡ concat texts
+Streams Losing texts stream = IsFront texts stream
+Streams Lost texts stream = (front : List ℕ) × IsFront texts front × (stream ≡ front ++ lost_text)
+
+-- where these texts were put, and these bytes were sent, what was sent and what is to be sent is a stream of the texts
+abbrev pub IsStream : List (List ℕ) → List ℕ → AtWatcher → Type 0
+IsStream texts sent w = Streams w.standing texts (sent ++ w.pending)
