@@ -1,2 +1,4 @@
 pub mod Streaming
 pub mod Reading
+pub mod Telling
+pub mod Rebuilding

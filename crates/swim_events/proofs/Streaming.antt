@@ -9,8 +9,9 @@ use Rattle.swim_events.specs.Texts.{lost_text}
 use Rattle.swim_events.specs.Watchers.{AtWatcher, fits, losing, text_then, after_text, left_then, after_sent, IsFront, Streams, IsStream}
 
 -- the first texts stay so where more texts come
-front_more : (texts : List (List ℕ)) (text stream : List ℕ) → IsFront texts stream → IsFront (texts ++ text ∷ []) stream
-front_more texts text stream front = record {
+front_more : (first : List ℕ) (texts : List (List ℕ)) (text stream : List ℕ) → IsFront first texts stream →
+    IsFront first (texts ++ text ∷ []) stream
+front_more first texts text stream front = record {
   whole = front.whole;
   unfit = front.unfit;
   rest = front.rest ++ text ∷ [];
@@ -19,50 +20,53 @@ front_more texts text stream front = record {
 }
 
 -- who can't be told all any more
-losing_streams : (texts : List (List ℕ)) (sent pending : List ℕ) → IsFront texts (sent ++ pending) →
-    IsStream texts sent (losing pending)
-losing_streams texts sent pending front = by (fits pending lost_text)
+losing_streams : (first : List ℕ) (texts : List (List ℕ)) (sent pending : List ℕ) → IsFront first texts (sent ++ pending) →
+    IsStream first texts sent (losing pending)
+losing_streams first texts sent pending front = by (fits pending lost_text)
   where
-    by : (fit : Bool) → IsStream texts sent
+    by : (fit : Bool) → IsStream first texts sent
         (cond fit (record { pending = pending ++ lost_text; standing = Lost }) (record { pending = pending; standing = Losing }))
     by true = (sent ++ pending, front, sym (append_assoc sent pending lost_text))
     by false = front
 
-text_streams : (standing : Standing) (texts : List (List ℕ)) (sent pending text : List ℕ) →
-    Streams standing texts (sent ++ pending) → IsStream (texts ++ text ∷ []) sent (text_then standing text pending)
-text_streams Following texts sent pending text all = by (fits pending text)
+text_streams : (standing : Standing) (first : List ℕ) (texts : List (List ℕ)) (sent pending text : List ℕ) →
+    Streams standing first texts (sent ++ pending) → IsStream first (texts ++ text ∷ []) sent (text_then standing text pending)
+text_streams Following first texts sent pending text all = by (fits pending text)
   where
-    longer : sent ++ (pending ++ text) ≡ concat (texts ++ text ∷ [])
-    longer =
-        sym (append_assoc sent pending text) ∙ ap (λ l. l ++ text) all ∙ ap (λ l. concat texts ++ l) (sym (append-nil text))
-        ∙ sym (concat-append texts (text ∷ []))
+    more : concat texts ++ text ≡ concat (texts ++ text ∷ [])
+    more = ap (λ l. concat texts ++ l) (sym (append-nil text)) ∙ sym (concat-append texts (text ∷ []))
 
-    by : (fit : Bool) → IsStream (texts ++ text ∷ []) sent
+    longer : sent ++ (pending ++ text) ≡ first ++ concat (texts ++ text ∷ [])
+    longer =
+        sym (append_assoc sent pending text) ∙ ap (λ l. l ++ text) all ∙ append_assoc first (concat texts) text
+        ∙ ap (λ l. first ++ l) more
+
+    by : (fit : Bool) → IsStream first (texts ++ text ∷ []) sent
         (cond fit (record { pending = pending ++ text; standing = Following }) (losing pending))
     by true = longer
     by false =
-        losing_streams (texts ++ text ∷ []) sent pending
+        losing_streams first (texts ++ text ∷ []) sent pending
         (record { whole = texts; unfit = text; rest = []; cut = refl; stream_is = all })
-text_streams Losing texts sent pending text front = front_more texts text (sent ++ pending) front
-text_streams Lost texts sent pending text lost = (lost.0, front_more texts text lost.0 lost.1, lost.2)
+text_streams Losing first texts sent pending text front = front_more first texts text (sent ++ pending) front
+text_streams Lost first texts sent pending text lost = (lost.0, front_more first texts text lost.0 lost.1, lost.2)
 
 -- a text was put
-pub put_streams : (texts : List (List ℕ)) (sent text : List ℕ) (w : AtWatcher) → IsStream texts sent w →
-    IsStream (texts ++ text ∷ []) sent (after_text text w)
-put_streams texts sent text w is = text_streams w.standing texts sent w.pending text is
+pub put_streams : (first : List ℕ) (texts : List (List ℕ)) (sent text : List ℕ) (w : AtWatcher) → IsStream first texts sent w →
+    IsStream first (texts ++ text ∷ []) sent (after_text text w)
+put_streams first texts sent text w is = text_streams w.standing first texts sent w.pending text is
 
-left_streams : (standing : Standing) (texts : List (List ℕ)) (sent left : List ℕ) → Streams standing texts (sent ++ left) →
-    IsStream texts sent (left_then standing left)
-left_streams Following texts sent left is = is
-left_streams Losing texts sent left is = losing_streams texts sent left is
-left_streams Lost texts sent left is = is
+left_streams : (standing : Standing) (first : List ℕ) (texts : List (List ℕ)) (sent left : List ℕ) →
+    Streams standing first texts (sent ++ left) → IsStream first texts sent (left_then standing left)
+left_streams Following first texts sent left is = is
+left_streams Losing first texts sent left is = losing_streams first texts sent left is
+left_streams Lost first texts sent left is = is
 
 -- the first bytes were sent
-pub sent_streams : (texts : List (List ℕ)) (sent : List ℕ) (count : ℕ) (w : AtWatcher) → IsStream texts sent w →
-    IsStream texts (sent ++ take count w.pending) (after_sent count w)
-sent_streams texts sent count w is =
+pub sent_streams : (first : List ℕ) (texts : List (List ℕ)) (sent : List ℕ) (count : ℕ) (w : AtWatcher) →
+    IsStream first texts sent w → IsStream first texts (sent ++ take count w.pending) (after_sent count w)
+sent_streams first texts sent count w is =
     let same : sent ++ w.pending ≡ (sent ++ take count w.pending) ++ drop count w.pending =
     ap (λ l. sent ++ l) (sym (take-append-drop count w.pending))
     ∙ sym (append_assoc sent (take count w.pending) (drop count w.pending)) in
-    left_streams w.standing texts (sent ++ take count w.pending) (drop count w.pending)
-    (subst (λ (stream : List ℕ). Streams w.standing texts stream) same is)
+    left_streams w.standing first texts (sent ++ take count w.pending) (drop count w.pending)
+    (subst (λ (stream : List ℕ). Streams w.standing first texts stream) same is)

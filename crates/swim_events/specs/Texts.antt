@@ -1,5 +1,6 @@
 -- The lines of events, and of a table.
-use Rattle.std.specs.Prelude.{ℕ, List, [], ◌∷◌, ◌++◌, codes, decimal}
+use Rattle.std.specs.Prelude.{ℕ, List, [], ◌∷◌, ◌++◌, map, codes, decimal}
+use Rattle.std.specs.List.{concat}
 use Rattle.swim_wire.specs.Address.{Address, address_text}
 use Rattle.swim_history.specs.Texts.{feed}
 use Rattle.swim_history.specs.declared.rows.Row.{Row}
@@ -18,8 +19,7 @@ change_text (Gone id) = codes "gone " ++ (decimal id ++ feed)
 
 -- the lines of changes, the first of them first
 abbrev pub changes_text : List Change → List ℕ
-changes_text [] = []
-changes_text (change ∷ changes) = change_text change ++ changes_text changes
+changes_text changes = concat (map change_text changes)
 
 -- the change by which a member stands so
 abbrev pub shown_as : ℕ → Address → RowState → Change

@@ -43,21 +43,22 @@ left_then Lost left = record { pending = left; standing = Lost }
 abbrev pub after_sent : ℕ → AtWatcher → AtWatcher
 after_sent count w = left_then w.standing (drop count w.pending)
 
--- the texts before the first that didn't fit, each whole, and nothing else
-pub record IsFront (texts : List (List ℕ)) (stream : List ℕ) : Type 0 where
+-- a first text, the texts before the one that didn't fit, each whole, and nothing else
+pub record IsFront (first : List ℕ) (texts : List (List ℕ)) (stream : List ℕ) : Type 0 where
   pub whole : List (List ℕ)
   pub unfit : List ℕ
   pub rest : List (List ℕ)
   pub cut : texts ≡ whole ++ unfit ∷ rest
-  pub stream_is : stream ≡ concat whole
+  pub stream_is : stream ≡ first ++ concat whole
 
--- a stream of these texts: all of them, or those before the first that didn't fit, and then `lost`, at the latest once it
--- fits
-abbrev pub Streams : Standing → List (List ℕ) → List ℕ → Type 0
-Streams Following texts stream = stream ≡ concat texts
-Streams Losing texts stream = IsFront texts stream
-Streams Lost texts stream = (front : List ℕ) × IsFront texts front × (stream ≡ front ++ lost_text)
+-- a stream of a first text and others: all of them, or those before the one that didn't fit, and then `lost`, which may not
+-- have fitted yet
+abbrev pub Streams : Standing → List ℕ → List (List ℕ) → List ℕ → Type 0
+Streams Following first texts stream = stream ≡ first ++ concat texts
+Streams Losing first texts stream = IsFront first texts stream
+Streams Lost first texts stream = (front : List ℕ) × IsFront first texts front × (stream ≡ front ++ lost_text)
 
--- where these texts were put, and these bytes were sent, what was sent and what is to be sent is a stream of the texts
-abbrev pub IsStream : List (List ℕ) → List ℕ → AtWatcher → Type 0
-IsStream texts sent w = Streams w.standing texts (sent ++ w.pending)
+-- where these texts were put behind a first one, and these bytes were sent, what was sent and what is to be sent is a stream
+-- of the texts
+abbrev pub IsStream : List ℕ → List (List ℕ) → List ℕ → AtWatcher → Type 0
+IsStream first texts sent w = Streams w.standing first texts (sent ++ w.pending)

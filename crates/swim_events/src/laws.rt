@@ -1,1 +1,45 @@
-//! Laws.
+//! Laws of what watchers are told. Each is the contract of a function that does nothing, so that it stays proved.
+
+ghost use Rattle.std.specs.Prelude.{◌≡◌, ◌++◌, ◌∷◌, [], ℕ, List, map};
+ghost use Rattle.std.specs.Option.{option_to_list};
+ghost use Rattle.swim_history.specs.declared.entries.Entry.{Entry};
+ghost use Rattle.swim_history.specs.declared.rows.Row.{Row};
+ghost use Rattle.swim_history.specs.declared.rows.Change.{Change};
+ghost use Rattle.swim_history.specs.Setting.{Setting};
+ghost use Rattle.swim_history.specs.Clock.{period_number};
+ghost use Rattle.swim_history.specs.Changes.{change_by, changes, rows_after, table};
+ghost use Rattle.swim_history.specs.After.{setting_after};
+ghost use Rattle.swim_events.specs.Texts.{change_text, changes_text, shown, table_text};
+ghost use Rattle.swim_events.specs.Watchers.{AtWatcher, IsStream};
+ghost use Rattle.swim_events.specs.Watched.{IsWatched, IsTold, lines_after};
+
+/// A watcher whose texts are the table of a beginning of a history and the changes of the entries after it is told just
+/// these while it keeps up. One who doesn't is told the same of a beginning of the history, and that it is lost.
+pub fn watchers_are_told_the_changes()
+    ensures { (o : Setting) (h newer before : List Entry) (later : List Change) (sent : List ℕ) (w : AtWatcher) →
+        h ≡ newer ++ before → changes o h ≡ changes o before ++ later →
+        IsStream (table_text (table o before)) (map change_text later) sent w →
+        IsTold w.standing o h (sent ++ w.pending) }
+{}
+
+/// A watcher begins with the table, and goes on with the change of each entry.
+pub fn a_watcher_goes_on_by_entries()
+    ensures begins { (o : Setting) (h : List Entry) → IsWatched o h (table_text (table o h)) }
+    ensures goes_on { (o : Setting) (h : List Entry) (e : Entry) (text : List ℕ) → IsWatched o h text →
+        IsWatched o (e ∷ h)
+        (text ++ changes_text (option_to_list (change_by e.call e.reply (period_number o h)))) }
+{}
+
+/// After the changes that a watcher was told the table is what they make of the one that it was told first, and the
+/// watcher can make its lines of those that it has.
+pub fn a_watcher_can_rebuild_the_table()
+    ensures rows { (o : Setting) (h before : List Entry) (later : List Change) →
+        changes o h ≡ changes o before ++ later → table o h ≡ rows_after (table o before) later }
+    ensures lines { (rows : List Row) (later : List Change) →
+        map shown (rows_after rows later) ≡ lines_after (map shown rows) later }
+{}
+
+/// A life begins with the table that the one before left: a watcher goes on as it is.
+pub fn a_life_begins_with_the_table_before_it()
+    ensures { (o : Setting) (h : List Entry) → table (setting_after o h) [] ≡ table o h }
+{}

@@ -51,7 +51,7 @@ impl Watcher {
     pub fn new(alloc: Global, rows: &[Row]) -> Result<Watcher, AllocError>
         requires { length rows.now ≤ KNOWN_MEMBERS }
         ensures told { IfOk result (λ w. w ≡ record { pending = table_text rows.now; standing = Standing.Following }) }
-        ensures stream { IfOk result (λ w. IsStream (table_text rows.now ∷ []) [] w) }
+        ensures stream { IfOk result (λ w. IsStream (table_text rows.now) [] [] w) }
     {
         let mut pending = Vec::with_capacity(alloc, WATCHER_BYTES)?;
         add_rows(&mut pending, rows)?;
@@ -65,8 +65,8 @@ impl Watcher {
     /// Takes a text, if it fits behind the bytes that are still to be sent and the watcher keeps up.
     pub fn put(&mut self, text: &[u8])
         ensures exact { self.new ≡ after_text text.now self.old }
-        ensures stream { (texts : List (List ℕ)) (sent : List ℕ) → IsStream texts sent self.old →
-            IsStream (texts ++ text.now ∷ []) sent self.new }
+        ensures stream { (first : List ℕ) (texts : List (List ℕ)) (sent : List ℕ) → IsStream first texts sent self.old →
+            IsStream first (texts ++ text.now ∷ []) sent self.new }
     {
         self.take_text(text)
     }
@@ -83,8 +83,8 @@ impl Watcher {
     pub fn sent(&mut self, count: usize)
         requires { count ≤ length self.old.pending }
         ensures exact { self.new ≡ after_sent count self.old }
-        ensures stream { (texts : List (List ℕ)) (sent : List ℕ) → IsStream texts sent self.old →
-            IsStream texts (sent ++ take count self.old.pending) self.new }
+        ensures stream { (first : List ℕ) (texts : List (List ℕ)) (sent : List ℕ) → IsStream first texts sent self.old →
+            IsStream first texts (sent ++ take count self.old.pending) self.new }
     {
         self.drop_sent(count)
     }
