@@ -40,6 +40,10 @@ ascending_is (row ∷ rows) ascends = ap (put row) (ascending_is rows ascends.1)
 pub life_begins : (o : Setting) (h : List Entry) → table (setting_after o h) [] ≡ table o h
 life_begins o h = ascending_is (table o h) (table_ascends o h)
 
+pub life_goes_on : (o : Setting) (h later : List Entry) →
+    table (setting_after o h) later ≡ rows_after (table o h) (changes (setting_after o h) later)
+life_goes_on o h later = ap (λ (rows : List Row). rows_after rows (changes (setting_after o h) later)) (life_begins o h)
+
 -- a choice of rows is one of lines
 shown_choice : (b : Bool) (row other : Row) → shown (cond b row other) ≡ cond b (shown row) (shown other)
 shown_choice true row other = refl

@@ -2,3 +2,4 @@ pub mod Texts
 pub mod Watching
 pub mod Watchers
 pub mod Watched
+pub mod Worked

@@ -39,7 +39,9 @@ pub fn a_watcher_can_rebuild_the_table()
         map shown (rows_after rows later) ≡ lines_after (map shown rows) later }
 {}
 
-/// A life begins with the table that the one before left: a watcher goes on as it is.
+/// A life begins with the table that the one before left, and goes on from it: a watcher's table stays as it is.
 pub fn a_life_begins_with_the_table_before_it()
-    ensures { (o : Setting) (h : List Entry) → table (setting_after o h) [] ≡ table o h }
+    ensures begins { (o : Setting) (h : List Entry) → table (setting_after o h) [] ≡ table o h }
+    ensures goes_on { (o : Setting) (h later : List Entry) →
+        table (setting_after o h) later ≡ rows_after (table o h) (changes (setting_after o h) later) }
 {}

@@ -7,5 +7,5 @@ mod watchers;
 mod watching;
 
 pub use events::{Event, LINE_BYTES, Line, event_of_row, line_of};
-pub use watchers::{Standing, WATCHER_BYTES, Watcher};
+pub use watchers::{Standing, WATCHER_BYTES, Watcher, tell};
 pub use watching::{Watching, change_of};

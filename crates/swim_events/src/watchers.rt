@@ -1,8 +1,8 @@
 //! What is to be sent to a watcher.
 
-ghost use Rattle.std.specs.Prelude.{◌≡◌, ◌≤◌, ◌+◌, ◌*◌, ◌++◌, ◌∷◌, [], ◌↔◌, ℕ, List, IsTrue, IfOk, OnOk, length, take, drop};
+ghost use Rattle.std.specs.Prelude.{◌≡◌, ◌≤◌, ◌+◌, ◌*◌, ◌++◌, ◌∷◌, [], ◌↔◌, ℕ, List, IsTrue, IfOk, OnOk, length, map, take, drop};
 ghost use Rattle.std.specs.Vec.{vec_capacity};
-ghost use Rattle.swim_events.specs.Texts.{rows_text, table_text};
+ghost use Rattle.swim_events.specs.Texts.{event_text, rows_text, table_text};
 ghost use Rattle.swim_events.specs.Watchers.{after_text, after_sent, IsStream, losing};
 
 use crate::events::{Event, LINE_BYTES, event_of_row, line_of};
@@ -89,11 +89,11 @@ impl Watcher {
         self.drop_sent(count)
     }
 
-    /// Whether the watcher keeps up.
-    pub fn standing(&self) -> Standing
-        ensures { result ≡ self.now.standing }
+    /// Whether the watcher keeps up: it was told all, or all is to be sent to it.
+    pub fn keeps_up(&self) -> bool
+        ensures { IsTrue result ↔ (self.now.standing ≡ Standing.Following) }
     {
-        self.standing
+        self.standing == Standing::Following
     }
 
     /// Whether the watcher is lost and all was sent to it, `lost` too: its connection is to be closed.
@@ -113,7 +113,7 @@ impl Watcher {
             self.lose();
             return;
         }
-        let _done = self.pending.extend_from_slice(text);
+        let _taken = self.pending.extend_from_slice(text);
     }
 
     fn drop_sent(&mut self, count: usize)
@@ -138,6 +138,17 @@ impl Watcher {
         }
         let _done = self.pending.extend_from_slice(text);
         self.standing = Standing::Lost;
+    }
+}
+
+/// Tells an event to all of these watchers. Each takes its line or is lost, however the others stand.
+pub fn tell(watchers: &mut [Watcher], event: &Event)
+    ensures { watchers.new ≡ map (after_text (event_text event.now)) watchers.old }
+{
+    let line = line_of(event);
+    let text = line.as_str().as_bytes();
+    for watcher in watchers.iter_mut() {
+        watcher.put(text);
     }
 }
 

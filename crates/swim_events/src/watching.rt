@@ -64,13 +64,6 @@ impl Watching {
         self.rows.as_slice()
     }
 
-    /// The last period number used.
-    pub fn number(&self) -> u64
-        ensures { result ≡ self.now.number }
-    {
-        self.number
-    }
-
     /// Goes one entry on.
     fn read(&mut self, call: &Call, reply: &Reply) -> Option<Change>
         ensures change { result ≡ change_by call.now reply.now self.old.number }
