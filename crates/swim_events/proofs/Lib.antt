@@ -1,4 +1,5 @@
 pub mod Streaming
 pub mod Reading
-pub mod Telling
+pub mod Told
+pub mod Entries
 pub mod Rebuilding

@@ -2,4 +2,5 @@ pub mod Texts
 pub mod Watching
 pub mod Watchers
 pub mod Watched
+pub mod Telling
 pub mod Worked

@@ -1,6 +1,6 @@
 //! Laws of what watchers are told. Each is the contract of a function that does nothing, so that it stays proved.
 
-ghost use Rattle.std.specs.Prelude.{◌≡◌, ◌++◌, ◌∷◌, [], ℕ, List, map};
+ghost use Rattle.std.specs.Prelude.{◌≡◌, ◌++◌, ◌∷◌, [], ℕ, List, map, take};
 ghost use Rattle.std.specs.Option.{option_to_list};
 ghost use Rattle.swim_history.specs.declared.entries.Entry.{Entry};
 ghost use Rattle.swim_history.specs.declared.rows.Row.{Row};
@@ -9,17 +9,22 @@ ghost use Rattle.swim_history.specs.Setting.{Setting};
 ghost use Rattle.swim_history.specs.Clock.{period_number};
 ghost use Rattle.swim_history.specs.Changes.{change_by, changes, rows_after, table};
 ghost use Rattle.swim_history.specs.After.{setting_after};
-ghost use Rattle.swim_events.specs.Texts.{change_text, changes_text, shown, table_text};
-ghost use Rattle.swim_events.specs.Watchers.{AtWatcher, IsStream};
+ghost use Rattle.swim_events.specs.Texts.{changes_text, shown, table_text};
+ghost use Rattle.swim_events.specs.Watchers.{AtWatcher, after_sent};
+ghost use Rattle.swim_events.specs.declared.watchers.Standing.TheVariants.{Following};
+ghost use Rattle.swim_events.specs.Telling.{IsTelling};
 ghost use Rattle.swim_events.specs.Watched.{IsWatched, IsTold, lines_after};
 
-/// A watcher whose texts are the table of a beginning of a history and the changes of the entries after it is told just
-/// these while it keeps up. One who doesn't is told the same of a beginning of the history, and that it is lost.
+/// Who is put the table first, and later the change of each entry, is told the table of a beginning of the history and
+/// then just these changes, while it keeps up, whatever was sent of it so far. Who doesn't keep up is told the same of a
+/// beginning of the history, and that it is lost.
 pub fn watchers_are_told_the_changes()
-    ensures { (o : Setting) (h newer before : List Entry) (later : List Change) (sent : List ℕ) (w : AtWatcher) →
-        h ≡ newer ++ before → changes o h ≡ changes o before ++ later →
-        IsStream (table_text (table o before)) (map change_text later) sent w →
-        IsTold w.standing o h (sent ++ w.pending) }
+    ensures begins { (o : Setting) (h : List Entry) →
+        IsTelling o h [] (record { pending = table_text (table o h); standing = Following }) }
+    ensures sends { (o : Setting) (h : List Entry) (sent : List ℕ) (count : ℕ) (w : AtWatcher) →
+        IsTelling o h sent w → IsTelling o h (sent ++ take count w.pending) (after_sent count w) }
+    ensures told { (o : Setting) (h : List Entry) (sent : List ℕ) (w : AtWatcher) →
+        IsTelling o h sent w → IsTold w.standing o h (sent ++ w.pending) }
 {}
 
 /// A watcher begins with the table, and goes on with the change of each entry.

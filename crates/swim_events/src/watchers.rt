@@ -1,8 +1,8 @@
 //! What is to be sent to a watcher.
 
-ghost use Rattle.std.specs.Prelude.{◌≡◌, ◌≤◌, ◌+◌, ◌*◌, ◌++◌, ◌∷◌, [], ◌↔◌, ℕ, List, IsTrue, IfOk, OnOk, length, map, take, drop};
+ghost use Rattle.std.specs.Prelude.{◌≡◌, ◌≤◌, ◌+◌, ◌*◌, ◌++◌, ◌∷◌, [], ◌↔◌, ℕ, List, IsTrue, IfOk, OnOk, length, take, drop};
 ghost use Rattle.std.specs.Vec.{vec_capacity};
-ghost use Rattle.swim_events.specs.Texts.{event_text, rows_text, table_text};
+ghost use Rattle.swim_events.specs.Texts.{rows_text, table_text};
 ghost use Rattle.swim_events.specs.Watchers.{after_text, after_sent, IsStream, losing};
 
 use crate::events::{Event, LINE_BYTES, event_of_row, line_of};
@@ -138,17 +138,6 @@ impl Watcher {
         }
         let _done = self.pending.extend_from_slice(text);
         self.standing = Standing::Lost;
-    }
-}
-
-/// Tells an event to all of these watchers. Each takes its line or is lost, however the others stand.
-pub fn tell(watchers: &mut [Watcher], event: &Event)
-    ensures { watchers.new ≡ map (after_text (event_text event.now)) watchers.old }
-{
-    let line = line_of(event);
-    let text = line.as_str().as_bytes();
-    for watcher in watchers.iter_mut() {
-        watcher.put(text);
     }
 }
 

@@ -1,4 +1,4 @@
-use Rattle.swim_events.proofs.Telling.{watched_first, watched_more}
+use Rattle.swim_events.proofs.Told.{watched_first, watched_more}
 use Rattle.swim_events.proofs.laws.a_watcher_goes_on_by_entries.Goals as goal
 
 pub returns-clause-begins : goal.returns-clause-begins

@@ -20,19 +20,21 @@ pub record IsPart (changes : List Change) (whole rest : List (List ℕ)) : Type 
   pub cut : changes ≡ first ++ more
   pub texts : map change_text first ≡ whole
 
+part_onto : (change : Change) (changes : List Change) (text : List ℕ) (whole rest : List (List ℕ)) →
+    change_text change ≡ text → IsPart changes whole rest → IsPart (change ∷ changes) (text ∷ whole) rest
+part_onto change changes text whole rest same part = record {
+  first = change ∷ part.first;
+  more = part.more;
+  cut = ap (λ l. change ∷ l) part.cut;
+  texts = rw (part.texts, same) refl;
+}
+
 part_of : (changes : List Change) (whole rest : List (List ℕ)) → map change_text changes ≡ whole ++ rest →
     IsPart changes whole rest
 part_of changes [] rest is = record { first = []; more = changes; cut = refl; texts = refl }
 part_of [] (text ∷ whole) rest is = absurd (cc is)
 part_of (change ∷ changes) (text ∷ whole) rest is =
-    let same : change_text change ≡ text = cc is in
-    let others : map change_text changes ≡ whole ++ rest = cc is in
-    let part = part_of changes whole rest others in record {
-      first = change ∷ part.first;
-      more = part.more;
-      cut = ap (λ l. change ∷ l) part.cut;
-      texts = rw (part.texts, same) refl;
-    }
+    part_onto change changes text whole rest (cc is) (part_of changes whole rest (cc is))
 
 none_in : {A : Type 0} (first rest : List A) → [] ≡ first ++ rest → rest ≡ []
 none_in [] rest none = sym none

@@ -1,6 +1,6 @@
 use Rattle.std.proofs.Common.{◌≡◌, ℕ, zero, suc, ◌+◌, ◌<◌, List, [], ◌∷◌, ◌++◌, length, map, take, drop, get_or, set, sym, ap, ◌∙◌, subst, arith}
 use Rattle.swim_events.specs.Watchers.{after_text}
-use Rattle.swim_events.proofs.watchers.tell.Goals as goal
+use Rattle.swim_events.proofs.telling.tell.Goals as goal
 
 -- one element more is changed
 one_more : {A : Type 0} (f : A → A) (old : List A) (i : ℕ) (x : A) → i < length old →

@@ -1,6 +1,6 @@
 use Rattle.std.proofs.Common.{◌≡◌, ◌++◌, map, take, drop}
 use Rattle.swim_events.specs.Watchers.{after_text}
-use Rattle.swim_events.proofs.watchers.tell.Given as goal
+use Rattle.swim_events.proofs.telling.tell.Given as goal
 
 abbrev pub invariant-loop-watcher : goal.invariant-loop-watcher
 invariant-loop-watcher l =

@@ -1,0 +1,166 @@
+use std::process::Abort;
+use std::test::Fail;
+use swim_events::{Event, Watcher, Watching, change_of, event_of_row, line_of, tell};
+use swim_history::{Call, Change, Opening, Reply, Row, RowState};
+use swim_wire::{Id, Peer, Version};
+
+fn id(value: u32) -> Result<Id, Fail> {
+    Ok(Id::new(value).ok_or("an id is not 0")?)
+}
+
+fn address(last: u8) -> Peer {
+    Peer {
+        ip: [10, 0, 0, last],
+        port: 7000,
+    }
+}
+
+// Of member 1, after period 7. Members 3 and 2 are up, and 4 failed in period 5.
+fn opening() -> Result<Opening, Fail> {
+    let rows = [
+        (id(3)?, address(3)),
+        (id(2)?, address(2)),
+        (id(4)?, address(4)),
+    ];
+    let all_up = Opening::check(id(1)?, 1, 1, 3, &rows, 7, Version::One).map_err(|_| "an opening")?;
+    Ok(all_up.with_failed(id(4)?, 5).ok_or("a known member")?)
+}
+
+fn start(judged: Option<Id>) -> Reply {
+    Reply::Started {
+        judged,
+        probe: None,
+    }
+}
+
+#[test]
+fn writes_each_event(rt: HostRuntime) -> Result<(), Fail> {
+    let widest = Peer {
+        ip: [255, 255, 255, 255],
+        port: 65535,
+    };
+    let lines = [
+        (
+            Event::Changed(Change::Up(id(3)?, address(3))),
+            "up 3 10.0.0.3:7000\n",
+        ),
+        (
+            Event::Changed(Change::Up(id(u32::MAX)?, widest)),
+            "up 4294967295 255.255.255.255:65535\n",
+        ),
+        (Event::Changed(Change::Failed(id(3)?, 17)), "failed 3 17\n"),
+        (
+            Event::Changed(Change::Failed(id(u32::MAX)?, u64::MAX)),
+            "failed 4294967295 18446744073709551615\n",
+        ),
+        (Event::Changed(Change::Gone(id(3)?)), "gone 3\n"),
+        (Event::Life(2), "life 2\n"),
+        (Event::Lost, "lost\n"),
+        (Event::Ended, "ended\n"),
+    ];
+    for (event, text) in lines {
+        assert_eq!(rt; line_of(&event).as_str(), text);
+    }
+    Ok(())
+}
+
+#[test]
+fn tells_a_row_as_it_stands(rt: HostRuntime) -> Result<(), Fail> {
+    let mut row = Row {
+        id: id(5)?,
+        peer: address(5),
+        state: RowState::Up,
+    };
+    assert_eq!(rt;
+        line_of(&event_of_row(&row)).as_str(),
+        "up 5 10.0.0.5:7000\n"
+    );
+    row.state = RowState::Failed(9);
+    assert_eq!(rt; line_of(&event_of_row(&row)).as_str(), "failed 5 9\n");
+    Ok(())
+}
+
+#[test]
+fn tells_the_table_and_then_each_change(rt: HostRuntime) -> Result<(), Fail> {
+    let mut watching = Watching::new(&opening()?);
+    let mut early = Watcher::new(rt.alloc(), watching.rows())?;
+    let calls = [
+        (Call::Tick, start(None)),
+        (Call::Join(id(5)?, address(5)), Reply::Joined { place: 0 }),
+        (Call::Tick, Reply::Quiet),
+        (Call::Remove(id(4)?), Reply::Removed),
+        (Call::Tick, start(Some(id(3)?))),
+    ];
+    for (call, reply) in calls {
+        if let Some(change) = watching.next(&call, &reply) {
+            early.put(line_of(&Event::Changed(change)).as_str().as_bytes());
+        }
+    }
+    let late = Watcher::new(rt.alloc(), watching.rows())?;
+    let told =
+        b"up 2 10.0.0.2:7000\nup 3 10.0.0.3:7000\nfailed 4 5\n.\nup 5 10.0.0.5:7000\ngone 4\nfailed 3 8\n".as_slice();
+    let table = b"up 2 10.0.0.2:7000\nfailed 3 8\nup 5 10.0.0.5:7000\n.\n".as_slice();
+    assert_eq!(rt; early.pending(), told);
+    assert_eq!(rt; late.pending(), table);
+    assert_eq!(rt;
+        change_of(&Call::Tick, &start(Some(id(2)?)), 8),
+        Some(Change::Failed(id(2)?, 8))
+    );
+    Ok(())
+}
+
+fn send_all(watcher: &mut Watcher) {
+    let count = watcher.pending().len();
+    watcher.sent(count);
+}
+
+#[test]
+fn who_is_slow_is_lost_and_the_others_are_not(rt: HostRuntime) -> Result<(), Fail> {
+    let slow = Watcher::new(rt.alloc(), &[])?;
+    let quick = Watcher::new(rt.alloc(), &[])?;
+    let mut watchers = [slow, quick];
+    // A line of 16 bytes behind the two of the table: 4,095 of them fit, with 14 bytes left.
+    let event = Event::Changed(Change::Gone(id(4_000_000_000)?));
+    for _ in 0..4096 {
+        tell(&mut watchers, &event);
+        send_all(&mut watchers[1]);
+    }
+    tell(&mut watchers, &Event::Ended);
+    assert_lost(&rt, &mut watchers[0]);
+    let quick = &watchers[1];
+    assert!(rt; quick.keeps_up());
+    assert_eq!(rt; quick.pending(), b"ended\n".as_slice());
+    Ok(())
+}
+
+// It was told 4,095 lines and of its loss, and it is over once all was sent.
+fn assert_lost<R: Abort>(rt: &R, slow: &mut Watcher) {
+    assert!(rt; !slow.keeps_up());
+    assert_eq!(rt; slow.pending().len(), 65_527);
+    assert_eq!(rt;
+        &slow.pending()[65_506..],
+        b"gone 4000000000\nlost\n".as_slice()
+    );
+    slow.sent(65_526);
+    assert!(rt; !slow.is_over());
+    send_all(slow);
+    assert!(rt; slow.is_over());
+}
+
+#[test]
+fn is_told_of_its_loss_as_soon_as_that_fits(rt: HostRuntime) -> Result<(), Fail> {
+    let mut watcher = Watcher::new(rt.alloc(), &[])?;
+    watcher.put(&[b'x'; 65_531]);
+    watcher.put(b"yyyy");
+    // Three bytes are left.
+    assert_eq!(rt; watcher.pending().len(), 65_533);
+    watcher.sent(1);
+    assert_eq!(rt; watcher.pending().len(), 65_532);
+    watcher.put(b"z");
+    watcher.sent(1);
+    assert_eq!(rt; watcher.pending().len(), 65_536);
+    assert_eq!(rt; &watcher.pending()[65_529..], b"xxlost\n".as_slice());
+    watcher.put(b"z");
+    assert_eq!(rt; watcher.pending().len(), 65_536);
+    Ok(())
+}
