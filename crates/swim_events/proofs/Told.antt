@@ -9,9 +9,9 @@ use Rattle.swim_history.specs.Clock.{period_number}
 use Rattle.swim_history.specs.Changes.{change_by, changes, table}
 use Rattle.swim_events.specs.declared.watchers.Standing.{Standing}
 use Rattle.swim_events.specs.declared.watchers.Standing.TheVariants.{Following, Losing, Lost}
-use Rattle.swim_events.specs.Texts.{change_text, changes_text, table_text}
+use Rattle.swim_events.specs.Texts.{change_text, changes_text, life_text, table_text}
 use Rattle.swim_events.specs.Watchers.{AtWatcher, IsFront, IsStream, Streams}
-use Rattle.swim_events.specs.Watched.{IsCutShort, IsTold, IsWatched}
+use Rattle.swim_events.specs.Watched.{IsCutShort, IsTold, IsWatched, IsWatchedOver, Lived, lived_on}
 
 -- a first part of the texts of changes is the texts of their first part
 pub record IsPart (changes : List Change) (whole rest : List (List ℕ)) : Type 0 where
@@ -90,6 +90,12 @@ until o (e ∷ newer) before told rest more is all =
           | inr found ↦ longer (again found.0 found.1)
         ]
 
+changes_texts : (first second : List Change) → changes_text first ++ changes_text second ≡ changes_text (first ++ second)
+changes_texts [] second = refl
+changes_texts (change ∷ first) second =
+    append_assoc (change_text change) (changes_text first) (changes_text second)
+    ∙ ap (λ l. change_text change ++ l) (changes_texts first second)
+
 -- a table, and the changes behind it
 pub watched_first : (o : Setting) (h : List Entry) → IsWatched o h (table_text (table o h))
 watched_first o h = record {
@@ -113,14 +119,8 @@ watched_more o h e text is =
       text_is =
           ap (λ l. l ++ changes_text change) is.text_is
           ∙ append_assoc (table_text (table o is.before)) (changes_text is.later) (changes_text change)
-          ∙ ap (λ l. table_text (table o is.before) ++ l) (texts_of is.later change);
+          ∙ ap (λ l. table_text (table o is.before) ++ l) (changes_texts is.later change);
     }
-  where
-    texts_of : (first second : List Change) → changes_text first ++ changes_text second ≡ changes_text (first ++ second)
-    texts_of [] second = refl
-    texts_of (change ∷ first) second =
-        append_assoc (change_text change) (changes_text first) (changes_text second)
-        ∙ ap (λ l. change_text change ++ l) (texts_of first second)
 
 -- a front of the texts
 cut_short : (o : Setting) (h newer before : List Entry) (later : List Change) (stream : List ℕ) → h ≡ newer ++ before →
@@ -157,3 +157,29 @@ told o h newer before later sent w cut goes_on is = by w.standing (sent ++ w.pen
         record { newer = newer; before = before; cut = cut; later = later; goes_on = goes_on; text_is = is }
     by Losing stream is = cut_short o h newer before later stream cut goes_on is
     by Lost stream is = (is.0, cut_short o h newer before later is.0 cut goes_on is.1, is.2)
+
+-- ---- over lives
+
+pub over_begins : (lives : List Lived) (number : ℕ) (o : Setting) (text : List ℕ) → IsWatchedOver lives text →
+    IsWatchedOver (record { number = number; opening = o; past = [] } ∷ lives) (text ++ life_text number)
+over_begins [] number o text is = absurd is
+over_begins (before ∷ older) number o text is = (text, is, ap (λ l. text ++ l) (sym (append-nil (life_text number))))
+
+pub over_goes_on : (life : Lived) (older : List Lived) (e : Entry) (text : List ℕ) → IsWatchedOver (life ∷ older) text →
+    IsWatchedOver (lived_on life e ∷ older)
+    (text ++ changes_text (option_to_list (change_by e.call e.reply (period_number life.opening life.past))))
+over_goes_on life [] e text is = watched_more life.opening life.past e text is
+over_goes_on life (before ∷ older) e text is = (is.0, is.1, longer)
+  where
+    more : List Change
+    more = option_to_list (change_by e.call e.reply (period_number life.opening life.past))
+
+    past : List Change
+    past = changes life.opening life.past
+
+    longer : text ++ changes_text more ≡ is.0 ++ (life_text life.number ++ changes_text (past ++ more))
+    longer =
+        ap (λ l. l ++ changes_text more) is.2
+        ∙ append_assoc is.0 (life_text life.number ++ changes_text past) (changes_text more)
+        ∙ ap (λ l. is.0 ++ l) (append_assoc (life_text life.number) (changes_text past) (changes_text more)
+        ∙ ap (λ l. life_text life.number ++ l) (changes_texts past more))

@@ -8,7 +8,7 @@ use Rattle.swim_history.specs.Setting.{Setting}
 use Rattle.swim_history.specs.Changes.{changes, table}
 use Rattle.swim_events.specs.declared.watchers.Standing.{Standing}
 use Rattle.swim_events.specs.declared.watchers.Standing.TheVariants.{Following, Losing, Lost}
-use Rattle.swim_events.specs.Texts.{changes_text, lost_text, table_text}
+use Rattle.swim_events.specs.Texts.{changes_text, life_text, lost_text, table_text}
 
 -- a table, and then changes
 abbrev pub watched_text : List Row → List Change → List ℕ
@@ -35,6 +35,25 @@ abbrev pub IsTold : Standing → Setting → List Entry → List ℕ → Type 0
 IsTold Following o h stream = IsWatched o h stream
 IsTold Losing o h stream = IsCutShort o h stream
 IsTold Lost o h stream = (text : List ℕ) × IsCutShort o h text × (stream ≡ text ++ lost_text)
+
+-- a life: its number, what it started from, and its entries
+pub record Lived : Type 0 where
+  pub number : ℕ
+  pub opening : Setting
+  pub past : List Entry
+
+-- what a watcher was told over lives, the newest first, who came in the oldest of them: there as above, and of each later one
+-- its line and the changes of all its entries
+abbrev pub IsWatchedOver : List Lived → List ℕ → Type 0
+IsWatchedOver [] text = ⊥
+IsWatchedOver (life ∷ []) text = IsWatched life.opening life.past text
+IsWatchedOver (life ∷ before ∷ older) text =
+    (earlier : List ℕ) × IsWatchedOver (before ∷ older) earlier
+    × (text ≡ earlier ++ (life_text life.number ++ changes_text (changes life.opening life.past)))
+
+-- the life, one entry on
+abbrev pub lived_on : Lived → Entry → Lived
+lived_on life e = record { number = life.number; opening = life.opening; past = e ∷ life.past }
 
 -- ---- the table that a watcher makes of its lines: of each member the last line that names it, ascending by id
 

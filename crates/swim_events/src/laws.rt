@@ -9,11 +9,11 @@ ghost use Rattle.swim_history.specs.Setting.{Setting};
 ghost use Rattle.swim_history.specs.Clock.{period_number};
 ghost use Rattle.swim_history.specs.Changes.{change_by, changes, rows_after, table};
 ghost use Rattle.swim_history.specs.After.{setting_after};
-ghost use Rattle.swim_events.specs.Texts.{changes_text, shown, table_text};
+ghost use Rattle.swim_events.specs.Texts.{changes_text, life_text, shown, table_text};
 ghost use Rattle.swim_events.specs.Watchers.{AtWatcher, after_sent};
 ghost use Rattle.swim_events.specs.declared.watchers.Standing.TheVariants.{Following};
 ghost use Rattle.swim_events.specs.Telling.{IsTelling};
-ghost use Rattle.swim_events.specs.Watched.{IsWatched, IsTold, lines_after};
+ghost use Rattle.swim_events.specs.Watched.{IsTold, IsWatched, IsWatchedOver, Lived, lines_after, lived_on};
 
 /// Who is put the table first, and later the change of each entry, is told the table of a beginning of the history and
 /// then just these changes, while it keeps up, whatever was sent of it so far. Who doesn't keep up is told the same of a
@@ -33,6 +33,16 @@ pub fn a_watcher_goes_on_by_entries()
     ensures goes_on { (o : Setting) (h : List Entry) (e : Entry) (text : List ℕ) → IsWatched o h text →
         IsWatched o (e ∷ h)
         (text ++ changes_text (option_to_list (change_by e.call e.reply (period_number o h)))) }
+{}
+
+/// So it does over lives: a life begins with its line, whatever it starts from, and goes on with the change of each entry.
+pub fn a_watcher_goes_on_over_lives()
+    ensures begins { (lives : List Lived) (number : ℕ) (o : Setting) (text : List ℕ) → IsWatchedOver lives text →
+        IsWatchedOver (record { number = number; opening = o; past = [] } ∷ lives) (text ++ life_text number) }
+    ensures goes_on { (life : Lived) (older : List Lived) (e : Entry) (text : List ℕ) →
+        IsWatchedOver (life ∷ older) text →
+        IsWatchedOver (lived_on life e ∷ older)
+        (text ++ changes_text (option_to_list (change_by e.call e.reply (period_number life.opening life.past)))) }
 {}
 
 /// After the changes that a watcher was told the table is what they make of the one that it was told first, and the
