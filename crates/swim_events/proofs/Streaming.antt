@@ -70,3 +70,43 @@ sent_streams first texts sent count w is =
     ∙ sym (append_assoc sent (take count w.pending) (drop count w.pending)) in
     left_streams w.standing first texts (sent ++ take count w.pending) (drop count w.pending)
     (subst (λ (stream : List ℕ). Streams w.standing first texts stream) same is)
+
+-- ---- who keeps up was put all
+
+lost_now : (pending : List ℕ) → (losing pending).standing ≡ Following → ⊥
+lost_now pending = by (fits pending lost_text)
+  where
+    by : (fit : Bool) →
+        (cond {A = AtWatcher} fit (record { pending = pending ++ lost_text; standing = Lost }) (record { pending = pending; standing = Losing })).standing
+        ≡ Following → ⊥
+    by true is = cc is
+    by false is = cc is
+
+kept_text : (standing : Standing) (text pending : List ℕ) → (text_then standing text pending).standing ≡ Following →
+    (standing ≡ Following) × ((text_then standing text pending).pending ≡ pending ++ text)
+kept_text Following text pending keeps = by (fits pending text) keeps
+  where
+    after : Bool → AtWatcher
+    after fit = cond fit (record { pending = pending ++ text; standing = Following }) (losing pending)
+
+    by : (fit : Bool) → (after fit).standing ≡ Following → (Following ≡ Following) × ((after fit).pending ≡ pending ++ text)
+    by true is = (refl, refl)
+    by false is = absurd (lost_now pending is)
+kept_text Losing text pending is = absurd (cc is)
+kept_text Lost text pending is = absurd (cc is)
+
+pub put_keeps_up : (text : List ℕ) (w new : AtWatcher) → new ≡ after_text text w → new.standing ≡ Following →
+    (w.standing ≡ Following) × (new.pending ≡ w.pending ++ text)
+put_keeps_up text w new is keeps =
+    let kept = kept_text w.standing text w.pending (rw is at keeps) in (kept.0, rw is kept.1)
+
+kept_left : (standing : Standing) (left : List ℕ) → (left_then standing left).standing ≡ Following →
+    (standing ≡ Following) × ((left_then standing left).pending ≡ left)
+kept_left Following left is = (refl, refl)
+kept_left Losing left is = absurd (lost_now left is)
+kept_left Lost left is = absurd (cc is)
+
+pub sent_keeps_up : (count : ℕ) (w new : AtWatcher) → new ≡ after_sent count w → new.standing ≡ Following →
+    (w.standing ≡ Following) × (new.pending ≡ drop count w.pending)
+sent_keeps_up count w new is keeps =
+    let kept = kept_left w.standing (drop count w.pending) (rw is at keeps) in (kept.0, rw is kept.1)

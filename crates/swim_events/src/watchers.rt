@@ -65,6 +65,8 @@ impl Watcher {
     /// Takes a text, if it fits behind the bytes that are still to be sent and the watcher keeps up.
     pub fn put(&mut self, text: &[u8])
         ensures exact { self.new ≡ after_text text.now self.old }
+        ensures keeps_up { self.new.standing ≡ Standing.Following →
+            (self.old.standing ≡ Standing.Following) × (self.new.pending ≡ self.old.pending ++ text.now) }
         ensures stream { (first : List ℕ) (texts : List (List ℕ)) (sent : List ℕ) → IsStream first texts sent self.old →
             IsStream first (texts ++ text.now ∷ []) sent self.new }
     {
@@ -83,6 +85,8 @@ impl Watcher {
     pub fn sent(&mut self, count: usize)
         requires { count ≤ length self.old.pending }
         ensures exact { self.new ≡ after_sent count self.old }
+        ensures keeps_up { self.new.standing ≡ Standing.Following →
+            (self.old.standing ≡ Standing.Following) × (self.new.pending ≡ drop count self.old.pending) }
         ensures stream { (first : List ℕ) (texts : List (List ℕ)) (sent : List ℕ) → IsStream first texts sent self.old →
             IsStream first texts (sent ++ take count self.old.pending) self.new }
     {
