@@ -1,6 +1,5 @@
 -- What a watcher was told is the table of a beginning of a history, and changes of entries after it.
 use Rattle.std.proofs.Common.{◌≡◌, ◌⊎◌, ℕ, List, [], ◌∷◌, ◌++◌, length, map, Option, Some, None, refl, sym, ap, ◌∙◌, inl, inr, append_assoc, append-nil, length-append, arith}
-use Rattle.std.specs.List.{concat}
 use Rattle.std.specs.Option.{option_to_list}
 use Rattle.swim_history.specs.declared.rows.Change.{Change}
 use Rattle.swim_history.specs.declared.entries.Entry.{Entry}
@@ -122,16 +121,23 @@ watched_more o h e text is =
           ∙ ap (λ l. table_text (table o is.before) ++ l) (changes_texts is.later change);
     }
 
+-- a part of the changes after a beginning
+part_after : (o : Setting) (h newer before : List Entry) (later first more : List Change) → h ≡ newer ++ before →
+    changes o h ≡ changes o before ++ later → later ≡ first ++ more →
+    changes o (newer ++ before) ≡ (changes o before ++ first) ++ more
+part_after o h newer before later first more cut goes_on part =
+    rw (← cut, goes_on, part) (sym (append_assoc (changes o before) first more))
+
 -- a front of the texts
 cut_short : (o : Setting) (h newer before : List Entry) (later : List Change) (stream : List ℕ) → h ≡ newer ++ before →
     changes o h ≡ changes o before ++ later → IsFront (table_text (table o before)) (map change_text later) stream →
     IsCutShort o h stream
 cut_short o h newer before later stream cut goes_on front =
-    let part = part_of later front.whole (front.unfit ∷ front.rest) front.cut in
-    let all : changes o (newer ++ before) ≡ (changes o before ++ part.first) ++ part.more =
-    ap (changes o) (sym cut) ∙ goes_on ∙ ap (λ l. changes o before ++ l) part.cut
-    ∙ sym (append_assoc (changes o before) part.first part.more) in
-    let u = until o newer before (changes o before ++ part.first) part.more part.first refl all in record {
+    by (part_of later front.whole (front.unfit ∷ front.rest) front.cut)
+  where
+    told_until : (first : List Change) → map change_text first ≡ front.whole → Until o (newer ++ before) before (changes o before ++ first) →
+        IsCutShort o h stream
+    told_until first texts u = record {
       newer = u.newer;
       older = u.between ++ before;
       cut = cut ∙ u.cut;
@@ -139,11 +145,17 @@ cut_short o h newer before later stream cut goes_on front =
         newer = u.between;
         before = before;
         cut = refl;
-        later = part.first;
+        later = first;
         goes_on = u.told_is;
-        text_is = front.stream_is ∙ ap (λ texts. table_text (table o before) ++ concat texts) (sym part.texts);
+        text_is = rw (front.stream_is, texts) refl;
       };
     }
+
+    by : IsPart later front.whole (front.unfit ∷ front.rest) → IsCutShort o h stream
+    by part =
+        told_until part.first part.texts
+        (until o newer before (changes o before ++ part.first) part.more part.first refl
+        (part_after o h newer before later part.first part.more cut goes_on part.cut))
 
 -- what a watcher was told
 pub told : (o : Setting) (h newer before : List Entry) (later : List Change) (sent : List ℕ) (w : AtWatcher) → h ≡ newer ++ before →
