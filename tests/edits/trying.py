@@ -24,11 +24,16 @@ class Tried(NamedTuple):
 
 
 class Beside(NamedTuple):
-    """Which edits were tried in copies, the errors that are told of their copies, and of which functions no error is told as they are."""
+    """Which edits were tried in copies, by which errors some of them were refused, and what is told of the functions as they are: of each
+    an error, or none."""
 
     copied: set
-    errors: dict
-    clear: set
+    refused: dict
+    unedited: dict
+
+    def is_clear(self, function):
+        """Whether no error is told of a function as it is, so that one of an edit of it tells something."""
+        return function in self.unedited and not self.unedited[function]
 
 
 def try_edits(room, paths):
@@ -41,10 +46,10 @@ def try_edits(room, paths):
         except BadEdit as fault:
             tried.append(Tried(path.rpartition("/")[2], BAD_EDIT, str(fault), "read"))
     beside = try_beside(room, edits)
-    seen = {it: why for it, why in beside.errors.items() if it.function in beside.clear}
-    tried += [Tried(it.name, REFUSED, why, f"one of {len(beside.copied)} copies") for it, why in seen.items()]
-    alone = [it for it in edits if it not in seen and (it in beside.copied or it.function not in beside.clear)]
-    left = [it for it in edits if it not in seen and it not in alone]
+    tried += [Tried(it.name, REFUSED, why, f"one of {len(beside.copied)} copies") for it, why in beside.refused.items()]
+    others = [it for it in edits if it not in beside.refused]
+    alone = [it for it in others if it in beside.copied or not beside.is_clear(it.function)]
+    left = [it for it in others if it not in alone]
     while left:
         batch, texts = together(left, room.texts)
         left = [it for it in left if it not in batch]
@@ -62,12 +67,14 @@ def try_beside(room, edits):
     near = {it: bases.get(it, it) for edit in edits for it in edit.near}
     said = checked(room, texts, sorted([*near.values(), *copies.values()]))
     if said.is_told:
-        errors = {it: why for it, path in copies.items() for why in [said.refusal(room.name, path)] if why}
-        return Beside({*copies}, errors, {it for it, path in near.items() if not said.refusal(room.name, path)})
+        unedited = {it: said.refusal(room.name, path) for it, path in near.items()}
+        errors = {it: said.refusal(room.name, path) for it, path in copies.items() if not unedited[it.function]}
+        return Beside({*copies}, {it: why for it, why in errors.items() if why}, unedited)
     if len(edits) < 2:
-        return Beside(set(), {}, set())
+        return Beside(set(), {}, {})
     one, other = (try_beside(room, it) for it in (edits[::2], edits[1::2]))
-    return Beside(one.copied | other.copied, {**one.errors, **other.errors}, one.clear | other.clear)
+    unedited = {it: one.unedited.get(it) or other.unedited.get(it) for it in {**one.unedited, **other.unedited}}
+    return Beside(one.copied | other.copied, {**one.refused, **other.refused}, unedited)
 
 
 def together(edits, texts):
@@ -98,7 +105,7 @@ def try_alone(room, edit, beside):
     """Tries one edit: what it was planted in by itself, unless a copy of that was tried; and where no error is told there, the whole
     crate."""
     texts = edit.planted(room.texts)
-    near = [] if edit in beside.copied else [it for it in edit.near if it in beside.clear]
+    near = [] if edit in beside.copied else [it for it in edit.near if beside.is_clear(it)]
     for error in refusals(room, texts, near).values():
         return Tried(edit.name, REFUSED, error, "alone")
     return Tried(edit.name, *room.check(texts).ending(), "alone, in the whole crate")
