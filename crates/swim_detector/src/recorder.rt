@@ -136,9 +136,13 @@ impl<C: Chooser> Recorder<C> {
     {
         let number = self.counts[seat as usize];
         let mut begins_round = false;
-        self.reply = self
-            .state
-            .answer(&self.journal, &mut self.chooser, call, &mut begins_round);
+        self.state.answer(
+            &self.journal,
+            &mut self.chooser,
+            call,
+            &mut self.reply,
+            &mut begins_round,
+        );
         let (journal, state) = (&mut self.journal, &self.state);
         add(
             journal,

@@ -42,24 +42,25 @@ impl State {
 
     /// Answers a call that follows the journal, and tells whether a round begins by it. The order that was drawn is then
     /// that in which the members are listed.
-    // Not told beside the reply, since that is moved in place as it is, and by a call of the library if it were larger.
+    // What answers writes the reply where it is to stand, since a reply is large to be moved.
     pub(crate) fn answer<C: Chooser>(
         &mut self,
         journal: &Journal,
         chooser: &mut C,
         call: &Call,
+        reply: &mut Reply,
         begins_round: &mut bool,
-    ) -> Reply
+    )
         requires { Mirrors journal.now.opening journal.now.past self.old }
         ensures { IsAnswered C.orders C.places journal.now.opening journal.now.past
-            call.now (record { reply = result; begins_round = begins_round.new }) self.new chooser.old chooser.new }
+            call.now (record { reply = reply.new; begins_round = begins_round.new }) self.new chooser.old chooser.new }
     {
         *begins_round = false;
         match call {
-            Call::Tick => self.tick(journal, chooser, begins_round),
-            Call::Hear(source, message) => self.hear(journal, message, *source),
-            Call::Join(id, peer) => self.join(journal, chooser, *id, *peer),
-            Call::Remove(id) => self.remove(journal, *id),
+            Call::Tick => self.tick(journal, chooser, reply, begins_round),
+            Call::Hear(source, message) => self.hear(journal, message, *source, reply),
+            Call::Join(id, peer) => self.join(journal, chooser, *id, *peer, reply),
+            Call::Remove(id) => self.remove(journal, *id, reply),
         }
     }
 

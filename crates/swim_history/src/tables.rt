@@ -24,7 +24,7 @@ pub fn table_of(rows: &[Row]) -> Table
 }
 
 /// The change that an entry makes, if any; number is that of the period which it ends, if it ends one.
-pub(crate) fn change_by(call: &Call, reply: &Reply, number: u64) -> Option<Change>
+pub fn change_by(call: &Call, reply: &Reply, number: u64) -> Option<Change>
     ensures { result ≡ change_by call.now reply.now number }
 {
     match (call, reply) {

@@ -6,9 +6,7 @@ ghost use Rattle.swim_history.specs.Changes.{change_by, rows_after, IsAscending}
 ghost use Rattle.swim_timeline.specs.Shown.{Begins};
 
 use crate::clock::{number_at, ticks_with};
-use swim_history::{
-    Call, Change, Entry, Journal, KNOWN_MEMBERS, Reply, Table, change_table, table_of,
-};
+use swim_history::{Entry, Journal, KNOWN_MEMBERS, Table, change_by, change_table, table_of};
 
 /// What a run came to before a tick.
 #[derive(Drop)]
@@ -56,23 +54,5 @@ impl Beginning {
         if let Some(change) = change_by(&entry.call, &entry.reply, ended) {
             change_table(&mut self.rows, &change);
         }
-    }
-}
-
-/// What an entry does to the member table, if anything; number is that of the period which it ends, if it ends one.
-fn change_by(call: &Call, reply: &Reply, number: u64) -> Option<Change>
-    ensures { result ≡ change_by call.now reply.now number }
-{
-    match (call, reply) {
-        (Call::Join(id, peer), Reply::Joined { .. }) => Some(Change::Up(*id, *peer)),
-        (Call::Remove(id), Reply::Removed) => Some(Change::Gone(*id)),
-        (
-            Call::Tick,
-            Reply::Started {
-                judged: Some(judged),
-                ..
-            },
-        ) => Some(Change::Failed(*judged, number)),
-        _ => None,
     }
 }

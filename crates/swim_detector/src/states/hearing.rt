@@ -20,56 +20,68 @@ impl State {
     /// A message came from this address.
     // Out of line, so that its locals are cleared only where it is called.
     #[inline(never)]
-    pub(super) fn hear(&mut self, journal: &Journal, message: &Message, source: Peer) -> Reply
+    pub(super) fn hear(
+        &mut self,
+        journal: &Journal,
+        message: &Message,
+        source: Peer,
+        reply: &mut Reply,
+    )
         requires { Mirrors journal.now.opening journal.now.past self.old }
-        ensures { IsSettled journal.now.opening journal.now.past (Hear source message.now) (plain result) self.new }
+        ensures { IsSettled journal.now.opening journal.now.past (Hear source message.now) (plain reply.new) self.new }
     {
         match message.kind {
-            Kind::Ping => self.hear_ping(journal, message, source),
-            Kind::PingReq => self.hear_request(journal, message, source),
-            Kind::Ack => self.hear_ack(journal, message),
+            Kind::Ping => self.hear_ping(journal, message, source, reply),
+            Kind::PingReq => self.hear_request(journal, message, source, reply),
+            Kind::Ack => self.hear_ack(journal, message, reply),
         }
     }
 
     /// A ping for this member is answered by an ack.
-    fn hear_ping(&self, journal: &Journal, message: &Message, source: Peer) -> Reply
+    fn hear_ping(&self, journal: &Journal, message: &Message, source: Peer, reply: &mut Reply)
         requires mirrors { Mirrors journal.now.opening journal.now.past self.now }
         requires kind { message.now.kind ≡ Ping }
-        ensures { IsSettled journal.now.opening journal.now.past (Hear source message.now) (plain result) self.now }
+        ensures { IsSettled journal.now.opening journal.now.past (Hear source message.now) (plain reply.new) self.now }
     {
         let me = journal.opening().me();
         if message.target == me {
-            Reply::Send {
+            *reply = Reply::Send {
                 peer: source,
                 message: message.ack_by(me, message.version),
-            }
+            };
         } else {
-            Reply::Dropped(DropReason::NotForMe)
+            *reply = Reply::Dropped(DropReason::NotForMe);
         }
     }
 
     /// A request for an indirect probe: the target is pinged, and the request waits for its ack.
-    fn hear_request(&mut self, journal: &Journal, message: &Message, source: Peer) -> Reply
+    fn hear_request(
+        &mut self,
+        journal: &Journal,
+        message: &Message,
+        source: Peer,
+        reply: &mut Reply,
+    )
         requires mirrors { Mirrors journal.now.opening journal.now.past self.old }
         requires kind { message.now.kind ≡ PingReq }
-        ensures { IsSettled journal.now.opening journal.now.past (Hear source message.now) (plain result) self.new }
+        ensures { IsSettled journal.now.opening journal.now.past (Hear source message.now) (plain reply.new) self.new }
     {
         match requested_at(journal, message) {
-            Ok(peer) => self.take_request(journal, message, source, peer),
-            Err(why) => self.drop_request(journal, message, why),
+            Ok(peer) => self.take_request(journal, message, source, peer, reply),
+            Err(why) => self.drop_request(journal, message, why, reply),
         }
     }
 
     /// The request is dropped, wherever it came from.
-    fn drop_request(&self, journal: &Journal, message: &Message, why: DropReason) -> Reply
+    fn drop_request(&self, journal: &Journal, message: &Message, why: DropReason, reply: &mut Reply)
         requires mirrors { Mirrors journal.now.opening journal.now.past self.now }
         requires kind { message.now.kind ≡ PingReq }
         requires fits { (source : Address) →
             Hears journal.now.opening journal.now.past message.now source PingReq (Dropped why) }
         ensures { (source : Address) →
-            IsSettled journal.now.opening journal.now.past (Hear source message.now) (plain result) self.now }
+            IsSettled journal.now.opening journal.now.past (Hear source message.now) (plain reply.new) self.now }
     {
-        Reply::Dropped(why)
+        *reply = Reply::Dropped(why);
     }
 
     /// The request waits, unless too many do.
@@ -79,51 +91,52 @@ impl State {
         message: &Message,
         source: Peer,
         peer: Peer,
-    ) -> Reply
+        reply: &mut Reply,
+    )
         requires mirrors { Mirrors journal.now.opening journal.now.past self.old }
         requires kind { message.now.kind ≡ PingReq }
         requires own { IsRequest journal.now.opening.me message.now }
         requires other { message.now.target ≢ journal.now.opening.me }
         requires target { target_at journal.now.opening journal.now.past message.now ≡ Some peer }
-        ensures { IsSettled journal.now.opening journal.now.past (Hear source message.now) (plain result) self.new }
+        ensures { IsSettled journal.now.opening journal.now.past (Hear source message.now) (plain reply.new) self.new }
     {
         let me = journal.opening().me();
-        match self.requests.ask(message.key(), source, message.version) {
+        *reply = match self.requests.ask(message.key(), source, message.version) {
             Ok(()) => Reply::Send {
                 peer,
                 message: message.ping_by(me),
             },
             Err(TableFull) => Reply::Dropped(DropReason::TableFull),
-        }
+        };
     }
 
     /// An ack: of this member's own probe, or one that another member waits for.
-    fn hear_ack(&mut self, journal: &Journal, message: &Message) -> Reply
+    fn hear_ack(&mut self, journal: &Journal, message: &Message, reply: &mut Reply)
         requires mirrors { Mirrors journal.now.opening journal.now.past self.old }
         requires kind { message.now.kind ≡ Ack }
         ensures { (source : Address) →
-            IsSettled journal.now.opening journal.now.past (Hear source message.now) (plain result) self.new }
+            IsSettled journal.now.opening journal.now.past (Hear source message.now) (plain reply.new) self.new }
     {
         if message.initiator == journal.opening().me() {
-            self.hear_own_ack(journal, message)
+            self.hear_own_ack(journal, message, reply);
         } else {
-            self.forward_ack(journal, message)
+            self.forward_ack(journal, message, reply);
         }
     }
 
     /// An ack of this member's own probe counts if it is awaited.
-    fn hear_own_ack(&mut self, journal: &Journal, message: &Message) -> Reply
+    fn hear_own_ack(&mut self, journal: &Journal, message: &Message, reply: &mut Reply)
         requires mirrors { Mirrors journal.now.opening journal.now.past self.old }
         requires kind { message.now.kind ≡ Ack }
         requires own { message.now.initiator ≡ journal.now.opening.me }
         ensures { (source : Address) →
-            IsSettled journal.now.opening journal.now.past (Hear source message.now) (plain result) self.new }
+            IsSettled journal.now.opening journal.now.past (Hear source message.now) (plain reply.new) self.new }
     {
         if self.awaits(journal, message) {
             self.heard = true;
-            Reply::Heard
+            *reply = Reply::Heard;
         } else {
-            Reply::Dropped(DropReason::Stray)
+            *reply = Reply::Dropped(DropReason::Stray);
         }
     }
 
@@ -138,21 +151,21 @@ impl State {
     }
 
     /// An ack of another member's probe is sent on, if that member waits for it.
-    fn forward_ack(&mut self, journal: &Journal, message: &Message) -> Reply
+    fn forward_ack(&mut self, journal: &Journal, message: &Message, reply: &mut Reply)
         requires mirrors { Mirrors journal.now.opening journal.now.past self.old }
         requires kind { message.now.kind ≡ Ack }
         requires other { message.now.initiator ≢ journal.now.opening.me }
         ensures { (source : Address) →
-            IsSettled journal.now.opening journal.now.past (Hear source message.now) (plain result) self.new }
+            IsSettled journal.now.opening journal.now.past (Hear source message.now) (plain reply.new) self.new }
     {
         let me = journal.opening().me();
-        match self.requests.answer(&message.key()) {
+        *reply = match self.requests.answer(&message.key()) {
             Some(asker) => Reply::Send {
                 peer: asker.0,
                 message: message.ack_by(me, asker.1),
             },
             None => Reply::Dropped(DropReason::NoRequest),
-        }
+        };
     }
 }
 

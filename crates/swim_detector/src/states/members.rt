@@ -25,26 +25,27 @@ impl State {
         chooser: &mut C,
         id: Id,
         peer: Peer,
-    ) -> Reply
+        reply: &mut Reply,
+    )
         requires { Mirrors journal.now.opening journal.now.past self.old }
         ensures { IsAnswered C.orders C.places journal.now.opening journal.now.past
-            (Join id peer) (plain result) self.new chooser.old chooser.new }
+            (Join id peer) (plain reply.new) self.new chooser.old chooser.new }
     {
         match refusal_to_join(journal, id) {
-            Some(refusal) => self.refuse(journal, &Call::Join(id, peer), refusal),
-            None => self.list(journal, chooser, id),
+            Some(refusal) => self.refuse(journal, &Call::Join(id, peer), refusal, reply),
+            None => self.list(journal, chooser, id, reply),
         }
     }
 
     /// The joiner is listed at a place that the chooser draws.
-    fn list<C: Chooser>(&mut self, journal: &Journal, chooser: &mut C, id: Id) -> Reply
+    fn list<C: Chooser>(&mut self, journal: &Journal, chooser: &mut C, id: Id, reply: &mut Reply)
         requires mirrors { Mirrors journal.now.opening journal.now.past self.old }
         requires listing { MayList journal.now.opening journal.now.past id }
         ensures { (peer : Address) → IsAnswered C.orders C.places journal.now.opening journal.now.past
-            (Join id peer) (plain result) self.new chooser.old chooser.new }
+            (Join id peer) (plain reply.new) self.new chooser.old chooser.new }
     {
         match self.targets.join(id, chooser) {
-            Ok(place) => Reply::Joined { place },
+            Ok(place) => *reply = Reply::Joined { place },
             Err(_) => unreachable!(),
         }
     }
@@ -52,35 +53,35 @@ impl State {
     /// A member is to be forgotten.
     // Out of line, so that its locals are cleared only where it is called.
     #[inline(never)]
-    pub(super) fn remove(&mut self, journal: &Journal, id: Id) -> Reply
+    pub(super) fn remove(&mut self, journal: &Journal, id: Id, reply: &mut Reply)
         requires { Mirrors journal.now.opening journal.now.past self.old }
-        ensures { IsSettled journal.now.opening journal.now.past (Remove id) (plain result) self.new }
+        ensures { IsSettled journal.now.opening journal.now.past (Remove id) (plain reply.new) self.new }
     {
         match refusal_to_remove(journal, id) {
-            Some(refusal) => self.refuse(journal, &Call::Remove(id), refusal),
-            None => self.forget(journal, id),
+            Some(refusal) => self.refuse(journal, &Call::Remove(id), refusal, reply),
+            None => self.forget(journal, id, reply),
         }
     }
 
     /// The member is known no more, and is no aim.
-    fn forget(&mut self, journal: &Journal, id: Id) -> Reply
+    fn forget(&mut self, journal: &Journal, id: Id, reply: &mut Reply)
         requires mirrors { Mirrors journal.now.opening journal.now.past self.old }
         requires other { id ≢ journal.now.opening.me }
         requires known { row_of journal.now.opening journal.now.past id ≢ None }
-        ensures { IsSettled journal.now.opening journal.now.past (Remove id) (plain result) self.new }
+        ensures { IsSettled journal.now.opening journal.now.past (Remove id) (plain reply.new) self.new }
     {
         self.targets.remove(id);
         self.aim = unless_removed(self.aim, id);
-        Reply::Removed
+        *reply = Reply::Removed;
     }
 
     /// A call is refused.
-    pub(super) fn refuse(&self, journal: &Journal, call: &Call, refusal: Refusal) -> Reply
+    pub(super) fn refuse(&self, journal: &Journal, call: &Call, refusal: Refusal, reply: &mut Reply)
         requires mirrors { Mirrors journal.now.opening journal.now.past self.now }
         requires fits { Answers journal.now.opening journal.now.past call.now (Refused refusal) Nothing }
-        ensures { IsSettled journal.now.opening journal.now.past call.now (plain result) self.now }
+        ensures { IsSettled journal.now.opening journal.now.past call.now (plain reply.new) self.now }
     {
-        Reply::Refused(refusal)
+        *reply = Reply::Refused(refusal);
     }
 }
 

@@ -24,23 +24,24 @@ impl State {
         &mut self,
         journal: &Journal,
         chooser: &mut C,
+        reply: &mut Reply,
         begins_round: &mut bool,
-    ) -> Reply
+    )
         requires mirrors { Mirrors journal.now.opening journal.now.past self.old }
         requires none { begins_round.old ≡ false }
         ensures { IsAnswered C.orders C.places journal.now.opening journal.now.past
-            Tick (record { reply = result; begins_round = begins_round.new }) self.new chooser.old chooser.new }
+            Tick (record { reply = reply.new; begins_round = begins_round.new }) self.new chooser.old chooser.new }
     {
         if self.phase == 0 {
             if journal.last_number() == u64::MAX {
-                self.refuse(journal, &Call::Tick, Refusal::Spent)
+                self.refuse(journal, &Call::Tick, Refusal::Spent, reply);
             } else {
-                self.start(journal, chooser, begins_round)
+                self.start(journal, chooser, reply, begins_round);
             }
         } else if self.phase == journal.opening().rtt() {
-            self.time_out(journal, chooser)
+            self.time_out(journal, chooser, reply);
         } else {
-            self.quiet_tick(journal)
+            self.quiet_tick(journal, reply);
         }
     }
 
@@ -52,13 +53,14 @@ impl State {
         &mut self,
         journal: &Journal,
         chooser: &mut C,
+        reply: &mut Reply,
         begins_round: &mut bool,
-    ) -> Reply
+    )
         requires mirrors { Mirrors journal.now.opening journal.now.past self.old }
         requires begins { phase journal.now.opening journal.now.past ≡ 0 }
         requires unspent { period_number journal.now.opening journal.now.past < greatest_number }
         ensures { IsAnswered C.orders C.places journal.now.opening journal.now.past
-            Tick (record { reply = result; begins_round = begins_round.new }) self.new chooser.old chooser.new }
+            Tick (record { reply = reply.new; begins_round = begins_round.new }) self.new chooser.old chooser.new }
     {
         let judged = unheard(self.heard, self.aim);
         leave(&mut self.targets, &judged);
@@ -68,52 +70,52 @@ impl State {
         self.heard = false;
         let probe = probe_of(journal, &self.aim, journal.last_number() + 1);
         *begins_round = next.drawn.is_some();
-        Reply::Started { judged, probe }
+        *reply = Reply::Started { judged, probe };
     }
 
     /// The timeout passed: where no ack of the aim came, other members are asked to ping it.
-    fn time_out<C: Chooser>(&mut self, journal: &Journal, chooser: &mut C) -> Reply
+    fn time_out<C: Chooser>(&mut self, journal: &Journal, chooser: &mut C, reply: &mut Reply)
         requires mirrors { Mirrors journal.now.opening journal.now.past self.old }
         requires timeout { phase journal.now.opening journal.now.past ≡ journal.now.opening.rtt }
         requires inside { phase journal.now.opening journal.now.past ≢ 0 }
         ensures { IsAnswered C.orders C.places journal.now.opening journal.now.past
-            Tick (plain result) self.new chooser.old chooser.new }
+            Tick (plain reply.new) self.new chooser.old chooser.new }
     {
         match unheard(self.heard, self.aim) {
-            None => self.quiet_tick(journal),
-            Some(target) => self.ask(journal, chooser, target),
+            None => self.quiet_tick(journal, reply),
+            Some(target) => self.ask(journal, chooser, target, reply),
         }
     }
 
     /// Relays are asked to ping the aim, as no ack of it came.
     // Out of line, so that its locals are cleared only where it is called.
     #[inline(never)]
-    fn ask<C: Chooser>(&mut self, journal: &Journal, chooser: &mut C, target: Id) -> Reply
+    fn ask<C: Chooser>(&mut self, journal: &Journal, chooser: &mut C, target: Id, reply: &mut Reply)
         requires mirrors { Mirrors journal.now.opening journal.now.past self.old }
         requires timeout { phase journal.now.opening journal.now.past ≡ journal.now.opening.rtt }
         requires unheard { unheard journal.now.opening journal.now.past ≡ Some target }
         ensures { IsAnswered C.orders C.places journal.now.opening journal.now.past
-            Tick (plain result) self.new chooser.old chooser.new }
+            Tick (plain reply.new) self.new chooser.old chooser.new }
     {
         self.pass(journal.opening().period());
-        Reply::Asked {
+        *reply = Reply::Asked {
             target,
             peer: address_of(journal, target),
             number: journal.last_number(),
             relays: relays_for(journal, &self.targets, target, chooser),
-        }
+        };
     }
 
     /// Nothing is to be done in this tick.
-    fn quiet_tick(&mut self, journal: &Journal) -> Reply
+    fn quiet_tick(&mut self, journal: &Journal, reply: &mut Reply)
         requires mirrors { Mirrors journal.now.opening journal.now.past self.old }
         requires inside { phase journal.now.opening journal.now.past ≢ 0 }
         requires quiet { phase journal.now.opening journal.now.past ≡ journal.now.opening.rtt →
             unheard journal.now.opening journal.now.past ≡ None }
-        ensures { IsSettled journal.now.opening journal.now.past Tick (plain result) self.new }
+        ensures { IsSettled journal.now.opening journal.now.past Tick (plain reply.new) self.new }
     {
         self.pass(journal.opening().period());
-        Reply::Quiet
+        *reply = Reply::Quiet;
     }
 
     /// The period goes on by a tick, and so do the requests that wait.
