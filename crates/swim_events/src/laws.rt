@@ -12,7 +12,7 @@ ghost use Rattle.swim_history.specs.After.{setting_after};
 ghost use Rattle.swim_events.specs.Texts.{changes_text, life_text, shown, table_text};
 ghost use Rattle.swim_events.specs.Watchers.{AtWatcher, after_sent};
 ghost use Rattle.swim_events.specs.declared.watchers.Standing.TheVariants.{Following};
-ghost use Rattle.swim_events.specs.Telling.{IsTelling};
+ghost use Rattle.swim_events.specs.Telling.{IsTelling, IsTellingOver};
 ghost use Rattle.swim_events.specs.Watched.{IsTold, IsWatched, IsWatchedOver, Lived, lines_after, lived_on};
 
 /// Who is put the table first, and later the change of each entry, is told the table of a beginning of the history and
@@ -25,6 +25,16 @@ pub fn watchers_are_told_the_changes()
         IsTelling o h sent w → IsTelling o h (sent ++ take count w.pending) (after_sent count w) }
     ensures told { (o : Setting) (h : List Entry) (sent : List ℕ) (w : AtWatcher) →
         IsTelling o h sent w → IsTold w.standing o h (sent ++ w.pending) }
+{}
+
+/// Who watches over lives and keeps up was told the table of a beginning of the life in which it came, the changes after it,
+/// and of each later life its line and all its changes; who came in the only life, is told its history.
+pub fn watchers_are_told_the_lives()
+    ensures keeps_up { (lives : List Lived) (sent : List ℕ) (w : AtWatcher) → IsTellingOver lives sent w →
+        w.standing ≡ Following →
+        (since : List Lived) × (older : List Lived) × (lives ≡ since ++ older) × IsWatchedOver since (sent ++ w.pending) }
+    ensures one { (life : Lived) (sent : List ℕ) (w : AtWatcher) → IsTellingOver (life ∷ []) sent w →
+        IsTelling life.opening life.past sent w }
 {}
 
 /// A watcher begins with the table, and goes on with the change of each entry.

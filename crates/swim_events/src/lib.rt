@@ -2,12 +2,17 @@
 #![tactic(auto)]
 
 mod events;
+mod galleries;
+mod guests;
 pub mod laws;
+mod outlets;
 mod telling;
 mod watchers;
 mod watching;
 
 pub use events::{Event, LINE_BYTES, Line, event_of_row, line_of};
-pub use telling::{tell, tell_next};
+pub use galleries::{Gallery, MOST_WATCHERS};
+pub use outlets::{Entrance, Offer, Outlet};
+pub use telling::tell_next;
 pub use watchers::{Standing, WATCHER_BYTES, Watcher};
-pub use watching::{Watching, change_of};
+pub use watching::Watching;

@@ -10,7 +10,7 @@ ghost use Rattle.swim_events.specs.Watching.{known, rows_then, number_then};
 
 use std::marker::Model;
 use swim_history::{
-    Call, Change, KNOWN_MEMBERS, Opening, Reply, Row, Table, change_table, table_of,
+    Call, Change, KNOWN_MEMBERS, Opening, Reply, Row, Table, change_by, change_table, table_of,
 };
 
 /// The member table and the last period number used, as the entries of a journal make them, read one by one. A contract
@@ -70,28 +70,10 @@ impl Watching {
         ensures rows { self.new.rows ≡ rows_then result self.old.rows }
         ensures number { self.new.number ≡ number_then reply.now self.old.number }
     {
-        let change = change_of(call, reply, self.number);
+        let change = change_by(call, reply, self.number);
         make_change(&mut self.rows, &change);
         self.number = number_after(self.number, reply);
         change
-    }
-}
-
-/// The change that an answered call makes, if it makes one; number is that of the period which it ends, if it ends one.
-pub fn change_of(call: &Call, reply: &Reply, number: u64) -> Option<Change>
-    ensures { result ≡ change_by call.now reply.now number }
-{
-    match (call, reply) {
-        (Call::Join(id, peer), Reply::Joined { .. }) => Some(Change::Up(*id, *peer)),
-        (Call::Remove(id), Reply::Removed) => Some(Change::Gone(*id)),
-        (
-            Call::Tick,
-            Reply::Started {
-                judged: Some(judged),
-                ..
-            },
-        ) => Some(Change::Failed(*judged, number)),
-        _ => None,
     }
 }
 

@@ -1,7 +1,11 @@
+ghost use Rattle.std.specs.Prelude.{None};
+
 use std::process::Abort;
 use std::test::Fail;
-use swim_events::{Event, Watcher, Watching, change_of, event_of_row, line_of, tell};
-use swim_history::{Call, Change, Opening, Reply, Row, RowState};
+use swim_events::{
+    Event, Gallery, Offer, Outlet, Watcher, Watching, event_of_row, line_of, tell_next,
+};
+use swim_history::{Call, Change, Opening, Reply, Row, RowState, change_by};
 use swim_wire::{Id, Peer, Version};
 
 fn id(value: u32) -> Result<Id, Fail> {
@@ -103,33 +107,84 @@ fn tells_the_table_and_then_each_change(rt: HostRuntime) -> Result<(), Fail> {
     assert_eq!(rt; early.pending(), told);
     assert_eq!(rt; late.pending(), table);
     assert_eq!(rt;
-        change_of(&Call::Tick, &start(Some(id(2)?)), 8),
+        change_by(&Call::Tick, &start(Some(id(2)?)), 8),
         Some(Change::Failed(id(2)?, 8))
     );
     Ok(())
 }
 
-fn send_all(watcher: &mut Watcher) {
-    let count = watcher.pending().len();
-    watcher.sent(count);
+// Takes all, but nothing while it is slow.
+#[derive(Drop)]
+enum Pipe {
+    Quick,
+    Slow(u32),
+    Gone,
+}
+
+impl Outlet for Pipe {
+    ghost taken = { λ p. None };
+
+    fn offer(&mut self, bytes: &[u8]) -> Offer {
+        match self {
+            Pipe::Quick => Offer::Took(bytes.len()),
+            Pipe::Gone => Offer::Gone,
+            Pipe::Slow(0) => Offer::Took(bytes.len()),
+            Pipe::Slow(left) => {
+                *left -= 1;
+                Offer::Full
+            }
+        }
+    }
 }
 
 #[test]
-fn who_is_slow_is_lost_and_the_others_are_not(rt: HostRuntime) -> Result<(), Fail> {
-    let slow = Watcher::new(rt.alloc(), &[])?;
-    let quick = Watcher::new(rt.alloc(), &[])?;
-    let mut watchers = [slow, quick];
-    // A line of 16 bytes behind the two of the table: 4,095 of them fit, with 14 bytes left.
+fn who_is_slow_is_lost(rt: HostRuntime) -> Result<(), Fail> {
+    let mut slow = Watcher::new(rt.alloc(), &[])?;
+    // Its line has 16 bytes. Behind the two bytes of the table 4,095 of them fit, with 14 bytes left.
+    let line = line_of(&Event::Changed(Change::Gone(id(4_000_000_000)?)));
+    for _ in 0..4096 {
+        slow.put(line.as_str().as_bytes());
+    }
+    assert_lost(&rt, &mut slow);
+    Ok(())
+}
+
+#[test]
+fn who_is_slow_leaves_and_the_others_stay(rt: HostRuntime) -> Result<(), Fail> {
+    let mut gallery = Gallery::new(rt.alloc());
+    for pipe in [Pipe::Quick, Pipe::Slow(4097), Pipe::Quick] {
+        assert!(rt; gallery.admit(rt.alloc(), &[], pipe));
+    }
     let event = Event::Changed(Change::Gone(id(4_000_000_000)?));
     for _ in 0..4096 {
-        tell(&mut watchers, &event);
-        send_all(&mut watchers[1]);
+        gallery.tell(&event);
+        gallery.send();
     }
-    tell(&mut watchers, &Event::Ended);
-    assert_lost(&rt, &mut watchers[0]);
-    let quick = &watchers[1];
-    assert!(rt; quick.keeps_up());
-    assert_eq!(rt; quick.pending(), b"ended\n".as_slice());
+    assert_eq!(rt; gallery.len(), 3);
+    gallery.send();
+    assert_eq!(rt; gallery.len(), 3);
+    gallery.send();
+    assert_eq!(rt; gallery.len(), 2);
+    gallery.clear();
+    assert_eq!(rt; gallery.len(), 0);
+    Ok(())
+}
+
+#[test]
+fn tells_entries_to_all_of_them(rt: HostRuntime) -> Result<(), Fail> {
+    let mut watching = Watching::new(&opening()?);
+    let mut gallery = Gallery::new(rt.alloc());
+    for _ in 0..63 {
+        assert!(rt; gallery.admit(rt.alloc(), watching.rows(), Pipe::Quick));
+    }
+    assert!(rt; gallery.admit(rt.alloc(), watching.rows(), Pipe::Gone));
+    assert!(rt; gallery.is_full());
+    assert!(rt; !gallery.admit(rt.alloc(), watching.rows(), Pipe::Quick));
+    let judged = start(Some(id(3)?));
+    let change = tell_next(&mut watching, &mut gallery, &Call::Tick, &judged);
+    assert_eq!(rt; change, Some(Change::Failed(id(3)?, 7)));
+    gallery.send();
+    assert_eq!(rt; gallery.len(), 63);
     Ok(())
 }
 
@@ -143,7 +198,8 @@ fn assert_lost<R: Abort>(rt: &R, slow: &mut Watcher) {
     );
     slow.sent(65_526);
     assert!(rt; !slow.is_over());
-    send_all(slow);
+    let count = slow.pending().len();
+    slow.sent(count);
     assert!(rt; slow.is_over());
 }
 

@@ -1,0 +1,76 @@
+-- Those who watch, each with what its outlet took.
+use Rattle.std.specs.Prelude.{◌≡◌, ◌⊎◌, ◌↔◌, ℕ, ◌≤◌, Bool, true, false, List, [], ◌∷◌, ◌++◌, length, take, map, Option, Some, None}
+use Rattle.swim_history.specs.declared.rows.Row.{Row}
+use Rattle.swim_history.specs.declared.rows.Change.{Change}
+use Rattle.swim_events.specs.declared.outlets.Offer.{Offer}
+use Rattle.swim_events.specs.declared.outlets.Offer.TheVariants.{Took, Full, Gone}
+use Rattle.swim_events.specs.declared.watchers.Standing.TheVariants.{Following, Lost}
+use Rattle.swim_events.specs.Texts.{change_text, table_text}
+use Rattle.swim_events.specs.Watchers.{AtWatcher, after_sent, after_text}
+
+-- a watcher, and the bytes that its outlet took, where they are known
+pub record AtGuest : Type 0 where
+  pub watcher : AtWatcher
+  pub taken : Option (List ℕ)
+
+-- a list grew by these, where it is known; what isn't known stays so
+abbrev pub Grows : {A : Type 0} → Option (List A) → Option (List A) → List A → Type 0
+Grows None None more = Unit {0}
+Grows None (Some new) more = ⊥
+Grows (Some old) None more = ⊥
+Grows (Some old) (Some new) more = new ≡ old ++ more
+
+-- what an outlet takes of bytes: the first ones, or none
+abbrev pub Takes : Offer → List ℕ → Option (List ℕ) → Option (List ℕ) → Type 0
+Takes (Took count) bytes old new = (count ≤ length bytes) × Grows old new (take count bytes)
+Takes Full bytes old new = Grows old new []
+Takes Gone bytes old new = Grows old new []
+
+-- an outlet took nothing yet, as far as that is known
+abbrev pub IsUntaken : Option (List ℕ) → Type 0
+IsUntaken None = Unit {0}
+IsUntaken (Some taken) = taken ≡ []
+
+-- who comes is told these rows first
+abbrev pub newcomer : List Row → Option (List ℕ) → AtGuest
+newcomer rows taken = record { watcher = record { pending = table_text rows; standing = Following }; taken = taken }
+
+abbrev pub put_text : List ℕ → AtGuest → AtGuest
+put_text text g = record g { watcher = after_text text g.watcher }
+
+-- after a change, if there is one: each was put its text
+abbrev pub told_of : Option Change → List AtGuest → List AtGuest
+told_of None guests = guests
+told_of (Some change) guests = map (put_text (change_text change)) guests
+
+abbrev pub after_offer : Offer → AtWatcher → AtWatcher
+after_offer (Took count) w = after_sent count w
+after_offer Full w = w
+after_offer Gone w = w
+
+-- a turn: all that was to be sent was offered, and what was taken of it is to be sent no more. There is no other turn where
+-- nobody takes it any more, and where the watcher was told of its loss
+pub record IsTurn (old : AtGuest) (offer : Offer) (new : AtGuest) (goes_on : Bool) : Type 0 where
+  pub takes : Takes offer old.watcher.pending old.taken new.taken
+  pub watcher : new.watcher ≡ after_offer offer old.watcher
+  pub leaves : (goes_on ≡ false)
+      ↔ ((offer ≡ Gone) ⊎ ((new.watcher.standing ≡ Lost) × (new.watcher.pending ≡ [])))
+
+abbrev pub kept_if : Bool → AtGuest → List AtGuest
+kept_if true g = g ∷ []
+kept_if false g = []
+
+-- the turn of the first of those who watch, who is the last then, or left
+pub record TakesTurn (first : AtGuest) (others new : List AtGuest) : Type 0 where
+  pub offer : Offer
+  pub then_so : AtGuest
+  pub goes_on : Bool
+  pub turn : IsTurn first offer then_so goes_on
+  pub are : new ≡ others ++ kept_if goes_on then_so
+
+-- each had one turn, and those who didn't leave stand as they stood
+abbrev pub AreSent : List AtGuest → List AtGuest → Type 0
+AreSent [] new = new ≡ []
+AreSent (first ∷ others) new =
+    (offer : Offer) × (then_so : AtGuest) × (goes_on : Bool) × IsTurn first offer then_so goes_on
+    × ((rest : List AtGuest) × AreSent others rest × (new ≡ kept_if goes_on then_so ++ rest))

@@ -1,0 +1,38 @@
+//! The gates of those who watch: where they come in, and where their bytes go. Nothing of them waits.
+
+ghost use Rattle.std.specs.Prelude.{IfSome};
+ghost use Rattle.swim_events.specs.Guests.{IsUntaken, Takes};
+
+/// What became of bytes that were offered.
+#[derive(Clone, Copy, Debug, PartialEq, Eq)]
+pub enum Offer {
+    /// So many of them were taken, the first ones.
+    Took(usize),
+    /// There is no room for any now.
+    Full,
+    /// Nobody takes them any more.
+    Gone,
+}
+
+/// Where the bytes of one go who watches.
+pub trait Outlet {
+    ghost use Rattle.std.specs.Prelude.{ℕ, List, Option};
+
+    // the bytes that it took so far, where they are known
+    ghost taken: { Self → Option (List ℕ) };
+
+    /// Takes as many of these bytes as it can at once. It is asked where there are none, too, so that it may find that
+    /// nobody takes them any more.
+    fn offer(&mut self, bytes: &[u8]) -> Offer
+        ensures { Takes result bytes.now (taken self.old) (taken self.new) };
+}
+
+/// Where those come in who watch.
+pub trait Entrance<E: Outlet> {
+    /// Whether anybody can come in.
+    fn is_open(&self) -> bool;
+
+    /// The outlet of the next who has come, if one has.
+    fn next(&mut self) -> Option<E>
+        ensures { IfSome result (λ outlet. IsUntaken (E.taken outlet)) };
+}
