@@ -1,0 +1,4 @@
+pub mod Buckets
+pub mod Fences
+pub mod Histories
+pub mod Places
