@@ -12,7 +12,7 @@ HEX = "0123456789abcdefABCDEF"
 PATHS = ["control", "journal_dir"]
 STRINGS = ["listen", "seed", "at", *PATHS]
 # Keys that may be left out, with values.
-OPTIONAL = {"last": "0", "wire": "2", "journal_dir": "'files'", "journal_keep": "3"}
+OPTIONAL = {"last": "0", "wire": "2", "keys": f"['{'0fA9' * 16}']", "journal_dir": "'files'", "journal_keep": "3"}
 # A brace that isn't closed in its line could be one of a newer TOML where the text around it is changed.
 PRINTABLE = "".join(map(chr, range(0x20, 0x7F))).replace("{", "")
 NUMBERS = [-(2**63), -1_000, -2, -1, -1, -1, 0, 1, 2, 3, 8, 9, 1000, 60_000, 60_001, 65_535, 65_536, 10**6, 10**6 + 1]
@@ -22,7 +22,7 @@ BAD_PEERS += ["1.2.3.4:05", "01.2.3.4:5", "1.2.3.4: 5", "1.2.3.4:+5", "localhost
 BAD_PEERS += ["1.2.3.4:5\n"]
 OTHER_KINDS = ["true", "false", "1.5", "-0.0", "inf", "nan", "1e3", "[]", "[1]", "{}", "{ a = 1 }", "'text'", "7"]
 OTHER_KINDS += ["2020-02-29", "2020-02-29T01:02:03Z", "01:02:03", '""', "[[]]", '"""\ntext"""']
-UNKNOWN = ["journal_dirs", "journal-keep", "journal.dir", "name", "ID", "members", "K", '""', "'id '", "tick-ms", "wires", "3", "more.id", '"\\u0000"']
+UNKNOWN = ["journal_dirs", "journal-keep", "journal.dir", "name", "ID", "members", "K", '""', "'id '", "tick-ms", "wires", "key", "keyz", "3", "more.id", '"\\u0000"']
 NO_TOML = ["id", "= 1", "id = ", "[", "[[member]", "x = 'a", 'x = "\\q"', "x = 01", "x = 1__0", "x = [1,,2]", "x = +0x1"]
 NO_TOML += ["x = 1.", "x = 2020-13-01", "x = tru", "a.b = 1\na = 1", "[id]\n[id]", "x = {a = 1, a = 2}", "x = 'a' 'b'"]
 NO_TOML += ["x = \x01", "x = '\x7f'", "x = 1 # \x00", 'x = "\\ud800"', "\ufeffx = 1\ufeff", "[member]\n[[member]]"]
@@ -68,6 +68,11 @@ def seed_text(r, length=64):
     return "".join(r.choice(HEX) for _ in range(length))
 
 
+def keys_text(r, keys):
+    """One of the spellings of an array of keys."""
+    return "[" + r.choice([", ", ",", ",\n  "]).join(text(r, it) for it in keys) + r.choice(["]", "]", ",]"] if keys else ["]"])
+
+
 class Config:
     """The keys with the texts of their values, and the members in the same way."""
 
@@ -88,6 +93,8 @@ class Config:
             texts["journal_dir"] = path()
         self.r = r
         self.top = [[key, number(r, it)] for key, it in values.items()] + [[key, text(r, it)] for key, it in texts.items()]
+        if r.random() < 0.3:
+            self.top.append(["keys", keys_text(r, [seed_text(r) for _ in range(r.choice([1, 1, 2, 3, 4]))])])
         r.shuffle(self.top)
         self.members = members(r, r.choice([0, 0, 1, 2, 3, 5]) if count is None else count, me)
         self.is_inline = r.random() < 0.2
@@ -156,8 +163,15 @@ def another(r, key):
         path = r.choice(["", "\t", "\x7f", "\u00e9", "x" * 100, "x" * 101, "a\nb", "\x00", "/tmp/\U0001f600"])
         return text(r, path)
     if key == "seed":
-        return text(r, r.choice([seed_text(r, 63), seed_text(r, 65), "", seed_text(r, 63) + "g", seed_text(r, 62) + "\u00e9"]))
+        return text(r, bad_seed(r))
+    if key == "keys":
+        bad = r.choice([[], [seed_text(r)] * 5, [bad_seed(r)], [seed_text(r), bad_seed(r)]])
+        return keys_text(r, bad)
     return number(r, -1 if key in OPTIONAL and r.random() < 0.5 else r.choice(NUMBERS))
+
+
+def bad_seed(r):
+    return r.choice([seed_text(r, 63), seed_text(r, 65), "", seed_text(r, 63) + "g", seed_text(r, 62) + "\u00e9"])
 
 
 def of_one_fault(r):

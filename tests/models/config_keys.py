@@ -29,6 +29,7 @@ TOP = [
     Key("journal", "integer", (1, 1_000_000), None, "the most entries of the journal"),
     Key("last", "integer", (0, 2**63 - 1), 0, "the last period number that was used before"),
     Key("wire", "integer", (1, 2), 1, "the version of its own pings and ping-reqs"),
+    Key("keys", "keys", (), (), "the keys of the group, of which the first signs"),
     Key("journal_dir", "path", (), "", "the folder of the journal files"),
     Key("journal_keep", "integer", (0, LARGEST_ID), 16, "how many journal files stay, 0 for all"),
     Key("member", "members", (), [], "the other members, at most 128"),
@@ -42,6 +43,7 @@ FORMS = {
     "peer": "a string IP:PORT, as 10.0.0.1:7000",
     "path": "a string of 1 to 100 characters of ASCII that print",
     "seed": "a string of 64 hexadecimal digits",
+    "keys": "an array of 1 to 4 strings of 64 hexadecimal digits",
     "members": "an array of tables, each with id and at",
 }
 RULES = [
@@ -56,7 +58,7 @@ RULES = [
 def rows():
     """The rows of the table of keys in docs/FORMATS.md."""
     for text, key in BY_TEXT.items():
-        default = {None: "none", "": "no files"}.get(key.default, key.default) if key.default != [] else "none of them"
+        default = {None: "none", "": "no files", (): "no keys"}.get(key.default, key.default) if key.default != [] else "none of them"
         yield f"| `{text}` | {expected_form(key)} | {default} | {key.about} |"
 
 

@@ -4,7 +4,7 @@ stood there, and the warnings of what can't work. All is worked out by hand from
 `worked_causes()` gives (name, document, standard output, standard error, status), as `worked_configs()` does.
 """
 
-from tests.swimd.worked_configs import ALONE, FULL, SUMMARY, SUMMARY_ALONE, numbered_members, replaced, with_member, with_value
+from tests.swimd.worked_configs import ALONE, FULL, SEED, SUMMARY, SUMMARY_ALONE, numbered_members, replaced, with_member, with_value
 from tests.swimd.worked_configs import LINES, with_keys
 
 
@@ -82,6 +82,37 @@ def values():
     yield caused("a key within a text", hidden, "5 listen", port, "line 4: listen = 2 # ??")
 
 
+def hidden_keys():
+    """No digit of a key is shown, whatever the fault is; nor that of another value in such a document."""
+    key, form = "00112233445566778899aabbccddeeff" * 2, "expected: an array of 1 to 4 strings of 64 hexadecimal digits"
+    form += " (the keys of the group, of which the first signs)"
+    one = f'keys = ["{key}"]'
+    yield caused("keys that are none", with_keys("keys = 7"), "5 keys", form, "line 1: keys = 7")
+    yield caused("a key without brackets", with_keys(f'keys = "{key}"'), "5 keys", form, 'line 1: keys = ".."')
+    yield caused("a number among keys", with_keys(f"keys = ['{key}',7]"), "5 keys", form, "line 1: keys = ['..',7]")
+    yield caused("no keys", with_keys("\nkeys = [] # none"), "6 keys", form, "line 2: keys = [] # none")
+    yield caused("a short key", with_keys(f'keys = ["{key[1:]}"]'), "6 keys", form, 'line 1: keys = [".."]')
+    yield caused("an O in a key", with_keys(f'keys = ["{key[:32]}O{key[33:]}"]'), "6 keys", form, 'line 1: keys = [".."]')
+    yield caused("a key with colons", with_keys(f'keys = ["{":".join(key)}"]'), "6 keys", form, 'line 1: keys = [".."]')
+    yield caused("keys in lines", with_keys(f'keys = [\n"{key}",\n"{key}0",\n]'), "6 keys", form, "line 1: keys = [")
+    near = lambda name, known: f"found: {name}; the nearest known key: {known}"
+    yield caused("`key`", with_keys(f'key = ["{key}"]'), "3", near("key", "keys"), 'line 1: key = [".."]')
+    yield caused("`kesy`", with_keys(f'kesy = ["{key}"]'), "3", near("kesy", "keys"), 'line 1: kesy = [".."]')
+    of_member = FULL + f"keys = ['{key}']\n"
+    yield caused("keys of a member", of_member, "3", near("keys", "id"), "line 18: keys = ['..']")
+    seed = "expected: a string of 64 hexadecimal digits (what orders and places are drawn from)"
+    short = with_value("seed", f'"{SEED[1:]}"')
+    yield caused("a seed beside keys", with_keys(one, short), "8 seed", seed, 'line 9: seed = ".."')
+    yield caused("a seed without keys", with_keys("# keys = []", short), "8 seed", seed, f'line 9: seed = "{SEED[1:]}"')
+    tick = "expected: an integer from 1 to 60000 (milliseconds of a tick)"
+    remark = with_keys(one, with_value("tick_ms", f"0 # key {key}"))
+    yield caused("a key in a comment", remark, "6 tick_ms", tick, "line 8: tick_ms = 0 #..")
+    toml = "expected: a TOML document, in UTF-8"
+    why = "invalid value, expected a string, number, boolean, date-time, array or inline table"
+    bare = with_keys(f"keys = [\n  x{key}\n]")
+    yield caused("a key without quotes", bare, "2", toml, f"line 2, column 3: {why}", "line 2: ..")
+
+
 def members():
     all_of_them = "expected: an array of tables, each with id and at (the other members, at most 128)"
     yield caused("`member` is a number", ALONE + "member = 1\n", "5 member", all_of_them, "line 10: member = 1")
@@ -137,5 +168,5 @@ def warnings():
 
 
 def worked_causes():
-    for part in (texts, keys, values, members, openings, warnings):
+    for part in (texts, keys, values, hidden_keys, members, openings, warnings):
         yield from part()

@@ -172,6 +172,33 @@ def versions():
     yield bad("a version of a member", FULL + "wire = 2\n", "3")
 
 
+def group_keys():
+    """How many keys there are stands behind the version. Where the last number isn't given it is the clock's, and isn't told."""
+    one, other = "0123456789abcdefABCDEF9876543210" * 2, "f" * 64
+    told = lambda keys, last="": with_summary(" last 0 journal 1000\n", f"{last} journal 1000{keys}\n")
+    yield good("a key", with_keys(f'keys = ["{one}"]'), told(" keys 1"))
+    yield good("two keys, and the last number", with_keys(f"keys = ['{one}', '{other}',]\nlast = 7"), told(" keys 2", " last 7"))
+    yield good("a key, and the last number 0", with_keys(f'last = 0\nkeys = ["{one}"]'), told(" keys 1", " last 0"))
+    lines = f'keys = [ # signs\n  "{other}",\n  # the old ones\n  "{one}", "{one}", """{other}"""\n]\nwire = 2'
+    yield good("four keys, and version 2", with_keys(lines), told(" wire 2 keys 4"))
+    files = told(" keys 1").replace("\nk 1 ", "\njournal_dir files\nk 1 ").replace("\nmembers", "\njournal_keep 16\nmembers")
+    yield good("a key, and a folder", with_keys(f'journal_dir = "files"\nkeys = ["{one}"]'), files)
+    for text in ("1", "true", f'"{one}"', "{}", "[1]", f'["{one}", 1]', f'[["{one}"]]', "[1, 2, 3, 4, 5]", '["", 1]'):
+        yield bad(f"`keys` is {text[:20]}", with_keys(f"keys = {text}"), "5 keys")
+    for text in ("[]", "['']", f"['{one[1:]}']", f"['{one}0']", f"['{one[1:]}g']", f"['{one} ']", f"['{one}', '0x{other}']"):
+        yield bad(f"`keys` is {text[:20]}", with_keys(f"keys = {text}"), "6 keys")
+    yield bad("five keys", with_keys("keys = [" + f"'{one}'," * 5 + "]"), "6 keys")
+    yield bad("`keys` is a table", FULL + "\n[keys]\n", "5 keys")
+    yield bad("`keys` is an array of tables", FULL + "\n[[keys]]\n", "5 keys")
+    yield bad("`keys` twice", with_keys(f'keys = ["{one}"]\nkeys = ["{one}"]'), "2")
+    yield bad("a version before keys", with_keys("keys = []\nwire = 3"), "6 wire")
+    yield bad("keys before a folder", with_keys('journal_dir = ""\nkeys = []'), "6 keys")
+    yield bad("keys before a member", with_keys("keys = []", with_member("id = 0")), "6 keys")
+    for name in ("key", "Keys", "keyring", "keys_"):
+        yield bad(f"`{name}`", with_keys(f'{name} = ["{one}"]'), "3")
+    yield bad("keys of a member", FULL + f'keys = ["{one}"]\n', "3")
+
+
 def texts():
     yield bad("a byte too many", FULL + "#" * (65_537 - len(FULL)), "1")
     yield bad("a byte too many, and no TOML", "=" * 65_537, "1")
@@ -255,5 +282,5 @@ def openings():
 
 
 def worked_configs():
-    for part in (accepted, files, versions, texts, keys, ranges, members, openings):
+    for part in (accepted, files, versions, group_keys, texts, keys, ranges, members, openings):
         yield from part()

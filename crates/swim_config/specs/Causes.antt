@@ -8,7 +8,7 @@ use Rattle.swim_history.specs.declared.openings.OpeningFault.TheVariants.{Relays
 use Rattle.swim_config.specs.declared.config_fault.ConfigFault.{ConfigFault}
 use Rattle.swim_config.specs.declared.config_fault.ConfigFault.TheVariants as faults
 use Rattle.swim_config.specs.declared.keys.Form.{Form}
-use Rattle.swim_config.specs.declared.keys.Form.TheVariants.{Number, Peer, Path, Seed, Members}
+use Rattle.swim_config.specs.declared.keys.Form.TheVariants.{Number, Peer, Path, Seed, Keys, Members}
 use Rattle.swim_config.specs.declared.keys.Key.{Key}
 use Rattle.swim_config.specs.declared.keys.Key.TheVariants as keys
 use Rattle.swim_config.specs.Configuration.{is_printing}
@@ -49,6 +49,7 @@ form_then (Number least most) rest =
 form_then Peer rest = codes "a string IP:PORT, as 10.0.0.1:7000" ++ rest
 form_then Path rest = codes "a string of 1 to 100 characters of ASCII that print" ++ rest
 form_then Seed rest = codes "a string of 64 hexadecimal digits" ++ rest
+form_then Keys rest = codes "an array of 1 to 4 strings of 64 hexadecimal digits" ++ rest
 form_then Members rest = codes "an array of tables, each with id and at" ++ rest
 
 -- what a key is for, in brackets

@@ -1,5 +1,5 @@
 -- What a configuration says: the values of its document's keys, or its first fault.
-use Rattle.std.specs.Prelude.{ℕ, ℤ, pos, negsuc, Bool, true, ◌&&◌, nat_lt, nat_le, List, [], ◌∷◌, length}
+use Rattle.std.specs.Prelude.{ℕ, ℤ, pos, negsuc, Bool, true, not, ◌&&◌, nat_lt, nat_le, List, [], ◌∷◌, length}
 use Rattle.std.specs.Prelude.{Option, Some, None, is_some, Result, Ok, Err, if◌then◌else◌}
 use Rattle.std.specs.List.{list_all, list_any}
 use Rattle.std.specs.Option.{ok_or}
@@ -29,6 +29,7 @@ use Rattle.swim_config.specs.declared.config.Times.{Times}
 use Rattle.swim_config.specs.declared.config.Kept.{Kept}
 use Rattle.swim_config.specs.declared.config.JournalFiles.{JournalFiles}
 use Rattle.swim_config.specs.declared.config.Settings.{Settings}
+use Rattle.swim_config.specs.GroupKeys.{keys_at}
 use Rattle.swim_config.specs.Keys.{name_of, form_of, default_of, top_keys, member_keys}
 
 -- ---- keys
@@ -67,6 +68,10 @@ number_as form key value = Err (faults.Kind key)
 abbrev pub number_in : Key → Option Data → Result ℕ ConfigFault
 number_in key None = ok_or (default_of key) (faults.Missing key)
 number_in key (Some value) = number_as (form_of key) key value
+
+-- the key stands in the table
+abbrev pub is_given : Key → Members → Bool
+is_given key table = is_some (get_member (name_of key) table)
 
 abbrev pub number_at : Key → Members → Result ℕ ConfigFault
 number_at key table = number_in key (get_member (name_of key) table)
@@ -183,7 +188,7 @@ kept_in table = do
   seed ← seed_at table
   journal ← number_at keys.Journal table
   last ← number_at keys.Last table
-  Ok (record { seed = seed; journal = journal; last = last })
+  Ok (record { seed = seed; journal = journal; last = last; is_last_given = is_given keys.Last table })
 
 -- the version of its own pings and ping-reqs: the number is the one that a datagram has for it
 unfoldable pub version_in : Members → Result Version ConfigFault
@@ -205,13 +210,18 @@ settings_in table = do
   times ← times_in table
   kept ← kept_in table
   version ← version_in table
+  group ← keys_at table
   files ← files_in table
-  Ok (record { place = place; times = times; kept = kept; version = version; files = files })
+  Ok (record { place = place; times = times; kept = kept; version = version; keys = group; files = files })
 
 -- what the detector starts from
 abbrev pub setting_with : Settings → List (ℕ × Address) → Setting
 setting_with s members =
     setting_of s.place.id s.times.k s.times.rtt s.times.period members s.kept.last s.version
+
+-- there are keys, and no last number that the daemon begins behind: then the clock tells it
+abbrev pub begins_by_clock : Settings → Bool
+begins_by_clock s = nat_lt 0 (length s.keys.items) && not s.kept.is_last_given
 
 -- the configuration of these settings and this opening, if the opening has no fault
 abbrev pub config_unless : Option OpeningFault → Settings → Setting → Result Config ConfigFault
@@ -223,6 +233,8 @@ config_unless None s opening =
       tick_ms = s.times.tick_ms;
       seed = s.kept.seed;
       journal = s.kept.journal;
+      keys = s.keys;
+      begins_by_clock = begins_by_clock s;
       files = s.files;
       opening = opening;
     })
@@ -247,15 +259,24 @@ abbrev pub told_version : Version → Option ℕ
 told_version One = None
 told_version Two = Some 2
 
+-- how many keys there are, where there are some
+abbrev pub told_count : ℕ → Option ℕ
+told_count count = if nat_lt 0 count then Some count else None
+
+-- the last number, where it is known before the daemon starts
+abbrev pub told_last : Config → Option ℕ
+told_last config = if config.begins_by_clock then None else Some config.opening.last
+
 -- the number that a summary tells of a key; none where it tells none, as of a key that is left out
 abbrev pub number_of : Key → Config → Option ℕ
 number_of keys.K config = Some config.opening.k
 number_of keys.Rtt config = Some config.opening.rtt
 number_of keys.Period config = Some config.opening.period
 number_of keys.TickMs config = Some config.tick_ms
-number_of keys.Last config = Some config.opening.last
+number_of keys.Last config = told_last config
 number_of keys.Journal config = Some config.journal
 number_of keys.Wire config = told_version config.opening.version
+number_of keys.Keys config = told_count (length config.keys.items)
 number_of keys.JournalKeep config = told_keep config.files
 number_of key config = None
 

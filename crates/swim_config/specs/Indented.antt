@@ -18,7 +18,7 @@ use Rattle.swim_config.specs.Keys.{form_of, about_of}
 use Rattle.swim_config.specs.declared.config_fault.ConfigFault.{ConfigFault}
 use Rattle.swim_config.specs.declared.config_fault.ConfigFault.TheVariants as faults
 use Rattle.swim_config.specs.declared.keys.Form.{Form}
-use Rattle.swim_config.specs.declared.keys.Form.TheVariants.{Number, Peer, Path, Seed, Members}
+use Rattle.swim_config.specs.declared.keys.Form.TheVariants.{Number, Peer, Path, Seed, Keys, Members}
 use Rattle.swim_config.specs.declared.keys.Key.{Key}
 use Rattle.swim_config.specs.declared.keys.Key.TheVariants as keys
 
@@ -124,6 +124,8 @@ form_indented Peer about fits prints = words_expected (codes "a string IP:PORT, 
 form_indented Path about fits prints =
     words_expected (codes "a string of 1 to 100 characters of ASCII that print") about refl prints
 form_indented Seed about fits prints = words_expected (codes "a string of 64 hexadecimal digits") about refl prints
+form_indented Keys about fits prints =
+    words_expected (codes "an array of 1 to 4 strings of 64 hexadecimal digits") about refl prints
 form_indented Members about fits prints =
     words_expected (codes "an array of tables, each with id and at") about refl prints
 

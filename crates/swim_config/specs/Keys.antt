@@ -1,7 +1,7 @@
 -- The keys of a configuration, as one table.
 use Rattle.std.specs.Prelude.{ℕ, Bool, true, false, List, [], ◌∷◌, Option, Some, None, codes}
 use Rattle.swim_config.specs.declared.keys.Form.{Form}
-use Rattle.swim_config.specs.declared.keys.Form.TheVariants.{Number, Peer, Path, Seed, Members}
+use Rattle.swim_config.specs.declared.keys.Form.TheVariants.{Number, Peer, Path, Seed, Keys, Members}
 use Rattle.swim_config.specs.declared.keys.Key.{Key}
 use Rattle.swim_config.specs.declared.keys.Key.TheVariants as keys
 
@@ -55,6 +55,7 @@ entry_of keys.Wire =
       about = codes "the version of its own pings and ping-reqs";
       begins_line = false;
     }
+entry_of keys.Keys = required (codes "keys") Keys (codes "the keys of the group, of which the first signs")
 entry_of keys.JournalDir = required (codes "journal_dir") Path (codes "the folder of the journal files")
 entry_of keys.JournalKeep =
     record {
@@ -72,7 +73,7 @@ entry_of keys.MemberAt = required (codes "at") Peer (codes "where another member
 abbrev pub top_keys : List Key
 top_keys =
     keys.Id ∷ keys.Listen ∷ keys.Control ∷ keys.K ∷ keys.Rtt ∷ keys.Period ∷ keys.TickMs ∷ keys.Seed ∷ keys.Journal ∷
-    keys.Last ∷ keys.Wire ∷ keys.JournalDir ∷ keys.JournalKeep ∷ keys.Member ∷ []
+    keys.Last ∷ keys.Wire ∷ keys.Keys ∷ keys.JournalDir ∷ keys.JournalKeep ∷ keys.Member ∷ []
 
 abbrev pub member_keys : List Key
 member_keys = keys.MemberId ∷ keys.MemberAt ∷ []
@@ -80,7 +81,8 @@ member_keys = keys.MemberId ∷ keys.MemberAt ∷ []
 -- those whose numbers a summary tells behind its first three lines, in this order
 abbrev pub number_keys : List Key
 number_keys =
-    keys.K ∷ keys.Rtt ∷ keys.Period ∷ keys.TickMs ∷ keys.Last ∷ keys.Journal ∷ keys.Wire ∷ keys.JournalKeep ∷ []
+    keys.K ∷ keys.Rtt ∷ keys.Period ∷ keys.TickMs ∷ keys.Last ∷ keys.Journal ∷ keys.Wire ∷ keys.Keys ∷ keys.JournalKeep ∷
+    []
 
 -- ---- what follows of a key
 

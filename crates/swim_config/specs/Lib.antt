@@ -1,6 +1,8 @@
+pub mod Beginnings
 pub mod Causes
 pub mod Configuration
 pub mod FaultTexts
+pub mod GroupKeys
 pub mod Indented
 pub mod Inputs
 pub mod Keys

@@ -4,13 +4,14 @@ ghost use Rattle.std.specs.Prelude.{◌≡◌};
 ghost use Rattle.toml.specs.View.{table_view};
 ghost use Rattle.swim_wire.specs.Layout.{version_of};
 ghost use Rattle.swim_config.specs.Configuration.{config_with, files_in, kept_in, number_of, place_in, settings_in, times_in};
-ghost use Rattle.swim_config.specs.Configuration.{told_keep, told_version, version_in};
+ghost use Rattle.swim_config.specs.Configuration.{told_count, told_keep, told_last, told_version, version_in};
 
 use crate::config_fault::ConfigFault;
+use crate::group_keys::{GroupKeys, take_keys};
 use crate::keys::Key;
 use crate::socket_path::SocketPath;
 use crate::values::{
-    take_id, take_number, take_path, take_path_if, take_peer, take_seed, take_small,
+    find, take_id, take_number, take_path, take_path_if, take_peer, take_seed, take_small,
 };
 use swim_history::Opening;
 use swim_wire::{Id, Peer, Version};
@@ -29,6 +30,10 @@ pub struct Config {
     pub seed: [u8; 32],
     /// How many entries the journal may have: 1 to 1000000.
     pub journal: u32,
+    /// The keys of the group, in the order written; none where datagrams aren't signed.
+    pub keys: GroupKeys,
+    /// Whether `last` is to be the system's clock as the daemon starts: keys are set, and `last` was left out.
+    pub begins_by_clock: bool,
     /// Where each life's journal is written to a file, if it is.
     pub files: JournalFiles,
     /// What its detector starts from.
@@ -58,6 +63,8 @@ pub struct Kept {
     pub seed: [u8; 32],
     pub journal: u32,
     pub last: u64,
+    /// Whether `last` stands in the document.
+    pub is_last_given: bool,
 }
 
 /// The journal files.
@@ -77,6 +84,7 @@ pub struct Settings {
     pub kept: Kept,
     /// The version of its own pings and ping-reqs.
     pub version: Version,
+    pub keys: GroupKeys,
     pub files: JournalFiles,
 }
 
@@ -91,11 +99,23 @@ impl Config {
             Key::Rtt => Some(u64::from(opening.rtt())),
             Key::Period => Some(u64::from(opening.period())),
             Key::TickMs => Some(u64::from(self.tick_ms)),
-            Key::Last => Some(opening.last()),
+            Key::Last => self.told_last(),
             Key::Journal => Some(u64::from(self.journal)),
             Key::Wire => told_version(opening.version()),
+            Key::Keys => told_count(self.keys.len()),
             Key::JournalKeep => self.files.told_keep(),
             _ => None,
+        }
+    }
+
+    /// The last number, where it is known before the daemon starts.
+    fn told_last(&self) -> Option<u64>
+        ensures { result ≡ told_last self.now }
+    {
+        if self.begins_by_clock {
+            None
+        } else {
+            Some(self.opening.last())
         }
     }
 }
@@ -123,6 +143,13 @@ fn told_version(version: Version) -> Option<u64>
     }
 }
 
+/// How many keys there are, where there are some.
+fn told_count(count: usize) -> Option<u64>
+    ensures { result ≡ told_count count }
+{
+    if 0 < count { Some(count as u64) } else { None }
+}
+
 /// The settings of a table, or their first fault.
 #[tactic(auto, unfolding(crate::specs::Configuration::settings_in))]
 pub fn take_settings(table: &Table) -> Result<Settings, ConfigFault>
@@ -132,12 +159,14 @@ pub fn take_settings(table: &Table) -> Result<Settings, ConfigFault>
     let times = take_times(table)?;
     let kept = take_kept(table)?;
     let version = take_version(table)?;
+    let keys = take_keys(table)?;
     let files = take_files(table)?;
     Ok(Settings {
         place,
         times,
         kept,
         version,
+        keys,
         files,
     })
 }
@@ -179,10 +208,12 @@ fn take_kept(table: &Table) -> Result<Kept, ConfigFault>
     let seed = take_seed(table)?;
     let journal = take_small(table, Key::Journal)?;
     let last = take_number(table, Key::Last)?;
+    let is_last_given = find(table, Key::Last).is_some();
     Ok(Kept {
         seed,
         journal,
         last,
+        is_last_given,
     })
 }
 
@@ -223,9 +254,11 @@ pub fn config_with(settings: Settings, members: &[(Id, Peer)]) -> Result<Config,
         times,
         kept,
         version,
+        keys,
         files,
     } = settings;
     let seed = kept.seed;
+    let begins_by_clock = !keys.is_empty() && !kept.is_last_given;
     match Opening::check(
         place.id,
         times.k,
@@ -242,6 +275,8 @@ pub fn config_with(settings: Settings, members: &[(Id, Peer)]) -> Result<Config,
             tick_ms: times.tick_ms,
             seed,
             journal: kept.journal,
+            keys,
+            begins_by_clock,
             files,
             opening,
         }),

@@ -49,6 +49,11 @@ fn put_form<W: Sink>(writer: &mut W, form: Form, about: &[u8]) -> bool
             about,
         ),
         Form::Seed => put_text(writer, b"a string of 64 hexadecimal digits", about),
+        Form::Keys => put_text(
+            writer,
+            b"an array of 1 to 4 strings of 64 hexadecimal digits",
+            about,
+        ),
         Form::Members => put_text(writer, b"an array of tables, each with id and at", about),
     }
 }

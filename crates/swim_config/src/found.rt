@@ -6,6 +6,7 @@ ghost use Rattle.swim_config.specs.Causes.{PutsLines};
 
 use crate::config_fault::ConfigFault;
 use crate::details::DetailLine;
+use crate::hiding::{add_without_keys, has_keys, names_key};
 use crate::keys::Key;
 use crate::places::places_of;
 use crate::statements::{Place, line_at, line_of};
@@ -13,6 +14,14 @@ use crate::unknown_keys::{first_unknown, nearest};
 use std::alloc::Global;
 use swim_wire::Sink;
 use toml::Table;
+
+/// A document of which lines are shown.
+#[derive(Clone, Copy, Debug)]
+struct Document<'a> {
+    bytes: &'a [u8],
+    /// Whether it may have keys, which aren't shown.
+    has_keys: bool,
+}
 
 /// Writes what stood there, and in which line; and answers whether the sink took it.
 pub fn put_found<W: Sink>(alloc: Global, writer: &mut W, bytes: &[u8], fault: ConfigFault) -> bool
@@ -22,10 +31,22 @@ pub fn put_found<W: Sink>(alloc: Global, writer: &mut W, bytes: &[u8], fault: Co
     if fault == ConfigFault::Size || fault == ConfigFault::NoMemory {
         return put_nothing(writer);
     }
+    let names_key = names_key(bytes);
     match toml::table_from_slice(alloc, bytes) {
-        Ok(table) => put_found_in(alloc, writer, bytes, &table, fault),
+        Ok(table) => {
+            let has_keys = names_key || has_keys(alloc, &table);
+            put_found_in(alloc, writer, Document { bytes, has_keys }, &table, fault)
+        }
         Err(error) => match error.span() {
-            Some(span) => put_stop(writer, bytes, span.start, error.message()),
+            Some(span) => {
+                let has_keys = names_key;
+                put_stop(
+                    writer,
+                    Document { bytes, has_keys },
+                    span.start,
+                    error.message(),
+                )
+            }
             None => put_nothing(writer),
         },
     }
@@ -41,22 +62,22 @@ fn put_nothing<W: Sink>(writer: &mut W) -> bool
 }
 
 /// Where a document stops being TOML, and why.
-fn put_stop<W: Sink>(writer: &mut W, bytes: &[u8], index: usize, why: &str) -> bool
+fn put_stop<W: Sink>(writer: &mut W, document: Document<'_>, index: usize, why: &str) -> bool
     ensures lines { PutsLines (W.written writer.old) (W.written writer.new) result }
     ensures failures { W.failures writer.new ≡ failures_if (W.failures writer.old) result }
 {
-    let number = line_at(bytes, index);
+    let number = line_at(document.bytes, index);
     let mut line = DetailLine::new();
     line.add(b"line ");
     line.add_number(number as u64);
     line.add(b", column ");
-    line.add_number(column_at(bytes, index) as u64);
+    line.add_number(column_at(document.bytes, index) as u64);
     line.add(b": ");
     line.add(why.as_bytes());
     if !line.put(writer) {
         return false;
     }
-    put_line(writer, bytes, number)
+    put_line(writer, document, number)
 }
 
 /// The number, from 1 on, of the character of that index in its line.
@@ -76,59 +97,62 @@ fn column_at(bytes: &[u8], index: usize) -> usize {
 fn put_found_in<W: Sink>(
     alloc: Global,
     writer: &mut W,
-    bytes: &[u8],
+    document: Document<'_>,
     table: &Table,
     fault: ConfigFault,
 ) -> bool
     ensures lines { PutsLines (W.written writer.old) (W.written writer.new) result }
     ensures failures { W.failures writer.new ≡ failures_if (W.failures writer.old) result }
 {
-    if !put_words(alloc, writer, table, fault) {
+    if !put_words(alloc, writer, document, table, fault) {
         return false;
     }
-    put_places(alloc, writer, bytes, table, fault)
+    put_places(alloc, writer, document, table, fault)
 }
 
 /// The lines that have a part in a fault.
 fn put_places<W: Sink>(
     alloc: Global,
     writer: &mut W,
-    bytes: &[u8],
+    document: Document<'_>,
     table: &Table,
     fault: ConfigFault,
 ) -> bool
     ensures lines { PutsLines (W.written writer.old) (W.written writer.new) result }
     ensures failures { W.failures writer.new ≡ failures_if (W.failures writer.old) result }
 {
-    let Ok(text) = std::str::from_utf8(bytes) else {
-        return put_nothing(writer);
-    };
     if fault == ConfigFault::UnknownKey {
         let place = first_unknown(table).map(|unknown| unknown.place);
-        return put_place(alloc, writer, text, place);
+        return put_place(alloc, writer, document, place);
     }
-    put_both(alloc, writer, text, places_of(alloc, table, fault))
+    put_both(alloc, writer, document, places_of(alloc, table, fault))
 }
 
 /// Two lines, if they are there.
 fn put_both<W: Sink>(
     alloc: Global,
     writer: &mut W,
-    text: &str,
+    document: Document<'_>,
     places: [Option<Place<'static>>; 2],
 ) -> bool
     ensures lines { PutsLines (W.written writer.old) (W.written writer.new) result }
     ensures failures { W.failures writer.new ≡ failures_if (W.failures writer.old) result }
 {
     let [first, second] = places;
-    if !put_place(alloc, writer, text, first) {
+    if !put_place(alloc, writer, document, first) {
         return false;
     }
-    put_place(alloc, writer, text, second)
+    put_place(alloc, writer, document, second)
 }
 
 /// What no line of the document tells.
-fn put_words<W: Sink>(alloc: Global, writer: &mut W, table: &Table, fault: ConfigFault) -> bool
+fn put_words<W: Sink>(
+    alloc: Global,
+    writer: &mut W,
+    document: Document<'_>,
+    table: &Table,
+    fault: ConfigFault,
+) -> bool
     ensures lines { PutsLines (W.written writer.old) (W.written writer.new) result }
     ensures failures { W.failures writer.new ≡ failures_if (W.failures writer.old) result }
 {
@@ -140,7 +164,7 @@ fn put_words<W: Sink>(alloc: Global, writer: &mut W, table: &Table, fault: Confi
                 return put_nothing(writer);
             };
             line.add(b"found: ");
-            line.add(unknown.name.as_bytes());
+            add_text(&mut line, document, unknown.name.as_bytes());
             if let Some(key) = nearest(alloc, unknown.name, unknown.known) {
                 line.add(b"; the nearest known key: ");
                 line.add(key.name().as_bytes());
@@ -152,12 +176,20 @@ fn put_words<W: Sink>(alloc: Global, writer: &mut W, table: &Table, fault: Confi
 }
 
 /// The line where the statement stands, if one does.
-fn put_place<W: Sink>(alloc: Global, writer: &mut W, text: &str, place: Option<Place<'_>>) -> bool
+fn put_place<W: Sink>(
+    alloc: Global,
+    writer: &mut W,
+    document: Document<'_>,
+    place: Option<Place<'_>>,
+) -> bool
     ensures lines { PutsLines (W.written writer.old) (W.written writer.new) result }
     ensures failures { W.failures writer.new ≡ failures_if (W.failures writer.old) result }
 {
+    let Ok(text) = std::str::from_utf8(document.bytes) else {
+        return put_nothing(writer);
+    };
     match place.and_then(|place| nearest_line(alloc, text, place)) {
-        Some(number) => put_line(writer, text.as_bytes(), number),
+        Some(number) => put_line(writer, document, number),
         None => put_nothing(writer),
     }
 }
@@ -174,8 +206,8 @@ fn nearest_line(alloc: Global, text: &str, place: Place<'_>) -> Option<usize> {
     }
 }
 
-/// A line of a text, with its number.
-fn put_line<W: Sink>(writer: &mut W, bytes: &[u8], number: usize) -> bool
+/// A line of a document, with its number.
+fn put_line<W: Sink>(writer: &mut W, document: Document<'_>, number: usize) -> bool
     ensures lines { PutsLines (W.written writer.old) (W.written writer.new) result }
     ensures failures { W.failures writer.new ≡ failures_if (W.failures writer.old) result }
 {
@@ -183,9 +215,22 @@ fn put_line<W: Sink>(writer: &mut W, bytes: &[u8], number: usize) -> bool
     line.add(b"line ");
     line.add_number(number as u64);
     line.add(b": ");
-    let mut lines = bytes.split(|byte| *byte == b'\n');
+    let mut lines = document.bytes.split(|byte| *byte == b'\n');
     if let Some(text) = lines.nth(number.saturating_sub(1)) {
-        line.add(text.strip_suffix(b"\r").unwrap_or(text));
+        add_text(
+            &mut line,
+            document,
+            text.strip_suffix(b"\r").unwrap_or(text),
+        );
     }
     line.put(writer)
+}
+
+/// Adds what stands in a document.
+fn add_text(line: &mut DetailLine, document: Document<'_>, text: &[u8]) {
+    if document.has_keys {
+        add_without_keys(line, text);
+    } else {
+        line.add(text);
+    }
 }

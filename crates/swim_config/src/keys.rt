@@ -29,6 +29,8 @@ pub enum Key {
     Last,
     /// The version of its own pings and ping-reqs.
     Wire,
+    /// The keys of the group, by which datagrams are signed.
+    Keys,
     /// The folder of the journal files.
     JournalDir,
     /// How many journal files stay.
@@ -52,6 +54,8 @@ pub enum Form {
     Path,
     /// A string that is a seed.
     Seed,
+    /// An array of 1 to 4 strings, each a key of the group.
+    Keys,
     /// An array of tables, each a member.
     Members,
 }
@@ -72,7 +76,7 @@ struct Entry {
 }
 
 /// The keys of a configuration, in the order in which their faults are told.
-pub const TOP_KEYS: [Key; 14] = [
+pub const TOP_KEYS: [Key; 15] = [
     Key::Id,
     Key::Listen,
     Key::Control,
@@ -84,13 +88,14 @@ pub const TOP_KEYS: [Key; 14] = [
     Key::Journal,
     Key::Last,
     Key::Wire,
+    Key::Keys,
     Key::JournalDir,
     Key::JournalKeep,
     Key::Member,
 ];
 
 /// The keys whose numbers a summary tells behind its first three lines, in this order.
-pub const NUMBER_KEYS: [Key; 8] = [
+pub const NUMBER_KEYS: [Key; 9] = [
     Key::K,
     Key::Rtt,
     Key::Period,
@@ -98,6 +103,7 @@ pub const NUMBER_KEYS: [Key; 8] = [
     Key::Last,
     Key::Journal,
     Key::Wire,
+    Key::Keys,
     Key::JournalKeep,
 ];
 
@@ -155,6 +161,11 @@ impl Key {
                 about: "the version of its own pings and ping-reqs",
                 begins_line: false,
             },
+            Key::Keys => required(
+                "keys",
+                Form::Keys,
+                "the keys of the group, of which the first signs",
+            ),
             Key::JournalDir => required(
                 "journal_dir",
                 Form::Path,

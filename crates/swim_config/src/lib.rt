@@ -1,6 +1,7 @@
 //! Configurations of a daemon: what their bytes say, their faults and their summary.
 #![tactic(auto)]
 
+mod beginnings;
 mod causes;
 mod config;
 mod config_fault;
@@ -8,6 +9,8 @@ mod details;
 mod expected;
 mod fault_texts;
 mod found;
+mod group_keys;
+mod hiding;
 mod inputs;
 mod keys;
 mod members;
@@ -25,6 +28,7 @@ pub use config::{Config, JournalFiles};
 pub use config_fault::ConfigFault;
 pub use details::{DETAIL_BYTES, DetailLine};
 pub use fault_texts::put_fault;
+pub use group_keys::GroupKeys;
 pub use inputs::{INPUT_BYTES, read_input};
 pub use keys::{Form, Key};
 pub use reading::{CONFIG_BYTES, read_config};

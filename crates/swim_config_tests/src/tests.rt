@@ -1,4 +1,5 @@
 mod causes;
 mod configurations;
+mod keys;
 mod refusals;
 mod versions;

@@ -9,5 +9,8 @@ returns-in-Path-clause-bytes g c = rw c.in-Path.is c.put_text-in-Path.ensures.by
 pub returns-in-Seed-clause-bytes : goal.returns-in-Seed-clause-bytes
 returns-in-Seed-clause-bytes g c = rw c.in-Seed.is c.put_text-in-Seed.ensures.bytes
 
+pub returns-in-Keys-clause-bytes : goal.returns-in-Keys-clause-bytes
+returns-in-Keys-clause-bytes g c = rw c.in-Keys.is c.put_text-in-Keys.ensures.bytes
+
 pub returns-in-Members-clause-bytes : goal.returns-in-Members-clause-bytes
 returns-in-Members-clause-bytes g c = rw c.in-Members.is c.put_text-in-Members.ensures.bytes

@@ -1,0 +1,205 @@
+//! The key `keys`: which keys it says, how a summary tells them, its faults, and that no fault shows their digits.
+
+use std::alloc::Global;
+use std::test::Fail;
+use swim_config::{Config, put_cause, put_fault, read_config, summary};
+use swim_wire::Page;
+
+/// A configuration with no member.
+const ALONE: &str = "id = 1
+listen = \"10.0.0.1:7000\"
+control = \"/tmp/swimd.sock\"
+k = 1
+rtt = 1
+period = 3
+tick_ms = 1000
+seed = \"00000000000000000000000000000000000000000000000000000000000000aB\"
+journal = 1000
+";
+
+/// A key, and the same with other digits in front.
+const FIRST: &str = "00112233445566778899aabbccddeeffFFEEDDCCBBAA99887766554433221100";
+
+const SECOND: &str = "ff112233445566778899aabbccddeeffFFEEDDCCBBAA99887766554433221100";
+
+/// What a value of `keys` has to be.
+const EXPECTED: &str =
+    "  expected: an array of 1 to 4 strings of 64 hexadecimal digits (the keys of the group, of which the first signs)";
+
+/// The configuration behind these lines, in which `<1>` and `<2>` stand for the digits of the two keys.
+fn behind(alloc: Global, lines: &str) -> Result<String, Fail> {
+    let first = lines.replace(alloc, "<1>", FIRST)?;
+    let both = first.as_str().replace(alloc, "<2>", SECOND)?;
+    Ok(format!(in alloc; "{both}{ALONE}")?)
+}
+
+/// What is told of a document's fault; nothing where it has none.
+fn told_of(alloc: Global, document: &str) -> Page {
+    let mut page = Page::new(alloc);
+    if let Err(fault) = read_config(alloc, document.as_bytes()) {
+        let _is_put = put_fault(&mut page, fault)
+            && put_cause(alloc, &mut page, document.as_bytes(), fault);
+    }
+    page
+}
+
+/// A summary whose line of numbers ends so.
+fn summed_up(alloc: Global, numbers: &str) -> Result<String, Fail> {
+    Ok(format!(in alloc;
+        "id 1
+listen 10.0.0.1:7000
+control /tmp/swimd.sock
+k 1 rtt 1 period 3 tick_ms 1000{numbers}
+members 0
+"
+    )?)
+}
+
+#[test]
+fn keys_are_read_in_order(rt: HostRuntime) -> Result<(), Fail> {
+    let document = behind(rt.alloc(), "keys = [\"<1>\", '<2>']\n")?;
+    let Ok(config) = read_config(rt.alloc(), document.as_bytes()) else {
+        panic!(rt; "a configuration");
+    };
+    let firsts = config.keys.as_slice();
+    assert_eq!(rt; firsts.len(), 2);
+    for (key, wanted) in firsts.iter().zip([0x00, 0xff]) {
+        assert_eq!(rt; key.as_bytes()[0], wanted);
+        assert_eq!(rt; &key.as_bytes()[1..3], [0x11, 0x22].as_slice());
+        assert_eq!(rt; key.as_bytes()[31], 0);
+    }
+    Ok(())
+}
+
+#[test]
+fn a_summary_tells_how_many_keys_there_are(rt: HostRuntime) -> Result<(), Fail> {
+    for (lines, numbers) in [
+        ("", " last 0 journal 1000"),
+        ("keys = [\"<1>\"]\n", " journal 1000 keys 1"),
+        (
+            "keys = [\"<2>\",\n  \"<1>\", # the old one\n]\n",
+            " journal 1000 keys 2",
+        ),
+        (
+            "keys = [\"<1>\",\"<2>\",\"<1>\",\"<2>\"]\nwire = 2\nlast = 7\n",
+            " last 7 journal 1000 wire 2 keys 4",
+        ),
+    ] {
+        let document = behind(rt.alloc(), lines)?;
+        let Ok(config) = read_config(rt.alloc(), document.as_bytes()) else {
+            panic!(rt; "a configuration, at {lines}");
+        };
+        let mut page = Page::new(rt.alloc());
+        assert!(rt; summary(&config, &mut page), "at {lines}");
+        let wanted = summed_up(rt.alloc(), numbers)?;
+        assert_eq!(rt; page.text(), wanted.as_bytes(), "at {lines}");
+    }
+    Ok(())
+}
+
+#[test]
+fn other_keys_are_a_fault(rt: HostRuntime) -> Result<(), Fail> {
+    for (lines, number, found) in [
+        ("keys = \"<1>\"\n", 5, "keys = \"..\""),
+        ("keys = [\"<1>\", 5]\n", 5, "keys = [\"..\", 5]"),
+        ("keys = [[\"<1>\"]]\n", 5, "keys = [[\"..\"]]"),
+        ("keys = []\n", 6, "keys = []"),
+        (
+            "keys = [\"<1>\",'<1>',\"<1>\",\"<2>\",\"<2>\"]\n",
+            6,
+            "keys = [\"..\",'..',\"..\",\"..\",\"..\"]",
+        ),
+        ("keys = [\"<1>\", \"<1>0\"]\n", 6, "keys = [\"..\", \"..\"]"),
+        ("keys = [\n  \"<1> \",\n]\n", 6, "keys = ["),
+        // The digits aren't shown either where one of them is none, or where there are spaces among them.
+        (
+            "keys = [\"0123456789abcdefO123456789abcdef0123456789abcdef0123456789abcdef\"]\n",
+            6,
+            "keys = [\"..\"]",
+        ),
+        (
+            "keys = [ \"01 23 45 67 89 ab cd ef 01 23 45 67 89 ab cd ef 01 23 45\" ]\n",
+            6,
+            "keys = [ \"..\" ]",
+        ),
+        ("keys.<1> = 1\n", 5, "..= 1"),
+    ] {
+        let document = behind(rt.alloc(), lines)?;
+        let wanted = format!(in rt.alloc();
+            "configuration {number} keys\n{EXPECTED}\n  line 1: {found}\n"
+        )?;
+        let page = told_of(rt.alloc(), document.as_str());
+        assert_eq!(rt; page.text(), wanted.as_bytes(), "at {lines}");
+    }
+    Ok(())
+}
+
+#[test]
+fn no_other_fault_shows_a_key(rt: HostRuntime) -> Result<(), Fail> {
+    let toml = "configuration 2\n  expected: a TOML document, in UTF-8\n";
+    for (lines, wanted) in [
+        // a name that isn't quite it, and the key of a member
+        (
+            "key = [\"<1>\"]\n",
+            "configuration 3\n  found: key; the nearest known key: keys\n  line 1: key = [\"..\"]\n",
+        ),
+        (
+            "keis = [\"<1>\"]\n",
+            "configuration 3\n  found: keis; the nearest known key: keys\n  line 1: keis = [\"..\"]\n",
+        ),
+        (
+            "keys = [\"<2>\"]\n<1> = 1\n",
+            "configuration 3\n  found: ..; the nearest known key: journal_keep\n  line 2: ..= 1\n",
+        ),
+        (
+            "keys = [\"<2>\"]\nwire = 3 # once <1>\n",
+            "configuration 6 wire\n  expected: an integer from 1 to 2 (the version of its own pings and ping-reqs)\n  line 2: wire = 3 #..\n",
+        ),
+    ] {
+        let document = behind(rt.alloc(), lines)?;
+        let page = told_of(rt.alloc(), document.as_str());
+        assert_eq!(rt; page.text(), wanted.as_bytes(), "at {lines}");
+    }
+    let document = behind(rt.alloc(), "wire = 1 Keys = [\"<1>\"]\n")?;
+    let page = told_of(rt.alloc(), document.as_str());
+    assert!(rt; page.text().starts_with(toml.as_bytes()));
+    assert!(rt;
+        page.text()
+            .ends_with(b"\n  line 1: wire = 1 Keys = [\"..\"]\n")
+    );
+    Ok(())
+}
+
+#[test]
+fn without_keys_a_line_is_shown_as_it_stands(rt: HostRuntime) -> Result<(), Fail> {
+    let document = behind(rt.alloc(), "# keys = []\nseed = '<1>' '<2>'\n")?;
+    let page = told_of(rt.alloc(), document.as_str());
+    let wanted = format!(in rt.alloc(); "\n  line 2: seed = '{FIRST}' '{SECOND}'\n")?;
+    assert!(rt; page.text().ends_with(wanted.as_bytes()));
+    Ok(())
+}
+
+/// The last number of a configuration's detector, where a daemon of it starts in the 1000th millisecond.
+fn last_at_1000(config: Config) -> u64 {
+    config.begun_at(1_000).opening.last()
+}
+
+#[test]
+fn the_clock_is_the_last_number_where_keys_are_set_and_none_is_given(
+    rt: HostRuntime,
+) -> Result<(), Fail> {
+    for (lines, last) in [
+        ("", 0),
+        ("last = 7\n", 7),
+        ("keys = [\"<1>\"]\n", 1_000),
+        ("keys = [\"<1>\"]\nlast = 0\n", 0),
+        ("keys = [\"<1>\"]\nlast = 2000\n", 2_000),
+    ] {
+        let document = behind(rt.alloc(), lines)?;
+        match read_config(rt.alloc(), document.as_bytes()) {
+            Ok(config) => assert_eq!(rt; last_at_1000(config), last, "at {lines}"),
+            Err(_) => panic!(rt; "a configuration, at {lines}"),
+        }
+    }
+    Ok(())
+}
