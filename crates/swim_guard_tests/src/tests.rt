@@ -1,0 +1,181 @@
+//! Who is heard over a line, and what goes out by a post. The tags are Python's.
+
+ghost use Rattle.std.specs.Prelude.{None};
+ghost use Rattle.swim_life.specs.Gates.{FitsInto};
+
+use std::sync::Wait;
+use std::sync::atomic::{AtomicBool, Ordering};
+use std::test::Fail;
+use swim_guard::{SealedLine, SealedPost};
+use swim_keys::{Key, Keys};
+use swim_life::{Got, Line, Post};
+use swim_wire::Peer;
+
+// A ping of member 2 for member 1, number 5.
+const PING: &[u8; 24] =
+    b"SW\x01\x01\x00\x00\x00\x02\x00\x00\x00\x02\x00\x00\x00\x01\x00\x00\x00\x00\x00\x00\x00\x05";
+
+// The same with its tag by the key of the bytes 0 to 31, by that of the bytes 32 to 63, and by that of the bytes 64 to 95.
+const BY_FIRST: &[u8; 40] =
+    b"SW\x01\x01\x00\x00\x00\x02\x00\x00\x00\x02\x00\x00\x00\x01\x00\x00\x00\x00\x00\x00\x00\x05\
+    \xb4\x50\x87\x4f\xca\x11\xf1\xf2\x7a\x23\x73\x27\x8d\x86\x4c\x26";
+
+const BY_SECOND: &[u8; 40] =
+    b"SW\x01\x01\x00\x00\x00\x02\x00\x00\x00\x02\x00\x00\x00\x01\x00\x00\x00\x00\x00\x00\x00\x05\
+    \x1d\x41\xee\xaf\xce\x95\x95\x4c\x29\x2b\xff\xb5\x33\xb3\x2d\xa5";
+
+const BY_THIRD: &[u8; 40] =
+    b"SW\x01\x01\x00\x00\x00\x02\x00\x00\x00\x02\x00\x00\x00\x01\x00\x00\x00\x00\x00\x00\x00\x05\
+    \xd2\x07\xab\x53\xcb\x88\xc0\x7d\x25\x82\x39\xc5\xf4\x9a\xf7\xc9";
+
+fn at(last: u8) -> Peer {
+    Peer {
+        ip: [10, 0, 0, last],
+        port: 7000,
+    }
+}
+
+// The keys of the bytes 0 to 31 and 32 to 63.
+fn keys() -> Result<Keys, Fail> {
+    let first = Key::read(b"000102030405060708090a0b0c0d0e0f101112131415161718191a1b1c1d1e1f")?;
+    let second = Key::read(b"202122232425262728292a2b2c2d2e2f303132333435363738393a3b3c3d3e3f")?;
+    Ok(Keys::of(&[first, second]).ok_or("two keys")?)
+}
+
+// A line with one datagram, which it gives again and again.
+#[derive(Drop)]
+struct OneDatagram<'d> {
+    datagram: &'d [u8],
+    source: Peer,
+}
+
+impl<'d> Line for OneDatagram<'d> {
+    ghost received = { λ line. None };
+
+    fn receive<R: Wait>(&mut self, _rt: &R, bytes: &mut [u8]) -> Got
+        ensures { FitsInto result bytes.new }
+    {
+        match bytes.get_mut(..self.datagram.len()) {
+            Some(front) => {
+                front.copy_from_slice(self.datagram);
+                Got::Datagram(self.datagram.len(), self.source)
+            }
+            None => Got::Idle,
+        }
+    }
+}
+
+// What is heard of a datagram, and how many were thrown away.
+fn heard<R: Wait>(
+    rt: &R,
+    keys: Option<&Keys>,
+    datagram: &[u8],
+) -> (Got, [u8; 64], u64, Option<Peer>) {
+    let line = OneDatagram {
+        datagram,
+        source: at(3),
+    };
+    let mut line = SealedLine::new(line, keys);
+    let mut bytes = [0; 64];
+    let got = line.receive(rt, &mut bytes);
+    (got, bytes, line.forged(), line.newest())
+}
+
+#[test]
+fn who_has_a_key_is_heard(rt: HostRuntime) -> Result<(), Fail> {
+    let keys = keys()?;
+    for datagram in [BY_FIRST, BY_SECOND] {
+        let (got, bytes, forged, newest) = heard(&rt, Some(&keys), datagram);
+        assert_eq!(rt; got, Got::Datagram(24, at(3)));
+        assert_eq!(rt; bytes.get(..24), Some(PING.as_slice()));
+        assert_eq!(rt; forged, 0);
+        assert_eq!(rt; newest, None);
+    }
+    Ok(())
+}
+
+#[test]
+fn who_has_none_is_not_heard(rt: HostRuntime) -> Result<(), Fail> {
+    let keys = keys()?;
+    for datagram in [
+        BY_THIRD.as_slice(),
+        PING.as_slice(),
+        &BY_FIRST[..39],
+        &BY_FIRST[..0],
+    ] {
+        let (got, _, forged, newest) = heard(&rt, Some(&keys), datagram);
+        assert_eq!(rt; got, Got::Idle);
+        assert_eq!(rt; forged, 1);
+        assert_eq!(rt; newest, Some(at(3)));
+    }
+    Ok(())
+}
+
+#[test]
+fn without_keys_all_are_heard(rt: HostRuntime) {
+    let (got, bytes, forged, _) = heard(&rt, None, BY_THIRD);
+    assert_eq!(rt; got, Got::Datagram(40, at(3)));
+    assert_eq!(rt; bytes.get(..40), Some(BY_THIRD.as_slice()));
+    assert_eq!(rt; forged, 0);
+}
+
+// A post that tells whether it was handed just one datagram, and which one.
+#[derive(Drop)]
+struct WantingPost<'s> {
+    wanted: &'s [u8],
+    was_handed: &'s AtomicBool,
+}
+
+impl<'s> Post for WantingPost<'s> {
+    ghost posted = { λ post. None };
+
+    fn fresh(&self) -> WantingPost<'s> {
+        WantingPost {
+            wanted: self.wanted,
+            was_handed: self.was_handed,
+        }
+    }
+
+    fn send<R: Wait>(&mut self, _rt: &R, bytes: &[u8], to: Peer) -> bool {
+        let is_wanted = bytes == self.wanted && to == at(2);
+        self.was_handed.store(is_wanted, Ordering::SeqCst);
+        is_wanted
+    }
+}
+
+// Whether these bytes go out where the ping is sent, also by a fresh post.
+fn goes_out<R: Wait>(rt: &R, keys: Option<&Keys>, wanted: &[u8]) -> bool {
+    let was_handed = AtomicBool::new(false);
+    let post = WantingPost {
+        wanted,
+        was_handed: &was_handed,
+    };
+    let mut post = SealedPost::new(post, keys);
+    let mut fresh = post.fresh();
+    let is_taken = post.send(rt, PING, at(2)) && fresh.send(rt, PING, at(2));
+    is_taken && was_handed.load(Ordering::SeqCst)
+}
+
+#[test]
+fn what_goes_out_has_a_tag_by_the_first_key(rt: HostRuntime) -> Result<(), Fail> {
+    let keys = keys()?;
+    assert!(rt; goes_out(&rt, Some(&keys), BY_FIRST));
+    assert!(rt; !goes_out(&rt, Some(&keys), BY_SECOND));
+    assert!(rt; goes_out(&rt, None, PING));
+    Ok(())
+}
+
+// More than a datagram has.
+#[test]
+fn more_bytes_do_not_go_out(rt: HostRuntime) -> Result<(), Fail> {
+    let keys = keys()?;
+    let was_handed = AtomicBool::new(false);
+    let post = WantingPost {
+        wanted: BY_FIRST,
+        was_handed: &was_handed,
+    };
+    let mut post = SealedPost::new(post, Some(&keys));
+    assert!(rt; !post.send(&rt, &[0; 31], at(2)));
+    assert!(rt; !was_handed.load(Ordering::SeqCst));
+    Ok(())
+}
