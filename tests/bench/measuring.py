@@ -33,9 +33,10 @@ def run(words, script=os.devnull, output=os.devnull):
     return Cost(usage.ru_utime + usage.ru_stime, passed, usage.ru_maxrss * 1024)
 
 
-def pinged(pinger, address, window, count):
-    """Seconds that so many pings of member 1 took. One sender can't keep the least responder busy, two can."""
-    words = [pinger, address, "1", str(window), str(count), "1" if window == 1 else "2"]
+def pinged(pinger, address, window, count, made=()):
+    """Seconds that so many pings of member 1 took, those in a file that were made before if it is given. One sender can't keep the
+    least responder busy, two can."""
+    words = [pinger, address, "1", str(window), str(count), "1" if window == 1 else "2", *made]
     ran = subprocess.run(words, capture_output=True, text=True, timeout=300)
     if ran.returncode:
         raise BenchFault(f"the pinger ended with status {ran.returncode}: {ran.stderr}")

@@ -15,7 +15,8 @@ import re
 import subprocess
 
 from tests.generators.random_configs import seed_text
-from tests.support.daemons import HOST, must, until
+from tests.support.configurations import HOST
+from tests.support.daemons import must, until
 from tests.support.datagrams import ACK, PING, datagram, fields, version_of
 
 TICKS = {"rtt": 2, "period": 6, "tick_ms": 50}

@@ -7,7 +7,8 @@ import subprocess
 
 from tests.generators.random_configs import seed_text
 from tests.models.hearing_model import walked
-from tests.support.daemons import HOST, DaemonFault, must, talk, until
+from tests.support.configurations import HOST
+from tests.support.daemons import DaemonFault, must, talk, until
 from tests.support.datagrams import ACK, PING, REQUEST, datagram
 
 MINUTE = 60_000

@@ -13,7 +13,8 @@ import tempfile
 import time
 from typing import NamedTuple
 
-HOST = "127.0.0.1"
+from tests.support.configurations import HOST, configuration
+
 SECONDS = 20
 # So many ports are tried: one that was free a moment ago may be taken.
 PORTS_TRIED = 10
@@ -23,7 +24,8 @@ LIVES_AND_CLOSING = re.compile(rb"((?:life [^\n]*\n)*)ended (no memory|socket|st
 ROW = re.compile(rb"(\d+) ([\d.]+:\d+) (up|failed \d+)")
 # What a daemon tells people: warnings before it begins, and while it runs lines with the time.
 TIME = rb"\d{4}-\d\d-\d\dT\d\d:\d\d:\d\d\.\d{3}Z"
-NOTICES = rb"swimd [\d.]+ listens [^\n]*|life \d+ begins|removed [^\n]*|journal [^\n]*: [^\n]*"
+FORGED = rb"datagrams from [\d.]+:\d+ have no tag by one of our keys, forged \d+"
+NOTICES = rb"swimd [\d.]+ listens [^\n]*|life \d+ begins|removed [^\n]*|journal [^\n]*: [^\n]*|" + FORGED
 NOTICE = re.compile(rb"warning: [^\n]*\n|" + TIME + rb" (?:" + NOTICES + rb")\n")
 
 
@@ -116,14 +118,15 @@ def udp_socket():
     return it
 
 
-def configuration(**values):
-    """The text of a configuration. `members` are pairs of an id and a port of this machine, or an address."""
-    members = values.pop("members")
-    lines = [f'{key} = "{it}"' if isinstance(it, str) else f"{key} = {it}" for key, it in values.items()]
-    for id, at in members:
-        peer = at if isinstance(at, str) else f"{HOST}:{at}"
-        lines += ["", "[[member]]", f"id = {id}", f'at = "{peer}"']
-    return "\n".join(lines) + "\n"
+def lying_in(pipe):
+    """What lies in a pipe by now."""
+    text = b""
+    while select.select([pipe], [], [], 0)[0]:
+        more = os.read(pipe.fileno(), 65_536)
+        if not more:
+            break
+        text += more
+    return text
 
 
 def put_aside(folder):
@@ -185,7 +188,7 @@ class Daemon:
 
     def __init__(self, program, folder, id, port, members=(), **values):
         self.program, self.id, self.port, self.child = program, id, port, None
-        self.read, self.lives, self.told = b"", [], b""
+        self.read, self.said, self.lives, self.told = b"", b"", [], b""
         # The lives that are told as cut, and whether any may be. In a folder of its own journal files are put aside before a start:
         # those of one second have the same names.
         self.cut, self.may_be_cut, self.has_own_folder = [], False, False
@@ -207,7 +210,7 @@ class Daemon:
             os.remove(self.control)
         if self.has_own_folder:
             put_aside(self.values["journal_dir"])
-        self.read, words = b"", [self.program, "run", "--config", self.file, *words]
+        self.read, self.said, words = b"", b"", [self.program, "run", "--config", self.file, *words]
         streams = {"stdin": subprocess.DEVNULL, "stdout": subprocess.PIPE, "stderr": subprocess.PIPE, **how}
         self.child = subprocess.Popen(words, **streams, bufsize=0)
 
@@ -279,24 +282,25 @@ class Daemon:
             raise DaemonFault(f"member {self.id} has not ended after {seconds} seconds") from None
         found = LIVES_AND_CLOSING.fullmatch(self.read + stdout)
         must(found, f"the closing line of member {self.id} is {stdout[-1_000:]!r}")
-        self.told = stderr
-        must(but_for_notices(stderr) == b"", f"member {self.id} writes {stderr!r} on standard error")
+        self.told = self.said + stderr
+        must(but_for_notices(self.told) == b"", f"member {self.id} writes {self.told!r} on standard error")
         self.lives = lives_in(found[1])
         must(len(self.lives) == found[1].count(b"\n"), f"lines of lives that are none: {found[1][:1_000]!r}")
         numbers = [it.number for it in self.lives]
         must(numbers == list(range(len(numbers))), f"the lives of member {self.id} are numbered {numbers[:20]}")
         self.cut = [number for number, it in enumerate([*(it[6] for it in LIFE.findall(found[1])), found[8]]) if it]
-        must(self.may_be_cut or not self.cut, f"the lives {self.cut[:20]} of member {self.id} are told as cut: {stderr[-1_000:]!r}")
+        must(self.may_be_cut or not self.cut, f"the lives {self.cut[:20]} of member {self.id} are told as cut: {self.told[-1_000:]!r}")
         return Closing(self.child.returncode, found[2].decode(), *map(int, found.groups()[2:7]))
 
     def lives_so_far(self):
         """How many lives it told of by now."""
-        while select.select([self.child.stdout], [], [], 0)[0]:
-            more = os.read(self.child.stdout.fileno(), 65_536)
-            if not more:
-                break
-            self.read += more
+        self.read += lying_in(self.child.stdout)
         return self.read.count(b"\n")
+
+    def told_so_far(self):
+        """What it told on standard error by now."""
+        self.said += lying_in(self.child.stderr)
+        return self.said
 
     def kill(self):
         """Ends it without a word, as a machine that fails does."""

@@ -2,7 +2,7 @@
 
 import socket
 
-from tests.support.daemons import HOST
+from tests.support.configurations import HOST
 
 PING, REQUEST, ACK = 1, 2, 3
 

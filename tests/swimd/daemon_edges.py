@@ -8,7 +8,8 @@ import time
 
 from tests.generators.forgeries import forgeries
 from tests.models.datagram_model import fault_of
-from tests.support.daemons import SECONDS, but_for_notices, configuration, first_line_of, must, until
+from tests.support.configurations import configuration
+from tests.support.daemons import SECONDS, but_for_notices, first_line_of, must, until
 from tests.support.datagrams import ACK, PING, REQUEST, datagram, fields, version_of
 
 MINUTE = 60_000

@@ -16,12 +16,13 @@ MOST_PINGS = 75_000
 
 
 class Answerer(threading.Thread):
-    """A member that isn't a daemon: it answers the pings that it is told to, each in its version, and keeps which came."""
+    """A member that isn't a daemon: it answers the pings that it is told to, each in its version, and keeps which came, and all bytes that
+    did. What it sends for the text of an ack is told by `seal`."""
 
-    def __init__(self, socket, id, answers):
+    def __init__(self, socket, id, answers, seal=bytes):
         super().__init__(daemon=True)
         self.socket, self.id, self.answers, self.pings, self.versions = socket, id, answers, [], set()
-        self.port = socket.getsockname()[1]
+        self.port, self.seal, self.came = socket.getsockname()[1], seal, []
         self.start()
 
     def run(self):
@@ -31,11 +32,12 @@ class Answerer(threading.Thread):
             except OSError:
                 return
             kind, sender, initiator, target, number = fields(text)
+            self.came.append(text)
             if kind == PING and target == self.id:
                 self.pings.append((sender, initiator))
                 self.versions.add((sender, version_of(text)))
                 if self.answers(sender, initiator):
-                    self.socket.sendto(datagram(ACK, self.id, initiator, self.id, number, version_of(text)), source)
+                    self.socket.sendto(self.seal(datagram(ACK, self.id, initiator, self.id, number, version_of(text))), source)
 
 
 def all_up(daemons):

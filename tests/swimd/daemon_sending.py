@@ -4,7 +4,8 @@ import os
 import select
 import time
 
-from tests.support.daemons import HOST, SECONDS, must
+from tests.support.configurations import HOST
+from tests.support.daemons import SECONDS, must
 from tests.support.datagrams import ACK, PING, REQUEST, datagram, fields
 
 MINUTE = 60_000

@@ -19,7 +19,7 @@ use Rattle.swimd.specs.declared.outcomes.Outcome.{Outcome}
 use Rattle.swimd.specs.declared.outcomes.Outcome.TheVariants as outcomes
 use Rattle.swimd.specs.declared.outcomes.Outcome.TheVariants.{AskRefused, AskTimeout, Unanswered, AskUnwritten, AskUnread, Helped}
 use Rattle.swimd.specs.declared.outcomes.Outcome.TheVariants.{Checked, Stopped, Usage, Unread, Refused, Unwritten, NoListen}
-use Rattle.swimd.specs.declared.outcomes.Outcome.TheVariants.{NoControl, NoMemory, Socket, NoPlace, NoDaemon}
+use Rattle.swimd.specs.declared.outcomes.Outcome.TheVariants.{NoControl, NoMemory, Socket, NoPlace, NoDaemon, NoRandom}
 
 consumes_none : (o : Option (List ℕ)) → Consumes o o []
 consumes_none None = tt
@@ -187,6 +187,7 @@ ends_broken o l1 l2 w1 w2 a1 a2 line answer refused NoMemory going reads passes 
 ends_broken o l1 l2 w1 w2 a1 a2 line answer refused Socket going reads passes = absurd passes
 ends_broken o l1 l2 w1 w2 a1 a2 line answer refused NoPlace going reads passes = absurd passes
 ends_broken o l1 l2 w1 w2 a1 a2 line answer refused NoDaemon going reads passes = absurd passes
+ends_broken o l1 l2 w1 w2 a1 a2 line answer refused NoRandom going reads passes = absurd passes
 
 stop_of : (o n : Asker) (refused : Bool) (answer : List ℕ) → OneMore o n refused answer → is_stopping answer ≡ true →
     IsDone refused o n × IsStopped o n

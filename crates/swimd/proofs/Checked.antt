@@ -8,7 +8,7 @@ use Rattle.swim_config.specs.declared.config_fault.ConfigFault.{ConfigFault}
 use Rattle.swim_config.specs.declared.config_fault.ConfigFault.TheVariants.{Size}
 use Rattle.swimd.specs.declared.outcomes.Outcome.{Outcome}
 use Rattle.swimd.specs.declared.outcomes.Outcome.TheVariants.{Checked, Stopped, Asked, Usage, Unread, Refused, Unwritten}
-use Rattle.swimd.specs.declared.outcomes.Outcome.TheVariants.{NoListen, NoControl, NoMemory, Socket, NoPlace, NoDaemon}
+use Rattle.swimd.specs.declared.outcomes.Outcome.TheVariants.{NoListen, NoControl, NoMemory, Socket, NoPlace, NoDaemon, NoRandom}
 use Rattle.swimd.specs.declared.outcomes.Outcome.TheVariants.{AskRefused, AskTimeout, Unanswered, AskUnwritten, AskUnread, Helped}
 use Rattle.swimd.specs.Checking.{ChecksKnown, Shows}
 use Rattle.swim_config.specs.Configuration.{config_of}
@@ -55,6 +55,7 @@ shown None old new faults then items config NoMemory read is shows = absurd show
 shown None old new faults then items config Socket read is shows = absurd shows
 shown None old new faults then items config NoPlace read is shows = absurd shows
 shown None old new faults then items config NoDaemon read is shows = absurd shows
+shown None old new faults then items config NoRandom read is shows = absurd shows
 shown None old new faults then items config AskRefused read is shows = absurd shows
 shown None old new faults then items config AskTimeout read is shows = absurd shows
 shown None old new faults then items config Unanswered read is shows = absurd shows
@@ -76,6 +77,7 @@ shown (Some text) old new faults then items config NoMemory read is shows = absu
 shown (Some text) old new faults then items config Socket read is shows = absurd shows
 shown (Some text) old new faults then items config NoPlace read is shows = absurd shows
 shown (Some text) old new faults then items config NoDaemon read is shows = absurd shows
+shown (Some text) old new faults then items config NoRandom read is shows = absurd shows
 shown (Some text) old new faults then items config AskRefused read is shows = absurd shows
 shown (Some text) old new faults then items config AskTimeout read is shows = absurd shows
 shown (Some text) old new faults then items config Unanswered read is shows = absurd shows

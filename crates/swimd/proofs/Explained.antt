@@ -6,10 +6,10 @@ use Rattle.swim_life.specs.Endings.{Written}
 use Rattle.swimd.specs.declared.outcomes.Outcome.{Outcome}
 use Rattle.swimd.specs.declared.outcomes.Outcome.TheVariants.{Checked, Stopped, Asked, Usage, Unread, Refused, Unwritten}
 use Rattle.swimd.specs.declared.outcomes.Outcome.TheVariants.{NoListen, NoControl, NoMemory, Socket, NoPlace, NoDaemon}
-use Rattle.swimd.specs.declared.outcomes.Outcome.TheVariants.{AskRefused, AskTimeout, Unanswered, AskUnwritten, AskUnread, Helped}
+use Rattle.swimd.specs.declared.outcomes.Outcome.TheVariants.{AskRefused, AskTimeout, Unanswered, AskUnwritten, AskUnread, Helped, NoRandom}
 use Rattle.swimd.specs.Asking.{Asks}
 use Rattle.swimd.specs.Checking.{Shows}
-use Rattle.swimd.specs.Commands.{AsksWanted, Helps}
+use Rattle.swimd.specs.Commands.{AsksWanted, Helps, MakesKey}
 use Rattle.swimd.specs.Details.{Explains, IsExplained}
 
 -- only where a configuration was refused something has to stand there
@@ -24,6 +24,7 @@ explains_if Unanswered details refused = tt
 explains_if AskUnwritten details refused = tt
 explains_if AskUnread details refused = tt
 explains_if Helped details refused = tt
+explains_if NoRandom details refused = tt
 explains_if Usage details refused = tt
 explains_if Unread details refused = tt
 explains_if (Refused fault) details refused = refused fault refl
@@ -50,6 +51,12 @@ pub helped_explains : (text : List ℕ) (old new : Option (List ℕ)) (outcome :
     Helps text old new outcome → Explains outcome details
 helped_explains text old new outcome details helps =
     explains_if outcome details (λ fault is. absurd (subst (Helps text old new) is helps))
+
+-- a key was made
+pub made_explains : (old new : Option (List ℕ)) (outcome : Outcome) (details : List ℕ) →
+    MakesKey old new outcome → Explains outcome details
+made_explains old new outcome details makes =
+    explains_if outcome details (λ fault is. absurd (subst (MakesKey old new) is makes).2)
 
 -- a daemon was asked
 asks_explains : (left_old left_new old new : Option (List ℕ)) (outcome : Outcome) (details : List ℕ) →

@@ -1,18 +1,19 @@
 -- What a command of the program does.
-use Rattle.std.specs.Prelude.{◌≡◌, ◌⊎◌, ℕ, Bool, not, List, ◌++◌, Option, Some, None, codes}
+use Rattle.std.specs.Prelude.{◌≡◌, ◌⊎◌, ℕ, Bool, not, List, [], ◌∷◌, ◌++◌, length, Option, Some, None, codes}
 use Rattle.std.specs.Io.KnownBytes.{Appends}
+use Rattle.hex.specs.Hex.{encode_lower}
 use Rattle.swim_wire.specs.Streams.{Puts, PutsFront, failures_if}
 use Rattle.swim_life.specs.Endings.{Written}
 use Rattle.swim_config.specs.declared.config_fault.ConfigFault.TheVariants.{NoMemory}
 use Rattle.swimd.specs.declared.outcomes.Outcome.{Outcome}
-use Rattle.swimd.specs.declared.outcomes.Outcome.TheVariants.{Usage, Refused, Helped, Unwritten}
+use Rattle.swimd.specs.declared.outcomes.Outcome.TheVariants.{Usage, Refused, Helped, Unwritten, NoRandom}
 use Rattle.swimd.specs.Asking.{Asks}
 use Rattle.swimd.specs.Checking.{ChecksKnown, is_unwritten}
 use Rattle.swimd.specs.Daemon.{Runs}
 use Rattle.swim_config.specs.Causes.{AreIndented}
 use Rattle.swimd.specs.Details.{Explains}
 use Rattle.swimd.specs.Outcomes.{outcome_text, status_of}
-use Rattle.swimd.specs.Words.{Wanted, Check, Run, Ask, Help, Version}
+use Rattle.swimd.specs.Words.{Wanted, Check, Run, Ask, MakeKey, Help, Version}
 
 -- an outcome was told on standard error, with details below it, as far as it took the text, and by the status; failed writes
 -- and a failed flush were counted. The details are lines that begin with two spaces, and of a refused configuration its cause
@@ -39,6 +40,15 @@ Helps text old new Helped = Appends old new text
 Helps text old new Unwritten = PutsFront old new text
 Helps text old new outcome = ⊥
 
+-- a key is 32 bytes; it is written as 64 hexadecimal digits and a line feed
+abbrev pub IsKeyText : List ℕ → Type 0
+IsKeyText text = (key : List ℕ) × (length key ≡ 32) × (text ≡ encode_lower key ++ 10 ∷ [])
+
+-- a key was written on standard output, or a front of it; or the system had no random bytes
+abbrev pub MakesKey : Option (List ℕ) → Option (List ℕ) → Outcome → Type 0
+MakesKey old new NoRandom = new ≡ old
+MakesKey old new outcome = (text : List ℕ) × IsKeyText text × Helps text old new outcome
+
 -- what a command found of the streams and what it left: of standard input, on standard output and on standard error
 pub record Streams : Type 0 where
   pub left : Option (List ℕ)
@@ -57,6 +67,8 @@ DoesWanted (Some (Ask path line seconds)) old new outcome =
     AsksWanted line old.left new.left old.written.0 new.written.0 outcome × (new.faults ≡ old.faults)
 DoesWanted (Some Help) old new outcome =
     ((text : List ℕ) × Helps text old.written.0 new.written.0 outcome) × (new.left ≡ old.left) × (new.faults ≡ old.faults)
+DoesWanted (Some MakeKey) old new outcome =
+    MakesKey old.written.0 new.written.0 outcome × (new.left ≡ old.left) × (new.faults ≡ old.faults)
 DoesWanted (Some Version) old new outcome =
     Helps (codes "swimd 1.0\n") old.written.0 new.written.0 outcome × (new.left ≡ old.left) × (new.faults ≡ old.faults)
 

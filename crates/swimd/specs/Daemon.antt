@@ -7,6 +7,7 @@ use Rattle.swim_life.specs.declared.lives.LivesEnd.TheVariants as ends
 use Rattle.swimd.specs.declared.outcomes.Outcome.{Outcome}
 use Rattle.swimd.specs.declared.outcomes.Outcome.TheVariants.{Unread, Refused, NoListen, NoControl, NoMemory, Stopped, Socket}
 use Rattle.swimd.specs.declared.outcomes.Outcome.TheVariants.{NoPlace}
+use Rattle.swim_config.specs.Beginnings.{begun_at}
 use Rattle.swim_config.specs.Configuration.{config_of}
 use Rattle.swim_life.specs.Endings.{Written}
 use Rattle.swim_life.specs.Lives.{AreLived}
@@ -56,7 +57,9 @@ MayWarn config old new = Warned config old new ⊎ (new ≡ old)
 -- what a daemon of this configuration does, and tells on standard error: what it warns of, and notices behind that
 pub record RunsBy (config : Config) (old new faults_old faults_new : Written) (outcome : Outcome) : Type 0 where
   pub is : IsConfiguration config
-  pub starts : Starts config old new outcome
+  -- the time, in milliseconds since 1970
+  pub now : ℕ
+  pub starts : Starts (begun_at now config) old new outcome
   pub between : Written
   pub warned : MayWarn config faults_old between
   pub noticed : Notices between faults_new

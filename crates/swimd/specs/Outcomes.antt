@@ -4,7 +4,7 @@ use Rattle.swim_config.specs.declared.config_fault.ConfigFault.TheVariants as fa
 use Rattle.swimd.specs.declared.outcomes.Outcome.{Outcome}
 use Rattle.swimd.specs.declared.outcomes.Outcome.TheVariants.{Checked, Stopped, Asked, Usage, Unread, Refused}
 use Rattle.swimd.specs.declared.outcomes.Outcome.TheVariants.{Unwritten, NoListen, NoControl, NoMemory, Socket, NoPlace, NoDaemon}
-use Rattle.swimd.specs.declared.outcomes.Outcome.TheVariants.{AskRefused, AskTimeout, Unanswered, AskUnwritten, AskUnread, Helped}
+use Rattle.swimd.specs.declared.outcomes.Outcome.TheVariants.{AskRefused, AskTimeout, Unanswered, AskUnwritten, AskUnread, Helped, NoRandom}
 use Rattle.swim_config.specs.FaultTexts.{fault_text}
 
 abbrev pub status_of : Outcome → ℕ
@@ -17,6 +17,7 @@ status_of Unanswered = 5
 status_of AskUnwritten = 1
 status_of AskUnread = 1
 status_of Helped = 0
+status_of NoRandom = 5
 status_of Usage = 2
 status_of Unread = 1
 status_of (Refused faults.NoMemory) = 4
@@ -39,6 +40,7 @@ outcome_text Unanswered = codes "ask unanswered\n"
 outcome_text AskUnwritten = codes "ask write\n"
 outcome_text AskUnread = codes "ask read\n"
 outcome_text Helped = []
+outcome_text NoRandom = codes "random source\n"
 outcome_text Usage = codes "usage\n"
 outcome_text Unread = codes "configuration file\n"
 outcome_text (Refused fault) = fault_text fault

@@ -21,11 +21,12 @@ use Rattle.swimd.specs.declared.words.Unasked.{Unasked}
 use Rattle.swimd.specs.declared.words.Unasked.TheVariants.{Usage, NoMemory}
 
 -- a check; a daemon with the configuration of a file, and whether it tells no starts; the daemon at a path is asked a
--- line, or those on standard input, and each answer may take so many seconds; help; the version
+-- line, or those on standard input, and each answer may take so many seconds; a key; help; the version
 pub data Wanted : Type 0 where
   Check : Wanted
   Run : (file : List ℕ) → (is_quiet : Bool) → Wanted
   Ask : (path : List ℕ) → (line : Option (List ℕ)) → (seconds : ℕ) → Wanted
+  MakeKey : Wanted
   Help : Wanted
   Version : Wanted
 
@@ -33,6 +34,7 @@ abbrev pub wanted : Asked → Wanted
 wanted asked.Check = Check
 wanted (asked.Run file is_quiet) = Run file.now is_quiet
 wanted (asked.Ask request) = Ask request.path.now (option_map (λ line. line.items) request.line) request.seconds
+wanted asked.MakeKey = MakeKey
 wanted (asked.Help text) = Help
 wanted asked.Version = Version
 
@@ -77,9 +79,11 @@ abbrev pub program : App
 program =
     with_subcommand
     (with_subcommand
+    (with_subcommand
     (with_subcommand program_alone (new_shape (codes "check")))
     run_app.top)
-    ask_app.top
+    ask_app.top)
+    (new_shape (codes "key"))
 
 -- ---- what is asked
 
@@ -114,6 +118,7 @@ asked_in (Some met) =
     if bytes_eq met.0 (codes "run")
     then option_map (λ file. Run file (flag_of (codes "quiet") met.1)) (first_of (codes "config") met.1)
     else if bytes_eq met.0 (codes "ask") then asking_in met.1
+    else if bytes_eq met.0 (codes "key") then Some MakeKey
     else Some Check
 
 -- what is asked where clap answers by an error of this kind

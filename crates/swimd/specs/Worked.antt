@@ -4,7 +4,7 @@ use Rattle.std.proofs.Common.{inl}
 use Rattle.clap.proofs.OnLiterals.{clap_on_literals}
 use Rattle.clap.specs.declared.error.kind.ErrorKind.TheVariants.{DisplayHelp, DisplayVersion, MissingRequiredArgument}
 use Rattle.clap.specs.declared.error.kind.ErrorKind.TheVariants.{UnknownArgument}
-use Rattle.swimd.specs.Words.{Check, Run, Ask, Help, Version, IsAsked}
+use Rattle.swimd.specs.Words.{Check, Run, Ask, MakeKey, Help, Version, IsAsked}
 
 no_words_check : IsAsked [] (Some Check)
 unfolding clap_on_literals
@@ -44,6 +44,10 @@ run_wants_a_file = (MissingRequiredArgument, inl refl, refl)
 check_takes_no_more : IsAsked (codes "check" ∷ codes "more" ∷ []) None
 unfolding clap_on_literals
 check_takes_no_more = (UnknownArgument, inl refl, refl)
+
+key_makes_a_key : IsAsked (codes "key" ∷ []) (Some MakeKey)
+unfolding clap_on_literals
+key_makes_a_key = refl
 
 helps_who_asks : IsAsked (codes "--help" ∷ []) (Some Help)
 unfolding clap_on_literals

@@ -11,6 +11,7 @@ use crate::ask::ask;
 use crate::checking::check;
 use crate::daemon;
 use crate::details::Details;
+use crate::key_making::make_key;
 use crate::outcomes::{Outcome, put_outcome};
 use crate::words::{Asked, Request, Unasked, VERSION_LINE, read_words};
 use std::alloc::Global;
@@ -22,13 +23,23 @@ use std::thread::Threads;
 use swim_config::ConfigFault;
 use swim_wire::{ReadSource, Sink, Source};
 
-/// Does what the words after the program's name ask, and answers the status with which the program ends.
+/// Does what the words after the program's name ask, and answers the status with which the program ends. The log is where a
+/// daemon's worker tells people what it threw away: a sink of its own, as those who tell the faults hold theirs.
 pub fn command<
     R: Files<File = File> + Net + Clock + Threads + Wait + Sync,
     S: Source,
     W: Sink,
     F: Sink,
->(rt: &R, alloc: Global, words: &[&str], reader: &mut S, writer: &mut W, faults: &mut F) -> u8
+    G: Sink + Drop,
+>(
+    rt: &R,
+    alloc: Global,
+    words: &[&str],
+    reader: &mut S,
+    writer: &mut W,
+    faults: &mut F,
+    log: G,
+) -> u8
     ensures { Commanded (IsAsked (map (λ word. word.now) words.now))
         (record {
           left = S.left reader.old;
@@ -42,17 +53,18 @@ pub fn command<
         }) result }
 {
     let mut details = Details::new();
-    let outcome = carry_out(rt, alloc, words, reader, writer, faults, &mut details);
+    let outcome = carry_out(rt, alloc, words, reader, writer, faults, log, &mut details);
     tell(outcome, &details, faults)
 }
 
 /// Does what the words ask, and answers how it ended.
-#[tactic(auto, using(crate::proofs::Done::wanted_done, crate::proofs::Explained::asked_explains, crate::proofs::Explained::helped_explains))]
+#[tactic(auto, using(crate::proofs::Done::wanted_done, crate::proofs::Explained::asked_explains, crate::proofs::Explained::helped_explains, crate::proofs::Explained::made_explains))]
 fn carry_out<
     R: Files<File = File> + Net + Clock + Threads + Wait + Sync,
     S: Source,
     W: Sink,
     F: Sink,
+    G: Sink + Drop,
 >(
     rt: &R,
     alloc: Global,
@@ -60,6 +72,7 @@ fn carry_out<
     reader: &mut S,
     writer: &mut W,
     faults: &mut F,
+    log: G,
     details: &mut Details,
 ) -> Outcome
     requires { details.old ≡ [] }
@@ -79,9 +92,10 @@ fn carry_out<
     match read_words(alloc, words) {
         Ok(Asked::Check) => check(alloc, reader, writer, faults, details),
         Ok(Asked::Run(file, is_quiet)) => daemon::run(
-            rt, alloc, file, is_quiet, writer, faults, details,
+            rt, alloc, file, is_quiet, writer, faults, log, details,
         ),
         Ok(Asked::Ask(request)) => ask_for(rt, &request, reader, writer, details),
+        Ok(Asked::MakeKey) => make_key(rt, writer),
         Ok(Asked::Help(text)) => help(text.as_bytes(), writer),
         Ok(Asked::Version) => version(writer),
         Err(Unasked::Usage) => Outcome::Usage,
@@ -115,7 +129,7 @@ fn ask_for<R: Net + Clock, S: Source, W: Sink>(
 }
 
 /// Writes help.
-fn help<W: Sink>(text: &[u8], writer: &mut W) -> Outcome
+pub fn help<W: Sink>(text: &[u8], writer: &mut W) -> Outcome
     ensures helps { Helps text.now (W.written writer.old) (W.written writer.new) result }
     ensures sent { result ≡ Outcome.Helped → W.held writer.new ≡ 0 }
 {

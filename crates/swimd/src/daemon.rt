@@ -10,6 +10,7 @@ use crate::details::{Details, words_of};
 use crate::folders::Folder;
 use crate::notices::{Announcer, Notice, is_taken_at_once};
 use crate::outcomes::Outcome;
+use crate::strangers::{NotingLine, Strangers, TellingDoor};
 use arrayvec::ArrayVec;
 use jiff::Timestamp;
 use std::alloc::Global;
@@ -21,6 +22,8 @@ use std::rt::{Clock, Files};
 use std::sync::Wait;
 use std::thread::Threads;
 use swim_config::{Config, ConfigFault, INPUT_BYTES, read_config, read_input};
+use swim_guard::{SealedLine, SealedPost};
+use swim_keys::Keys;
 use swim_life::{
     ClockSleeper, Hall, LivesEnd, Place, Sight, SleepingPace, Terms, UdpLine, UnixDoor, run_lives,
 };
@@ -31,14 +34,21 @@ const WRITE_MS: u32 = 50;
 
 /// Runs the daemon of a configuration file, and writes how its lives ended. What stands in the way of a start is told in
 /// the details. Among the faults stands what the configuration is warned of, and then, while it runs, notices; where it is
-/// quiet, only that a stale socket was removed.
-pub fn run<R: Files<File = File> + Net + Clock + Threads + Wait + Sync, W: Sink, F: Sink>(
+/// quiet, only that a stale socket was removed. Where the group has keys, and the configuration tells no last number, the
+/// detector begins behind the clock's. In the log stands where datagrams came from that nobody of the group sent.
+pub fn run<
+    R: Files<File = File> + Net + Clock + Threads + Wait + Sync,
+    W: Sink,
+    F: Sink,
+    G: Sink + Drop,
+>(
     rt: &R,
     alloc: Global,
     path: &str,
     is_quiet: bool,
     writer: &mut W,
     faults: &mut F,
+    log: G,
     details: &mut Details,
 ) -> Outcome
     requires { details.old ≡ [] }
@@ -49,7 +59,8 @@ pub fn run<R: Files<File = File> + Net + Clock + Threads + Wait + Sync, W: Sink,
     match configuration(rt, alloc, path, details) {
         Ok(config) => {
             warn_at_once(rt, alloc, &config, faults);
-            start(rt, alloc, config, is_quiet, writer, faults, details)
+            let config = config.begun_at(milliseconds(rt));
+            start(rt, alloc, config, is_quiet, writer, faults, log, details)
         }
         Err(outcome) => outcome,
     }
@@ -107,13 +118,19 @@ fn warn_at_once<R: Net, F: Sink>(rt: &R, alloc: Global, config: &Config, faults:
 
 /// Opens the gates of a configuration, and lives over them.
 #[tactic(auto, using(swim_life::specs::Notices::no_notices, crate::proofs::Noticed::three_noticed, crate::proofs::Noticed::no_door, crate::proofs::Explained::nothing_explains))]
-fn start<R: Files<File = File> + Net + Clock + Threads + Wait + Sync, W: Sink, F: Sink>(
+fn start<
+    R: Files<File = File> + Net + Clock + Threads + Wait + Sync,
+    W: Sink,
+    F: Sink,
+    G: Sink + Drop,
+>(
     rt: &R,
     alloc: Global,
     config: Config,
     is_quiet: bool,
     writer: &mut W,
     faults: &mut F,
+    log: G,
     details: &mut Details,
 ) -> Outcome
     requires { details.old ≡ [] }
@@ -135,6 +152,39 @@ fn start<R: Files<File = File> + Net + Clock + Threads + Wait + Sync, W: Sink, F
         Err(outcome) => return outcome,
     };
     announce(rt, alloc, &config, is_quiet, faults);
+    live(
+        rt, alloc, config, is_quiet, &line, door, writer, faults, log,
+    )
+}
+
+/// Lives over this line and this door, and the other gates of a configuration.
+fn live<
+    'r,
+    R: Files<File = File> + Net + Clock + Threads + Wait + Sync,
+    W: Sink,
+    F: Sink,
+    G: Sink + Drop,
+>(
+    rt: &'r R,
+    alloc: Global,
+    config: Config,
+    is_quiet: bool,
+    line: &UdpLine,
+    door: UnixDoor<&'r R>,
+    writer: &mut W,
+    faults: &mut F,
+    log: G,
+) -> Outcome
+    ensures starts { Starts config (W.written writer.old, W.failures writer.old)
+        (W.written writer.new, W.failures writer.new) result }
+    ensures notices { Notices (F.written faults.old, F.failures faults.old)
+        (F.written faults.new, F.failures faults.new) }
+{
+    let keys = Keys::of(config.keys.as_slice());
+    let strangers = Strangers::new();
+    let mut hearing = NotingLine::new(SealedLine::new(line, keys.as_ref()), &strangers);
+    let sending = SealedPost::new(line, keys.as_ref());
+    let door = TellingDoor::new(rt, alloc, door, &strangers, log, is_quiet);
     let mut hall = Hall::new(alloc, door);
     let mut pace = SleepingPace::new(ClockSleeper::new(rt), config.tick_ms);
     let mut herald = Announcer::new(rt, alloc, is_quiet);
@@ -142,8 +192,6 @@ fn start<R: Files<File = File> + Net + Clock + Threads + Wait + Sync, W: Sink, F
     let opening = config.opening;
     let mut shelf = Folder::new(rt, alloc, config.files, opening.me(), seconds(rt));
     let mut pause = SleepingPace::new(ClockSleeper::new(rt), WRITE_MS);
-    let mut hearing = &line;
-    let sending = &line;
     let end = run_lives(
         rt,
         alloc,
@@ -221,6 +269,14 @@ fn tell_control(path: &str, kind: ErrorKind, sight: Sight, details: &mut Details
         Sight::Served => details.add("somebody serves this socket; it is kept"),
         Sight::Stale => details.add("nobody serves this socket; remove it"),
         Sight::Free | Sight::Unclear => {}
+    }
+}
+
+/// The milliseconds since 1970; 0 where the system can't tell them.
+fn milliseconds<K: Clock>(clock: &K) -> u64 {
+    match Timestamp::now(clock) {
+        Ok(time) => u64::try_from(time.as_millisecond()).unwrap_or(0),
+        Err(_) => 0,
     }
 }
 

@@ -12,10 +12,12 @@ mod daemon;
 mod details;
 mod folders;
 mod journal_files;
+mod key_making;
 mod notices;
 mod old_files;
 mod outcomes;
 mod sockets;
+mod strangers;
 mod words;
 
 use details::Details;
@@ -41,6 +43,7 @@ fn main(rt: HostRuntime) -> ExitCode {
                 &mut reader,
                 &mut writer,
                 &mut faults,
+                WriteSink::new(rt.stderr()),
             ),
             Err(_) => commands::tell(
                 Outcome::Refused(ConfigFault::NoMemory),

@@ -23,7 +23,7 @@ use std::time::Duration;
 use std::{fmt, io};
 use swim_config::Config;
 use swim_life::Herald;
-use swim_wire::{Piece, Sink, put_pieces};
+use swim_wire::{Peer, Piece, Sink, put_pieces};
 
 /// The descriptor of standard error.
 const STANDARD_ERROR: RawFd = 2;
@@ -105,6 +105,19 @@ impl Notice {
         let mut notice = Notice::begun(clock);
         let words = words_of(fault);
         let _is_added = write!(notice, "journal {path}: {words}");
+        notice
+    }
+
+    /// That datagrams were thrown away, how many so far, and where the newest came from.
+    pub fn forged<K: Clock>(clock: &K, source: Peer, count: u64) -> Notice {
+        let mut notice = Notice::begun(clock);
+        let address = source.write();
+        let _is_added = write!(
+            notice,
+            "datagrams from {} have no tag by one of our keys, forged {}",
+            address.as_str(),
+            count
+        );
         notice
     }
 

@@ -26,8 +26,10 @@ pub enum Outcome {
     AskUnwritten,
     /// The lines to be asked can't be read.
     AskUnread,
-    /// Help or the version was written.
+    /// Help, the version or a key was written.
     Helped,
+    /// The system has no random bytes for a key.
+    NoRandom,
     /// There is no such command.
     Usage,
     /// The configuration can't be read.
@@ -63,7 +65,7 @@ impl Outcome {
             Outcome::Refused(ConfigFault::NoMemory) | Outcome::NoMemory | Outcome::NoPlace => 4,
             Outcome::Refused(_) | Outcome::Unread | Outcome::Unwritten => 1,
             Outcome::NoListen | Outcome::NoControl | Outcome::Socket | Outcome::NoDaemon => 5,
-            Outcome::AskTimeout | Outcome::Unanswered => 5,
+            Outcome::AskTimeout | Outcome::Unanswered | Outcome::NoRandom => 5,
         }
     }
 }
@@ -86,6 +88,7 @@ pub fn put_outcome<W: Sink>(writer: &mut W, outcome: Outcome) -> bool
         Outcome::Unanswered => writer.put(b"ask unanswered\n"),
         Outcome::AskUnwritten => writer.put(b"ask write\n"),
         Outcome::AskUnread => writer.put(b"ask read\n"),
+        Outcome::NoRandom => writer.put(b"random source\n"),
         Outcome::Checked
         | Outcome::Stopped
         | Outcome::Asked

@@ -38,6 +38,8 @@ pub enum Asked<'a> {
     Run(&'a str, bool),
     /// That a daemon is asked.
     Ask(Request<'a>),
+    /// That a key is made.
+    MakeKey,
     /// Help: its text.
     Help(String),
     /// The version.
@@ -65,8 +67,8 @@ pub enum Unasked {
 }
 
 /// What the words ask: `check`, or no words, a check; `run --config FILE`, with `--quiet` or without;
-/// `ask --control PATH`, with `--timeout SECONDS` or without, and the words of a line or none; `--help` and `--version`,
-/// alone or behind a command.
+/// `ask --control PATH`, with `--timeout SECONDS` or without, and the words of a line or none; `key`; `--help` and
+/// `--version`, alone or behind a command.
 pub fn read_words<'a>(alloc: Global, words: &'a [&'a str]) -> Result<Asked<'a>, Unasked>
     ensures { MatchResult result
         (λ asked. IsAsked (map (λ word. word.now) words.now) (Some (wanted asked)))
@@ -88,8 +90,13 @@ fn program<'a>(alloc: Global) -> Result<Command<'a>, AllocError>
     let check = check_command(alloc);
     let run = run_command(alloc)?;
     let ask = ask_command(alloc)?;
+    let key = key_command(alloc);
     let alone = program_alone(alloc)?;
-    alone.subcommand(check)?.subcommand(run)?.subcommand(ask)
+    alone
+        .subcommand(check)?
+        .subcommand(run)?
+        .subcommand(ask)?
+        .subcommand(key)
 }
 
 /// The program without its commands.
@@ -136,6 +143,16 @@ fn ask_command<'a>(alloc: Global) -> Result<Command<'a>, AllocError>
         .arg(needed(alloc, "control", "PATH", "The path of its control socket"))?
         .arg(timeout(alloc))?
         .arg(line_words(alloc))
+}
+
+/// The command that makes a key.
+fn key_command<'a>(alloc: Global) -> Command<'a>
+    ensures app { app_of result ≡ new_app (codes "key") }
+    ensures local { (out-Command result).has_globals ≡ false }
+{
+    Command::new(alloc, "key").about(
+        "Writes a new key of a group, from the random source of the system",
+    )
 }
 
 /// An option that has to be given.
@@ -212,6 +229,8 @@ fn asked_by<'a>(name: &str, given: &ArgMatches<'a>) -> Option<Asked<'a>>
             line,
             seconds,
         }))
+    } else if name == "key" {
+        Some(Asked::MakeKey)
     } else {
         Some(Asked::Check)
     }

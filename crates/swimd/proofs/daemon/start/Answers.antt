@@ -6,5 +6,5 @@ returns-clause-notices g c =
     three_noticed (g.F.Sink.written c.args.faults.now, g.F.Sink.failures c.args.faults.now)
     (g.F.Sink.written c.open_door.new.faults, g.F.Sink.failures c.open_door.new.faults)
     (g.F.Sink.written c.announce.new.faults, g.F.Sink.failures c.announce.new.faults)
-    (g.F.Sink.written c.run_lives-end.new.notices, g.F.Sink.failures c.run_lives-end.new.notices)
-    c.open_door.ensures.notices c.announce.ensures c.run_lives-end.ensures.notices
+    (g.F.Sink.written c.live.new.faults, g.F.Sink.failures c.live.new.faults)
+    c.open_door.ensures.notices c.announce.ensures c.live.ensures.notices
