@@ -135,9 +135,9 @@ untaken : (taken : Option (List ℕ)) → IsUntaken taken → IsTaken taken []
 untaken None none = tt
 untaken (Some taken) none = sym none
 
-pub told_newcomer : (life : Lived) (older : List Lived) (rows : List Row) (taken : Option (List ℕ)) →
-    rows ≡ table life.opening life.past → IsUntaken taken → IsGuestTold (life ∷ older) (newcomer rows taken)
-told_newcomer life older rows taken are none = (
+pub told_newcomer : (life : Lived) (older : List Lived) (rows : List Row) (taken : Option (List ℕ)) (offers : Option (List Offer)) →
+    rows ≡ table life.opening life.past → IsUntaken taken → IsGuestTold (life ∷ older) (newcomer rows taken offers)
+told_newcomer life older rows taken offers are none = (
   [],
   untaken taken none,
   record {

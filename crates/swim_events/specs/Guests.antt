@@ -8,10 +8,11 @@ use Rattle.swim_events.specs.declared.watchers.Standing.TheVariants.{Following, 
 use Rattle.swim_events.specs.Texts.{change_text, table_text}
 use Rattle.swim_events.specs.Watchers.{AtWatcher, after_sent, after_text}
 
--- a watcher, and the bytes that its outlet took, where they are known
+-- a watcher, the bytes that its outlet took, and what became of the offers to it, where these are known
 pub record AtGuest : Type 0 where
   pub watcher : AtWatcher
   pub taken : Option (List ℕ)
+  pub offers : Option (List Offer)
 
 -- a list grew by these, where it is known; what isn't known stays so
 abbrev pub Grows : {A : Type 0} → Option (List A) → Option (List A) → List A → Type 0
@@ -32,8 +33,9 @@ IsUntaken None = Unit {0}
 IsUntaken (Some taken) = taken ≡ []
 
 -- who comes is told these rows first
-abbrev pub newcomer : List Row → Option (List ℕ) → AtGuest
-newcomer rows taken = record { watcher = record { pending = table_text rows; standing = Following }; taken = taken }
+abbrev pub newcomer : List Row → Option (List ℕ) → Option (List Offer) → AtGuest
+newcomer rows taken offers =
+    record { watcher = record { pending = table_text rows; standing = Following }; taken = taken; offers = offers }
 
 abbrev pub put_text : List ℕ → AtGuest → AtGuest
 put_text text g = record g { watcher = after_text text g.watcher }
@@ -52,6 +54,7 @@ after_offer Gone w = w
 -- nobody takes it any more, and where the watcher was told of its loss
 pub record IsTurn (old : AtGuest) (offer : Offer) (new : AtGuest) (goes_on : Bool) : Type 0 where
   pub takes : Takes offer old.watcher.pending old.taken new.taken
+  pub offered : Grows old.offers new.offers (offer ∷ [])
   pub watcher : new.watcher ≡ after_offer offer old.watcher
   pub leaves : (goes_on ≡ false)
       ↔ ((offer ≡ Gone) ⊎ ((new.watcher.standing ≡ Lost) × (new.watcher.pending ≡ [])))

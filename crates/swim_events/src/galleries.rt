@@ -64,7 +64,7 @@ impl<E: Outlet + Drop> Gallery<E> {
     pub fn admit(&mut self, alloc: Global, rows: &[Row], outlet: E) -> bool
         requires { length rows.now ≤ KNOWN_MEMBERS }
         ensures comes { MatchBool result
-            (self.new ≡ self.old ++ newcomer rows.now (E.taken outlet) ∷ [])
+            (self.new ≡ self.old ++ newcomer rows.now (E.taken outlet) (E.offers outlet) ∷ [])
             (self.new ≡ self.old) }
         ensures told { (life : Lived) (older : List Lived) → rows.now ≡ table life.opening life.past →
             IsUntaken (E.taken outlet) → AreTold (life ∷ older) self.old → AreTold (life ∷ older) self.new }
@@ -76,7 +76,7 @@ impl<E: Outlet + Drop> Gallery<E> {
     fn take_in(&mut self, alloc: Global, rows: &[Row], outlet: E) -> bool
         requires { length rows.now ≤ KNOWN_MEMBERS }
         ensures { MatchBool result
-            (self.new ≡ self.old ++ newcomer rows.now (E.taken outlet) ∷ [])
+            (self.new ≡ self.old ++ newcomer rows.now (E.taken outlet) (E.offers outlet) ∷ [])
             (self.new ≡ self.old) }
     {
         if self.is_full() {

@@ -9,7 +9,7 @@ use crate::watchers::Watcher;
 use std::marker::Model;
 
 /// One who watches: what is to be sent, and where it goes. The outlet stands in a box, since nothing is known of its size. A
-/// contract sees the watcher, and what its outlet took.
+/// contract sees the watcher, what its outlet took, and what became of each offer to it.
 #[derive(Drop)]
 pub(crate) struct Guest<E: Outlet + Drop> {
     watcher: Watcher,
@@ -22,13 +22,21 @@ impl<E: Outlet + Drop> Model for Guest<E> {
 
     ghost Value = { AtGuest };
 
-    ghost view = { λ g. record { watcher = g.watcher; taken = E.taken (box_value g.outlet) } };
+    ghost view = { λ g. record {
+      watcher = g.watcher;
+      taken = E.taken (box_value g.outlet);
+      offers = E.offers (box_value g.outlet);
+    } };
 }
 
 impl<E: Outlet + Drop> Guest<E> {
     /// Who watches so, by this outlet.
     pub(crate) fn new(watcher: Watcher, outlet: Box<E>) -> Guest<E>
-        ensures { result ≡ record { watcher = watcher; taken = E.taken (box_value outlet) } }
+        ensures { result ≡ record {
+          watcher = watcher;
+          taken = E.taken (box_value outlet);
+          offers = E.offers (box_value outlet);
+        } }
     {
         Guest { watcher, outlet }
     }

@@ -1,7 +1,7 @@
 //! The gates of those who watch: where they come in, and where their bytes go. Nothing of them waits.
 
-ghost use Rattle.std.specs.Prelude.{IfSome};
-ghost use Rattle.swim_events.specs.Guests.{IsUntaken, Takes};
+ghost use Rattle.std.specs.Prelude.{◌∷◌, [], IfSome};
+ghost use Rattle.swim_events.specs.Guests.{Grows, IsUntaken, Takes};
 
 /// What became of bytes that were offered.
 #[derive(Clone, Copy, Debug, PartialEq, Eq)]
@@ -17,14 +17,19 @@ pub enum Offer {
 /// Where the bytes of one go who watches.
 pub trait Outlet {
     ghost use Rattle.std.specs.Prelude.{ℕ, List, Option};
+    ghost use Rattle.swim_events.specs.declared.outlets.Offer.{Offer as Offered};
 
     // the bytes that it took so far, where they are known
     ghost taken: { Self → Option (List ℕ) };
 
+    // what became of each of the offers so far, oldest first, where that is known
+    ghost offers: { Self → Option (List Offered) };
+
     /// Takes as many of these bytes as it can at once. It is asked where there are none, too, so that it may find that
     /// nobody takes them any more.
     fn offer(&mut self, bytes: &[u8]) -> Offer
-        ensures { Takes result bytes.now (taken self.old) (taken self.new) };
+        ensures takes { Takes result bytes.now (taken self.old) (taken self.new) }
+        ensures offered { Grows (offers self.old) (offers self.new) (result ∷ []) };
 }
 
 /// Where those come in who watch.

@@ -124,6 +124,8 @@ enum Pipe {
 impl Outlet for Pipe {
     ghost taken = { λ p. None };
 
+    ghost offers = { λ p. None };
+
     fn offer(&mut self, bytes: &[u8]) -> Offer {
         match self {
             Pipe::Quick => Offer::Took(bytes.len()),

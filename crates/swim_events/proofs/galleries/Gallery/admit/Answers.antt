@@ -13,5 +13,5 @@ with_newcomer lives old new g false is are told = subst (λ (gs : List AtGuest).
 pub returns-clause-told : goal.returns-clause-told
 returns-clause-told g c =
     λ life older rows untaken are.
-    with_newcomer (life ∷ older) c.args.self.now c.take_in.new.self (newcomer c.args.rows.now (g.E.Outlet.taken c.args.outlet)) c.take_in.result
-    c.take_in.ensures are (told_newcomer life older c.args.rows.now (g.E.Outlet.taken c.args.outlet) rows untaken)
+    with_newcomer (life ∷ older) c.args.self.now c.take_in.new.self (newcomer c.args.rows.now (g.E.Outlet.taken c.args.outlet) (g.E.Outlet.offers c.args.outlet)) c.take_in.result
+    c.take_in.ensures are (told_newcomer life older c.args.rows.now (g.E.Outlet.taken c.args.outlet) (g.E.Outlet.offers c.args.outlet) rows untaken)
