@@ -1,3 +1,4 @@
+mod alone;
 mod causes;
 mod configurations;
 mod keys;

@@ -1,21 +1,10 @@
 //! The key `keys`: which keys it says, how a summary tells them, its faults, and that no fault shows their digits.
 
+use super::alone::{ALONE, told_of};
 use std::alloc::Global;
 use std::test::Fail;
-use swim_config::{Config, put_cause, put_fault, read_config, summary};
+use swim_config::{Config, read_config, summary};
 use swim_wire::Page;
-
-/// A configuration with no member.
-const ALONE: &str = "id = 1
-listen = \"10.0.0.1:7000\"
-control = \"/tmp/swimd.sock\"
-k = 1
-rtt = 1
-period = 3
-tick_ms = 1000
-seed = \"00000000000000000000000000000000000000000000000000000000000000aB\"
-journal = 1000
-";
 
 /// A key, and the same with other digits in front.
 const FIRST: &str = "00112233445566778899aabbccddeeffFFEEDDCCBBAA99887766554433221100";
@@ -31,16 +20,6 @@ fn behind(alloc: Global, lines: &str) -> Result<String, Fail> {
     let first = lines.replace(alloc, "<1>", FIRST)?;
     let both = first.as_str().replace(alloc, "<2>", SECOND)?;
     Ok(format!(in alloc; "{both}{ALONE}")?)
-}
-
-/// What is told of a document's fault; nothing where it has none.
-fn told_of(alloc: Global, document: &str) -> Page {
-    let mut page = Page::new(alloc);
-    if let Err(fault) = read_config(alloc, document.as_bytes()) {
-        let _is_put = put_fault(&mut page, fault)
-            && put_cause(alloc, &mut page, document.as_bytes(), fault);
-    }
-    page
 }
 
 /// A summary whose line of numbers ends so.

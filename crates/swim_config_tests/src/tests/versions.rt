@@ -1,21 +1,10 @@
 //! The key `wire`: which version it says, how a summary tells it, and its faults.
 
+use super::alone::{ALONE, told_of};
 use std::alloc::Global;
 use std::test::Fail;
-use swim_config::{put_cause, put_fault, read_config, summary};
+use swim_config::{read_config, summary};
 use swim_wire::{Page, Version};
-
-/// A configuration with no member.
-const ALONE: &str = "id = 1
-listen = \"10.0.0.1:7000\"
-control = \"/tmp/swimd.sock\"
-k = 1
-rtt = 1
-period = 3
-tick_ms = 1000
-seed = \"00000000000000000000000000000000000000000000000000000000000000aB\"
-journal = 1000
-";
 
 /// Its summary.
 const SUMMARY: &str = "id 1
@@ -46,16 +35,6 @@ members 0
 /// The configuration behind these lines.
 fn behind(alloc: Global, lines: &str) -> Result<String, Fail> {
     Ok(format!(in alloc; "{lines}{ALONE}")?)
-}
-
-/// What is told of a document's fault; nothing where it has none.
-fn told_of(alloc: Global, document: &str) -> Page {
-    let mut page = Page::new(alloc);
-    if let Err(fault) = read_config(alloc, document.as_bytes()) {
-        let _is_put = put_fault(&mut page, fault)
-            && put_cause(alloc, &mut page, document.as_bytes(), fault);
-    }
-    page
 }
 
 #[test]
