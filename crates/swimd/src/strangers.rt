@@ -1,7 +1,9 @@
 //! Telling people that datagrams come which nobody of the group sent. The receiver counts them, and the worker at the door
 //! tells of them, so that no datagram waits for a line on standard error.
 
-ghost use Rattle.std.specs.Prelude.{◌≡◌, ◌∷◌, [], None};
+ghost use Rattle.std.specs.Prelude.{◌≡◌, ◌∷◌, [], map};
+ghost use Rattle.std.specs.Option.{option_map};
+ghost use Rattle.swim_guard.specs.Guarded.{HandsOn, handed_on};
 ghost use Rattle.swim_life.specs.Gates.{FitsInto, is_fault};
 ghost use Rattle.swim_life.specs.Posts.{Grows};
 
@@ -71,9 +73,20 @@ pub struct NotingLine<'s, 'k, L: Line> {
     noted: u64,
 }
 
+// A contract sees the sealed line.
+impl<'s, 'k, L: Line> Model for NotingLine<'s, 'k, L> {
+    ghost use Rattle.swim_guard.specs.Guarded.{AtLine};
+
+    ghost Value = { AtLine L };
+
+    ghost view = { λ n. n.line };
+}
+
 impl<'s, 'k, L: Line> NotingLine<'s, 'k, L> {
     /// A line over that one, which noted nothing yet.
-    pub fn new(line: SealedLine<'k, L>, strangers: &'s Strangers) -> NotingLine<'s, 'k, L> {
+    pub fn new(line: SealedLine<'k, L>, strangers: &'s Strangers) -> NotingLine<'s, 'k, L>
+        ensures { result ≡ line.entry }
+    {
         NotingLine {
             line,
             strangers,
@@ -82,7 +95,9 @@ impl<'s, 'k, L: Line> NotingLine<'s, 'k, L> {
     }
 
     /// Notes what was thrown away since the last time.
-    fn note(&mut self) {
+    fn note(&mut self)
+        ensures { self.new ≡ self.old }
+    {
         let forged = self.line.forged();
         if forged == self.noted {
             return;
@@ -95,10 +110,14 @@ impl<'s, 'k, L: Line> NotingLine<'s, 'k, L> {
 }
 
 impl<'s, 'k, L: Line> Line for NotingLine<'s, 'k, L> {
-    ghost received = { λ s. None };
+    ghost received = { λ n. option_map (map (handed_on n.keys)) (L.received n.line) };
 
     fn receive<R: Wait>(&mut self, rt: &R, bytes: &mut [u8]) -> Got
-        ensures { FitsInto result bytes.new }
+        ensures fits { FitsInto result bytes.new }
+        ensures received { Grows (option_map (map (handed_on self.old.keys)) (L.received self.old.line))
+            (option_map (map (handed_on self.new.keys)) (L.received self.new.line))
+            (record { got = result; bytes = bytes.new } ∷ []) }
+        ensures hands { HandsOn L.received self.old self.new result bytes.new }
     {
         let got = self.line.receive(rt, bytes);
         self.note();
