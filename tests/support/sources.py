@@ -1,7 +1,7 @@
 """What the sources of a crate say of its calls: their names, the first sentences of their comments, and their clauses.
 
-It reads the layout that `rt fmt` writes, line by line: what stands in an impl or a trait is set in by four spaces, and a
-body begins with a brace under its function."""
+It reads the layout that `rt fmt` writes, line by line: what stands in an impl or a trait is set in by four spaces, and
+a body begins with a brace under its function."""
 
 import re
 from pathlib import Path
@@ -185,7 +185,7 @@ class Crate:
         self.exported = {it for _, names in pairs for it in re.split(r"[,\s]+", names) if it}
 
     def is_seen(self, file, call):
-        """Whether a call can be made from outside. In a program and in a trait's impl those are seen that have clauses."""
+        """Whether a call can be made from outside. In a program, and in a trait's impl, it also has to have clauses."""
         is_open = call.is_public or bool(call.trait)
         says_enough = bool(call.clauses) or not (self.is_program or call.trait)
         return is_open and says_enough and self.is_known(file, call.of or call.name)
