@@ -18,6 +18,7 @@ SHORT = 44
 # They measure, or show what the compiler refuses, and nobody calls them.
 TOOLS = ("node_bench", "swim_node_pairs")
 OPERATOR = re.compile(r" (?=[-+*=>#] )")
+SPAN = re.compile(f"`[^`]{{1,{SHORT}}}`")
 SECTION = re.compile(r"^## (\w+)\n", re.MULTILINE)
 
 
@@ -26,8 +27,8 @@ def code(text):
 
 
 def wrapped(text, indent=""):
-    """Lines of a paragraph. None begins with a sign that Markdown would take for a list or a heading."""
-    held = OPERATOR.sub("\0", text)
+    """Lines of a paragraph. No short code is cut, and no line begins with a sign that Markdown takes for a list."""
+    held = SPAN.sub(lambda it: it[0].replace(" ", "\0"), OPERATOR.sub("\0", text))
     lines = textwrap.fill(held, COLUMNS, subsequent_indent=indent, break_long_words=False, break_on_hyphens=False)
     return lines.replace("\0", " ")
 
