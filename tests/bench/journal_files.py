@@ -1,4 +1,5 @@
-"""Journal files for tests/bench/swimsim: scripts with what swimsim answers to each call, as a daemon would write them."""
+"""Journal files for tests/bench/swimsim: scripts with what swimsim answers to each call, as a daemon would write
+them."""
 
 import itertools
 import subprocess
@@ -33,8 +34,8 @@ def lines_of(part, entries):
 
 
 def write(program, path, part, entries):
-    """Writes the file: what swimsim answers is asked first. A call of these parts has one answer, and datagrams stand in lines with
-    a `>`."""
+    """Writes the file: what swimsim answers is asked first. A call of these parts has one answer, and datagrams stand
+    in lines with a `>`."""
     lines = list(lines_of(part, entries))
     ran = subprocess.run([program], input="".join(lines).encode(), capture_output=True, check=True)
     answers = (line for line in ran.stdout.decode().splitlines() if not line.startswith("> "))

@@ -1,4 +1,5 @@
-"""What a run of a program costs: processor time, the time that passes, memory and instructions. What a daemon's pings take."""
+"""What a run of a program costs: processor time, the time that passes, memory and instructions. What a daemon's pings
+take."""
 
 import filecmp
 import os
@@ -34,8 +35,8 @@ def run(words, script=os.devnull, output=os.devnull):
 
 
 def pinged(pinger, address, window, count, made=()):
-    """Seconds that so many pings of member 1 took, those in a file that were made before if it is given. One sender can't keep the
-    least responder busy, two can."""
+    """Seconds that so many pings of member 1 took, those in a file that were made before if it is given. One sender
+    can't keep the least responder busy, two can."""
     words = [pinger, address, "1", str(window), str(count), "1" if window == 1 else "2", *made]
     ran = subprocess.run(words, capture_output=True, text=True, timeout=300)
     if ran.returncode:

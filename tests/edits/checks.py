@@ -1,4 +1,5 @@
-"""Checks of a crate with edits in it, by the toolchain's prover in a room of its own, and what they say of each function."""
+"""Checks of a crate with edits in it, by the toolchain's prover in a room of its own, and what they say of each
+function."""
 
 import os
 import re
@@ -9,8 +10,8 @@ from pathlib import Path
 
 from tests.support.crates import SOURCES
 
-# What the prover says where a proof names something that the edited body hasn't any more, and of what rests on that: it says little
-# of the contract.
+# What the prover says where a proof names something that the edited body hasn't any more, and of what rests on that: it
+# says little of the contract.
 ONLY_NAMES = re.compile(r"has no field|is not in scope|has no `|was not admitted|which was rejected, was not checked")
 ERROR = re.compile(r"(?:\./)?(\S+?):\d+:\d+: error: .*")
 SEARCH = re.compile(r"`search` did not prove .*")
@@ -20,7 +21,8 @@ REFUSED, NOT_REFUSED, BAD_EDIT = "refused", "NOT REFUSED", "BAD EDIT"
 
 
 class Check:
-    """What a check wrote: its lines, of which some tell of functions that aren't proved, and some are errors that stand in a file."""
+    """What a check wrote: its lines, of which some tell of functions that aren't proved, and some are errors that stand
+    in a file."""
 
     def __init__(self, lines):
         self.lines = lines
@@ -29,7 +31,8 @@ class Check:
         self.is_told = any(it.startswith(VERDICTS) for it in lines)
 
     def refusal(self, crate, path):
-        """The error that stands inside a function or in its own answers: that something isn't proved. None where there is none."""
+        """The error that stands inside a function or in its own answers: that something isn't proved. None where there
+        is none."""
         head = f"fn {crate}::{path}: "
         said = next((it for it in self.unproved if it.startswith(head)), "")
         searched = SEARCH.search(said)
@@ -48,7 +51,9 @@ class Check:
             return BAD_EDIT, f"it did not reach the prover: {next(iter(rejections), ' '.join(self.lines[:3]))}"
         if verdicts[-1].startswith("logic=proved"):
             return NOT_REFUSED, "the crate is still proved with this edit"
-        told = [it for it in self.errors if not ONLY_NAMES.search(it)] + [it for it in self.unproved if SEARCH.search(it)]
+        told = [it for it in self.errors if not ONLY_NAMES.search(it)] + [
+            it for it in self.unproved if SEARCH.search(it)
+        ]
         if told:
             return REFUSED, told[0]
         if self.errors:
@@ -57,8 +62,9 @@ class Check:
 
 
 def prover_words(crates, name):
-    """What checks a crate over the libraries that lie below it, as they are. `rt check` would prove those anew that `rt ci` left: it
-    takes only what it built itself. The toolchain's folder is that of the page whose path `rt doc` prints."""
+    """What checks a crate over the libraries that lie below it, as they are. `rt check` would prove those anew that
+    `rt ci` left: it takes only what it built itself. The toolchain's folder is that of the page whose path `rt doc`
+    prints."""
     page = subprocess.run(["rt", "doc"], stdout=subprocess.PIPE, check=True, text=True).stdout.strip()
     kit, below = os.path.dirname(page), crates.below[name]
     root = "main" if os.path.exists(f"{crates.folder(name)}/src/main.rt") else "lib"

@@ -1,8 +1,9 @@
 """Edited functions beside what they were: copies under names of their own, so that one check tells of all edits.
 
-A function is proved against the contracts of what it calls, and nobody calls a copy. So the prover says of a copy what it would say of
-the function with that body. That it does is tried: beside them stands a copy without an edit. A method of a trait has no copy, since an
-`impl` of a trait has its methods and no others; nor has a function that calls itself, or stands neither at the margin nor in an `impl`.
+A function is proved against the contracts of what it calls, and nobody calls a copy. So the prover says of a copy what
+it would say of the function with that body. That it does is tried: beside them stands a copy without an edit. A method
+of a trait has no copy, since an `impl` of a trait has its methods and no others; nor has a function that calls itself,
+or stands neither at the margin nor in an `impl`.
 """
 
 import os
@@ -11,8 +12,8 @@ from tests.edits.functions import matches_in, without_arguments
 
 
 def with_copies(crate, texts, edits):
-    """The texts of a crate with copies of the functions that these edits change: one with each edit, and one of each as it is. Beside
-    them the path of each edit's copy, and of each function's."""
+    """The texts of a crate with copies of the functions that these edits change: one with each edit, and one of each as
+    it is. Beside them the path of each edit's copy, and of each function's."""
     made, of_edits, of_functions = dict(texts), {}, {}
     for number, edit in enumerate(edits):
         if not edit.function or not is_copyable(edit, texts):
@@ -41,8 +42,8 @@ def is_copyable(edit, texts):
 
 
 def with_copy(crate, made, texts, edit, word):
-    """Puts an edit's function as it stands in these texts behind the function of those that are made, under its name and a word, and its
-    proof beside the function's. Answers its path."""
+    """Puts an edit's function as it stands in these texts behind the function of those that are made, under its name
+    and a word, and its proof beside the function's. Answers its path."""
     *above, name = edit.function.split("::")
     copied = f"{name}_{word}"
     _, found = found_in(edit, made)

@@ -1,7 +1,7 @@
 """Edits: files crates/NAME/edits/*.edit, each a wrong body that the prover has to refuse.
 
-An edit has lines `file: src/lib.rt`, `old: TEXT` and `new: TEXT`. Each old text stands once in that file; further pairs apply to
-what the earlier ones made.
+An edit has lines `file: src/lib.rt`, `old: TEXT` and `new: TEXT`. Each old text stands once in that file; further pairs
+apply to what the earlier ones made.
 """
 
 from pathlib import Path
@@ -14,8 +14,8 @@ class BadEdit(Exception):
 
 
 class Edit:
-    """An edit of a crate: its name, its pairs (file, old, new), the one function whose body alone it changes, if it is so, and what it
-    is near to: that function, or all in its files."""
+    """An edit of a crate: its name, its pairs (file, old, new), the one function whose body alone it changes, if it is
+    so, and what it is near to: that function, or all in its files."""
 
     def __init__(self, path, texts):
         """Reads it, and plants it for once: one that can't be planted is a bad one."""
@@ -24,7 +24,9 @@ class Edit:
         paths = {function_around(old, file, texts) for file, old, _ in self.pairs}
         self.function = paths.pop() if len(paths) == 1 else None
         files = sorted({file for file, _, _ in self.pairs})
-        self.near = [self.function] if self.function else [path for it in files for path, _, _ in functions_in(it, texts)]
+        self.near = [self.function] if self.function else [
+            path for it in files for path, _, _ in functions_in(it, texts)
+        ]
 
     def planted(self, texts):
         """The texts of a crate's files, by their path, with this edit in them."""
@@ -62,7 +64,8 @@ def edits_of(folder):
 
 
 def in_rooms(paths, texts, size):
-    """These edits of a crate, about so many a room: those of one function stand in one room, since they are tried in turn."""
+    """These edits of a crate, about so many a room: those of one function stand in one room, since they are tried in
+    turn."""
     by_function, share = {}, len(paths) / max(1, round(len(paths) / size))
     for path in paths:
         by_function.setdefault(function_of(path, texts), []).append(path)

@@ -1,10 +1,11 @@
 """Where the functions of a Rattle file stand, and by which path the prover names them.
 
-It reads the layout that `rt fmt` gives: an item's head begins a line, and the brace that ends it stands alone at the head's
-indent. What isn't laid out so has no function here, and an edit of it is tried alone.
+It reads the layout that `rt fmt` gives: an item's head begins a line, and the brace that ends it stands alone at the
+head's indent. What isn't laid out so has no function here, and an edit of it is tried alone.
 
-The prover takes a function whose proof is a hole at the word of its contract, as it does at any call, whatever its body is. So a check
-with holes wherever no edit is proves what was edited and nothing else, and says the same of that as a check of the whole crate.
+The prover takes a function whose proof is a hole at the word of its contract, as it does at any call, whatever its body
+is. So a check with holes wherever no edit is proves what was edited and nothing else, and says the same of that as a
+check of the whole crate.
 """
 
 import os
@@ -20,7 +21,9 @@ FUNCTION = re.compile(
         (?:.*\ \{\n|.*\n(?:(?:(?P=indent)[\ )>].*|\ *)\n)*?(?P=indent)(?:\).*\ )?\{\n)
         (?P<body>(?:.*\n)*?)(?P=indent)\}$""", re.MULTILINE | re.VERBOSE)
 
-HOLE = "use {above}.{name}.Statement as stated\n\npub {name}_spec : {{M : Type 1}} → stated.statement M\n{name}_spec = ?\n"
+HOLE = (
+    "use {above}.{name}.Statement as stated\n\npub {name}_spec : {{M : Type 1}} → stated.statement M\n{name}_spec = ?\n"
+)
 
 
 def module_of(file):
@@ -30,8 +33,8 @@ def module_of(file):
 
 
 def home_of(name, file, texts):
-    """The module of the type of that name, under which its functions are named: that of the one file of src/ where it stands, and else
-    that of the file with the `impl`."""
+    """The module of the type of that name, under which its functions are named: that of the one file of src/ where it
+    stands, and else that of the file with the `impl`."""
     homes = [it for it in texts if it.startswith("src/") and name in TYPE.findall(texts[it])]
     return module_of(homes[0] if len(homes) == 1 else file)
 
@@ -46,7 +49,8 @@ def without_arguments(text):
 
 
 def owner_of(head, file, texts):
-    """The path under which the functions of an `impl` stand: its type, and right behind that the trait, if there is one."""
+    """The path under which the functions of an `impl` stand: its type, and right behind that the trait, if there is
+    one."""
     words = without_arguments(head).split("{")[0].split(" where ")[0].split(" for ")
     names = [it.strip().split("::")[-1] for it in reversed(words)]
     # A reference to a type is named behind a word.
@@ -56,8 +60,8 @@ def owner_of(head, file, texts):
 
 
 def matches_in(file, texts):
-    """The functions of a file of src/: the path of each, the head of the `impl` that it stands in, if it stands in one, and its match.
-    None in another file."""
+    """The functions of a file of src/: the path of each, the head of the `impl` that it stands in, if it stands in one,
+    and its match. None in another file."""
     text = texts[file] if file.startswith("src/") else ""
     for found in FUNCTION.finditer(text):
         heads = [it[1] for it in IMPL.finditer(text, 0, found.start())]
@@ -80,7 +84,8 @@ def function_around(part, file, texts):
 
 
 def with_holes(crate, texts, kept):
-    """The texts of a crate with a hole for each function, but for those that are kept and those that call themselves."""
+    """The texts of a crate with a hole for each function, but for those that are kept and those that call
+    themselves."""
     made = dict(texts)
     for file in (it for it in texts if it.startswith("src/")):
         for path, begin, end in reversed(list(functions_in(file, texts))):

@@ -1,5 +1,5 @@
-"""Misuses of two nodes: each of misuses/ has to be refused by the compiler, with one error, in the line that it changes, before
-anything is proved. So none is an edit, of which the prover has to be asked."""
+"""Misuses of two nodes: each of misuses/ has to be refused by the compiler, with one error, in the line that it
+changes, before anything is proved. So none is an edit, of which the prover has to be asked."""
 
 import os
 import re

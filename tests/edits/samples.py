@@ -22,4 +22,6 @@ WANTED = {
 def told_otherwise(tried):
     """What isn't as wanted of a sample that was tried."""
     ending, words = WANTED[tried.name]
-    return [] if tried.ending == ending and words in tried.why else [f"{tried.ending}: {tried.why}, and not {ending}: .. {words} .."]
+    return [] if tried.ending == ending and words in tried.why else [
+        f"{tried.ending}: {tried.why}, and not {ending}: .. {words} .."
+    ]

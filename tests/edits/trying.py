@@ -1,9 +1,10 @@
-"""Tries the edits of a crate: together, each in a copy of the function that it changes (copies.py), and those of functions that have no
-copy together where they change different ones.
+"""Tries the edits of a crate: together, each in a copy of the function that it changes (copies.py), and those of
+functions that have no copy together where they change different ones.
 
-A function is proved against the contracts of what it calls, and not against their bodies. So such edits don't see one another, and
-one among others is refused exactly where an error stands inside the function that it changed or in that function's own answers. One
-of which no such error is told is tried alone: refused is then what the prover refuses wherever.
+A function is proved against the contracts of what it calls, and not against their bodies. So such edits don't see one
+another, and one among others is refused exactly where an error stands inside the function that it changed or in that
+function's own answers. One of which no such error is told is tried alone: refused is then what the prover refuses
+wherever.
 """
 
 from typing import NamedTuple
@@ -15,7 +16,8 @@ from tests.edits.functions import with_holes
 
 
 class Tried(NamedTuple):
-    """An edit with what came of it (refused, not refused or a bad edit), the error or the reason, and what the trial was."""
+    """An edit with what came of it (refused, not refused or a bad edit), the error or the reason, and what the trial
+    was."""
 
     name: str
     ending: str
@@ -24,8 +26,8 @@ class Tried(NamedTuple):
 
 
 class Beside(NamedTuple):
-    """Which edits were tried in copies, by which errors some of them were refused, and what is told of the functions as they are: of each
-    an error, or none."""
+    """Which edits were tried in copies, by which errors some of them were refused, and what is told of the functions as
+    they are: of each an error, or none."""
 
     copied: set
     refused: dict
@@ -37,8 +39,9 @@ class Beside(NamedTuple):
 
 
 def try_edits(room, paths):
-    """Tries the edits of these paths in the room of their crate, and gives what came of each. A function of which an error is told
-    without any edit, as for the holes around it, tells nothing: its edits are tried in the whole crate."""
+    """Tries the edits of these paths in the room of their crate, and gives what came of each. A function of which an
+    error is told without any edit, as for the holes around it, tells nothing: its edits are tried in the whole
+    crate."""
     tried, edits = [], []
     for path in paths:
         try:
@@ -61,8 +64,8 @@ def try_edits(room, paths):
 
 
 def try_beside(room, edits):
-    """Tries these edits in copies, and by the same check the functions as they are. Where that doesn't reach the prover, as a copy isn't
-    read or typed, half of them is tried after the other."""
+    """Tries these edits in copies, and by the same check the functions as they are. Where that doesn't reach the
+    prover, as a copy isn't read or typed, half of them is tried after the other."""
     texts, copies, bases = with_copies(room.name, room.texts, edits)
     near = {it: bases.get(it, it) for edit in edits for it in edit.near}
     said = checked(room, texts, sorted([*near.values(), *copies.values()]))
@@ -78,7 +81,8 @@ def try_beside(room, edits):
 
 
 def together(edits, texts):
-    """The first edit of each function, but for one whose old text stands twice then, and the crate's texts with all of them."""
+    """The first edit of each function, but for one whose old text stands twice then, and the crate's texts with all of
+    them."""
     first = {}
     for edit in (it for it in edits if it.function not in first):
         try:
@@ -102,8 +106,8 @@ def refusals(room, texts, functions):
 
 
 def try_alone(room, edit, beside):
-    """Tries one edit: what it was planted in by itself, unless a copy of that was tried; and where no error is told there, the whole
-    crate."""
+    """Tries one edit: what it was planted in by itself, unless a copy of that was tried; and where no error is told
+    there, the whole crate."""
     texts = edit.planted(room.texts)
     near = [] if edit in beside.copied else [it for it in edit.near if beside.is_clear(it)]
     for error in refusals(room, texts, near).values():

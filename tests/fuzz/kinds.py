@@ -25,8 +25,8 @@ HEAD = "".join(f"{it}\n" for it in ["open 1 2 1 3 0 1000000", *(f"row {id} {addr
 
 
 class Kind:
-    """A kind of texts: it makes a case of random numbers, and says what isn't as it has to be. So many are judged at a time; where
-    what a case does is seen by later ones, they go one by one."""
+    """A kind of texts: it makes a case of random numbers, and says what isn't as it has to be. So many are judged at a
+    time; where what a case does is seen by later ones, they go one by one."""
 
     lanes = os.cpu_count()
     is_one_course = False
@@ -53,7 +53,9 @@ class Scripts(Kind):
         return written.stdout, written.status == 0
 
     def said(self, script):
-        return differences(("swimsim", "the reference"), run([self.programs.swimsim], script), run([self.programs.reference], script))
+        return differences(
+            ("swimsim", "the reference"), run([self.programs.swimsim], script), run([self.programs.reference], script)
+        )
 
 
 class Datagrams(Scripts):

@@ -14,7 +14,9 @@ BAD_DIGITS = ["5", "5g", "535", "0x53", "-", "53\t"]
 BAD_SEEDS = ["", "00", SEED[:63], SEED[:62], SEED + "0", SEED + "00", SEED[:63] + "g"]
 BAD_ORDERS = [MANY, MANY, MANY + ",0", "0," + MANY, MANY[:-4], ",", "2,", ",2", "2,,3", "2,x", "02", "2, 3"]
 BAD_WORDS = ["tock", "Tick", "TABLE", " tick", "\ttick", "wires 1", "ticks", "-", "\xff", "row\t2", "open"]
-BAD_VERSIONS = ["", "0", "3", "3", "02", "+2", "-1", "1.", "x", "258", "4294967298", "18446744073709551617", "2\t", "\xb2"]
+BAD_VERSIONS = [
+    "", "0", "3", "3", "02", "+2", "-1", "1.", "x", "258", "4294967298", "18446744073709551617", "2\t", "\xb2"
+]
 
 
 def bad_header_line(r, number, peer):

@@ -1,9 +1,10 @@
-"""Random scripts that are cut in two at each event line. The second part is played by a detector that goes on from what the first
-one leaves: the same parameters, the members known then, up or failed, ascending by id, and the last period number that was used.
-What is drawn in it is told anew.
+"""Random scripts that are cut in two at each event line. The second part is played by a detector that goes on from what
+the first one leaves: the same parameters, the members known then, up or failed, ascending by id, and the last period
+number that was used. What is drawn in it is told anew.
 
-That detector is played twice. The reference goes on within one run (`reference --cut N`). And a journal file is written whose
-header is that opening, which swimsim and the reference play: its rows are those that swimsim's own `table` shows at the cut.
+That detector is played twice. The reference goes on within one run (`reference --cut N`). And a journal file is written
+whose header is that opening, which swimsim and the reference play: its rows are those that swimsim's own `table` shows
+at the cut.
 
 `cut_everywhere` plays all cuts of the script of a seed, and says what isn't as it has to be.
 """
@@ -11,8 +12,8 @@ header is that opening, which swimsim and the reference play: its rows are those
 import random
 from typing import NamedTuple
 
-from tests.generators.detector_scripts import churning, crowded, growing_from_nobody, mixed, near_the_last_number, planned
-from tests.generators.detector_scripts import relaying, seeded, with_a_small_journal
+from tests.generators.detector_scripts import churning, crowded, growing_from_nobody, mixed, near_the_last_number
+from tests.generators.detector_scripts import planned, relaying, seeded, with_a_small_journal
 from tests.generators.gap_scripts import returning
 from tests.generators.growing_scripts import Script, joined
 from tests.generators.version_scripts import asking_about_anybody
@@ -43,7 +44,9 @@ def filled(r):
     return script
 
 
-KINDS = [mixed, churning, planned, growing_from_nobody, crowded, relaying, near_the_last_number, with_a_small_journal, seeded]
+KINDS = [
+    mixed, churning, planned, growing_from_nobody, crowded, relaying, near_the_last_number, with_a_small_journal, seeded
+]
 KINDS += [returning, filled, churning, asking_about_anybody]
 
 
@@ -74,7 +77,12 @@ def opening(script, last):
 
 def with_tables(script):
     """The table is shown before each event. That makes no entry."""
-    return [opening(script, script.last), *script.header, *script.chooser, *(it for event in script.events for it in ("table", event))]
+    return [
+        opening(script, script.last),
+        *script.header,
+        *script.chooser,
+        *(it for event in script.events for it in ("table", event)),
+    ]
 
 
 def answers(events, output):
@@ -140,8 +148,8 @@ def first_round(script, ids):
 
 
 def begins_otherwise(script, left, events, found, met):
-    """What isn't as the opening says: period numbers go on, the first start judges nobody, and its round is one of all that are
-    up, ascending until an order is drawn."""
+    """What isn't as the opening says: period numbers go on, the first start judges nobody, and its round is one of all
+    that are up, ascending until an order is drawn."""
     starts = [answer[0].split() for answer in found if answer[0].startswith("started ")]
     numbers = [(place, int(it[5])) for place, it in enumerate(starts, 1) if len(it) == 6]
     said = [f"start {place} has the number {number}" for place, number in numbers if number != left.last + place]
@@ -176,7 +184,8 @@ def cut_at(run, program, reference, script, place, left, met):
 
 
 def cut_everywhere(run, program, reference, seed):
-    """The name of the script, what isn't as it has to be, and which cases were met. `run` gives what a program writes."""
+    """The name of the script, what isn't as it has to be, and which cases were met. `run` gives what a program
+    writes."""
     kind, script = cut_script(seed)
     first = joined(with_tables(script))
     written, right = run([program], first), run([reference], first)

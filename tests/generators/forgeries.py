@@ -1,5 +1,5 @@
-"""Bytes that are nearly a datagram: every beginning of some of them, each of these with bytes behind it, and some with each of their
-bytes replaced by each of the 256 values."""
+"""Bytes that are nearly a datagram: every beginning of some of them, each of these with bytes behind it, and some with
+each of their bytes replaced by each of the 256 values."""
 
 PING = bytes.fromhex("535701010000000100000001000000020000000000000001")
 ACK = bytes.fromhex("53570103ffffffffffffffffffffffffffffffffffffffff")

@@ -8,7 +8,8 @@ ELSEWHERE = "192.168.7.9:65535"
 
 
 def datagram(kind, sender, initiator, target, number, version=1, at=None):
-    """Its digits. A ping-req of version 2 has an address behind it, where nothing else is said the one at which its target would be."""
+    """Its digits. A ping-req of version 2 has an address behind it, where nothing else is said the one at which its
+    target would be."""
     text = f"5357{version:02x}{kind:02x}{sender:08x}{initiator:08x}{target:08x}{number:016x}"
     return text + address_digits(at or address(target)) if (kind, version) == (REQUEST, 2) else text
 
@@ -23,7 +24,8 @@ def address_digits(at):
 
 
 class Script:
-    """A script that grows, and what is known of its detector: its version, the number of its period, and who may be listed."""
+    """A script that grows, and what is known of its detector: its version, the number of its period, and who may be
+    listed."""
 
     def __init__(self, r, k=None, rtt=None, period=None, last=None, limit=None, rows=None):
         self.r = r

@@ -1,7 +1,7 @@
 """Random journal files of swimsim, each the same for its seed.
 
-`told(seed, play)` makes one of what `play` writes for its calls: behind event lines stands what their entries were answered, each
-as it was or, in half of them, one otherwise. `spoiled(seed)` makes one that may have any fault.
+`told(seed, play)` makes one of what `play` writes for its calls: behind event lines stands what their entries were
+answered, each as it was or, in half of them, one otherwise. `spoiled(seed)` makes one that may have any fault.
 """
 
 import random
@@ -14,7 +14,17 @@ from tests.generators.detector_scripts import near_the_last_number, relaying, se
 from tests.generators.growing_scripts import Script, joined
 from tests.generators.version_scripts import asking_about_anybody, telling_versions
 
-KINDS = [mixed, churning, planned, growing_from_nobody, relaying, flooding, crowded, near_the_last_number, with_a_small_journal]
+KINDS = [
+    mixed,
+    churning,
+    planned,
+    growing_from_nobody,
+    relaying,
+    flooding,
+    crowded,
+    near_the_last_number,
+    with_a_small_journal,
+]
 KINDS += [seeded, seeded, misread, asking_about_anybody]
 FIRST = "journal 1"
 LIVES = [0, 1, 2, 3, 2**32 - 1, 2**32, 2**64 - 1]
@@ -31,7 +41,8 @@ class Told(NamedTuple):
 
 
 def with_seed(r, script):
-    """The same, half of them with a seed in the place of their orders and places, and the seed with a life or without."""
+    """The same, half of them with a seed in the place of their orders and places, and the seed with a life or
+    without."""
     if r.random() < 0.5:
         script.chooser = [f"seed {r.randbytes(32).hex()}"]
     lives = ["", "", *(f" {life}" for life in [*LIVES, r.randrange(2**64)])]
@@ -54,7 +65,9 @@ def makes_entry(event, answer):
 
 def otherwise(r, place, reply, before):
     """The text of an entry with something else in it."""
-    texts = [f"{place + 1} {reply}", f"0{place} {reply}", f"{place}  {reply}", f"{place} {reply} ", f"{place} {reply}"[:-1]]
+    texts = [
+        f"{place + 1} {reply}", f"0{place} {reply}", f"{place}  {reply}", f"{place} {reply} ", f"{place} {reply}"[:-1]
+    ]
     texts += [f"{place} {reply.upper()}", f"{place}", "", f"{place} {reply}\r"]
     texts += [f"{place - 1} {before}"] if place else []
     texts += [f"{place} {before}"] if before != reply else []
@@ -87,9 +100,13 @@ def told(seed, play):
     return Told(kind.__name__, joined(made + script.events[wrong + 1 :]), joined(written), fault.encode(), 1)
 
 
-TEXTS = ["= 0 quiet", "= 0 started judged - probe -", "= ", "=", "=0", "= none", "= 1 heard", FIRST, "journal", "journal 2"]
+TEXTS = [
+    "= 0 quiet", "= 0 started judged - probe -", "= ", "=", "=0", "= none", "= 1 heard", FIRST, "journal", "journal 2"
+]
 LIVES_OF_ANY_KIND = ["", " ", " 1", " 0", " 01", " x", " 18446744073709551616", " 1 2", " 1 "]
-STATES_OF_ANY_KIND = ["", " ", " up", " failed", " failed ", " failed 1", " failed 1", " failed 0", " failed 01", " failed x"]
+STATES_OF_ANY_KIND = [
+    "", " ", " up", " failed", " failed ", " failed 1", " failed 1", " failed 0", " failed 01", " failed x"
+]
 STATES_OF_ANY_KIND += [" failed 18446744073709551616", " failed 18446744073709551615", " failed 1 2", " Failed 1"]
 
 
@@ -100,8 +117,12 @@ def spoiled(seed):
     made = kind(r)
     made = made.lines() if isinstance(made, Script) else made
     lines = (made if isinstance(made, bytes) else joined(made)).decode("latin-1").split("\n")
-    lines = [line + r.choice(LIVES_OF_ANY_KIND) if line.startswith("seed ") and r.random() < 0.7 else line for line in lines]
-    lines = [line + r.choice(STATES_OF_ANY_KIND) if line.startswith("row ") and r.random() < 0.2 else line for line in lines]
+    lines = [
+        line + r.choice(LIVES_OF_ANY_KIND) if line.startswith("seed ") and r.random() < 0.7 else line for line in lines
+    ]
+    lines = [
+        line + r.choice(STATES_OF_ANY_KIND) if line.startswith("row ") and r.random() < 0.2 else line for line in lines
+    ]
     for _ in range(r.choice([0, 1, 1, 2, 4])):
         lines.insert(r.randint(0, len(lines)), r.choice(TEXTS))
     first = r.choice([[FIRST]] * 8 + [["", FIRST], ["# a comment", FIRST], [FIRST + " "], [FIRST, FIRST], []])

@@ -137,11 +137,19 @@ def known_members():
         "refused 3",
     ]
     others = [f"{id} 10.0.0.2:7000 up" for id in range(3, 130)]
-    yield good("128 members, of whom one failed", head + b"table\n", lines(*probed, "2 10.0.0.2:7000 failed 1", *others, "."))
+    yield good(
+        "128 members, of whom one failed", head + b"table\n", lines(*probed, "2 10.0.0.2:7000 failed 1", *others, ".")
+    )
     again = head + b"join 2 10.0.0.2:7001\ntable\n"
-    yield good("a failed one of 128 members joins again", again, lines(*probed, "joined 127", "2 10.0.0.2:7001 up", *others, "."))
+    yield good(
+        "a failed one of 128 members joins again",
+        again,
+        lines(*probed, "joined 127", "2 10.0.0.2:7001 up", *others, "."),
+    )
     gone = head + b"remove 2\njoin 130 10.0.0.9:7000\njoin 131 10.0.0.9:7000\n"
-    yield good("a member joins in the place of one that is gone", gone, lines(*probed, "removed", "joined 127", "refused 3"))
+    yield good(
+        "a member joins in the place of one that is gone", gone, lines(*probed, "removed", "joined 127", "refused 3")
+    )
 
 
 def waiting_requests():
@@ -192,9 +200,12 @@ class Round:
 
 
 def drawn_rounds(name, seed, life=None):
-    """Nine members and two joiners; each period asks relays and is acked behind that. With a life it is a journal file."""
+    """Nine members and two joiners; each period asks relays and is acked behind that. With a life it is a journal
+    file."""
     first, told = ([], "") if life is None else (["journal 1"], f" {life}")
-    script = [*first, "open 1 3 1 3 0 1000", f"seed {seed.hex()}{told}", *(f"row {id} {peer(id)}" for id in range(2, 11))]
+    script = [
+        *first, "open 1 3 1 3 0 1000", f"seed {seed.hex()}{told}", *(f"row {id} {peer(id)}" for id in range(2, 11))
+    ]
     members, answers = Round(seed, range(2, 11), life or 0), []
     for number in range(1, 31):
         aim = members.next()

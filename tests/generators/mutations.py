@@ -1,6 +1,24 @@
 """Mutations of valid texts: bytes, words and lines changed, left out, doubled, moved, or taken from another text."""
 
-NUMBERS = [b"", b"0", b"1", b"2", b"3", b"8", b"9", b"01", b"-1", b"+1", b"127", b"128", b"129", b"255", b"256", b"1000000", b"1000001"]
+NUMBERS = [
+    b"",
+    b"0",
+    b"1",
+    b"2",
+    b"3",
+    b"8",
+    b"9",
+    b"01",
+    b"-1",
+    b"+1",
+    b"127",
+    b"128",
+    b"129",
+    b"255",
+    b"256",
+    b"1000000",
+    b"1000001",
+]
 NUMBERS += [b"65535", b"65536", b"4294967295", b"4294967296", b"9223372036854775807", b"9223372036854775808"]
 NUMBERS += [b"18446744073709551615", b"18446744073709551616"]
 SIGNS = b" \t\r\n\x00\x7f\xff#.,:;-_=\"'[]{}\\0189afAFxg"
@@ -80,7 +98,9 @@ def with_another(r, text, sign, change):
     return sign.join([*parts[:place], change(parts[place]), *parts[place + 1 :]])
 
 
-MUTATIONS = [with_another_byte, with_another_bit, with_a_byte_more, with_a_part_less, with_a_part_twice, with_a_part_of_another]
+MUTATIONS = [
+    with_another_byte, with_another_bit, with_a_byte_more, with_a_part_less, with_a_part_twice, with_a_part_of_another
+]
 MUTATIONS += [cut, with_another_number, with_another_number, with_another_word, with_a_line_less, with_a_line_moved]
 MUTATIONS += [with_a_line_of_another]
 

@@ -1,7 +1,7 @@
 """Random configurations of swimd, each the same for its seed.
 
-`random_config(seed)` gives (kind, document). The kinds take turns, so that any stretch of seeds has them all. A document is
-written without knowing what will be answered.
+`random_config(seed)` gives (kind, document). The kinds take turns, so that any stretch of seeds has them all. A
+document is written without knowing what will be answered.
 """
 
 import random
@@ -22,8 +22,27 @@ BAD_PEERS += ["1.2.3.4:05", "01.2.3.4:5", "1.2.3.4: 5", "1.2.3.4:+5", "localhost
 BAD_PEERS += ["1.2.3.4:5\n"]
 OTHER_KINDS = ["true", "false", "1.5", "-0.0", "inf", "nan", "1e3", "[]", "[1]", "{}", "{ a = 1 }", "'text'", "7"]
 OTHER_KINDS += ["2020-02-29", "2020-02-29T01:02:03Z", "01:02:03", '""', "[[]]", '"""\ntext"""']
-UNKNOWN = ["journal_dirs", "journal-keep", "journal.dir", "name", "ID", "members", "K", '""', "'id '", "tick-ms", "wires", "key", "keyz", "3", "more.id", '"\\u0000"']
-NO_TOML = ["id", "= 1", "id = ", "[", "[[member]", "x = 'a", 'x = "\\q"', "x = 01", "x = 1__0", "x = [1,,2]", "x = +0x1"]
+UNKNOWN = [
+    "journal_dirs",
+    "journal-keep",
+    "journal.dir",
+    "name",
+    "ID",
+    "members",
+    "K",
+    '""',
+    "'id '",
+    "tick-ms",
+    "wires",
+    "key",
+    "keyz",
+    "3",
+    "more.id",
+    '"\\u0000"',
+]
+NO_TOML = [
+    "id", "= 1", "id = ", "[", "[[member]", "x = 'a", 'x = "\\q"', "x = 01", "x = 1__0", "x = [1,,2]", "x = +0x1"
+]
 NO_TOML += ["x = 1.", "x = 2020-13-01", "x = tru", "a.b = 1\na = 1", "[id]\n[id]", "x = {a = 1, a = 2}", "x = 'a' 'b'"]
 NO_TOML += ["x = \x01", "x = '\x7f'", "x = 1 # \x00", 'x = "\\ud800"', "\ufeffx = 1\ufeff", "[member]\n[[member]]"]
 NO_TOML += ["x = 99999999999999999999"]
@@ -70,7 +89,9 @@ def seed_text(r, length=64):
 
 def keys_text(r, keys):
     """One of the spellings of an array of keys."""
-    return "[" + r.choice([", ", ",", ",\n  "]).join(text(r, it) for it in keys) + r.choice(["]", "]", ",]"] if keys else ["]"])
+    return "[" + r.choice([", ", ",", ",\n  "]).join(text(r, it) for it in keys) + r.choice(
+        ["]", "]", ",]"] if keys else ["]"]
+    )
 
 
 class Config:
@@ -88,11 +109,15 @@ class Config:
         if r.random() < 0.3:
             values["journal_keep"] = r.choice([0, 1, 16, 10**6, LARGEST_ID])
         path = lambda: "".join(r.choice(PRINTABLE) for _ in range(r.choice([1, 5, 20, 99, 100])))
-        texts = {"listen": f"127.0.0.{r.randint(0, 255)}:{r.randint(1, 65_535)}", "control": path(), "seed": seed_text(r)}
+        texts = {
+            "listen": f"127.0.0.{r.randint(0, 255)}:{r.randint(1, 65_535)}", "control": path(), "seed": seed_text(r)
+        }
         if r.random() < 0.3:
             texts["journal_dir"] = path()
         self.r = r
-        self.top = [[key, number(r, it)] for key, it in values.items()] + [[key, text(r, it)] for key, it in texts.items()]
+        self.top = [[key, number(r, it)] for key, it in values.items()] + [
+            [key, text(r, it)] for key, it in texts.items()
+        ]
         if r.random() < 0.3:
             self.top.append(["keys", keys_text(r, [seed_text(r) for _ in range(r.choice([1, 1, 2, 3, 4]))])])
         r.shuffle(self.top)
@@ -260,7 +285,18 @@ def about_as_large_as_may_be(r):
 
 
 KINDS = [fine, of_one_fault, broken, of_one_fault, of_one_fault, broken, of_one_fault, of_one_fault]
-KINDS += [of_other_members, of_an_opening, of_one_fault, of_an_opening, doubtful, of_one_fault, no_toml, noisy, noisy, about_as_large_as_may_be]
+KINDS += [
+    of_other_members,
+    of_an_opening,
+    of_one_fault,
+    of_an_opening,
+    doubtful,
+    of_one_fault,
+    no_toml,
+    noisy,
+    noisy,
+    about_as_large_as_may_be,
+]
 
 
 def random_config(seed):

@@ -1,13 +1,13 @@
-"""Random courses of a daemon whose members are played here: some answer its pings, some only through a relay, some never. Whom
-it pings and whom it asks, in which order, with which numbers and in which version, is what the reference sends that plays the same
-ticks and acks as a script.
+"""Random courses of a daemon whose members are played here: some answer its pings, some only through a relay, some
+never. Whom it pings and whom it asks, in which order, with which numbers and in which version, is what the reference
+sends that plays the same ticks and acks as a script.
 
-In every second course the journal is full every few periods, so that life follows life: the call that meets the full journal is
-in no life, and the next one begins with the members that are known, up or failed, and the last number. What the lives tell in the
-end, and which members failed in which period, is what the reference's run with lives says.
+In every second course the journal is full every few periods, so that life follows life: the call that meets the full
+journal is in no life, and the next one begins with the members that are known, up or failed, and the last number. What
+the lives tell in the end, and which members failed in which period, is what the reference's run with lives says.
 
-All members share one socket, so that what is sent comes in its order. An ack is on its way as soon as the ping has come, and has
-a tick of fifty milliseconds to be in time. The first of several requests to relays is answered.
+All members share one socket, so that what is sent comes in its order. An ack is on its way as soon as the ping has
+come, and has a tick of fifty milliseconds to be in time. The first of several requests to relays is answered.
 """
 
 import random
@@ -33,7 +33,9 @@ class Course:
         self.answers = {id: r.choice([DIRECT, DIRECT, RELAYED, NEVER]) for id in ids}
         self.k, self.last, self.chooser = r.randint(0, 4), r.choice([0, 7, 2**63 - 1]), seed_text(r)
         self.limit, self.version = r.randint(8, 30) if seed % 2 else 1_000_000, r.choice([1, 2])
-        values = {"k": self.k, "last": self.last, "seed": self.chooser, "journal": self.limit, "wire": self.version, **TICKS}
+        values = {
+            "k": self.k, "last": self.last, "seed": self.chooser, "journal": self.limit, "wire": self.version, **TICKS
+        }
         self.answered = set()
         self.daemon = machine.daemon(1, members=[(id, self.peer) for id in ids], **values)
 
@@ -50,7 +52,8 @@ class Course:
         return ran.stdout.decode().splitlines()
 
     def wanted(self, reference):
-        """All that is sent in so many ticks. After each tick, what it sent is looked up, and who answers that, answers."""
+        """All that is sent in so many ticks. After each tick, what it sent is looked up, and who answers that,
+        answers."""
         lines, sent = list(self.opening()), []
         for _ in range(PERIODS * TICKS["period"]):
             lines.append("tick")

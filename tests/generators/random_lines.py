@@ -1,5 +1,5 @@
-"""Random sessions of control lines, each the same for its seed: `random_life(seed)` gives what a daemon starts from, and what
-comes on its connections, one after the other, each cut into pieces. Only the last may end the daemon."""
+"""Random sessions of control lines, each the same for its seed: `random_life(seed)` gives what a daemon starts from,
+and what comes on its connections, one after the other, each cut into pieces. Only the last may end the daemon."""
 
 import random
 from typing import NamedTuple
@@ -8,8 +8,12 @@ from tests.generators.random_configs import BAD_PEERS, LARGEST_ID, seed_text
 
 SESSIONS = 20
 BAD_IDS = ["", "0", "01", "-1", "+1", "x", "4294967296", "1.0", "9" * 30, "\xb2", "2\t", "1\r"]
-BAD_LINES = ["", " ", " list", "lis", "List", "LIST", "list\r", "list\t", "\xff", "\x00", "joi 5 1.2.3.4:5", "stop!", "tick"]
-BAD_LINES += ["table", "stop stop", "gap", "join", "remove", "join ", "gap  2", "list ", "a" * 127, "a" * 128, "list" + " " * 124]
+BAD_LINES = [
+    "", " ", " list", "lis", "List", "LIST", "list\r", "list\t", "\xff", "\x00", "joi 5 1.2.3.4:5", "stop!", "tick"
+]
+BAD_LINES += [
+    "table", "stop stop", "gap", "join", "remove", "join ", "gap  2", "list ", "a" * 127, "a" * 128, "list" + " " * 124
+]
 
 
 class Life(NamedTuple):
@@ -42,7 +46,9 @@ def a_line(r, ids):
 def a_bad_line(r, id):
     """A line that mostly is bad, often in two ways."""
     number, peer = r.choice([*BAD_IDS, str(id)]), r.choice([*BAD_PEERS, a_peer(r)]).replace("\n", "")
-    line = r.choice([f"join {number} {peer}", f"join {id} {peer}", f"remove {number}", f"gap {number}", r.choice(BAD_LINES)])
+    line = r.choice(
+        [f"join {number} {peer}", f"join {id} {peer}", f"remove {number}", f"gap {number}", r.choice(BAD_LINES)]
+    )
     if r.random() < 0.2:
         line = line.rsplit(" ", 1)[0]
     return line + r.choice([""] * 8 + [" ", " x", "  ", "\r", " ".ljust(128)])
@@ -52,7 +58,9 @@ def a_session(r, ids, may_stop):
     lines = [a_line(r, ids) for _ in range(r.choice([0, 1, 2, 5, 20]))]
     end = r.random()
     if end < 0.3:
-        lines.append(r.choice(["list", "lis", "a" * 128, "stop", f"gap {r.choice(ids)}", "x"]) if end < 0.15 else "b" * 129)
+        lines.append(
+            r.choice(["list", "lis", "a" * 128, "stop", f"gap {r.choice(ids)}", "x"]) if end < 0.15 else "b" * 129
+        )
     elif end < 0.4 and lines:
         lines.insert(r.randint(0, len(lines) - 1), "c" * r.randint(129, 300))
     elif may_stop and end < 0.7:

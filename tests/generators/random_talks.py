@@ -1,5 +1,6 @@
-"""Random conversations with a daemon whose first tick is a minute away: datagrams of some members, of both versions, and control lines,
-each the same for its seed. What it has to send and answer is what the reference answers to the same calls as a script.
+"""Random conversations with a daemon whose first tick is a minute away: datagrams of some members, of both versions,
+and control lines, each the same for its seed. What it has to send and answer is what the reference answers to the same
+calls as a script.
 """
 
 import random
@@ -18,8 +19,8 @@ MARKER = 99
 
 
 def random_datagram(r, me, ports):
-    """Mostly one that is answered; now and then one that is dropped, or none at all. What a ping-req of version 2 tells is the port of
-    some member, mostly of its target."""
+    """Mostly one that is answered; now and then one that is dropped, or none at all. What a ping-req of version 2 tells
+    is the port of some member, mostly of its target."""
     ids, version = list(ports), r.choice([1, 2])
     id, other, number = r.choice(ids), r.choice(ids), r.randint(1, r.choice([3, 3, 100]))
     kind, *rest = r.choice(
@@ -74,14 +75,23 @@ class Conversation:
                 # Lines come by another thread than datagrams: those before it have to be through.
                 self.events.insert(-1, (MARKER, datagram(PING, MARKER, MARKER, 1, 1_000 + number)))
         self.events.append((MARKER, datagram(PING, MARKER, MARKER, 1, 9_999)))
-        self.head = [f"open 1 1 3 10 0 {self.limit}", f"wire {version}", f"seed {chooser}", *(f"row {id} {at}" for id, at in members)]
-        self.daemon = machine.started(1, members=members, seed=chooser, journal=self.limit, tick_ms=MINUTE, wire=version)
+        self.head = [
+            f"open 1 1 3 10 0 {self.limit}",
+            f"wire {version}",
+            f"seed {chooser}",
+            *(f"row {id} {at}" for id, at in members),
+        ]
+        self.daemon = machine.started(
+            1, members=members, seed=chooser, journal=self.limit, tick_ms=MINUTE, wire=version
+        )
 
     def random_event(self, r, ports):
         id = r.choice(list(ports))
         if r.random() < 0.85:
             return id, random_datagram(r, 1, ports)
-        return r.choice([f"join {id} {self.addresses[id]}", f"join {id} {self.addresses[id]}", f"remove {id}", f"gap {id}"])
+        return r.choice(
+            [f"join {id} {self.addresses[id]}", f"join {id} {self.addresses[id]}", f"remove {id}", f"gap {id}"]
+        )
 
     def script(self):
         """The same as a script of the reference."""

@@ -6,8 +6,8 @@ LARGEST_ID = 2**32 - 1
 
 
 class Key(NamedTuple):
-    """What the table of keys says of one: its name where it stands, its kind, the range of a number, its default (None where it
-    has to be given), and what it is for."""
+    """What the table of keys says of one: its name where it stands, its kind, the range of a number, its default (None
+    where it has to be given), and what it is for."""
 
     name: str
     kind: str
@@ -58,7 +58,9 @@ RULES = [
 def rows():
     """The rows of the table of keys in docs/FORMATS.md."""
     for text, key in BY_TEXT.items():
-        default = {None: "none", "": "no files", (): "no keys"}.get(key.default, key.default) if key.default != [] else "none of them"
+        default = {None: "none", "": "no files", (): "no keys"}.get(
+            key.default, key.default
+        ) if key.default != [] else "none of them"
         yield f"| `{text}` | {expected_form(key)} | {default} | {key.about} |"
 
 

@@ -1,5 +1,5 @@
-"""What `swimd check` has to write for a configuration, worked out apart from swimd: the text is read by Python's own TOML
-reader, and the rest by the rules of docs/FORMATS.md."""
+"""What `swimd check` has to write for a configuration, worked out apart from swimd: the text is read by Python's own
+TOML reader, and the rest by the rules of docs/FORMATS.md."""
 
 import math
 import re
@@ -21,8 +21,8 @@ MARKS = re.compile(rb"([\"'\[\]{},=#])")
 HIDDEN_DIGITS = 32
 
 
-# What a document may have since TOML 1.1, which Python's reader doesn't know: lines and a last comma within an inline table,
-# two escapes, and times without seconds.
+# What a document may have since TOML 1.1, which Python's reader doesn't know: lines and a last comma within an inline
+# table, two escapes, and times without seconds.
 NEWER = re.compile(r",[^\S\n]*(#[^\n]*)?\s*}|{[^}\n]*\n|\\[ex]|(?<![.\d])\d\d:\d\d(?!:)")
 
 

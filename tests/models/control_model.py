@@ -1,5 +1,5 @@
-"""What a daemon has to answer to control lines while no tick and no datagram comes, worked out apart from it: the places of
-joiners are those of draws.py."""
+"""What a daemon has to answer to control lines while no tick and no datagram comes, worked out apart from it: the
+places of joiners are those of draws.py."""
 
 import re
 
@@ -29,8 +29,8 @@ class Model:
         self.entries = 0
 
     def served(self, text):
-        """What a connection is answered on which this comes, and whether it stops the daemon. A full journal ends the connection
-        and the life."""
+        """What a connection is answered on which this comes, and whether it stops the daemon. A full journal ends the
+        connection and the life."""
         answers, reads = [], READS
         *lines, rest = text.split(b"\n")
         for line in lines:

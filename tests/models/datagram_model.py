@@ -28,5 +28,10 @@ def in_words(text):
     sender, initiator, target = (int.from_bytes(text[place : place + 4], "big") for place in (4, 8, 12))
     number = int.from_bytes(text[16:24], "big")
     version = f", version {text[2]}" if text[2] != 1 else ""
-    address = f", at {'.'.join(map(str, text[24:28]))}:{int.from_bytes(text[28:30], 'big')}" if len(text) == BYTES_WITH_ADDRESS else ""
-    return f"  {KINDS[text[3]]}: sender {sender}, initiator {initiator}, target {target}, number {number}{version}{address}"
+    address = (
+        f", at {'.'.join(map(str, text[24:28]))}:{int.from_bytes(text[28:30], 'big')}"
+        if len(text) == BYTES_WITH_ADDRESS
+        else ""
+    )
+    ids = f"sender {sender}, initiator {initiator}, target {target}"
+    return f"  {KINDS[text[3]]}: {ids}, number {number}{version}{address}"

@@ -1,9 +1,10 @@
-"""What a seeded chooser chooses, computed apart from the programs: rand 0.10's shuffle and its draw from a range, over the
-words of ChaCha20 with the seed as key, the stream's number as nonce, which is 0 but for later lives of a detector, and a
-counter from 0 (RFC 8439's cipher with a counter and a nonce of 64 bits).
+"""What a seeded chooser chooses, computed apart from the programs: rand 0.10's shuffle and its draw from a range, over
+the words of ChaCha20 with the seed as key, the stream's number as nonce, which is 0 but for later lives of a detector,
+and a counter from 0 (RFC 8439's cipher with a counter and a nonce of 64 bits).
 
 It was written after those descriptions and not after this repository's code. Of a seed of zeros it gives the words that
-RFC 8439 lists for a key of zeros, and the orders and places that crates/swim_targets_tests/src/tests/choices.rt expects.
+RFC 8439 lists for a key of zeros, and the orders and places that crates/swim_targets_tests/src/tests/choices.rt
+expects.
 """
 
 WORD = 2**32
@@ -39,7 +40,8 @@ class Draws:
         self.words = (word for counter in iter(range(2**63)) for word in block(seed, counter, stream))
 
     def below(self, bound):
-        """A number below the bound: the high half of a word times it. Where the low half might carry, a second word tells."""
+        """A number below the bound: the high half of a word times it. Where the low half might carry, a second word
+        tells."""
         high, low = divmod(next(self.words) * bound, WORD)
         if low > WORD - bound:
             high += low + next(self.words) * bound // WORD >= WORD
@@ -49,8 +51,8 @@ class Draws:
         return self.below(last + 1)
 
     def order(self, ids):
-        """Each element from the second on is swapped with one up to it. The indices of as many swaps as fit a word are taken
-        from one draw."""
+        """Each element from the second on is swapped with one up to it. The indices of as many swaps as fit a word are
+        taken from one draw."""
         ids, chunk, left = list(ids), 0, 1
         for i in range(len(ids)):
             if left == 0:

@@ -1,5 +1,6 @@
-"""What a member that plays a script has to answer to what it hears, and what it has to send, in which version and where: worked out
-apart from the crates, after docs/FORMATS.md and docs/PROTOCOL.md, from the script and the first line of each other answer.
+"""What a member that plays a script has to answer to what it hears, and what it has to send, in which version and
+where: worked out apart from the crates, after docs/FORMATS.md and docs/PROTOCOL.md, from the script and the first line
+of each other answer.
 
 `walked(script, output, errors)` says what isn't so, and which cases of the two versions of a datagram were met.
 """
@@ -16,7 +17,9 @@ EVENT = re.compile("(tick|hear|join|remove|table|gap)( |$)")
 FAULT = re.compile(r"line (\d+): (\w+)")
 
 LISTED, FAILED, UNKNOWN, MYSELF = (
-    f"a ping-req of version 2 about {it}" for it in ("a listed member", "one that failed", "one that isn't known", "this member")
+    f"a ping-req of version 2 about {it}" for it in (
+        "a listed member", "one that failed", "one that isn't known", "this member"
+    )
 )
 AGAIN = "a request that waits is asked again in the other version"
 FORWARDED = [f"an ack is sent on in version {it}" for it in (1, 2)]
@@ -48,7 +51,11 @@ class Heard(NamedTuple):
 
 def read(text):
     numbers = [int.from_bytes(text[place : place + 4], "big") for place in (4, 8, 12)]
-    at = f"{'.'.join(map(str, text[24:28]))}:{int.from_bytes(text[28:], 'big')}" if len(text) == BYTES_WITH_ADDRESS else ""
+    at = (
+        f"{'.'.join(map(str, text[24:28]))}:{int.from_bytes(text[28:], 'big')}"
+        if len(text) == BYTES_WITH_ADDRESS
+        else ""
+    )
     return Heard(text[2], text[3], *numbers, int.from_bytes(text[16:24], "big"), at)
 
 
@@ -152,7 +159,9 @@ class Member:
             return ["dropped 5"]
         self.waiting[it.key] = Asker(source, it.version, self.ticks + self.period)
         self.met += [AGAIN] if before and before.version != it.version else []
-        self.met += [LISTED if it.target in self.up else FAILED if it.target in self.failed else UNKNOWN] if it.version == 2 else []
+        self.met += [
+            LISTED if it.target in self.up else FAILED if it.target in self.failed else UNKNOWN
+        ] if it.version == 2 else []
         return ["sent", sent(at, it.version, PING, self.me, it.key)]
 
     def hear_ack(self, it, answer):
@@ -199,7 +208,8 @@ def of_the_header(lines, errors):
 
 
 def fault_of_line(line, told, has_event, is_open):
-    """The fault of a line whose first word is that of a version, or None, and its case, if it is one. So many stand before it."""
+    """The fault of a line whose first word is that of a version, or None, and its case, if it is one. So many stand
+    before it."""
     out_of_place = BEFORE if not is_open else BEHIND if has_event else TWICE if told else None
     if out_of_place:
         return "word", [out_of_place]

@@ -1,5 +1,5 @@
-"""What programs have to write and do where one call of the system fails, once, or several in a row. Each function gives, for one run
-after the other, how it ended and what isn't as it has to be."""
+"""What programs have to write and do where one call of the system fails, once, or several in a row. Each function
+gives, for one run after the other, how it ended and what isn't as it has to be."""
 
 import itertools
 import os
@@ -7,14 +7,17 @@ import re
 import subprocess
 import time
 
-from tests.support.daemons import LIVES_AND_CLOSING, PORTS_TRIED, DaemonFault, Machine, PortTaken, first_line_of, must, talk
+from tests.support.daemons import LIVES_AND_CLOSING, PORTS_TRIED, DaemonFault, Machine, PortTaken
+from tests.support.daemons import first_line_of, must, talk
 from tests.support.daemons import until
 from tests.support.datagrams import PING, datagram, fields
 from tests.support.journals import front, journals, must_play, told
 from tests.swimsim.worked_scripts import ASKED, JUDGED_2, STARTED, TWO
 
 AS_EVER, READ, WRITE = "as ever", "a read that fails", "a write that fails"
-NOT_BEGUN, CLOSED, UNSENT, CUT, UNTOLD = "nothing was done", "a connection is closed", "a datagram isn't sent", "a journal is cut", "a line isn't told"
+NOT_BEGUN, CLOSED, UNSENT, CUT, UNTOLD = (
+    "nothing was done", "a connection is closed", "a datagram isn't sent", "a journal is cut", "a line isn't told"
+)
 BROKEN = "the line is broken"
 FAILED = b"failed\n"
 MOST = 1_000
@@ -28,7 +31,8 @@ WHOLE = "".join(answer for _, answer in LINES).encode()
 
 
 def failed_runs(failer, words, name, script, **variables):
-    """A run in which the first call of this name fails, one in which the second does, and so on, until a run meets none."""
+    """A run in which the first call of this name fails, one in which the second does, and so on, until a run meets
+    none."""
     for place in range(MOST):
         how = {**os.environ, "LD_PRELOAD": failer, "FAIL": f"{name} {place}", **variables}
         ran = subprocess.run(words, input=script, capture_output=True, env=how, timeout=60)
@@ -43,12 +47,15 @@ def of_reads(failer, program, piece):
     for place, ran in failed_runs(failer, [program], "read", SCRIPT, PIECES=str(piece)):
         lines = SCRIPT[: place * piece].count(b"\n")
         answers = "".join(answer for _, answer in LINES[:lines]).encode()
-        yield READ, [] if ran == (answers, b"line %d: read\n" % (lines + 1), 1) else [f"read {place} of {piece} bytes: {ran}"]
+        yield READ, [] if ran == (answers, b"line %d: read\n" % (lines + 1), 1) else [
+            f"read {place} of {piece} bytes: {ran}"
+        ]
 
 
 def of_writes(failer, program):
-    """What is written is a beginning of the whole, with the answer that wasn't taken at first or without it, and the line that was being
-    answered or the next one is told. Each answer is written by itself, as each byte of the script is waited for."""
+    """What is written is a beginning of the whole, with the answer that wasn't taken at first or without it, and the
+    line that was being answered or the next one is told. Each answer is written by itself, as each byte of the script
+    is waited for."""
     answered = [(number, answer.encode()) for number, (_, answer) in enumerate(LINES, 1) if answer]
     for place, ran in failed_runs(failer, [program], "write", SCRIPT, PIECES="1"):
         fronts = [b"".join(answer for _, answer in answered[: place + more]) for more in (0, 1)]
@@ -56,8 +63,8 @@ def of_writes(failer, program):
         yield WRITE, [] if ran[0] in fronts and ran[1] in lines and ran[2] == 1 else [f"write {place}: {ran}"]
 
 
-# What an operator asks, each on a connection of its own, with what it is answered; asked again it is answered otherwise. Where the last
-# answer can't be sent, the daemon ends all the same.
+# What an operator asks, each on a connection of its own, with what it is answered; asked again it is answered
+# otherwise. Where the last answer can't be sent, the daemon ends all the same.
 ASKED_LINES = [
     (b"join 4 10.0.0.4:7000\n", rb"joined \d\n|refused 2\n"),
     (b"list\n", rb"2 10\.0\.0\.2:7000 up\n3 10\.0\.0\.3:7000 up\n4 10\.0\.0\.4:7000 up\n\.\n"),
@@ -120,7 +127,9 @@ def how_it_runs(failer, programs, name, place):
             raise PortTaken(f"port {daemon.port} is taken")
         if not spoken:
             must(FAILED in stderr, f"it ended with {stderr!r}")
-            is_told = said in (b"configuration file\n", b"bind control\n", b"bind listen\n") and daemon.child.returncode in (1, 5)
+            is_told = said in (
+                b"configuration file\n", b"bind control\n", b"bind listen\n"
+            ) and daemon.child.returncode in (1, 5)
             return NOT_BEGUN, [] if is_told and not stdout else [f"{stdout!r}, {stderr!r}, {daemon.child.returncode}"]
         ending = goes_on(machine, daemon, spoken, stdout, said)
     return ending if FAILED in stderr else None
@@ -143,10 +152,14 @@ def goes_on(machine, daemon, spoken, stdout, said):
     if not is_cut:
         asked = [calls.count(it) for it in (b"hear", b"join", b"remove")]
         least = [spoken.pings, 1, 1]
-        faults += [] if asked[0] == least[0] and asked >= least else [f"its journal has {asked} calls, and {least} were answered"]
+        faults += [] if asked[0] == least[0] and asked >= least else [
+            f"its journal has {asked} calls, and {least} were answered"
+        ]
         faults += [] if len(entries) == count else [f"its file has {len(entries)} entries of {count}"]
     wanted = spoken.pings - 1
-    faults += [] if (judged, wire, refused) == (0, 0, 0) and unsent == wanted else [f"it counts {closing[0]!r} at {spoken.pings} pings"]
+    faults += [] if (judged, wire, refused) == (0, 0, 0) and unsent == wanted else [
+        f"it counts {closing[0]!r} at {spoken.pings} pings"
+    ]
     way = CUT if is_cut else UNSENT if unsent else CLOSED if spoken.tries > len(ASKED_LINES) else AS_EVER
     return way, faults
 
@@ -183,12 +196,15 @@ def of_a_broken_line(failer, programs):
 
 
 def how_it_endures(failer, programs, count):
-    """How many receives of a daemon failed, its status, and why it ended. Where it goes on it is stopped, once it has acked a ping."""
+    """How many receives of a daemon failed, its status, and why it ended. Where it goes on it is stopped, once it has
+    acked a ping."""
     with Machine(*programs) as machine:
         daemon, peer, numbers = machine.daemon(1, tick_ms=60_000), machine.socket(), itertools.count(1)
         peer.settimeout(0.2)
         daemon.launch(env={**os.environ, "LD_PRELOAD": failer, "FAIL": f"recvfrom 0 {count}"})
-        until(lambda: daemon.child.poll() is not None or is_acked(daemon, peer, next(numbers)), "it acks a ping or ends")
+        until(
+            lambda: daemon.child.poll() is not None or is_acked(daemon, peer, next(numbers)), "it acks a ping or ends"
+        )
         if daemon.child.poll() is None:
             daemon.ask(b"stop\n")
         stdout, stderr = daemon.child.communicate(timeout=20)

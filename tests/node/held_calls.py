@@ -29,8 +29,8 @@ def met_early(daemon, go):
 
 
 def of_an_early_connection(holder, programs):
-    """A daemon whose change of its control socket's mode is held back: who connects meanwhile is closed and not answered, and who comes
-    later is answered."""
+    """A daemon whose change of its control socket's mode is held back: who connects meanwhile is closed and not
+    answered, and who comes later is answered."""
     try:
         with Machine(*programs) as machine:
             daemon, go = machine.daemon(1, tick_ms=60_000), f"{machine.folder}/go"

@@ -1,5 +1,5 @@
-"""What programs have to write where one request for memory is refused. Each function gives, for one run after the other, how it
-ended and what isn't as it has to be."""
+"""What programs have to write where one request for memory is refused. Each function gives, for one run after the
+other, how it ended and what isn't as it has to be."""
 
 import os
 import re
@@ -13,14 +13,18 @@ from tests.generators.growing_scripts import joined
 from tests.node.refusing import REFUSED, Ran
 from tests.swimd.worked_configs import BELOW, is_as
 
-AS_EVER, NO_MEMORY, NOT_KEPT, NOT_BEGUN = "as ever", "a call without memory", "a line that isn't kept", "nothing was done"
+AS_EVER, NO_MEMORY, NOT_KEPT, NOT_BEGUN = (
+    "as ever", "a call without memory", "a line that isn't kept", "nothing was done"
+)
 NOT_COMPARED, CUT = "an answer that isn't compared", "a journal that is cut"
 PASSED = b"\ntest result: ok\n"
 PASSED_REFUSED = b"a call was refused\n" + PASSED
 MEMORY = re.compile(rb"line (\d+): memory\n")
 DIFFERS = re.compile(rb"line (\d+): differs\n")
 EVENTS = ("tick", "hear ", "join ", "remove ", "table", "gap ")
-EXPLAINED = rb"line (\d+): memory\n  expected: memory to keep what the line tells\n(no memory to sum the run up\n|entries .*)"
+EXPLAINED = (
+    rb"line (\d+): memory\n  expected: memory to keep what the line tells\n(no memory to sum the run up\n|entries .*)"
+)
 EXPLAINED_MEMORY = re.compile(EXPLAINED, re.S)
 WORDS = re.compile(rb"^  .*\n", re.M)
 NAME = re.compile(rb"^((?:dropped|refused|wire) [0-9]+) [a-z].*$", re.M)
@@ -28,8 +32,8 @@ NO_PROGRAM = re.compile(rb"(swimsim|error): out of memory\n")
 
 
 def of_a_test(refuser, words):
-    """The test passes, whatever was refused: it says itself what has to hold. It writes a line where a call that it names was
-    refused, and nothing else."""
+    """The test passes, whatever was refused: it says itself what has to hold. It writes a line where a call that it
+    names was refused, and nothing else."""
     ran = refuser.run(words)
     yield AS_EVER, [] if ran == (PASSED, b"", 0) else [f"without a refusal: {ran}"]
     for number, ran in refuser.refusals(words):
@@ -69,9 +73,9 @@ def without_words(ran, options):
 
 
 def of_a_script(refuser, program, script, played, *options):
-    """Either the run is as ever; or one call is answered `no memory`, and all else as in a run of a script without its line; or an
-    `order` or a `place` can't be kept; or the script isn't begun. `played` says what is written where no request is refused. The
-    words of `--decode` may be left out."""
+    """Either the run is as ever; or one call is answered `no memory`, and all else as in a run of a script without its
+    line; or an `order` or a `place` can't be kept; or the script isn't begun. `played` says what is written where no
+    request is refused. The words of `--decode` may be left out."""
     lines = script.lines()
     head, text = len(lines) - len(script.events), joined(lines)
     whole, command = played(text), [program, *options]
@@ -93,8 +97,9 @@ def of_a_script(refuser, program, script, played, *options):
 
 
 def of_an_explained_script(refuser, program, script, played):
-    """With the word `--explain` the answers are those without it, as above, but for names, which may be left out; and a line that
-    can't be kept has its explanation. In the end it is summed up, or said that there was no memory for that."""
+    """With the word `--explain` the answers are those without it, as above, but for names, which may be left out; and a
+    line that can't be kept has its explanation. In the end it is summed up, or said that there was no memory for
+    that."""
     lines = script.lines()
     head, text = len(lines) - len(script.events), joined(lines)
     wanted, words = played(text).stdout, [program, "--explain"]
@@ -116,8 +121,9 @@ def of_an_explained_script(refuser, program, script, played):
 
 
 def of_a_journal_file(refuser, program, file, wanted):
-    """Either the run is as ever; or an answer that is told can't be compared; or one call is answered `no memory`, and the line right
-    behind it that tells its answer differs; or an `order` or a `place` can't be kept, or the file isn't begun."""
+    """Either the run is as ever; or an answer that is told can't be compared; or one call is answered `no memory`, and
+    the line right behind it that tells its answer differs; or an `order` or a `place` can't be kept, or the file isn't
+    begun."""
     lines = file.decode().split("\n")
     yield AS_EVER, [] if refuser.run([program], file) == wanted else ["without a refusal it writes something else"]
     for number, ran in refuser.refusals([program], file):
@@ -137,14 +143,17 @@ def of_a_journal_file(refuser, program, file, wanted):
 
 
 def is_met(lines, ran, wanted):
-    """Whether the line right behind a call without memory differs, where it tells an answer, and the answers before are as ever."""
+    """Whether the line right behind a call without memory differs, where it tells an answer, and the answers before are
+    as ever."""
     differs = DIFFERS.fullmatch(ran.stderr)
     end = int(differs[1]) - 1 if differs else len(lines)
     places = [at for at, line in enumerate(lines[:end]) if line.startswith(EVENTS)]
     found = answers([lines[at] for at in places], ran.stdout)
     lost = found.index(["no memory"])
     front = "".join(f"{line}\n" for answer in found[:lost] for line in answer).encode()
-    behind = next((at for at, line in enumerate(lines) if at > places[lost] and not line.startswith("#") and line), len(lines))
+    behind = next(
+        (at for at, line in enumerate(lines) if at > places[lost] and not line.startswith("#") and line), len(lines)
+    )
     is_told = behind < len(lines) and lines[behind].startswith("= ")
     return wanted.stdout.startswith(front) and ran.status == bool(differs) and (not is_told or end == behind)
 
@@ -155,7 +164,9 @@ def loses_one_call(events, head, stdout, played):
     place = found.index(["no memory"])
     less = without(events, place)
     wanted = answers(less, played(joined([*head, *less])).stdout)
-    return [] if without(found, place) == wanted else [f"after `no memory` to event {place} it goes on otherwise: {stdout!r}"]
+    return [] if without(found, place) == wanted else [
+        f"after `no memory` to event {place} it goes on otherwise: {stdout!r}"
+    ]
 
 
 def of_a_configuration(refuser, program, document, wanted):
@@ -170,8 +181,8 @@ def of_a_configuration(refuser, program, document, wanted):
 
 
 def says_less(text, whole):
-    """Whether a text has the first line of another, and below it lines that begin with two spaces, as many at most. Of a text that
-    has none it is the same."""
+    """Whether a text has the first line of another, and below it lines that begin with two spaces, as many at most. Of
+    a text that has none it is the same."""
     first, *below = whole.splitlines(True) or [b""]
     if not all(it.startswith(b"  ") for it in below):
         return text == whole
@@ -187,8 +198,8 @@ def answered(daemon, text):
 
 
 def asked(daemon, peer):
-    """What a daemon answers to a ping, and then to control lines. None as the first where no ack comes. Where the connection is closed
-    at once, the next one is served."""
+    """What a daemon answers to a ping, and then to control lines. None as the first where no ack comes. Where the
+    connection is closed at once, the next one is served."""
     peer.settimeout(1)
     peer.sendto(datagram(PING, 9, 9, 1, 1), daemon.address)
     try:
@@ -209,8 +220,8 @@ def lines_wanted(join, remove):
 
 
 def how_it_runs(refuser, programs, number):
-    """How a daemon ends whose request of that number is refused, and what isn't as it has to be. None where it asked for less. Where
-    there is a simulator, too, the daemon writes a journal file."""
+    """How a daemon ends whose request of that number is refused, and what isn't as it has to be. None where it asked
+    for less. Where there is a simulator, too, the daemon writes a journal file."""
     with Machine(*programs) as machine:
         daemon = machine.daemon(1, members=[(2, "10.0.0.2:7000")], tick_ms=60_000)
         daemon.launch(env={**os.environ, "LD_PRELOAD": refuser.library, "REFUSE": str(number)})
@@ -247,7 +258,8 @@ def goes_on(ran, ack, lines, number, machine):
 
 
 def is_written(machine, entries, is_cut):
-    """Whether the journal's file holds as many entries as the life had, or where that is cut, not more. What it holds is played."""
+    """Whether the journal's file holds as many entries as the life had, or where that is cut, not more. What it holds
+    is played."""
     texts = [it.text for it in journals(f"{machine.journals}/0")]
     for it in texts:
         must_play(machine.simulator, front(it), "what is there of it")
@@ -256,8 +268,8 @@ def is_written(machine, entries, is_cut):
 
 
 def of_a_daemon(refuser, pool, *programs):
-    """Either a daemon doesn't begin, and says `no memory`; or one call has no memory, is counted, and changes nothing; or its file is
-    told as cut, and holds a front of its journal; or it runs as ever."""
+    """Either a daemon doesn't begin, and says `no memory`; or one call has no memory, is counted, and changes nothing;
+    or its file is told as cut, and holds a front of its journal; or it runs as ever."""
 
     def tried(number, ports=PORTS_TRIED):
         try:

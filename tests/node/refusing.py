@@ -1,5 +1,5 @@
-"""Runs programs with one request for memory refused, or with each request told. What does so is refuser.rs, which is loaded into
-them in place of the C library's malloc and realloc: it needs `rustc` and a Linux with glibc."""
+"""Runs programs with one request for memory refused, or with each request told. What does so is refuser.rs, which is
+loaded into them in place of the C library's malloc and realloc: it needs `rustc` and a Linux with glibc."""
 
 import os
 import re
@@ -32,8 +32,8 @@ class Refuser:
         return Ran(ran.stdout, ran.stderr, ran.returncode)
 
     def refusals(self, words, script=b""):
-        """A run with the first request refused, one with the second, and so on, until a run meets none. What is written on
-        standard error of the refusal is left out."""
+        """A run with the first request refused, one with the second, and so on, until a run meets none. What is written
+        on standard error of the refusal is left out."""
         for number in range(1, MOST):
             ran = self.run(words, script, REFUSE=str(number))
             if REFUSED not in ran.stderr:

@@ -3,13 +3,13 @@
 A run of many calls asks for more than one of few. What it asks for beyond that is known from what a call keeps:
 
 - the box that the cell of its entry is set to, once a call. It has no bytes, and the least request is one of 1 byte;
-- what grows by doubling, and so once between few and many calls: the calls of its seat, of 176 bytes each; the journal's slots,
-  of 16; but for ticks in which nothing was to be done, the journal's entries, of 104; and the two lists of notes, one of the seat
-  and one under the lock, whose notes have no bytes.
+- what grows by doubling, and so once between few and many calls: the calls of its seat, of 176 bytes each; the
+  journal's slots, of 16; but for ticks in which nothing was to be done, the journal's entries, of 104; and the two
+  lists of notes, one of the seat and one under the lock, whose notes have no bytes.
 
-So nothing else asks: neither the lock, nor the detector's answer, nor the publication of a change. Joins and removals, each of
-which is published, ask for exactly what as many pings ask for, from the opening of the node to its end: the writer's queue and
-both copies of the published table stay as they were when the node was opened.
+So nothing else asks: neither the lock, nor the detector's answer, nor the publication of a change. Joins and removals,
+each of which is published, ask for exactly what as many pings ask for, from the opening of the node to its end: the
+writer's queue and both copies of the published table stay as they were when the node was opened.
 """
 
 from collections import Counter
@@ -25,10 +25,14 @@ def of_calls(asked, growing):
     """What isn't as it has to be in the requests of few and of many calls."""
     few, many = map(Counter, asked)
     # There are as many cells as there may be entries, from the start on: many in the place of few.
-    wanted = Counter([*(size * MANY for size in growing), CELL * MANY]) + Counter({NO_BYTES: MANY - FEW + LISTS_OF_NOTES})
+    wanted = Counter([*(size * MANY for size in growing), CELL * MANY]) + Counter(
+        {NO_BYTES: MANY - FEW + LISTS_OF_NOTES}
+    )
     less = Counter([CELL * FEW])
     said = [] if few - many == less else [f"fewer calls ask for {dict(few - many)} beyond more"]
-    return said + ([] if many - few == wanted else [f"more calls ask for {dict(many - few)} beyond, and not {dict(wanted)}"])
+    return said + (
+        [] if many - few == wanted else [f"more calls ask for {dict(many - few)} beyond, and not {dict(wanted)}"]
+    )
 
 
 def counted_calls(refuser, program):

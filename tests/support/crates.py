@@ -1,5 +1,5 @@
-"""The crates of this repository: which stand below which, whether what was built is older than what it is made of, and how a
-program is proved and built."""
+"""The crates of this repository: which stand below which, whether what was built is older than what it is made of, and
+how a program is proved and built."""
 
 import os
 import shlex
@@ -45,8 +45,8 @@ class Crates:
         return f"{out}/{name}" if os.path.exists(f"{self.folder(name)}/src/main.rt") else f"{out}/rlib/{name}.rlib"
 
     def sources(self, name):
-        """The files and folders that a crate and those below it are made of. Of a folder from which a file is gone, the time is
-        new."""
+        """The files and folders that a crate and those below it are made of. Of a folder from which a file is gone, the
+        time is new."""
         yield f"{self.top}/crates.txt"
         for crate in self.chain(name):
             for room in SOURCES:
@@ -55,13 +55,15 @@ class Crates:
                     yield from (f"{at}/{file}" for file in files)
 
     def is_fresh(self, name):
-        """Whether what is made of a crate is there, and nothing that it is made of is newer, nor a library that was built below it."""
+        """Whether what is made of a crate is there, and nothing that it is made of is newer, nor a library that was
+        built below it."""
         made, libraries = self.made(name), [self.made(it) for it in self.chain(name) if it != name]
         below = [*self.sources(name), *(it for it in libraries if os.path.exists(it))]
         return os.path.exists(made) and all(os.stat(it).st_mtime_ns <= os.stat(made).st_mtime_ns for it in below)
 
     def command(self, name):
-        """What proves a crate and makes what is made of it, and what it reads. A program is also run, on its stored input."""
+        """What proves a crate and makes what is made of it, and what it reads. A program is also run, on its stored
+        input."""
         if name.endswith("_tests"):
             return ["rt", "test"], os.devnull
         if self.made(name).endswith(".rlib"):
@@ -77,16 +79,25 @@ def say(text):
 
 
 def prove(crates, name):
-    """Proves and builds one crate. Where that fails, what was said is shown, but for what was proved. What is made is dated back to
-    when the proof began: `rt` leaves it as it was where sources have only newer times, and may not see what changes meanwhile."""
+    """Proves and builds one crate. Where that fails, what was said is shown, but for what was proved. What is made is
+    dated back to when the proof began: `rt` leaves it as it was where sources have only newer times, and may not see
+    what changes meanwhile."""
     words, stored = crates.command(name)
     began, made = time.time(), crates.made(name)
     with tempfile.TemporaryFile() as log, open(stored, "rb") as source:
         status = subprocess.run(words, cwd=crates.folder(name), stdin=source, stdout=log, stderr=log).returncode
         log.seek(0)
         if status:
-            say("".join(line for line in log.read().decode(errors="replace").splitlines(True) if not line.endswith(": proved\n")))
-            raise NoProgram(f"{name} was not proved, not built, or did not run on its stored input: {shlex.join(words)}")
+            say(
+                "".join(
+                    line
+                    for line in log.read().decode(errors="replace").splitlines(True)
+                    if not line.endswith(": proved\n")
+                )
+            )
+            raise NoProgram(
+                f"{name} was not proved, not built, or did not run on its stored input: {shlex.join(words)}"
+            )
     if not os.path.exists(made):
         raise NoProgram(f"{shlex.join(words)} made no {os.path.relpath(made, crates.top)}")
     os.utime(made, (began, began))
@@ -103,8 +114,11 @@ def build(crates, names):
         raise NoProgram("rt, the command of the Rattle toolchain, is not on PATH")
     if stale:
         left = sum(not crates.is_fresh(it) for it in chain)
-        say(f"proving and building {' and '.join(stale)}: {left} of {len(chain)} crates are new or may have changed, which takes up to "
-            f"some {left * MINUTES_A_CRATE} minutes with four processors; what earlier runs proved is kept")
+        say(
+            f"proving and building {' and '.join(stale)}: {left} of {len(chain)} crates are new or may have changed, "
+            f"which takes up to some {left * MINUTES_A_CRATE} minutes with four processors; what earlier runs proved "
+            "is kept"
+        )
     for place, name in enumerate(chain, 1):
         _, seconds = timed(prove, crates, name)
         say(f"proved {name} in {seconds:.0f} s ({place} of {len(chain)})")

@@ -1,5 +1,5 @@
-"""Daemons on this machine: they are configured, started, asked, and ended. Ports are chosen by the system, and each wait has a
-limit."""
+"""Daemons on this machine: they are configured, started, asked, and ended. Ports are chosen by the system, and each
+wait has a limit."""
 
 import os
 import re
@@ -71,7 +71,8 @@ class Row(NamedTuple):
 
 
 def end_what_was_started():
-    """From now on a signal to end leaves this program as a fault does: the daemons and folders that it made go first."""
+    """From now on a signal to end leaves this program as a fault does: the daemons and folders that it made go
+    first."""
     signal.signal(signal.SIGTERM, lambda *_: sys.exit(1))
 
 
@@ -189,8 +190,8 @@ class Daemon:
     def __init__(self, program, folder, id, port, members=(), **values):
         self.program, self.id, self.port, self.child = program, id, port, None
         self.read, self.said, self.lives, self.told = b"", b"", [], b""
-        # The lives that are told as cut, and whether any may be. In a folder of its own journal files are put aside before a start:
-        # those of one second have the same names.
+        # The lives that are told as cut, and whether any may be. In a folder of its own journal files are put aside
+        # before a start: those of one second have the same names.
         self.cut, self.may_be_cut, self.has_own_folder = [], False, False
         self.control = f"{folder}/{id}.sock"
         self.file = f"{folder}/{id}.toml"
@@ -224,7 +225,9 @@ class Daemon:
         until(lambda: self.child.poll() is not None or self.answers(), f"member {self.id} starts")
         if self.child.poll() is not None:
             said = self.child.communicate()[1]
-            raise (PortTaken if first_line_of(said) == b"bind listen\n" else DaemonFault)(f"member {self.id} ended at once: {said!r}")
+            raise (PortTaken if first_line_of(said) == b"bind listen\n" else DaemonFault)(
+                f"member {self.id} ended at once: {said!r}"
+            )
         return self
 
     def answers(self):
@@ -289,7 +292,10 @@ class Daemon:
         numbers = [it.number for it in self.lives]
         must(numbers == list(range(len(numbers))), f"the lives of member {self.id} are numbered {numbers[:20]}")
         self.cut = [number for number, it in enumerate([*(it[6] for it in LIFE.findall(found[1])), found[8]]) if it]
-        must(self.may_be_cut or not self.cut, f"the lives {self.cut[:20]} of member {self.id} are told as cut: {self.told[-1_000:]!r}")
+        must(
+            self.may_be_cut or not self.cut,
+            f"the lives {self.cut[:20]} of member {self.id} are told as cut: {self.told[-1_000:]!r}",
+        )
         return Closing(self.child.returncode, found[2].decode(), *map(int, found.groups()[2:7]))
 
     def lives_so_far(self):
@@ -309,8 +315,8 @@ class Daemon:
             self.child.communicate()
 
 
-# Each thread has an arena of memory of its own, in the C library, and what they keep varies from run to run. With one arena,
-# what a daemon holds at two moments can be compared.
+# Each thread has an arena of memory of its own, in the C library, and what they keep varies from run to run. With one
+# arena, what a daemon holds at two moments can be compared.
 ONE_ARENA = {"GLIBC_TUNABLES": "glibc.malloc.arena_max=1"}
 
 
@@ -335,9 +341,9 @@ def stop_all(daemons):
 
 
 class Machine:
-    """A place for daemons and sockets, which are gone behind it. Where there is a simulator that can play them, each daemon writes
-    journal files into a folder of its own, or all into one; but those that are told another folder, or None. Where there is the
-    reference, it plays them as well."""
+    """A place for daemons and sockets, which are gone behind it. Where there is a simulator that can play them, each
+    daemon writes journal files into a folder of its own, or all into one; but those that are told another folder, or
+    None. Where there is the reference, it plays them as well."""
 
     def __init__(self, program, simulator=None, reference=None):
         self.program, self.simulator, self.reference = program, simulator, reference
@@ -383,7 +389,8 @@ class Machine:
         return [self.daemon(id, port, others(id), **values) for id, port in ports.items()]
 
     def group(self, count, **values):
-        """So many daemons, each of which is told of all others when all are there: so nobody is judged who came late."""
+        """So many daemons, each of which is told of all others when all are there: so nobody is judged who came
+        late."""
         return introduced([self.daemon(id, port, **values).start() for id, port in enumerate(free_ports(count), 1)])
 
     def socket(self):

@@ -17,8 +17,8 @@ def code_in(document):
 
 
 def tagged_example():
-    """Of the datagram with a tag in docs/FORMATS.md: the key, the text, its HMAC, and the bytes that are sent; and the command for a shell
-    by which a reader finds that HMAC."""
+    """Of the datagram with a tag in docs/FORMATS.md: the key, the text, its HMAC, and the bytes that are sent; and the
+    command for a shell by which a reader finds that HMAC."""
     text = content(f"{TOP}/docs/FORMATS.md").decode()
     ((*rows,),) = TAGGED.findall(text)
     (command,) = TAGGING.findall(text)

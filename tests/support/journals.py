@@ -13,7 +13,8 @@ from tests.support.parts import content
 NAME = re.compile(r"([1-9]\d*)-(0|[1-9]\d*)-(0|[1-9]\d*)\.swim")
 TOLD = re.compile(rb"^= (\d+) ([^\n]*)\n", re.MULTILINE)
 LANES = 4
-# A folder may have so many files that playing all takes too long: then these are played, half of them the first, half the last.
+# A folder may have so many files that playing all takes too long: then these are played, half of them the first, half
+# the last.
 MOST_PLAYED = 40
 
 
@@ -34,7 +35,10 @@ class File(NamedTuple):
         """Its lines before the first call, without comments."""
         lines = self.text.split(b"\n")[:-1]
         words = (b"journal", b"open", b"wire", b"row", b"seed")
-        count = next((at for at, it in enumerate(lines) if not it.startswith(b"#") and it.split(b" ")[0] not in words), len(lines))
+        count = next(
+            (at for at, it in enumerate(lines) if not it.startswith(b"#") and it.split(b" ")[0] not in words),
+            len(lines),
+        )
         return [it.decode() for it in lines[:count] if not it.startswith(b"#")]
 
 
@@ -48,7 +52,10 @@ def journals(folder, id=None):
 def told(text):
     """What the lines of a file tell of its entries: the text of each, in order, which have to be numbered from 0."""
     found = TOLD.findall(text)
-    must([int(it) for it, _ in found] == list(range(len(found))), f"the entries of a file are numbered {[it for it, _ in found][:20]}")
+    must(
+        [int(it) for it, _ in found] == list(range(len(found))),
+        f"the entries of a file are numbered {[it for it, _ in found][:20]}",
+    )
     return [it.decode() for _, it in found]
 
 
@@ -65,17 +72,29 @@ def must_play(simulator, text, what):
 
 
 def must_play_alike(simulator, reference, file):
-    """Up to its last answer the reference, which shares no code with what wrote and what plays it, plays it as swimsim does."""
-    ran = [subprocess.run([it], input=front(file.text), capture_output=True, timeout=SECONDS) for it in (simulator, reference)]
+    """Up to its last answer the reference, which shares no code with what wrote and what plays it, plays it as swimsim
+    does."""
+    ran = [
+        subprocess.run([it], input=front(file.text), capture_output=True, timeout=SECONDS)
+        for it in (simulator, reference)
+    ]
     found, wanted = ((it.returncode, it.stderr, it.stdout) for it in ran)
-    must(found[:2] == (0, b"") and found == wanted, f"swimsim plays {file.path} as {found}, and the reference as {wanted}"[:2_000])
+    must(
+        found[:2] == (0, b"") and found == wanted,
+        f"swimsim plays {file.path} as {found}, and the reference as {wanted}"[:2_000],
+    )
 
 
 def must_verify(simulator, *files):
     """Nothing speaks against them, one after the other, and each answer that stands in them is confirmed."""
     paths = [it.path for it in files]
-    ran = subprocess.run([simulator, "--verify", *paths], stdout=subprocess.PIPE, stderr=subprocess.PIPE, timeout=SECONDS)
-    must((ran.returncode, ran.stderr) == (0, b""), f"swimsim verifies {paths} with status {ran.returncode}, {ran.stderr!r}")
+    ran = subprocess.run(
+        [simulator, "--verify", *paths], stdout=subprocess.PIPE, stderr=subprocess.PIPE, timeout=SECONDS
+    )
+    must(
+        (ran.returncode, ran.stderr) == (0, b""),
+        f"swimsim verifies {paths} with status {ran.returncode}, {ran.stderr!r}",
+    )
     for it in files:
         confirmed = b"%s: entries %%d confirmed %d periods" % (it.path.encode(), len(told(front(it.text))))
         found = re.search(re.escape(confirmed).replace(rb"%d", rb"\d+"), ran.stdout)
@@ -83,7 +102,8 @@ def must_verify(simulator, *files):
 
 
 def must_verify_each(simulator, files, reference=None):
-    """Each is verified by itself, up to its last answer. What comes behind that may be cut off by the end of a daemon."""
+    """Each is verified by itself, up to its last answer. What comes behind that may be cut off by the end of a
+    daemon."""
 
     def verify(file):
         must_verify(simulator, file)
@@ -99,7 +119,9 @@ def must_verify_all(machine):
     for it in machine.daemons:
         it.kill()
     if machine.simulator:
-        folders, half = [machine.journals, *(it.path for it in os.scandir(machine.journals) if it.is_dir())], MOST_PLAYED // 2
+        folders, half = [
+            machine.journals, *(it.path for it in os.scandir(machine.journals) if it.is_dir())
+        ], MOST_PLAYED // 2
         files = [file for folder in folders for file in journals(folder)]
         played = files if len(files) <= MOST_PLAYED else files[:half] + files[-half:]
         must_verify_each(machine.simulator, played, machine.reference)

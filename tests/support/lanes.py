@@ -29,8 +29,8 @@ def first_ready(tasks, done):
 
 
 def in_lanes(count, tasks):
-    """Does these tasks, so many at a time, and of those that can be begun the earliest in the order given. One that comes after a
-    failed one fails, too. By name, what came of each: None, or why it couldn't be done."""
+    """Does these tasks, so many at a time, and of those that can be begun the earliest in the order given. One that
+    comes after a failed one fails, too. By name, what came of each: None, or why it couldn't be done."""
     left, running, ended = dict(tasks), {}, {}
 
     def begin(pool, name):

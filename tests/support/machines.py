@@ -1,9 +1,9 @@
-"""Parts whose tests are functions of a machine: daemons alone and in groups, on 127.0.0.1 and in a temporary folder, which is gone behind
-each test. Each daemon writes journal files, which swimsim verifies when a test is over, and which the reference has to play as swimsim
-does.
+"""Parts whose tests are functions of a machine: daemons alone and in groups, on 127.0.0.1 and in a temporary folder,
+which is gone behind each test. Each daemon writes journal files, which swimsim verifies when a test is over, and which
+the reference has to play as swimsim does.
 
-Ports are chosen by the system. Each wait has a limit of some seconds, and ends as soon as what is waited for is there. As daemons
-mostly wait, some tests are run at the same time, each in a process of its own.
+Ports are chosen by the system. Each wait has a limit of some seconds, and ends as soon as what is waited for is there.
+As daemons mostly wait, some tests are run at the same time, each in a process of its own.
 """
 
 import argparse

@@ -30,7 +30,8 @@ def program(name, *given):
 
 
 def reference(*words):
-    """The ordinary program that swimsim and swimd are compared with, or what else tests/reference/build builds of it."""
+    """The ordinary program that swimsim and swimd are compared with, or what else tests/reference/build builds of
+    it."""
     return built("tests/reference/build", *words)
 
 
@@ -51,7 +52,8 @@ def leave_out(why):
 
 
 class Counts:
-    """How many tests passed and failed. What is said of a failed one is printed, up to so many failures and so many lines."""
+    """How many tests passed and failed. What is said of a failed one is printed, up to so many failures and so many
+    lines."""
 
     def __init__(self, shown=sys.maxsize, lines=sys.maxsize):
         self.passed = self.failed = 0
@@ -66,8 +68,8 @@ class Counts:
 
 
 def ended(play, counts=None, faults=(OSError, subprocess.SubprocessError)):
-    """Plays a part, which notes its tests in the counts, and says in the last line how it ended. A fault that leaves the part is
-    a failure of its own. The status is answered."""
+    """Plays a part, which notes its tests in the counts, and says in the last line how it ended. A fault that leaves
+    the part is a failure of its own. The status is answered."""
     counts = counts or Counts()
     try:
         play(counts)

@@ -54,7 +54,9 @@ def a_line_of_words(machine):
 def no_second_line(machine):
     """A word with a line feed is refused, and nothing of it is asked; nor is anything by other words that are none."""
     daemon = quiet(machine)
-    wrong = [["list\nstop"], ["list", "\nstop"], ["list", "\n"], ["--timeout", "0", "stop"], ["--timeout", "86401", "stop"]]
+    wrong = [
+        ["list\nstop"], ["list", "\nstop"], ["list", "\n"], ["--timeout", "0", "stop"], ["--timeout", "86401", "stop"]
+    ]
     wrong += [["--timeout", it, "stop"] for it in ("-1", "1.5", "+1", "01", "", "x", "1s", "99999999999999999999")]
     wrong += [["--timeout"], ["--quiet", "stop"], ["--control", daemon.control, "stop"], ["-stop"]]
     for words in wrong:
@@ -64,7 +66,8 @@ def no_second_line(machine):
 
 
 def statuses_of_answers(machine):
-    """3 where something was refused, whatever else was answered; and the lines behind a fault are asked all the same."""
+    """3 where something was refused, whatever else was answered; and the lines behind a fault are asked all the
+    same."""
     daemon = quiet(machine)
     must_be(asked(daemon, "join", "5", "10.0.0.5:7000")[1:], (b"", 0), "a join")
     must_be(asked(daemon, "join", "5", "10.0.0.5:7000"), (b"refused 2\n", b"", 3), "the same again")
@@ -326,7 +329,9 @@ def come(stream, length):
 def help_and_version(machine):
     """On standard output, with status 0, and nothing else is done; what is no word is answered `usage` as ever."""
     program = machine.program
-    commands = {(): b"[COMMAND]", ("check",): b"swimd check", ("run",): b"--config <FILE>", ("ask",): b"--control <PATH>"}
+    commands = {
+        (): b"[COMMAND]", ("check",): b"swimd check", ("run",): b"--config <FILE>", ("ask",): b"--control <PATH>"
+    }
     for command, shown in commands.items():
         for word in ("--help", "-h"):
             out, err, status = ran(program, *command, word)
@@ -334,7 +339,16 @@ def help_and_version(machine):
             must(b"Usage: swimd" in out and shown in out and b"--help" in out, f"{command} {word} writes {out!r}")
         for word in ("--version", "-V"):
             must_be(ran(program, *command, word), (b"swimd 1.0\n", b"", 0), f"{command} {word}")
-    for words in (["help"], ["--hel"], ["run"], ["run", "--quiet"], ["check", "--quiet"], ["--version=1"], ["-x"], ["no", "--helpx"]):
+    for words in (
+        ["help"],
+        ["--hel"],
+        ["run"],
+        ["run", "--quiet"],
+        ["check", "--quiet"],
+        ["--version=1"],
+        ["-x"],
+        ["no", "--helpx"],
+    ):
         must_be(ran(program, *words), (b"", b"usage\n", 2), f"{words}")
 
 

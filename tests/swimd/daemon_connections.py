@@ -1,5 +1,5 @@
-"""Clients of every kind at once: silent ones, halves of lines, pollers, and such as read nothing. None holds up another, a life's
-end, or `stop`."""
+"""Clients of every kind at once: silent ones, halves of lines, pollers, and such as read nothing. None holds up
+another, a life's end, or `stop`."""
 
 import select
 import subprocess
@@ -119,7 +119,9 @@ def clients_of_every_kind(machine):
         must(not any(it.failed for it in crowd.pollers), "a poller saw a member judged")
         last.kill()
         others = members[:-1]
-        until(lambda: all(it.states()[last.id] == "failed" for it in others), "the verdict on the member that was killed")
+        until(
+            lambda: all(it.states()[last.id] == "failed" for it in others), "the verdict on the member that was killed"
+        )
         for it in others:
             states = it.states()
             must({id for id in states if states[id] == "failed"} == {last.id}, f"member {it.id} lists {states}")
@@ -130,7 +132,8 @@ def clients_of_every_kind(machine):
     finally:
         crowd.leave()
     longest = max(it.longest for it in crowd.pollers)
-    print(f"  through {len(first.lives)} lives a poller waited {longest * 1000:.0f} milliseconds at most, `stop` {took * 1000:.0f}")
+    waited = f"a poller waited {longest * 1000:.0f} milliseconds at most, `stop` {took * 1000:.0f}"
+    print(f"  through {len(first.lives)} lives {waited}")
     must(closing.status == 0, f"it ended {closing}")
     must(longest < MOST_SECONDS, f"a poller waited {longest:.2f} seconds")
     must(took < MOST_SECONDS, f"`stop` took {took:.2f} seconds")

@@ -1,4 +1,5 @@
-"""A daemon at its limits: datagrams that are none, a full journal, what can't be sent, refusals, and a daemon that is idle."""
+"""A daemon at its limits: datagrams that are none, a full journal, what can't be sent, refusals, and a daemon that is
+idle."""
 
 import glob
 import os
@@ -48,7 +49,8 @@ def datagrams_that_are_none(machine):
 
 
 def forged_datagrams(machine):
-    """Of texts that are nearly a datagram each is counted or makes an entry, and none is answered but pings of this member."""
+    """Of texts that are nearly a datagram each is counted or makes an entry, and none is answered but pings of this
+    member."""
     daemon, peer, other = machine.started(2, tick_ms=MINUTE), machine.socket(), machine.socket()
     texts, markers = [b"", *forgeries()], 0
     for place, text in enumerate(texts):
@@ -68,7 +70,10 @@ def forged_datagrams(machine):
     except BlockingIOError:
         pass
     faults, closing = sum(fault_of(it) is not None for it in texts), daemon.stop()
-    must(closing == (0, "stopped", len(texts) - faults + markers + 1, 0, 0, faults, 0), f"it ended {closing}, with {faults} faults")
+    must(
+        closing == (0, "stopped", len(texts) - faults + markers + 1, 0, 0, faults, 0),
+        f"it ended {closing}, with {faults} faults",
+    )
 
 
 def every_entry_is_counted(machine):
@@ -76,7 +81,9 @@ def every_entry_is_counted(machine):
     daemon, peer = machine.started(members=[(2, "10.0.0.2:7000")], tick_ms=MINUTE), machine.socket()
     for number in range(1, 101):
         ping_and_hear(peer, daemon, number)
-    answers = daemon.ask(b"join 2 1.2.3.4:5\njoin 1 1.2.3.4:5\nremove 9\nremove 1\nremove 2\njoin 0 1.2.3.4:5\nlist\ngap 2\n")
+    answers = daemon.ask(
+        b"join 2 1.2.3.4:5\njoin 1 1.2.3.4:5\nremove 9\nremove 1\nremove 2\njoin 0 1.2.3.4:5\nlist\ngap 2\n"
+    )
     wanted = b"refused 2\nrefused 1\nrefused 4\nrefused 1\nremoved\nfault 3\n.\ngap none\n"
     must(answers == wanted, f"the lines are answered {answers!r}")
     closing = daemon.stop()
@@ -179,7 +186,8 @@ def an_idle_daemon_sleeps(machine):
 
 
 def stop_ends_it_soon(machine):
-    """Within half a second, also where the next tick is a minute away. The least of three tries counts, as others work here."""
+    """Within half a second, also where the next tick is a minute away. The least of three tries counts, as others work
+    here."""
     least = SECONDS
     for id in (1, 2, 3):
         daemon = machine.started(id, tick_ms=MINUTE)
@@ -214,7 +222,8 @@ def how_it_ends(daemon, most):
 
 
 def too_little_memory(machine):
-    """With ever less, it runs, or says `no memory` at its start or in its closing line, as long as its image can be loaded."""
+    """With ever less, it runs, or says `no memory` at its start or in its closing line, as long as its image can be
+    loaded."""
     daemon, found = machine.daemon(1, tick_ms=MINUTE), []
     wanted = [
         (0, b"ended stopped entries 0 judged 0 unsent 0 wire 0 refused 0\n", b""),
@@ -236,7 +245,9 @@ def words_that_are_refused(machine):
     usage = (b"usage\n", 2)
     for words in (["run"], ["run", "--config"], ["run", daemon.file], ["run", "--config", daemon.file, "x"], ["ask"]):
         refused(machine.program, words, usage)
-    for words in (["ask", "--control"], ["ask", daemon.control], ["run", "--control", daemon.file], ["--config", daemon.file]):
+    for words in (
+        ["ask", "--control"], ["ask", daemon.control], ["run", "--control", daemon.file], ["--config", daemon.file]
+    ):
         refused(machine.program, words, usage)
 
 
@@ -271,7 +282,9 @@ def a_file_that_comes_in_pieces(machine):
     os.remove(daemon.file)
     os.mkfifo(daemon.file)
     daemon.launch()
-    pieces = [text[at : at + 1] for at in range(len(text))] + [b"#" * 60_000, b'\n[[member]]\nid = 3\nat = "1.2.3.4:5"\n']
+    pieces = [text[at : at + 1] for at in range(len(text))] + [
+        b"#" * 60_000, b'\n[[member]]\nid = 3\nat = "1.2.3.4:5"\n'
+    ]
     with open(daemon.file, "wb", buffering=0) as pipe:
         for piece in pieces:
             pipe.write(piece)

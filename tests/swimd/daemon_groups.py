@@ -16,8 +16,8 @@ MOST_PINGS = 75_000
 
 
 class Answerer(threading.Thread):
-    """A member that isn't a daemon: it answers the pings that it is told to, each in its version, and keeps which came, and all bytes that
-    did. What it sends for the text of an ack is told by `seal`."""
+    """A member that isn't a daemon: it answers the pings that it is told to, each in its version, and keeps which came,
+    and all bytes that did. What it sends for the text of an ack is told by `seal`."""
 
     def __init__(self, socket, id, answers, seal=bytes):
         super().__init__(daemon=True)
@@ -37,7 +37,9 @@ class Answerer(threading.Thread):
                 self.pings.append((sender, initiator))
                 self.versions.add((sender, version_of(text)))
                 if self.answers(sender, initiator):
-                    self.socket.sendto(self.seal(datagram(ACK, self.id, initiator, self.id, number, version_of(text))), source)
+                    self.socket.sendto(
+                        self.seal(datagram(ACK, self.id, initiator, self.id, number, version_of(text))), source
+                    )
 
 
 def all_up(daemons):
@@ -58,8 +60,8 @@ def was_probed(daemon, id):
 
 
 def must_be_quiet(closing, judged):
-    """It was stopped, nothing failed, and no datagram was garbage. It judged so many, or one of a member that was stopped
-    before it, too."""
+    """It was stopped, nothing failed, and no datagram was garbage. It judged so many, or one of a member that was
+    stopped before it, too."""
     good = closing[:2] == (0, "stopped") and closing[4:] == (0, 0, 0) and closing.judged >= judged
     must(good, f"it ended {closing}, with {judged} to be judged")
 
@@ -98,7 +100,8 @@ def five_members_of_which_one_is_killed(machine):
 
 
 def an_ack_through_a_relay(machine):
-    """Member 3 answers relays alone: member 1 keeps it. Then it doesn't answer them either, and 1 judges it, but not 2."""
+    """Member 3 answers relays alone: member 1 keeps it. Then it doesn't answer them either, and 1 judges it, but not
+    2."""
     is_cut = threading.Event()
     direct = lambda sender, initiator: initiator != 1 or (sender != 1 and not is_cut.is_set())
     third = Answerer(machine.socket(), 3, direct)
@@ -144,8 +147,8 @@ def a_member_that_comes_back(machine):
 
 
 def a_group_with_another_program(machine):
-    """Two daemons beside two of tests/reference, which is an ordinary program for the same format: all hear one another, and
-    those of both kinds that are killed are judged by those of both kinds."""
+    """Two daemons beside two of tests/reference, which is an ordinary program for the same format: all hear one
+    another, and those of both kinds that are killed are judged by those of both kinds."""
     if not shutil.which("rustc"):
         leave_out("rustc, the Rust compiler, is not on PATH, so no group with another program was run")
         return
@@ -166,7 +169,8 @@ def a_group_with_another_program(machine):
 
 
 def a_group_that_changes_lives(machine):
-    """Each journal is full every few seconds. One member is killed: it is judged by all, and nobody else is, in whatever life."""
+    """Each journal is full every few seconds. One member is killed: it is judged by all, and nobody else is, in
+    whatever life."""
     daemons = machine.group(5, tick_ms=50, journal=80)
     for it in daemons:
         until(lambda: it.lives_so_far() >= 1, f"member {it.id} has a second life")
@@ -183,7 +187,10 @@ def a_group_that_changes_lives(machine):
     for it, closing in zip(others, stop_all(others)):
         judged = sum(life.judged for life in it.lives) + closing.judged
         must(closing.status == 0 and judged >= 1, f"member {it.id} ended {closing} after {it.lives}")
-        must(all(life[1] == 80 and life[3:] == (0, 0, 0) for life in it.lives), f"the lives of member {it.id} are {it.lives}")
+        must(
+            all(life[1] == 80 and life[3:] == (0, 0, 0) for life in it.lives),
+            f"the lives of member {it.id} are {it.lives}",
+        )
 
 
 def memory_of_lives(machine):
@@ -203,8 +210,8 @@ def memory_of_lives(machine):
 
 
 def flood(socket, daemon, seconds):
-    """Garbage and pings, as fast as the pings are answered. Says how many of each were sent, and how often an ack of fifty
-    didn't come."""
+    """Garbage and pings, as fast as the pings are answered. Says how many of each were sent, and how often an ack of
+    fifty didn't come."""
     count, lost, began = 0, 0, time.monotonic()
     while time.monotonic() < began + seconds:
         for number in range(1, 51):
@@ -221,7 +228,8 @@ def flood(socket, daemon, seconds):
 
 
 def a_flood(machine):
-    """Ten seconds of it, as fast as one sender keeps it up: nobody is judged, all garbage is counted, all pings answered."""
+    """Ten seconds of it, as fast as one sender keeps it up: nobody is judged, all garbage is counted, all pings
+    answered."""
     daemons = machine.group(3, rtt=10, period=30)
     sender = machine.socket()
     count, lost = flood(sender, daemons[0], FLOOD_SECONDS)

@@ -52,7 +52,8 @@ def with_something_there(machine, id, make):
     must(closing.status == 0, f"it ended {closing}")
     said, files = told_faults(daemon), [it for it in journals(machine.journals, id) if it.life]
     must(len(said) == 1 and said[0][0] in paths, f"it tells {said}")
-    must(said[0][1] == "it exists already" and daemon.cut == [0], f"it tells {said}, and the lives {daemon.cut} are cut")
+    must(said[0][1] == "it exists already" and daemon.cut == [0],
+         f"it tells {said}, and the lives {daemon.cut} are cut")
     must_be_told(daemon, closing, files)
     for it in files:
         must_play(machine.simulator, it.text, it.path)
@@ -81,7 +82,8 @@ def something_else_is_there(machine):
         with socket.socket(socket.AF_UNIX) as it:
             it.bind(path)
 
-    makes = [os.mkfifo, bound, os.mkdir, lambda it: os.symlink(target, it), lambda it: os.symlink(f"{machine.folder}/none", it)]
+    makes = [os.mkfifo, bound, os.mkdir, lambda it: os.symlink(target, it),
+             lambda it: os.symlink(f"{machine.folder}/none", it)]
     for id, make in enumerate(makes, 1):
         with_something_there(machine, id, make)
     with open(target) as file:
@@ -95,7 +97,8 @@ def through_lives(machine, daemon, count=3):
     daemon.start()
     filled(daemon, peer, count)
     pinged(peer, daemon, 10_000)
-    must(daemon.ask(b"list\n") == b"".join(b"%d %s up\n" % (id, at.encode()) for id, at in ROWS) + b".\n", "it lists others")
+    must(daemon.ask(b"list\n") == b"".join(b"%d %s up\n" % (id, at.encode()) for id, at in ROWS) + b".\n",
+         "it lists others")
     closing = daemon.stop()
     must(closing[:2] == (0, "stopped") and closing.entries >= 1, f"it ended {closing}")
     return closing
@@ -166,7 +169,8 @@ def no_thread_for_the_writer(machine):
 
 
 def a_folder_that_goes(machine):
-    """What was opened is written on, wherever it lies; the next life is cut, and the one when it is back again isn't."""
+    """What was opened is written on, wherever it lies; the next life is cut, and the one when it is back again
+    isn't."""
     daemon, peer = machine.daemon(1, members=ROWS, tick_ms=MINUTE, journal=3), machine.socket()
     daemon.may_be_cut, moved = True, f"{machine.folder}/moved"
     daemon.start()
@@ -178,8 +182,10 @@ def a_folder_that_goes(machine):
     pinged(peer, daemon, 10_000)
     closing = daemon.stop()
     cut = [it.life for it in journals(moved)], [it.life for it in journals(machine.journals)]
-    must(cut == ([0], [it for it in range(1, len(daemon.lives) + 1) if it not in daemon.cut]), f"the lives {daemon.cut} are cut")
-    must(daemon.cut and daemon.cut[0] == 1 and len(told_faults(daemon)) == len(daemon.cut), f"it tells {told_faults(daemon)}")
+    must(cut == ([0], [it for it in range(1, len(daemon.lives) + 1) if it not in daemon.cut]),
+         f"the lives {daemon.cut} are cut")
+    must(daemon.cut and daemon.cut[0] == 1 and len(told_faults(daemon)) == len(daemon.cut),
+         f"it tells {told_faults(daemon)}")
     must({it[1] for it in told_faults(daemon)} == {"no such file or folder"}, f"it tells {told_faults(daemon)}")
     must(closing.status == 0, f"it ended {closing}")
     for it in journals(moved) + journals(machine.journals):
@@ -245,7 +251,8 @@ def full_and_empty(machine):
     must(journals(machine.journals)[0].text == before, "it is written into a file that had failed")
     pinged(peer, daemon, number)
     closing, files = daemon.stop(), journals(machine.journals)
-    must(daemon.cut == [0] and told_faults(daemon) == [(files[0].path, "no space is left")], f"it tells {told_faults(daemon)}")
+    must(daemon.cut == [0] and told_faults(daemon) == [(files[0].path, "no space is left")],
+         f"it tells {told_faults(daemon)}")
     must(0 < len(told(front(before))) < 79, "the disk wasn't full")
     must(len(told(files[1].text)) == closing.entries, "the next life's file isn't whole")
     must_play(machine.simulator, front(before), files[0].path)
@@ -253,8 +260,9 @@ def full_and_empty(machine):
 
 
 class Talk:
-    """A conversation with a daemon whose lives are short and whose first tick is a minute away: what it is answered is the same
-    whenever it is held. It ends each part by a ping; where that or what came before met a full journal, by another."""
+    """A conversation with a daemon whose lives are short and whose first tick is a minute away: what it is answered is
+    the same whenever it is held. It ends each part by a ping; where that or what came before met a full journal, by
+    another."""
 
     def __init__(self, machine, id, how, **values):
         self.peer, self.numbers, self.heard, self.lives = machine.socket(), itertools.count(1_000), [], 0
@@ -270,17 +278,20 @@ class Talk:
         self.end_of_part()
 
     def end_of_part(self):
-        """Hears what comes up to the ack of a ping. What a life was answered before its end comes before that of the next one."""
+        """Hears what comes up to the ack of a ping. What a life was answered before its end comes before that of the
+        next one."""
         while True:
             number, me = next(self.numbers), self.daemon.id
             self.peer.sendto(datagram(PING, 5, 5, me, number), self.daemon.address)
-            until(lambda: self.is_heard(number) or self.daemon.lives_so_far() > self.lives, f"ping {number} is answered")
+            until(lambda: self.is_heard(number) or self.daemon.lives_so_far() > self.lives,
+                  f"ping {number} is answered")
             if self.daemon.lives_so_far() == self.lives:
                 return
             self.lives = self.daemon.lives_so_far()
 
     def is_heard(self, number):
-        """Hears one datagram, if it is there: whether it is that ack. The daemon's own id is another one in each conversation."""
+        """Hears one datagram, if it is there: whether it is that ack. The daemon's own id is another one in each
+        conversation."""
         if not select.select([self.peer], [], [], 0.02)[0]:
             return False
         kind, _, initiator, _, found = fields(self.peer.recv(100))
@@ -299,7 +310,8 @@ def talked(machine, id, how=None, **values):
     for number in range(1, 13):
         it.send(datagram(PING, 5, 5, id, number), datagram(REQUEST, 5, 5, 6, number))
         it.send(datagram(ACK, 6, 5, 6, number), b"none")
-        it.ask(b"join %d %s\n" % (number + 100, it.at.encode()) if number % 3 else b"remove 6\njoin 6 %s\n" % it.at.encode())
+        at = it.at.encode()
+        it.ask(b"join %d %s\n" % (number + 100, at) if number % 3 else b"remove 6\njoin 6 %s\n" % at)
         it.ask(b"gap 5\nlist\n")
     return it.heard, it.daemon.lives_so_far(), it.daemon.stop(), it.daemon.lives
 
@@ -320,7 +332,8 @@ def probed(machine, id, how=None, **values):
 
 
 def the_same_whatever_fails(machine):
-    """What a daemon without files answers, sends and judges, one with files does, and one whose files can't be made or written."""
+    """What a daemon without files answers, sends and judges, one with files does, and one whose files can't be made or
+    written."""
     file, few = f"{machine.folder}/file", {"preexec_fn": lambda: limited(FEW_BYTES // 2)}
     with open(file, "w"):
         pass
@@ -345,7 +358,8 @@ def two_in_one_folder(machine):
 
 
 def twice_in_one_second(machine):
-    """Two daemons of one id that start in one second: of their first files one is made, and the other daemon goes on without."""
+    """Two daemons of one id that start in one second: of their first files one is made, and the other daemon goes on
+    without."""
     for _ in range(TRIES):
         time.sleep(1.02 - time.time() % 1)
         both = [machine.daemon(1, control=f"{machine.folder}/{it}.sock", tick_ms=MINUTE, journal=3) for it in "ab"]
@@ -364,7 +378,8 @@ def twice_in_one_second(machine):
     must(len(files) == 1, "they never start in one second")
     must(sorted(it[1] for it in ended) == [[], [0]], f"their lives are cut so: {ended}")
     must([it[2] for it in ended if it[1]] == [[(files[0].path, "it exists already")]], f"they tell {ended}")
-    must(all(it[0] == (0, "stopped", 1, 0, 0, 0, 0) for it in ended) and len(told(files[0].text)) == 1, f"they ended {ended}")
+    must(all(it[0] == (0, "stopped", 1, 0, 0, 0, 0) for it in ended) and len(told(files[0].text)) == 1,
+         f"they ended {ended}")
 
 
 JOURNAL_FAULTS = [

@@ -14,7 +14,8 @@ import time
 from tests.support.daemons import ONE_ARENA, SECONDS, TIME, memory_of, must, until
 from tests.support.datagrams import ACK, PING, datagram, fields
 from tests.support.documents import code_in
-from tests.support.journals import front, in_one_folder, journals, must_play, must_verify, must_verify_each, told, written
+from tests.support.journals import front, in_one_folder, journals, must_play
+from tests.support.journals import must_verify, must_verify_each, told, written
 from tests.swimd.daemon_groups import MOST_GROWTH, Answerer
 
 MINUTE = 60_000
@@ -22,8 +23,8 @@ ROWS = [(102, "10.0.0.2:7000"), (103, "10.0.0.3:7000")]
 TICKS = {"k": 1, "rtt": 1, "period": 4, "tick_ms": 10}
 # What a call may take to its file, and how far a comment's time may be off.
 SOON, OFF = 0.5, 2.0
-# What was answered so long before a daemon is killed stands in a file. A moment at which this machine itself was so late that nobody
-# could write in time tells nothing of the daemon: another one takes its place.
+# What was answered so long before a daemon is killed stands in a file. A moment at which this machine itself was so
+# late that nobody could write in time tells nothing of the daemon: another one takes its place.
 BEFORE, LATE = 0.2, 0.05
 KILLED, AT_ONCE, MOST_LATE = 50, 5, 100
 LIVES = 40
@@ -38,7 +39,8 @@ def pinged(peer, daemon, number):
 
 
 def filled(daemon, peer, lives, first=1):
-    """Sends pings until so many lives have ended: the one that meets a full journal is in no life, and isn't answered."""
+    """Sends pings until so many lives have ended: the one that meets a full journal is in no life, and isn't
+    answered."""
     numbers = itertools.count(first)
     peer.settimeout(0.2)
 
@@ -56,15 +58,18 @@ def filled(daemon, peer, lives, first=1):
 
 
 def must_be_told(daemon, closing, files):
-    """Each life that isn't told as cut has one file, which holds as many answers as the line of the life tells entries."""
+    """Each life that isn't told as cut has one file, which holds as many answers as the line of the life tells
+    entries."""
     entries = dict(enumerate([*(it.entries for it in daemon.lives), closing.entries]))
     wanted = {life: count for life, count in entries.items() if life not in daemon.cut}
     found = {it.life: len(told(it.text)) for it in files if it.life not in daemon.cut}
     # Where a life that is full is told to stop, the last line is of none.
     is_none = closing.entries == 0 and len(daemon.lives) not in found
     unlike = [(it, wanted.get(it), found.get(it)) for it in {*wanted, *found} if wanted.get(it) != found.get(it)]
-    must(unlike == [] or (is_none and unlike == [(len(daemon.lives), 0, None)]), f"lives with their entries, and those of files: {unlike[:9]}")
-    must(len({it.seconds for it in files}) == 1, f"the lives of one daemon began at {[it.seconds for it in files][:20]}")
+    must(unlike == [] or (is_none and unlike == [(len(daemon.lives), 0, None)]),
+         f"lives with their entries, and those of files: {unlike[:9]}")
+    must(len({it.seconds for it in files}) == 1,
+         f"the lives of one daemon began at {[it.seconds for it in files][:20]}")
 
 
 def header(daemon, members, life, last):
@@ -77,7 +82,8 @@ def header(daemon, members, life, last):
 
 
 def each_life_has_a_file(machine):
-    """Of its name, its owner's alone whatever the mask, with the header of its life, and played without a difference."""
+    """Of its name, its owner's alone whatever the mask, with the header of its life, and played without a
+    difference."""
     for id, (mask, version) in enumerate(((0, {}), (0o022, {"wire": 2}), (0o077, {"wire": 1})), 1):
         before, peer = int(time.time()), machine.socket()
         how = {"preexec_fn": lambda: os.umask(mask)}
@@ -91,8 +97,10 @@ def each_life_has_a_file(machine):
             must(before <= it.seconds <= after, f"{it.path} is of a start between {before} and {after}")
             must(it.header == header(daemon, daemon.members, it.life, 7), f"{it.path} begins with {it.header}")
             ran = subprocess.run([machine.simulator, it.path], capture_output=True, timeout=SECONDS)
-            must((ran.returncode, ran.stderr) == (0, b""), f"{it.path} is played with status {ran.returncode}, {ran.stderr!r}")
-            must_play(machine.simulator, re.sub(rb"^#.*\n", b"", it.text, flags=re.MULTILINE), f"{it.path} without comments")
+            must((ran.returncode, ran.stderr) == (0, b""),
+                 f"{it.path} is played with status {ran.returncode}, {ran.stderr!r}")
+            must_play(machine.simulator, re.sub(rb"^#.*\n", b"", it.text, flags=re.MULTILINE),
+                      f"{it.path} without comments")
 
 
 def each_kind_of_call_is_told(machine):
@@ -113,7 +121,8 @@ def each_kind_of_call_is_told(machine):
 
 
 def a_life_begins_with_what_was_left(machine):
-    """The rows of a file tell who was up or failed when its life began, and the opening the last number that was used."""
+    """The rows of a file tell who was up or failed when its life began, and the opening the last number that was
+    used."""
     third = Answerer(machine.socket(), 3, lambda *_: True)
     silent = machine.socket().getsockname()[1]
     daemon = machine.started(members=[(2, silent), (3, third.port)], **{**TICKS, "k": 0, "tick_ms": 30}, journal=60)
@@ -125,17 +134,20 @@ def a_life_begins_with_what_was_left(machine):
     rows = [(2, f"127.0.0.1:{silent} {state}"), (3, f"127.0.0.1:{third.port}")]
     last = 0
     for it in files:
-        wanted = header(daemon, rows if it.life else [(2, f"127.0.0.1:{silent}"), (3, f"127.0.0.1:{third.port}")], it.life, last)
+        wanted = header(daemon, rows if it.life else [(2, f"127.0.0.1:{silent}"), (3, f"127.0.0.1:{third.port}")],
+                        it.life, last)
         must(sorted(it.header) == sorted(wanted), f"life {it.life} begins with {it.header}, and not {wanted}")
         last = max([last, *(int(number) for number in re.findall(rb"^= \d+ started .* (\d+)$", it.text, re.MULTILINE))])
         must_play(machine.simulator, it.text, it.path)
     must_verify(machine.simulator, *files)
-    swapped = subprocess.run([machine.simulator, "--verify", files[1].path, files[0].path], capture_output=True, timeout=SECONDS)
+    swapped = subprocess.run([machine.simulator, "--verify", files[1].path, files[0].path], capture_output=True,
+                             timeout=SECONDS)
     must(swapped.returncode == 1 and b"does not follow" in swapped.stderr, f"two lives that are swapped: {swapped}")
 
 
 def comments_tell_the_time(machine):
-    """Behind the first line the program, its version and the time; behind each started period the seconds, and nowhere else."""
+    """Behind the first line the program, its version and the time; behind each started period the seconds, and nowhere
+    else."""
     member, arrivals = machine.socket(), {}
     began = time.time()
     daemon = machine.started(members=[(2, member.getsockname()[1])], k=0, rtt=1, period=3, tick_ms=100)
@@ -145,13 +157,15 @@ def comments_tell_the_time(machine):
         member.sendto(datagram(ACK, 2, 1, 2, number), daemon.address)
     daemon.stop()
     lines = journals(machine.journals)[0].text.decode().splitlines()
-    version = subprocess.run([machine.program, "--version"], capture_output=True, text=True, timeout=SECONDS).stdout.strip()
+    version = subprocess.run([machine.program, "--version"], capture_output=True, text=True,
+                             timeout=SECONDS).stdout.strip()
     found = re.fullmatch(rf"# {re.escape(version)} ({TIME.decode()})", lines[1])
     must(found, f"behind the first line stands {lines[1]!r}, and the version is {version!r}")
     at = datetime.datetime.strptime(found[1], "%Y-%m-%dT%H:%M:%S.%fZ").replace(tzinfo=datetime.timezone.utc).timestamp()
     must(abs(at - began) < OFF, f"the file is of {at}, and the daemon began at {began}")
     started = [at for at, line in enumerate(lines) if re.match(r"= \d+ started", line)]
-    must({at for at, line in enumerate(lines) if line.startswith("#")} == {1, *(at + 1 for at in started)}, "comments stand elsewhere")
+    must({at for at, line in enumerate(lines) if line.startswith("#")} == {1, *(at + 1 for at in started)},
+         "comments stand elsewhere")
     times = {int(lines[at].split()[-1]): int(lines[at + 1][2:]) for at in started}
     off = [times[number] - at for number, at in arrivals.items()]
     must(len(off) >= 5 and all(abs(it) < OFF for it in off), f"the times of periods are off by {off}")
@@ -172,17 +186,20 @@ def a_call_is_soon_in_its_file(machine):
 
 
 def a_player_of_ones_own(machine):
-    """The program that stands in docs/CHECKING.md plays the files of such a daemon, and refuses each with another answer in it."""
+    """The program that stands in docs/CHECKING.md plays the files of such a daemon, and refuses each with another
+    answer in it."""
     player, other = f"{machine.folder}/player.py", f"{machine.folder}/other.swim"
     with open(player, "w") as file:
         file.write(code_in("CHECKING.md"))
-    daemon = machine.started(members=[(2, machine.socket().getsockname()[1])], k=0, rtt=1, period=3, tick_ms=5, journal=30)
+    daemon = machine.started(members=[(2, machine.socket().getsockname()[1])], k=0, rtt=1, period=3, tick_ms=5,
+                             journal=30)
     until(lambda: daemon.lives_so_far() >= 2, "two lives")
     daemon.stop()
     for it in journals(machine.journals):
         with open(other, "wb") as file:
             file.write(it.text.replace(b" quiet\n", b" heard\n", 1))
-        ran = [subprocess.run([sys.executable, player, path], capture_output=True, timeout=SECONDS) for path in (it.path, other)]
+        ran = [subprocess.run([sys.executable, player, path], capture_output=True, timeout=SECONDS)
+               for path in (it.path, other)]
         statuses = [one.returncode for one in ran]
         must(statuses == [0, int(b" quiet\n" in it.text)], f"{it.path} is played with the statuses {statuses}: {ran}")
 
@@ -230,8 +247,8 @@ class Clock(threading.Thread):
 
 
 def killed_at_once(machine, ids, r):
-    """Kills each of these at a moment of its own: by its id the pings that it answered, with the seconds before that, and how late
-    the machine was meanwhile."""
+    """Kills each of these at a moment of its own: by its id the pings that it answered, with the seconds before that,
+    and how late the machine was meanwhile."""
     daemons = [machine.daemon(id, members=ROWS, journal=r.choice([5, 40, 1_000]), **TICKS) for id in ids]
     pingers, clock = {it.id: Pinger(machine, it) for it in daemons}, Clock()
     for it in daemons:
@@ -262,7 +279,8 @@ def killed_at_any_moment(machine):
             files = [it.text for it in journals(machine.journals, id)]
             there = set(re.findall(r"^hear \S+ ([0-9a-f]+)\n= \d+ sent\n", b"".join(files).decode(), re.MULTILINE))
             since = max((age for text, age in ages.items() if text not in there), default=0.0)
-            must(since < BEFORE or lateness >= LATE, f"a call lacks that was answered {since:.2f} s before, at a lateness of {lateness:.2f} s")
+            must(since < BEFORE or lateness >= LATE,
+                 f"a call lacks that was answered {since:.2f} s before, at a lateness of {lateness:.2f} s")
             (late if lateness >= LATE else latest).append(since)
             must(all(front(it) for it in files[:-1]), "a life that ended left a file without an answer")
             count += len(there & set(ages))
@@ -287,9 +305,12 @@ def a_file(path):
 
 def the_newest_files_stay(machine):
     """As many as are to stay, those of earlier starts among them; older ones go as a life begins."""
-    names = [f"{id}-{seconds}-{life}.swim" for id in (1, 2, 11) for seconds, life in ((5, 0), (5, 3), (40, 2), (40, 10))]
-    others = ["1-5.swim", "1-5-0", "1-5-0.swim.old", "01-5-0.swim", "1-05-0.swim", "1-5-0.swimx", "x1-5-0.swim", "-1-5-0.swim"]
-    others += ["1-5-0.swim\n", "\n1-5-0.swim", "\udcff-5-0.swim", "+1-5-0.swim", " 1-5-0.swim", "1-5-0.swim ", "0-5-0.swim", ".swim"]
+    names = [f"{id}-{seconds}-{life}.swim"
+             for id in (1, 2, 11) for seconds, life in ((5, 0), (5, 3), (40, 2), (40, 10))]
+    others = ["1-5.swim", "1-5-0", "1-5-0.swim.old", "01-5-0.swim", "1-05-0.swim", "1-5-0.swimx", "x1-5-0.swim",
+              "-1-5-0.swim"]
+    others += ["1-5-0.swim\n", "\n1-5-0.swim", "\udcff-5-0.swim", "+1-5-0.swim", " 1-5-0.swim", "1-5-0.swim ",
+               "0-5-0.swim", ".swim"]
     others += ["1-5-0-0.swim", "1--0.swim", "1-5-18446744073709551616.swim", "1-5-0.swim" + "x" * 200, "1" * 250]
     for keep, stay in ((1, []), (2, [(40, 10)]), (4, [(5, 3), (40, 2), (40, 10)]), (0, None), (None, None)):
         for it in (*names, *others):
@@ -297,7 +318,8 @@ def the_newest_files_stay(machine):
         values = {} if keep is None else {"journal_keep": keep}
         daemon = machine.started(1, tick_ms=MINUTE, journal=9, **{"journal_keep": 16, **values})
         daemon.stop()
-        found = [(it.seconds, it.life) for it in journals(machine.journals, 1) if os.path.basename(it.path) not in others]
+        found = [(it.seconds, it.life)
+                 for it in journals(machine.journals, 1) if os.path.basename(it.path) not in others]
         old = [(5, 0), (5, 3), (40, 2), (40, 10)] if stay is None else stay
         must(found[:-1] == old and found[-1][0] > 40, f"with {keep} there stay {found}, and not {old} and a new one")
         kept = [it for it in (*names[4:], *others) if not os.path.exists(f"{machine.journals}/{it}")]
@@ -315,7 +337,8 @@ def sixteen_stay_by_themselves(machine):
     filled(daemon, peer, 20)
     daemon.stop()
     lives = [it.life for it in journals(machine.journals)]
-    must(lives == list(range(lives[-1] - 15, lives[-1] + 1)) and lives[-1] >= 20, f"there stay the files of the lives {lives}")
+    must(lives == list(range(lives[-1] - 15, lives[-1] + 1)) and lives[-1] >= 20,
+         f"there stay the files of the lives {lives}")
 
 
 def what_is_no_file_stays(machine):
@@ -333,7 +356,8 @@ def what_is_no_file_stays(machine):
     gone = [it for it in (*odd, "target") if not os.path.lexists(f"{machine.journals}/{it}")]
     must(not gone, f"these are gone: {gone}")
     files = [it for it in journals(machine.journals) if it.seconds > 3]
-    must([it.life for it in files] == [4, 5] or [it.life for it in files] == [3, 4], f"there stay {[it[1:] for it in files]}")
+    must([it.life for it in files] == [4, 5] or [it.life for it in files] == [3, 4],
+         f"there stay {[it[1:] for it in files]}")
 
 
 def many_lives_quickly(machine):
@@ -349,8 +373,10 @@ def many_lives_quickly(machine):
         closing = daemon.stop()
         files = journals(machine.journals, id)
         must_be_told(daemon, closing, files)
-        must(found[0][0] == found[1][0], f"with journals of {limit} descriptors were {found[0][0]}, and are {found[1][0]}")
-        must(found[1][1] < found[0][1] + MOST_GROWTH, f"with journals of {limit} memory was {found[0][1]:,}, and is {found[1][1]:,}")
+        must(found[0][0] == found[1][0],
+             f"with journals of {limit} descriptors were {found[0][0]}, and are {found[1][0]}")
+        must(found[1][1] < found[0][1] + MOST_GROWTH,
+             f"with journals of {limit} memory was {found[0][1]:,}, and is {found[1][1]:,}")
 
 
 JOURNALS = [

@@ -1,5 +1,5 @@
-"""A daemon whose group has keys: what it sends and hears, what it throws away and tells of that, and where its period numbers begin.
-Tags are compared with Python's own HMAC."""
+"""A daemon whose group has keys: what it sends and hears, what it throws away and tells of that, and where its period
+numbers begin. Tags are compared with Python's own HMAC."""
 
 import re
 import shutil
@@ -26,8 +26,12 @@ MADE = 16
 
 
 def refusals_told(daemon, text):
-    """Of the lines on standard error those that tell of datagrams without a tag: where they came from, and how many they were."""
-    found = [re.fullmatch(r"datagrams from (\S+) have no tag by one of our keys, forged (\d+)", it) for it in told_lines(daemon, text)]
+    """Of the lines on standard error those that tell of datagrams without a tag: where they came from, and how many
+    they were."""
+    found = [
+        re.fullmatch(r"datagrams from (\S+) have no tag by one of our keys, forged (\d+)", it)
+        for it in told_lines(daemon, text)
+    ]
     return [(it[1], int(it[2])) for it in found if it]
 
 
@@ -59,14 +63,19 @@ def journal_of(daemon):
 
 def first_period(daemon):
     """The last number before the first period, as the first journal file of a daemon tells it."""
-    found = re.search(r"^open \d+ \d+ \d+ \d+ (\d+) ", "\n".join(journals(daemon.values["journal_dir"])[0].header), re.MULTILINE)
+    found = re.search(
+        r"^open \d+ \d+ \d+ \d+ (\d+) ", "\n".join(journals(daemon.values["journal_dir"])[0].header), re.MULTILINE
+    )
     return int(found[1])
 
 
 def the_example_of_the_formats(machine):
-    """The key, the text and the datagram in docs/FORMATS.md: by Python's HMAC, by the command there, and as a daemon sends it."""
+    """The key, the text and the datagram in docs/FORMATS.md: by Python's HMAC, by the command there, and as a daemon
+    sends it."""
     (key, text, whole, sealed_there), command = tagged_example()
-    must((whole, sealed_there) == (digest(key, text), sealed(key, text)), f"by this HMAC it is {digest(key, text).hex()}")
+    must(
+        (whole, sealed_there) == (digest(key, text), sealed(key, text)), f"by this HMAC it is {digest(key, text).hex()}"
+    )
     if shutil.which("openssl"):
         ran = subprocess.run(["sh", "-c", command], capture_output=True, timeout=SECONDS)
         must(ran.returncode == 0 and ran.stdout.split()[-1:] == [whole.hex().encode()], f"the command says {ran!r}")
@@ -79,15 +88,18 @@ def the_example_of_the_formats(machine):
 
 
 def who_has_a_key_stays_up(machine):
-    """Of members that answer each ping those stay up whose tags are by a key of the group. Each other one is judged within 2n periods. All
-    that they are sent has a tag by the first key, and nothing stands behind it."""
+    """Of members that answer each ping those stay up whose tags are by a key of the group. Each other one is judged
+    within 2n periods. All that they are sent has a tag by the first key, and nothing stands behind it."""
     seals = {"the first key": sealing(FIRST), "the second key": sealing(SECOND), "the third key": sealing(THIRD)}
     rows = dict(enumerate([*seals.items(), *FORGERS.items()], 2))
     members = {id: Answerer(machine.socket(), id, lambda *_: True, seal) for id, (_, seal) in rows.items()}
     good = [id for id, (name, _) in rows.items() if name in seals]
     known = [(id, it.port) for id, it in members.items()]
     daemon = machine.started(1, members=known, keys=key_texts(FIRST, SECOND, THIRD), k=0, last=0)
-    until(lambda: [id for id, it in daemon.states().items() if it == "up"] == good, "those without a key are judged, and nobody else")
+    until(
+        lambda: [id for id, it in daemon.states().items() if it == "up"] == good,
+        "those without a key are judged, and nobody else",
+    )
     pings = {id: len(members[id].came) for id in good}
     until(lambda: all(len(members[id].came) >= pings[id] + 2 for id in good), "two more pings of those that are up")
     table = daemon.table()
@@ -119,11 +131,14 @@ def pings_by_each_key_are_answered(machine):
 
 
 def requests_are_sealed(machine):
-    """What relays are asked has its tag, in either version, and so has what a relay sends, of whatever key the request was."""
+    """What relays are asked has its tag, in either version, and so has what a relay sends, of whatever key the request
+    was."""
     for id, version in ((1, 1), (2, 2)):
         aim, relay = machine.socket(), Answerer(machine.socket(), 6, lambda *_: True, sealing(FIRST))
         port = aim.getsockname()[1]
-        daemon = machine.started(id, members=[(5, port), (6, relay.port)], wire=version, keys=key_texts(FIRST), k=1, last=0)
+        daemon = machine.started(
+            id, members=[(5, port), (6, relay.port)], wire=version, keys=key_texts(FIRST), k=1, last=0
+        )
         number = fields(aim.recv(100))[4]
         wanted = sealed(FIRST, datagram(REQUEST, id, id, 5, number, version, port if version == 2 else None))
         must(len(wanted) == (46 if version == 2 else 40), "a ping-req has another length")
@@ -196,7 +211,9 @@ def what_has_a_tag_is_decoded(machine):
     """Bytes that are no datagram, with a tag: they are counted as `wire`, as in a group without keys, and not told."""
     daemon, peer = machine.started(1, keys=key_texts(FIRST, SECOND), tick_ms=MINUTE), machine.socket()
     ping = datagram(PING, 9, 9, 1, 1)
-    texts = [b"", b"x", ping[:-1], ping + b"\0", bytes(24), bytes(30), sealed(FIRST, ping)[:30], ping[:2] + b"\3" + ping[3:]]
+    texts = [
+        b"", b"x", ping[:-1], ping + b"\0", bytes(24), bytes(30), sealed(FIRST, ping)[:30], ping[:2] + b"\3" + ping[3:]
+    ]
     for number, text in enumerate(texts, 1):
         peer.sendto(sealed((FIRST, SECOND)[number % 2], text), daemon.address)
         must_answer(peer, daemon, FIRST, number)
@@ -209,7 +226,13 @@ def what_has_a_tag_is_decoded(machine):
 def period_numbers_begin_at_the_clock(machine):
     """Where keys are set and `last` is absent. What is given is taken as it is, also 0, and without keys it is 0."""
     keys = key_texts(FIRST)
-    cases = [({"keys": keys}, None), ({"keys": keys, "last": 7}, 7), ({"keys": keys, "last": 0}, 0), ({"last": 7}, 7), ({}, 0)]
+    cases = [
+        ({"keys": keys}, None),
+        ({"keys": keys, "last": 7}, 7),
+        ({"keys": keys, "last": 0}, 0),
+        ({"last": 7}, 7),
+        ({}, 0),
+    ]
     for id, (values, last) in enumerate(cases, 1):
         member, before = machine.socket(), int(time.time() * 1_000)
         daemon = machine.started(id, members=[(9, member.getsockname()[1])], k=0, **values)
@@ -217,11 +240,20 @@ def period_numbers_begin_at_the_clock(machine):
         after, number = int(time.time() * 1_000), fields(found)[4]
         must(daemon.stop().status == 0, "it ended otherwise")
         text = datagram(PING, id, id, 9, number)
-        must(found == (sealed(FIRST, text) if "keys" in values else text), f"with {values} the first ping is {found.hex()}")
+        must(
+            found == (sealed(FIRST, text) if "keys" in values else text),
+            f"with {values} the first ping is {found.hex()}",
+        )
         begins = first_period(daemon)
-        must(number == begins + 1, f"with {values} the file begins behind {begins}, and the first ping has the number {number}")
+        must(
+            number == begins + 1,
+            f"with {values} the file begins behind {begins}, and the first ping has the number {number}",
+        )
         is_clock = before <= begins <= after
-        must(is_clock if last is None else begins == last, f"with {values} periods begin behind {begins}, between {before} and {after}")
+        must(
+            is_clock if last is None else begins == last,
+            f"with {values} periods begin behind {begins}, between {before} and {after}",
+        )
 
 
 def period_numbers_go_on_from_life_to_life(machine):
@@ -260,7 +292,8 @@ class Replayer(threading.Thread):
 
 
 def judged_at(machine, daemon, acks):
-    """The period at whose end member 2 is judged, where these acks are sent again and again from before the start on."""
+    """The period at whose end member 2 is judged, where these acks are sent again and again from before the start
+    on."""
     replayer = Replayer(machine.socket(), list(acks.values()), daemon.address)
     daemon.start()
     until(lambda: daemon.states() == {2: "failed"}, "a member that is dead is judged")
@@ -270,8 +303,9 @@ def judged_at(machine, daemon, acks):
 
 
 def acks_of_an_earlier_run(machine):
-    """They have a tag by the key, and are heard as any other: with `last` left out their numbers are of the past, and a member that is
-    dead is judged. With the same `last` in both runs they keep it up, for as many periods as were recorded."""
+    """They have a tag by the key, and are heard as any other: with `last` left out their numbers are of the past, and a
+    member that is dead is judged. With the same `last` in both runs they keep it up, for as many periods as were
+    recorded."""
     for values in ({}, {"last": 0}):
         is_dead = []
         member = Answerer(machine.socket(), 2, lambda *_, dead=is_dead: not dead, sealing(FIRST))
@@ -312,7 +346,8 @@ def keys_that_are_none(machine):
 
 
 def a_key_is_made(machine):
-    """`swimd key` writes 64 hexadecimal digits and a line feed, others each time, of which a configuration takes each."""
+    """`swimd key` writes 64 hexadecimal digits and a line feed, others each time, of which a configuration takes
+    each."""
     ask, keys = {"stdin": subprocess.DEVNULL, "stderr": subprocess.PIPE, "timeout": SECONDS}, []
     for _ in range(MADE):
         ran = subprocess.run([machine.program, "key"], stdout=subprocess.PIPE, **ask)

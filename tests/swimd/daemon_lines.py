@@ -76,7 +76,9 @@ def a_byte_past_ascii_in_each_word(machine):
     for line, faults in COMMANDS:
         words = line.split(b" ")
         for place, fault in enumerate(faults):
-            for word in (b"\xff" + words[place], words[place][:1] + b"\xff" + words[place][1:], words[place] + b"\xff", b"\xff"):
+            for word in (
+                b"\xff" + words[place], words[place][:1] + b"\xff" + words[place][1:], words[place] + b"\xff", b"\xff"
+            ):
                 text = b" ".join([*words[:place], word, *words[place + 1 :]])
                 must_be(daemon.ask(text + b"\n"), b"fault %d\n" % fault, f"{text!r}")
     must(daemon.stop() == (0, "stopped", 0, 0, 0, 0, 0), "it made entries")
@@ -158,7 +160,9 @@ def a_dialogue_by_ask(machine):
     words = [daemon.program, "ask", "--control", daemon.control]
     with subprocess.Popen(words, stdin=pipe, stdout=pipe, bufsize=0) as child:
         try:
-            for line, wanted in ((b"gap 2\n", b"gap none\n"), (b"list\n", LISTED), (b"no\n", b"fault 2\n"), (b"list\n", LISTED)):
+            for line, wanted in (
+                (b"gap 2\n", b"gap none\n"), (b"list\n", LISTED), (b"no\n", b"fault 2\n"), (b"list\n", LISTED)
+            ):
                 child.stdin.write(line)
                 must_be(come(child.stdout, len(wanted)), wanted, f"{line!r}")
             child.stdin.close()

@@ -1,4 +1,5 @@
-"""What a daemon sends, to whom and when: each relay is asked, also where another can't be, and ticks last as long as they have to."""
+"""What a daemon sends, to whom and when: each relay is asked, also where another can't be, and ticks last as long as
+they have to."""
 
 import os
 import select
@@ -34,7 +35,8 @@ class Members:
         return next((id, fields(it.recv(100))) for id, it in self.sockets.items() if it is ready[0])
 
     def period(self, daemon, aims):
-        """A period in which the aim, one of these, is heard only when all others were asked: each once, and for that aim."""
+        """A period in which the aim, one of these, is heard only when all others were asked: each once, and for that
+        aim."""
         asked, pings = {}, {}
         while not asked or set(self.sockets) != set(asked) | set(pings):
             id, (kind, *message) = self.next()
@@ -59,7 +61,8 @@ def each_relay_is_asked(machine):
 
 
 def other_relays_are_asked(machine):
-    """Of three relays one can't be sent to, whichever is the first: the others are asked, and each datagram is counted."""
+    """Of three relays one can't be sent to, whichever is the first: the others are asked, and each datagram is
+    counted."""
     members = Members(machine, 2, 3, 4)
     daemon = machine.started(members=[(5, NOWHERE), *members.rows()], k=3, period=20, tick_ms=40)
     for _ in range(PERIODS):
@@ -93,7 +96,11 @@ def long_paths_of_a_configuration(machine):
         daemon.file = f"{folder}/{'f' * (length - len(folder) - 1)}"
         daemon.write()
         must(len(daemon.file) == length, f"the path has {len(daemon.file)} bytes")
-        must(daemon.start().stop() == (0, "stopped", 0, 0, 0, 0, 0), f"it ended otherwise with a path of {length} bytes")
+        must(
+            daemon.start().stop() == (0, "stopped", 0, 0, 0, 0, 0), f"it ended otherwise with a path of {length} bytes"
+        )
 
 
-SENDING = [each_relay_is_asked, other_relays_are_asked, ticks_last_as_long_as_they_have_to, long_paths_of_a_configuration]
+SENDING = [
+    each_relay_is_asked, other_relays_are_asked, ticks_last_as_long_as_they_have_to, long_paths_of_a_configuration
+]

@@ -1,4 +1,5 @@
-"""How a daemon starts: what it tells on standard error, why it is refused, and what it does about a socket that was left."""
+"""How a daemon starts: what it tells on standard error, why it is refused, and what it does about a socket that was
+left."""
 
 import datetime
 import fcntl
@@ -19,10 +20,13 @@ LIVES = 30
 
 
 def refusal(daemon, **how):
-    """What it says on standard error, where it ends at once with status 5 or 1, and writes nothing on standard output."""
+    """What it says on standard error, where it ends at once with status 5 or 1, and writes nothing on standard
+    output."""
     daemon.launch(is_clean=False, **how)
     stdout, stderr = daemon.child.communicate(timeout=SECONDS)
-    must(stdout == b"" and daemon.child.returncode in (1, 5), f"it ended {daemon.child.returncode}, and wrote {stdout!r}")
+    must(
+        stdout == b"" and daemon.child.returncode in (1, 5), f"it ended {daemon.child.returncode}, and wrote {stdout!r}"
+    )
     return stderr
 
 
@@ -69,12 +73,15 @@ def each_life_is_told(machine):
     lines = told_lines(daemon, daemon.told)
     lives = [f"life {number} begins" for number in range(len(lines) - 1)]
     must(lines == [listens(daemon, 1), *lives], f"it tells {lines[:9]}")
-    must(len(lives) in (len(daemon.lives), len(daemon.lives) + 1), f"{len(lives)} lives are told, {len(daemon.lives)} were full")
+    must(
+        len(lives) in (len(daemon.lives), len(daemon.lives) + 1),
+        f"{len(lives)} lives are told, {len(daemon.lives)} were full",
+    )
 
 
 def warnings_stand_before_a_start(machine):
-    """Those of `check`, before the first notice, and where it is quiet, too: of one member and a period of three, a round has five
-    entries and two."""
+    """Those of `check`, before the first notice, and where it is quiet, too: of one member and a period of three, a
+    round has five entries and two."""
     warning = b"warning: journal 20 is shorter than three rounds, which take 21 entries\n"
     for words in ([], ["--quiet"]):
         daemon = machine.started(how={"words": words}, members=[(2, "10.0.0.2:7000")], **{**SHORT, "tick_ms": MINUTE})
@@ -135,7 +142,10 @@ def causes_of_paths(machine):
     link = machine.daemon(5)
     os.symlink(stale.control, link.control)
     must_say(refusal(link), "bind control", f"  {link.control}: address in use", kept)
-    must(os.path.islink(link.control) and os.path.exists(stale.control), "a link at the control path, or its socket, is gone")
+    must(
+        os.path.islink(link.control) and os.path.exists(stale.control),
+        "a link at the control path, or its socket, is gone",
+    )
 
 
 def a_path_that_is_forbidden(machine):
@@ -187,7 +197,9 @@ def a_path_whose_queue_is_full(machine):
         began = time.monotonic()
         said = refusal(daemon)
         must(time.monotonic() - began < 5, "it waits for a place in the queue")
-        must_say(said, "bind control", f"  {daemon.control}: address in use", "  somebody serves this socket; it is kept")
+        must_say(
+            said, "bind control", f"  {daemon.control}: address in use", "  somebody serves this socket; it is kept"
+        )
         must(os.path.exists(daemon.control), "a socket is gone that somebody serves")
         for it in waiting:
             it.close()
@@ -223,7 +235,9 @@ def a_stale_socket_for_two(machine):
         until(lambda: any(it.child.poll() is not None for it in both), "one of two ends")
         ended, lives = sorted(both, key=lambda it: it.child.poll() is None)
         stdout, stderr = ended.child.communicate(timeout=SECONDS)
-        must((stdout, ended.child.returncode) == (b"", 5), f"the one that ends has {ended.child.returncode}, {stdout!r}")
+        must(
+            (stdout, ended.child.returncode) == (b"", 5), f"the one that ends has {ended.child.returncode}, {stdout!r}"
+        )
         must(but_for_notices(stderr).startswith(b"bind control\n"), f"the one that ends says {stderr!r}")
         must(lives.ready().table()[9].peer == f"10.0.0.{lives.id}:7000", "another one answers")
         must(lives.stop().status == 0, "the one that lives ended otherwise")

@@ -1,5 +1,5 @@
-"""Daemons of which some send version 1 of a datagram, and some version 2: they hear one another, and a relay that lists nobody serves
-whoever asks it in version 2."""
+"""Daemons of which some send version 1 of a datagram, and some version 2: they hear one another, and a relay that lists
+nobody serves whoever asks it in version 2."""
 
 import shutil
 
@@ -37,7 +37,8 @@ def a_group_of_both_versions(machine):
 
 
 def a_group_of_both_versions_with_another_program(machine):
-    """Two daemons beside two of tests/reference, one of each version: those of each that are killed are judged by the others."""
+    """Two daemons beside two of tests/reference, one of each version: those of each that are killed are judged by the
+    others."""
     if not shutil.which("rustc"):
         leave_out("rustc, the Rust compiler, is not on PATH, so no group of both versions with another program was run")
         return
@@ -56,7 +57,8 @@ def a_group_of_both_versions_with_another_program(machine):
 
 
 def each_sends_in_its_own_version(machine):
-    """Pings, and what relays are asked, of which version 2 alone tells where the aim is. An ack of another version counts as well."""
+    """Pings, and what relays are asked, of which version 2 alone tells where the aim is. An ack of another version
+    counts as well."""
     for id, version in ((1, 1), (2, 2)):
         aim, relay, numbers = machine.socket(), machine.socket(), set()
         ports = {5: aim.getsockname()[1], 6: relay.getsockname()[1]}
@@ -66,7 +68,10 @@ def each_sends_in_its_own_version(machine):
                 text, _ = socket.recvfrom(100)
                 kind, _, _, about, number = fields(text)
                 must(version_of(text) == version and kind in (PING, REQUEST), f"member {target} gets {text.hex()}")
-                must(port_in(text) == (ports[about] if (kind, version) == (REQUEST, 2) else None), f"an address in {text.hex()}")
+                must(
+                    port_in(text) == (ports[about] if (kind, version) == (REQUEST, 2) else None),
+                    f"an address in {text.hex()}",
+                )
                 must((about == target) == (kind == PING), f"member {target} gets {text.hex()}")
                 numbers.add((kind, number))
                 if kind == REQUEST:
@@ -81,27 +86,36 @@ def a_ping_is_acked_in_its_version(machine):
         daemon, peer = machine.started(id, wire=own, tick_ms=MINUTE), machine.socket()
         for number, version in enumerate((1, 2, 2, 1), 1):
             peer.sendto(datagram(PING, 9, 9, id, number, version), daemon.address)
-            must(peer.recv(100) == datagram(ACK, id, 9, id, number, version), f"a ping of version {version} is answered otherwise")
+            must(
+                peer.recv(100) == datagram(ACK, id, 9, id, number, version),
+                f"a ping of version {version} is answered otherwise",
+            )
         closing = daemon.stop()
         must(closing == (0, "stopped", 4, 0, 0, 0, 0), f"it ended {closing}")
 
 
 def a_relay_pings_whom_it_does_not_list(machine):
-    """A bare daemon pings another one for whom asks it in version 2, and sends the ack on in that version. For whom asks it in version 1
-    it does nothing. Whatever its own version is."""
+    """A bare daemon pings another one for whom asks it in version 2, and sends the ack on in that version. For whom
+    asks it in version 1 it does nothing. Whatever its own version is."""
     for id, own in ((1, 1), (2, 2)):
-        relay, target, asker = machine.started(id, wire=own, tick_ms=MINUTE), machine.started(id + 2, tick_ms=MINUTE), machine.socket()
+        relay, target, asker = machine.started(id, wire=own, tick_ms=MINUTE), machine.started(
+            id + 2, tick_ms=MINUTE
+        ), machine.socket()
         for number in (8, 9):
             asker.sendto(datagram(REQUEST, 7, 7, target.id, number, 2, target.port), relay.address)
             must(asker.recv(100) == datagram(ACK, id, 7, target.id, number, 2), "the asker gets another ack")
         asker.sendto(datagram(REQUEST, 7, 7, target.id, 10), relay.address)
         asker.sendto(datagram(PING, 7, 7, id, 11), relay.address)
         must(asker.recv(100) == datagram(ACK, id, 7, id, 11), "a request of version 1 is answered")
-        must(relay.stop() == (0, "stopped", 6, 0, 0, 0, 0) and target.stop() == (0, "stopped", 2, 0, 0, 0, 0), "they made other entries")
+        must(
+            relay.stop() == (0, "stopped", 6, 0, 0, 0, 0) and target.stop() == (0, "stopped", 2, 0, 0, 0, 0),
+            "they made other entries",
+        )
 
 
 def a_relay_knows_better_where_a_member_is(machine):
-    """Where it lists the target, it pings that one at its own row's address. One that it forgot it pings where it is told."""
+    """Where it lists the target, it pings that one at its own row's address. One that it forgot it pings where it is
+    told."""
     listed, told, asker = machine.socket(), machine.socket(), machine.socket()
     port = told.getsockname()[1]
     relay = machine.started(1, members=[(3, listed.getsockname()[1])], tick_ms=MINUTE)
@@ -122,7 +136,10 @@ def a_request_again_in_the_other_version(machine):
     for number, version in ((9, 1), (10, 2)):
         for socket, it in ((first, 3 - version), (last, version)):
             socket.sendto(datagram(REQUEST, 2, 2, 3, number, it, port if it == 2 else None), relay.address)
-            must(target.recv(100) == datagram(PING, 1, 2, 3, number, it), f"the target gets another ping for a request of version {it}")
+            must(
+                target.recv(100) == datagram(PING, 1, 2, 3, number, it),
+                f"the target gets another ping for a request of version {it}",
+            )
         for it in (3 - version, version):
             target.sendto(datagram(ACK, 3, 2, 3, number, it), relay.address)
         must(last.recv(100) == datagram(ACK, 1, 2, 3, number, version), f"an ack isn't sent on in version {version}")
@@ -133,13 +150,16 @@ def a_request_again_in_the_other_version(machine):
 
 
 def a_cut_link_and_relays_that_list_nobody(machine):
-    """Member 3 answers nothing that member 1 sends itself. Who asks relays in version 2 keeps it, though they list nobody; who asks them
-    in version 1 judges it."""
+    """Member 3 answers nothing that member 1 sends itself. Who asks relays in version 2 keeps it, though they list
+    nobody; who asks them in version 1 judges it."""
     third, relay = Answerer(machine.socket(), 3, lambda sender, _: sender == 2), machine.started(2, tick_ms=MINUTE)
     known = [(2, relay.port), (3, third.port)]
     keeps, judges = machine.started(1, members=known, wire=2), machine.started(4, members=known, wire=1)
     until(lambda: third.pings.count((2, 1)) >= 10, "ten pings through the relay")
-    until(lambda: judges.states() == {2: "up", 3: "failed"}, "member 4, which asks in version 1, judges a member that is cut off")
+    until(
+        lambda: judges.states() == {2: "up", 3: "failed"},
+        "member 4, which asks in version 1, judges a member that is cut off",
+    )
     must(keeps.states() == {2: "up", 3: "up"}, f"member 1, which asks in version 2, lists {keeps.states()}")
     must((2, 4) not in third.pings, "the relay pings for a request of version 1")
     must(third.versions == {(1, 2), (2, 2), (4, 1)}, f"member 3 is pinged in the versions {third.versions}")
@@ -158,7 +178,10 @@ def lives_of_version_2(machine):
     must(aim.versions == {(1, 2)}, f"it pings in the versions {aim.versions}")
     files = journals(daemon.values["journal_dir"])
     heads = [it.header[1:3] for it in files]
-    must(len(files) >= 4 and all(it[0].startswith("open 1 0 ") and it[1] == "wire 2" for it in heads), f"the files begin with {heads}")
+    must(
+        len(files) >= 4 and all(it[0].startswith("open 1 0 ") and it[1] == "wire 2" for it in heads),
+        f"the files begin with {heads}",
+    )
 
 
 VERSIONS = [

@@ -1,16 +1,19 @@
-"""What `swimd check` has to write on standard error of configurations, whole: below the line of a fault what was expected and what
-stood there, and the warnings of what can't work. All is worked out by hand from docs/FORMATS.md.
+"""What `swimd check` has to write on standard error of configurations, whole: below the line of a fault what was
+expected and what stood there, and the warnings of what can't work. All is worked out by hand from docs/FORMATS.md.
 
 `worked_causes()` gives (name, document, standard output, standard error, status), as `worked_configs()` does.
 """
 
-from tests.swimd.worked_configs import ALONE, FULL, SEED, SUMMARY, SUMMARY_ALONE, numbered_members, replaced, with_member, with_value
+from tests.swimd.worked_configs import ALONE, FULL, SEED, SUMMARY, SUMMARY_ALONE
+from tests.swimd.worked_configs import numbered_members, replaced, with_member, with_value
 from tests.swimd.worked_configs import LINES, with_keys
 
 
 def caused(name, document, fault, *lines):
     text = document if isinstance(document, bytes) else document.encode()
-    return name, text, b"", "".join(f"{it}\n" for it in [f"configuration {fault}", *(f"  {it}" for it in lines)]).encode(), 1
+    return name, text, b"", "".join(
+        f"{it}\n" for it in [f"configuration {fault}", *(f"  {it}" for it in lines)]
+    ).encode(), 1
 
 
 def warned(name, document, stdout, *lines):
@@ -28,7 +31,9 @@ def texts():
 
 def keys():
     unknown = replaced(LINES["tick_ms"], "tick-ms = 1000")
-    yield caused("an unknown key", unknown, "3", "found: tick-ms; the nearest known key: tick_ms", "line 7: tick-ms = 1000")
+    yield caused(
+        "an unknown key", unknown, "3", "found: tick-ms; the nearest known key: tick_ms", "line 7: tick-ms = 1000"
+    )
     table = FULL + "\n[[jurnal]]\nsize = 3\n"
     yield caused("an unknown table", table, "3", "found: jurnal; the nearest known key: journal", "line 19: [[jurnal]]")
     near = {"journal_dirs": "journal_dir", "journal-keep": "journal_keep", "journals": "journal"}
@@ -37,15 +42,21 @@ def keys():
         found = f"found: {name}; the nearest known key: {known}"
         yield caused(f"`{name}`", with_keys(f"{name} = 1"), "3", found, f"line 1: {name} = 1")
     quoted = replaced(LINES["k"], '"k\\u001b" = 1')
-    yield caused("an unknown key with a sign", quoted, "3", "found: k?; the nearest known key: k", 'line 4: "k\\u001b" = 1')
+    yield caused(
+        "an unknown key with a sign", quoted, "3", "found: k?; the nearest known key: k", 'line 4: "k\\u001b" = 1'
+    )
     more = with_member('id = 2\nat = "10.0.0.2:7000"\nadress = 3')
-    yield caused("an unknown key of a member", more, "3", "found: adress; the nearest known key: id", "line 14: adress = 3")
+    yield caused(
+        "an unknown key of a member", more, "3", "found: adress; the nearest known key: id", "line 14: adress = 3"
+    )
 
 
 def values():
     port = "expected: a string IP:PORT, as 10.0.0.1:7000 (where its datagrams come in)"
     yield caused("no `listen`", replaced(LINES["listen"], ""), "4 listen", port, "found: no such key")
-    yield caused("a name", with_value("listen", '"localhost:7000"'), "7 listen", port, 'line 2: listen = "localhost:7000"')
+    yield caused(
+        "a name", with_value("listen", '"localhost:7000"'), "7 listen", port, 'line 2: listen = "localhost:7000"'
+    )
     tick = "expected: an integer from 1 to 60000 (milliseconds of a tick)"
     yield caused("no tick", with_value("tick_ms", "0 # none"), "6 tick_ms", tick, "line 7: tick_ms = 0 # none")
     yield caused("a tick in quotes", with_value("tick_ms", '"1000"'), "5 tick_ms", tick, 'line 7: tick_ms = "1000"')
@@ -62,7 +73,9 @@ def values():
     me = "expected: an integer from 1 to 4294967295 (this member)"
     yield caused("member 0", with_value("id", "0"), "6 id", me, "line 1: id = 0")
     journal = "expected: an integer from 1 to 1000000 (the most entries of the journal)"
-    yield caused("a long journal", with_value("journal", "1_000_001"), "6 journal", journal, "line 9: journal = 1_000_001")
+    yield caused(
+        "a long journal", with_value("journal", "1_000_001"), "6 journal", journal, "line 9: journal = 1_000_001"
+    )
     last = "expected: an integer from 0 to 9223372036854775807 (the last period number that was used before)"
     yield caused("`last` below 0", "\n last= -1\n" + FULL, "6 last", last, "line 2:  last= -1")
     version = "expected: an integer from 1 to 2 (the version of its own pings and ping-reqs)"
@@ -72,11 +85,21 @@ def values():
     yield caused("a version that is a table", FULL + "\n[wire]\n", "5 wire", version, "line 19: [wire]")
     folder = "expected: a string of 1 to 100 characters of ASCII that print (the folder of the journal files)"
     yield caused("no folder", with_keys('journal_dir = ""'), "6 journal_dir", folder, 'line 1: journal_dir = ""')
-    yield caused("a folder in two lines", with_keys('journal_dir = "a\\nb"'), "6 journal_dir", folder, 'line 1: journal_dir = "a\\nb"')
+    yield caused(
+        "a folder in two lines",
+        with_keys('journal_dir = "a\\nb"'),
+        "6 journal_dir",
+        folder,
+        'line 1: journal_dir = "a\\nb"',
+    )
     yield caused("many folders", with_keys("journal_dir = [\n]"), "5 journal_dir", folder, "line 1: journal_dir = [")
     keep = "expected: an integer from 0 to 4294967295 (how many journal files stay, 0 for all)"
-    yield caused("fewer than none", with_keys("\njournal_keep = -1"), "6 journal_keep", keep, "line 2: journal_keep = -1")
-    yield caused("files in quotes", with_keys('journal_keep = "1"'), "5 journal_keep", keep, 'line 1: journal_keep = "1"')
+    yield caused(
+        "fewer than none", with_keys("\njournal_keep = -1"), "6 journal_keep", keep, "line 2: journal_keep = -1"
+    )
+    yield caused(
+        "files in quotes", with_keys('journal_keep = "1"'), "5 journal_keep", keep, 'line 1: journal_keep = "1"'
+    )
     text = with_value("control", '"""\\\nlisten = 1"""', replaced(LINES["listen"], "")) + ""
     hidden = text.replace("k = 1\n", "listen = 2 # \u00e9\nk = 1\n")
     yield caused("a key within a text", hidden, "5 listen", port, "line 4: listen = 2 # ??")
@@ -92,7 +115,9 @@ def hidden_keys():
     yield caused("a number among keys", with_keys(f"keys = ['{key}',7]"), "5 keys", form, "line 1: keys = ['..',7]")
     yield caused("no keys", with_keys("\nkeys = [] # none"), "6 keys", form, "line 2: keys = [] # none")
     yield caused("a short key", with_keys(f'keys = ["{key[1:]}"]'), "6 keys", form, 'line 1: keys = [".."]')
-    yield caused("an O in a key", with_keys(f'keys = ["{key[:32]}O{key[33:]}"]'), "6 keys", form, 'line 1: keys = [".."]')
+    yield caused(
+        "an O in a key", with_keys(f'keys = ["{key[:32]}O{key[33:]}"]'), "6 keys", form, 'line 1: keys = [".."]'
+    )
     yield caused("a key with colons", with_keys(f'keys = ["{":".join(key)}"]'), "6 keys", form, 'line 1: keys = [".."]')
     yield caused("keys in lines", with_keys(f'keys = [\n"{key}",\n"{key}0",\n]'), "6 keys", form, "line 1: keys = [")
     near = lambda name, known: f"found: {name}; the nearest known key: {known}"
@@ -146,7 +171,9 @@ def warnings():
     # a round of two members: 2 periods of 3 + 2 entries, and 2 entries for each
     short = "journal 41 is shorter than three rounds, which take 42 entries"
     yield warned("a short journal", with_value("journal", "41"), SUMMARY.replace("journal 1000", "journal 41"), short)
-    yield warned("a journal of three rounds", with_value("journal", "42"), SUMMARY.replace("journal 1000", "journal 42"))
+    yield warned(
+        "a journal of three rounds", with_value("journal", "42"), SUMMARY.replace("journal 1000", "journal 42")
+    )
     own = FULL.replace("10.0.0.3:7000", "10.0.0.1:7000")
     wanted = SUMMARY.replace("10.0.0.3:7000", "10.0.0.1:7000")
     yield warned("its own address", own, wanted, "member 3 is at this member's own address, 10.0.0.1:7000")
@@ -159,7 +186,9 @@ def warnings():
     yield warned("few relays", with_value("k", "2"), SUMMARY.replace("k 1 ", "k 2 "), few)
     yield warned("nobody is listed", with_value("k", "8", ALONE), SUMMARY_ALONE.replace("k 1 ", "k 8 "))
     long = with_value("period", "1441", with_value("tick_ms", "60000", with_value("journal", "100000")))
-    wanted = SUMMARY.replace("period 3 tick_ms 1000 last 0 journal 1000", "period 1441 tick_ms 60000 last 0 journal 100000")
+    wanted = SUMMARY.replace(
+        "period 3 tick_ms 1000 last 0 journal 1000", "period 1441 tick_ms 60000 last 0 journal 100000"
+    )
     yield warned("more than a day", long, wanted, "a period has 86460000 milliseconds, which is beyond a day")
     yield warned("a day", long.replace("1441", "1440"), wanted.replace("1441", "1440"))
     plain = with_value("seed", '"' + "a5" * 32 + '"')

@@ -1,7 +1,7 @@
 """Configurations of swimd, and what `swimd check` has to write, all worked out by hand from docs/FORMATS.md.
 
-`worked_configs()` gives (name, document, standard output, standard error, status). Where standard error ends with BELOW, any
-lines may stand there that begin with two spaces; those of worked_causes.py are known.
+`worked_configs()` gives (name, document, standard output, standard error, status). Where standard error ends with
+BELOW, any lines may stand there that begin with two spaces; those of worked_causes.py are known.
 """
 
 import re
@@ -99,10 +99,14 @@ def accepted():
     yield good("an array of no members", ALONE + "member = []\n", SUMMARY_ALONE)
     yield good("other spellings of numbers", with_value("tick_ms", "1_000", with_value("journal", "0x3e8")), SUMMARY)
     yield good("a sign", with_value("k", "+1"), SUMMARY)
-    yield good("quoted keys, and other quotes", with_value("listen", "'10.0.0.1:7000'").replace("k =", '"k" ='), SUMMARY)
+    yield good(
+        "quoted keys, and other quotes", with_value("listen", "'10.0.0.1:7000'").replace("k =", '"k" ='), SUMMARY
+    )
     yield good("escapes", with_value("control", r'"\u002ftmp/swimd.sock"'), SUMMARY)
     yield good("digits of either case", with_value("seed", f'"aAbBcCdDeEfF{ZEROS[12:]}"'), SUMMARY)
-    yield good("the last number used", "last = 9223372036854775807\n" + FULL, with_summary("last 0", f"last {2**63 - 1}"))
+    yield good(
+        "the last number used", "last = 9223372036854775807\n" + FULL, with_summary("last 0", f"last {2**63 - 1}")
+    )
     most = with_value("id", "4294967295", with_value("journal", "1000000", with_value("tick_ms", "60000")))
     stdout = with_summary("id 1\n", "id 4294967295\n").replace("journal 1000", "journal 1000000")
     yield good("the largest numbers", most, stdout.replace("tick_ms 1000", "tick_ms 60000"))
@@ -123,11 +127,15 @@ def with_keys(lines, document=FULL):
 
 def files():
     """The two keys of journal files: their lines stand in the summary where there is a folder."""
-    told = lambda dir, keep: with_summary("\nk 1 ", f"\njournal_dir {dir}\nk 1 ").replace("\nmembers", f"\njournal_keep {keep}\nmembers")
+    told = lambda dir, keep: with_summary("\nk 1 ", f"\njournal_dir {dir}\nk 1 ").replace(
+        "\nmembers", f"\njournal_keep {keep}\nmembers"
+    )
     yield good("a folder", with_keys('journal_dir = "/var/lib/swimd"'), told("/var/lib/swimd", 16))
     yield good("a folder, and how many", with_keys('journal_dir = "files"\njournal_keep = 3'), told("files", 3))
     yield good("a folder, and all", with_keys('journal_keep = 0\njournal_dir = "."'), told(".", 0))
-    yield good("a folder, and the most", with_keys('journal_dir = " "\njournal_keep = 4294967295'), told(" ", 2**32 - 1))
+    yield good(
+        "a folder, and the most", with_keys('journal_dir = " "\njournal_keep = 4294967295'), told(" ", 2**32 - 1)
+    )
     yield good("no folder, and how many", with_keys("journal_keep = 3"), SUMMARY)
     yield good("the longest folder", with_keys(f'journal_dir = "{"~" * 100}"'), told("~" * 100, 16))
     for text in ("1", "true", "[]", "{}", "2020-01-01"):
@@ -153,7 +161,11 @@ def versions():
     yield good("version 2", with_keys("wire = 2"), of_2)
     for text in ("+2", "0x2", "0b10", "0o2"):
         yield good(f"version {text}", with_keys(f"wire = {text}"), of_2)
-    yield good("version 2, and nobody else", with_keys("wire = 2", ALONE), SUMMARY_ALONE.replace("journal 1000\n", "journal 1000 wire 2\n"))
+    yield good(
+        "version 2, and nobody else",
+        with_keys("wire = 2", ALONE),
+        SUMMARY_ALONE.replace("journal 1000\n", "journal 1000 wire 2\n"),
+    )
     files = of_2.replace("\nk 1 ", "\njournal_dir files\nk 1 ").replace("\nmembers", "\njournal_keep 16\nmembers")
     yield good("version 2, and a folder", with_keys('wire = 2\njournal_dir = "files"'), files)
     for text in ("0", "3", "-1", "-2", "256", "9223372036854775807"):
@@ -173,19 +185,28 @@ def versions():
 
 
 def group_keys():
-    """How many keys there are stands behind the version. Where the last number isn't given it is the clock's, and isn't told."""
+    """How many keys there are stands behind the version. Where the last number isn't given it is the clock's, and isn't
+    told."""
     one, other = "0123456789abcdefABCDEF9876543210" * 2, "f" * 64
     told = lambda keys, last="": with_summary(" last 0 journal 1000\n", f"{last} journal 1000{keys}\n")
     yield good("a key", with_keys(f'keys = ["{one}"]'), told(" keys 1"))
-    yield good("two keys, and the last number", with_keys(f"keys = ['{one}', '{other}',]\nlast = 7"), told(" keys 2", " last 7"))
+    yield good(
+        "two keys, and the last number",
+        with_keys(f"keys = ['{one}', '{other}',]\nlast = 7"),
+        told(" keys 2", " last 7"),
+    )
     yield good("a key, and the last number 0", with_keys(f'last = 0\nkeys = ["{one}"]'), told(" keys 1", " last 0"))
     lines = f'keys = [ # signs\n  "{other}",\n  # the old ones\n  "{one}", "{one}", """{other}"""\n]\nwire = 2'
     yield good("four keys, and version 2", with_keys(lines), told(" wire 2 keys 4"))
-    files = told(" keys 1").replace("\nk 1 ", "\njournal_dir files\nk 1 ").replace("\nmembers", "\njournal_keep 16\nmembers")
+    files = told(" keys 1").replace("\nk 1 ", "\njournal_dir files\nk 1 ").replace(
+        "\nmembers", "\njournal_keep 16\nmembers"
+    )
     yield good("a key, and a folder", with_keys(f'journal_dir = "files"\nkeys = ["{one}"]'), files)
     for text in ("1", "true", f'"{one}"', "{}", "[1]", f'["{one}", 1]', f'[["{one}"]]', "[1, 2, 3, 4, 5]", '["", 1]'):
         yield bad(f"`keys` is {text[:20]}", with_keys(f"keys = {text}"), "5 keys")
-    for text in ("[]", "['']", f"['{one[1:]}']", f"['{one}0']", f"['{one[1:]}g']", f"['{one} ']", f"['{one}', '0x{other}']"):
+    for text in (
+        "[]", "['']", f"['{one[1:]}']", f"['{one}0']", f"['{one[1:]}g']", f"['{one} ']", f"['{one}', '0x{other}']"
+    ):
         yield bad(f"`keys` is {text[:20]}", with_keys(f"keys = {text}"), "6 keys")
     yield bad("five keys", with_keys("keys = [" + f"'{one}'," * 5 + "]"), "6 keys")
     yield bad("`keys` is a table", FULL + "\n[keys]\n", "5 keys")
@@ -262,7 +283,9 @@ def members():
     yield bad("a refused address", with_member('id = 2\nat = "10.0.0.2"'), "7 member.at")
     yield bad("an unknown key of a member", with_member('id = 0\nat = "10.0.0.2:7000"\nport = 1'), "3")
     first, second = 'id = 2\nat = "x"', 'id = 3\nat = "10.0.0.3:7000"\nport = 1'
-    yield bad("the first member's fault, and the second's key", with_member(first + "\n[[member]]\n" + second), "7 member.at")
+    yield bad(
+        "the first member's fault, and the second's key", with_member(first + "\n[[member]]\n" + second), "7 member.at"
+    )
     yield bad("a member's key before another's fault", with_member(second + "\n[[member]]\n" + first), "3")
     yield bad("a member, and the range of `last`", "last = -1\n" + with_member("id = 0"), "6 last")
     yield bad("a member that is none, and a seed", with_value("seed", '""', ALONE) + "member = 1\n", "8 seed")

@@ -1,4 +1,5 @@
-"""Scripts that are kept, with what swimsim has to write for them, and what is common to the tests of the built program."""
+"""Scripts that are kept, with what swimsim has to write for them, and what is common to the tests of the built
+program."""
 
 import difflib
 import os
@@ -62,7 +63,8 @@ def unescaped(text):
 
 
 def short_scripts(path, words):
-    """The scripts of a table: the head of short-scripts.txt says how they are written. Its names are put among the words."""
+    """The scripts of a table: the head of short-scripts.txt says how they are written. Its names are put among the
+    words."""
     named = lambda text: re.sub(rb"\{(\w+)\}", lambda found: words[found[1]], text)
     for number, line in enumerate(content(path).split(b"\n"), 1):
         if not line or line.startswith(b"#"):

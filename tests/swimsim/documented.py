@@ -1,5 +1,5 @@
-"""The player of docs/CHECKING.md, as it stands there, beside swimsim: on files of ticks of a member that knows one other and asks no
-relays, as they are, with one answer changed, and with a call too many."""
+"""The player of docs/CHECKING.md, as it stands there, beside swimsim: on files of ticks of a member that knows one
+other and asks no relays, as they are, with one answer changed, and with a call too many."""
 
 import os
 import subprocess
@@ -31,7 +31,9 @@ def ran(words, text):
 
 def told_file(program, rtt, period, last, limit, ticks, state, *version):
     """A journal file of that many ticks, with what swimsim answers."""
-    head = [f"open 1 0 {rtt} {period} {last} {limit}", *version, *([] if state is None else [f"row 2 10.0.0.2:7000{state}"])]
+    head = [
+        f"open 1 0 {rtt} {period} {last} {limit}", *version, *([] if state is None else [f"row 2 10.0.0.2:7000{state}"])
+    ]
     head = ["journal 1", "# a comment", *head, "seed " + "5" * 64 + " 0"]
     played = ran([program], "\n".join([*head, *["tick"] * ticks, ""]))
     answers = [it for it in played.stdout.splitlines() if not it.startswith("> ")]
@@ -39,7 +41,8 @@ def told_file(program, rtt, period, last, limit, ticks, state, *version):
 
 
 def others_of(lines):
-    """The same file with something wrong: an answer changed, one left out with its call, a number changed, an answer too early."""
+    """The same file with something wrong: an answer changed, one left out with its call, a number changed, an answer
+    too early."""
     last = len(lines) - 1
     yield [*lines[:-1], lines[-1] + "x"]
     yield [*lines[:-3], *lines[-1:]]
@@ -66,6 +69,8 @@ def by_the_player_of_a_document(program):
                     file.write(text)
                 statuses = ran([sys.executable, *paths], "").returncode, ran([program, paths[1]], "").returncode
                 wanted = (int(place > 0),) * 2
-                said += [f"{values}, change {place}: the player and swimsim end with {statuses}"] if statuses != wanted else []
+                said += [
+                    f"{values}, change {place}: the player and swimsim end with {statuses}"
+                ] if statuses != wanted else []
             os.remove(paths[1])
     return said

@@ -68,7 +68,8 @@ CAUSES = [
     (OPEN + b"row 2 10.0.0.2:07000\n", told("line 2: peer", ["row 2 10.0.0.2:07000", "      ^^^^^^^^^^^^^^"], PEER,
      "a number has no sign and no zero in front")),
     # a host's name, with and without a port
-    (OPEN + b"row 2 db-1.example:7000\n", told("line 2: peer", ["row 2 db-1.example:7000", "      ^^^^^^^^^^^^^^^^^"], PEER,
+    (OPEN + b"row 2 db-1.example:7000\n",
+     told("line 2: peer", ["row 2 db-1.example:7000", "      ^^^^^^^^^^^^^^^^^"], PEER,
      "a host's name stands there: an address has numbers alone")),
     (OPEN + b"join 2 localhost\n", told("line 2: peer", ["join 2 localhost", "       ^^^^^^^^^"], PEER,
      "a host's name stands there: an address has numbers alone")),
@@ -89,7 +90,10 @@ CAUSES = [
      "a comment has a line of its own, which begins with #")),
     # two letters that are swapped, at the end and in front
     (OPEN + b"tikc\n", told("line 2: word", ["tikc", "^^^^"], ANY, "two letters of tick are swapped")),
-    (b"poen 1 0 1 3 0 100\n", told("line 1: word", ["poen 1 0 1 3 0 100", "^^^^"], FIRST, "two letters of open are swapped")),
+    (
+        b"poen 1 0 1 3 0 100\n",
+        told("line 1: word", ["poen 1 0 1 3 0 100", "^^^^"], FIRST, "two letters of open are swapped"),
+    ),
     (OPEN + b"wrie 2\n", told("line 2: word", ["wrie 2", "^^^^"], ANY, "two letters of wire are swapped")),
     (OPEN + b"ticck\n", told("line 2: word", ["ticck", "^^^^^"], ANY)),
     (OPEN + b"itkc\n", told("line 2: word", ["itkc", "^^^^"], ANY)),
@@ -105,14 +109,19 @@ CAUSES = [
      "it has 3 digits, an odd number")),
 ]
 
+NO_LINE = "line 0: word\n  expected: " + FIRST
+NO_LINE += "\n  cause: the script has no line but empty ones and comments\n" + NOTHING
 # each fault, with no cause to be seen or one that other lines tell
 FAULTS = [
-    (b"", "line 0: word\n  expected: " + FIRST + "\n  cause: the script has no line but empty ones and comments\n" + NOTHING),
-    (b"# alone\n\n", "line 0: word\n  expected: " + FIRST + "\n  cause: the script has no line but empty ones and comments\n" + NOTHING),
+    (b"", NO_LINE),
+    (b"# alone\n\n", NO_LINE),
     (b"\ntick\n", told("line 2: word", ["tick", "^^^^"], FIRST)),
     (OPEN + b"tock\n", told("line 2: word", ["tock", "^^^^"], ANY)),
     (OPEN + b"tick\ntock", told("line 3: word", ["tock", "^^^^"], EVENT, None, ONE)),
-    (OPEN + OPEN, told("line 2: word", ["open 1 0 1 3 0 100", "^^^^"], ANY, "the opening stands once, as the first line")),
+    (
+        OPEN + OPEN,
+        told("line 2: word", ["open 1 0 1 3 0 100", "^^^^"], ANY, "the opening stands once, as the first line"),
+    ),
     (OPEN + b"tick\n" + OPEN, told("line 3: word", ["open 1 0 1 3 0 100", "^^^^"], EVENT,
      "the opening stands once, as the first line", ONE)),
     (OPEN + b"tick\ntick\n" + ROW, told("line 4: word", ["row 2 10.0.0.2:7000", "^^^"], EVENT,
@@ -123,7 +132,10 @@ FAULTS = [
      "line 2 tells an order or a place, so no seed is followed")),
     (OPEN + b"place 2\nplace 3\nseed 00\n", told("line 4: seed", ["seed 00", "^^^^"], CHOOSER,
      "line 2 tells an order or a place, so no seed is followed")),
-    (OPEN + b"row 4294967296 10.0.0.2:7000\n", told("line 2: number", ["row 4294967296 10.0.0.2:7000", "    ^^^^^^^^^^"], ID)),
+    (
+        OPEN + b"row 4294967296 10.0.0.2:7000\n",
+        told("line 2: number", ["row 4294967296 10.0.0.2:7000", "    ^^^^^^^^^^"], ID),
+    ),
     (OPEN + b"order 2,x,3\n", told("line 2: number", ["order 2,x,3", "        ^"], IDS)),
     (OPEN + b"order 2,03\n", told("line 2: number", ["order 2,03", "        ^^"], IDS,
      "a number has no sign and no zero in front")),
@@ -131,7 +143,10 @@ FAULTS = [
      ["order " + ",".join("7" * 129), "      " + "^" * 257], IDS, "it has 129 IDs")),
     (OPEN + b"row 2 10.0.0.256:7000\n", told("line 2: peer", ["row 2 10.0.0.256:7000", "      ^^^^^^^^^^^^^^^"], PEER)),
     (OPEN + b"wire 3\n", told("line 2: number", ["wire 3", "     ^"], VERSION)),
-    (OPEN + b"wire 02 x\n", told("line 2: number", ["wire 02 x", "     ^^"], VERSION, "a number has no sign and no zero in front")),
+    (
+        OPEN + b"wire 02 x\n",
+        told("line 2: number", ["wire 02 x", "     ^^"], VERSION, "a number has no sign and no zero in front"),
+    ),
     (OPEN + b"wire\n", told("line 2: number", ["wire", "    ^"], VERSION, "the line ends before it")),
     (OPEN + b"wire 2 1\n", told("line 2: extra", ["wire 2 1", "       ^"], "the end of the line")),
     (OPEN + b"wire 2\nwire 1\n", told("line 3: word", ["wire 1", "^^^^"], ANY, "the version is told once")),
@@ -142,7 +157,10 @@ FAULTS = [
     (OPEN + b"hear 10.0.0.2:7000 0g\n", told("line 2: hex", ["hear 10.0.0.2:7000 0g", "                   ^^"], HEX)),
     (OPEN + b"tick now\n", told("line 2: extra", ["tick now", "     ^^^"], "the end of the line")),
     (OPEN + b"\xc3\xa9\x00\n", told("line 2: word", ["\\xc3\\xa9\\x00", "^^^^^^^^^^^^"], ANY)),
-    (OPEN + b"#" * 2049 + b"\n", "line 2: long\n  expected: at most 2048 bytes in a line\n  cause: it has 2049 bytes\n" + NOTHING),
+    (
+        OPEN + b"#" * 2049 + b"\n",
+        "line 2: long\n  expected: at most 2048 bytes in a line\n  cause: it has 2049 bytes\n" + NOTHING,
+    ),
     (b"#\n" * 8_388_608 + b"#", "line 8388609: size\n  expected: at most 16777216 bytes in a script\n" + NOTHING),
 ]
 
@@ -173,24 +191,29 @@ REQUEST = b"hear 10.0.0.2:7000 535702020000000200000002000000090000000000000009"
 RUNS = [
     (OPEN, NOTHING),
     # the member never answers, and two acks come for no probe
-    (OPEN + ROW + b"tick\ntick\ntick\ntick\n" + ACK + ACK + b"join 1 10.0.0.1:7000\nhear 10.0.0.2:7000 00\ntable\ngap 2\n",
-     "entries 7\nperiods 2\njudged 2 in period 1\ndropped 6 stray: 2\nrefused 1 myself: 1\nwire 1 neither 24 nor 30 bytes: 1\n"),
-    # bytes that are nearly a ping-req of version 2: without its address, with an address whose port is 0, twice, and with a byte more
+    (OPEN + ROW + b"tick\n" * 4 + ACK + ACK + b"join 1 10.0.0.1:7000\nhear 10.0.0.2:7000 00\ntable\ngap 2\n",
+     "entries 7\nperiods 2\njudged 2 in period 1\ndropped 6 stray: 2\nrefused 1 myself: 1\n"
+     "wire 1 neither 24 nor 30 bytes: 1\n"),
+    # bytes that are nearly a ping-req of version 2: without its address, with an address whose port is 0, twice, and
+    # with a byte more
     (OPEN + ROW + REQUEST + b"\n" + (REQUEST + b"0a0000090000\n") * 2 + REQUEST + b"0a0000091b5800\n",
      "entries 0\nperiods 0\nwire 1 neither 24 nor 30 bytes: 1\n"
      "wire 7 not as many bytes as its version and kind have: 1\nwire 8 the port is 0: 2\n"),
     # another version, and no datagram at all
-    (OPEN + ROW + b"hear 10.0.0.2:7000 535703010000000000000000000000000000000000000000\nhear 10.0.0.2:7000 %s\n" % (b"0" * 60),
-     "entries 0\nperiods 0\nwire 2 the first two bytes are not 53 57: 1\nwire 3 neither of version 1 nor of version 2: 1\n"),
+    (OPEN + ROW + b"hear 10.0.0.2:7000 53570301%s\nhear 10.0.0.2:7000 %s\n" % (b"0" * 40, b"0" * 60),
+     "entries 0\nperiods 0\nwire 2 the first two bytes are not 53 57: 1\n"
+     "wire 3 neither of version 1 nor of version 2: 1\n"),
     # a journal with room for one entry
     (b"open 1 0 1 3 0 1\ntick\ntick\ntick\n", "entries 1\nperiods 1\njournal full: 2\n"),
     # the first order is none of the two members, and no other round begins; one place is drawn
-    (OPEN + b"order 2,4\norder 3,2\norder 2,3\nplace 0\nplace 9\n" + ROW + b"row 3 10.0.0.3:7000\n" + b"tick\n" * 7 + b"join 4 10.0.0.4:7000\n",
+    (OPEN + b"order 2,4\norder 3,2\norder 2,3\nplace 0\nplace 9\n" + ROW + b"row 3 10.0.0.3:7000\n" + b"tick\n" * 7
+     + b"join 4 10.0.0.4:7000\n",
      "entries 8\nperiods 3\njudged 2 in period 1\njudged 3 in period 2\n"
      "line 2: this order is none of the members that were to be put in order\n"
      "line 3: this order was left over\nline 4: this order was left over\nline 6: this place was left over\n"),
     # a relay is chosen among 3 and 4 by line 3; in the next period 4 alone may be one, and line 4 names another
-    (b"open 1 1 1 3 0 100\norder 2,3,4\norder 4,3\norder 2\n" + ROW + b"row 3 10.0.0.3:7000\nrow 4 10.0.0.4:7000\n" + b"tick\n" * 5,
+    (b"open 1 1 1 3 0 100\norder 2,3,4\norder 4,3\norder 2\n" + ROW + b"row 3 10.0.0.3:7000\nrow 4 10.0.0.4:7000\n"
+     + b"tick\n" * 5,
      "entries 5\nperiods 2\njudged 2 in period 1\n"
      "line 4: this order is none of the members that were to be put in order\n"),
 ]
@@ -209,7 +232,9 @@ USED = "rows that failed in periods from 1 to LAST"
 
 def differs(line, mark, cause=None, wanted=NEWEST):
     """Of a line that tells the first tick's answer: the marks below it."""
-    return JOURNAL + ROW + b"tick\n" + line.encode(), told("line 5: differs", [line.replace("\r", "\\r"), mark], wanted, cause, ONE)
+    return JOURNAL + ROW + b"tick\n" + line.encode(), told(
+        "line 5: differs", [line.replace("\r", "\\r"), mark], wanted, cause, ONE
+    )
 
 
 JOURNALS = [
@@ -223,25 +248,40 @@ JOURNALS = [
     differs("= ", "  ^", "the line ends before it"),
     differs("= 0 started judged - probe 2 1\r", " " * 30 + "^^",
             "the line ends with a carriage return, as lines of another system do: a line feed alone ends a line"),
-    (JOURNAL + b"gap 2\n= 0 quiet\n", told("line 4: differs", ["= 0 quiet", "^"], "a call before it: tick, hear, join or remove")),
+    (
+        JOURNAL + b"gap 2\n= 0 quiet\n",
+        told("line 4: differs", ["= 0 quiet", "^"], "a call before it: tick, hear, join or remove"),
+    ),
     # other faults, and words that stand in journal files alone
     (JOURNAL + ROW + b"tick\n=\n", told("line 5: word", ["=", "^"], MORE, None, ONE)),
     (JOURNAL + b"tick\n" + ROW, told("line 4: word", ["row 2 10.0.0.2:7000", "^^^"], MORE,
      "line 3 is an event line: header lines stand before the first", ONE)),
-    (JOURNAL + OPEN, told("line 3: word", ["open 1 0 1 3 0 100", "^^^^"], ANY, "the opening stands once, as the first line")),
+    (
+        JOURNAL + OPEN,
+        told("line 3: word", ["open 1 0 1 3 0 100", "^^^^"], ANY, "the opening stands once, as the first line"),
+    ),
     (JOURNAL + b"= 0 quiet\n", told("line 3: word", ["= 0 quiet", "^"], ANY)),
     (b"journal 1\ntick\n", told("line 2: word", ["tick", "^^^^"], FIRST)),
     (JOURNAL + SEEDED + b" x\n", told("line 3: number", ["seed " + "0" * 64 + " x", " " * 70 + "^"], LIFE)),
     (JOURNAL + SEEDED + b" 01\n", told("line 3: number", ["seed " + "0" * 64 + " 01", " " * 70 + "^^"], LIFE,
      "a number has no sign and no zero in front")),
-    (JOURNAL + SEEDED + b" 1 2\n", told("line 3: extra", ["seed " + "0" * 64 + " 1 2", " " * 72 + "^"], "the end of the line")),
+    (
+        JOURNAL + SEEDED + b" 1 2\n",
+        told("line 3: extra", ["seed " + "0" * 64 + " 1 2", " " * 72 + "^"], "the end of the line"),
+    ),
     (JOURNAL + b"seed 00 x\n", told("line 3: hex", ["seed 00 x", "     ^^"], SEED, "it has 2 digits")),
     (JOURNAL + SEEDED + b" 1\nplace 0\n", told("line 4: seed", ["place 0", "^^^^^"], CHOOSER,
      "line 3 is a seed, from which orders and places are drawn")),
-    (JOURNAL + FAILED + b"\n", told("line 3: number", ["row 3 10.0.0.3:7000 failed", " " * 26 + "^"], PERIOD, "the line ends before it")),
+    (
+        JOURNAL + FAILED + b"\n",
+        told("line 3: number", ["row 3 10.0.0.3:7000 failed", " " * 26 + "^"], PERIOD, "the line ends before it"),
+    ),
     (JOURNAL + FAILED + b" 04\n", told("line 3: number", ["row 3 10.0.0.3:7000 failed 04", " " * 27 + "^^"], PERIOD,
      "a number has no sign and no zero in front")),
-    (JOURNAL + FAILED + b" 4 5\n", told("line 3: extra", ["row 3 10.0.0.3:7000 failed 4 5", " " * 29 + "^"], "the end of the line")),
+    (
+        JOURNAL + FAILED + b" 4 5\n",
+        told("line 3: extra", ["row 3 10.0.0.3:7000 failed 4 5", " " * 29 + "^"], "the end of the line"),
+    ),
     (JOURNAL + FAILED[:-6] + b"down\n", told("line 3: extra", ["row 3 10.0.0.3:7000 down", " " * 20 + "^^^^"], STATE)),
     (JOURNAL + FAILED[:-6] + b"\n", told("line 3: extra", ["row 3 10.0.0.3:7000 ", " " * 20 + "^"], STATE,
      "two spaces in a row, or one at the end of the line, have an empty word between them")),
@@ -249,14 +289,21 @@ JOURNALS = [
     # a member that failed in a period that was not used
     (JOURNAL + ROW + FAILED + b" 4\ntick\n", told("line 2: opening 6", ["open 1 0 1 3 0 100", " " * 13 + "^"], USED,
      "the row of line 4 failed in period 4, which was not used")),
-    (JOURNAL.replace(b"3 0", b"3 12") + FAILED + b" 12\n" + FAILED.replace(b"3 ", b"2 ", 1) + b" 0\n", told("line 2: opening 6",
+    (JOURNAL.replace(b"3 0", b"3 12") + FAILED + b" 12\n" + FAILED.replace(b"3 ", b"2 ", 1) + b" 0\n",
+     told("line 2: opening 6",
      ["open 1 0 1 3 12 100", " " * 13 + "^^"], USED, "the row of line 4 failed in period 0, which was not used")),
     (JOURNAL.replace(b"3 0", b"3 4") + ROW + FAILED + b" 4\ntick\n", ONE),
     (JOURNAL + ROW + b"tick\n" + NEWEST.encode() + b"\n", ONE),
     # the same in any other script
     (OPEN + ROW + b"tick\n" + NEWEST.encode() + b"\n", told("line 4: word", [NEWEST, "^"], EVENT, None, ONE)),
-    (OPEN + FAILED + b" 4\n", told("line 2: extra", ["row 3 10.0.0.3:7000 failed 4", " " * 20 + "^" * 6], "the end of the line")),
-    (OPEN + SEEDED + b" 1\n", told("line 2: extra", ["seed " + "0" * 64 + " 1", " " * 70 + "^"], "the end of the line")),
+    (
+        OPEN + FAILED + b" 4\n",
+        told("line 2: extra", ["row 3 10.0.0.3:7000 failed 4", " " * 20 + "^" * 6], "the end of the line"),
+    ),
+    (
+        OPEN + SEEDED + b" 1\n",
+        told("line 2: extra", ["seed " + "0" * 64 + " 1", " " * 70 + "^"], "the end of the line"),
+    ),
     (b"#\n" + JOURNAL, told("line 2: word", ["journal 1", "^^^^^^^"], FIRST)),
 ]
 

@@ -7,24 +7,37 @@ import tempfile
 
 from tests.swimsim.cases import SECONDS, content
 
-# Of member 1, which asks nobody, with a timeout of one tick, and periods of three ticks from 8 on. Members 2 and 3 never answer:
-# period 8 probes 2, which is judged at tick 4, and period 9 probes 3, which is judged at tick 7. In period 10 nobody is listed, until
-# 2 joins behind tick 8: period 11 probes it at tick 10, and it is judged at tick 13. 18 ticks are 6 periods, and 19 entries.
-JUDGED = b"open 1 0 1 3 7 100\nrow 2 10.0.0.2:7000\nrow 3 10.0.0.3:7000\norder 2,3\n" + b"tick\n" * 8 + b"join 2 10.0.0.2:7000\n" + b"tick\n" * 10
-OF_2 = ["probe of 2, period 11, tick 10", "no ack of 2 by the timeout, period 11: nobody asked, tick 11", "2 judged failed, period 11, tick 13"]
+# Of member 1, which asks nobody, with a timeout of one tick, and periods of three ticks from 8 on. Members 2 and 3
+# never answer: period 8 probes 2, which is judged at tick 4, and period 9 probes 3, which is judged at tick 7. In
+# period 10 nobody is listed, until 2 joins behind tick 8: period 11 probes it at tick 10, and it is judged at tick 13.
+# 18 ticks are 6 periods, and 19 entries.
+JUDGED = (
+    b"open 1 0 1 3 7 100\nrow 2 10.0.0.2:7000\nrow 3 10.0.0.3:7000\norder 2,3\n"
+    + b"tick\n" * 8
+    + b"join 2 10.0.0.2:7000\n"
+    + b"tick\n" * 10
+)
+OF_2 = [
+    "probe of 2, period 11, tick 10",
+    "no ack of 2 by the timeout, period 11: nobody asked, tick 11",
+    "2 judged failed, period 11, tick 13",
+]
 OF_BOTH = [
-    "probe of 2, period 8, tick 1", "no ack of 2 by the timeout, period 8: nobody asked, tick 2", "2 judged failed, period 8, tick 4",
-    "probe of 3, period 9, tick 4", "no ack of 3 by the timeout, period 9: nobody asked, tick 5", "3 judged failed, period 9, tick 7",
+    "probe of 2, period 8, tick 1", "no ack of 2 by the timeout, period 8: nobody asked, tick 2",
+    "2 judged failed, period 8, tick 4",
+    "probe of 3, period 9, tick 4", "no ack of 3 by the timeout, period 9: nobody asked, tick 5",
+    "3 judged failed, period 9, tick 7",
     "2 joined, tick 8", *OF_2,
 ]
 CUT = ["Cut: the first 9 ticks, and 10 entries, are left out."]
 # With 30 more ticks there are 16 periods, 8 to 23; round period 11 they are 8 to 16, ticks 1 to 27, of 48.
 LATER = JUDGED + b"tick\n" * 30
 BEHIND = ["Cut: the last 21 ticks, and 21 entries, are left out."]
-# With 30 ticks before, of period 8 to 17, in which nobody is known, and 30 behind: 2 is judged at the end of period 18, so periods 13 to 23
-# are shown, ticks 16 to 48, of 63.
+# With 30 ticks before, of period 8 to 17, in which nobody is known, and 30 behind: 2 is judged at the end of period 18,
+# so periods 13 to 23 are shown, ticks 16 to 48, of 63.
 ALONE = b"open 1 0 1 3 7 100\n" + b"tick\n" * 30 + b"join 2 10.0.0.2:7000\n" + b"tick\n" * 33
-ALL_OF_2 = ["2 joined, tick 30", "probe of 2, period 18, tick 31", "no ack of 2 by the timeout, period 18: nobody asked, tick 32",
+ALL_OF_2 = ["2 joined, tick 30", "probe of 2, period 18, tick 31",
+            "no ack of 2 by the timeout, period 18: nobody asked, tick 32",
             "2 judged failed, period 18, tick 34"]
 BOTH = ["Cut: the first 15 ticks, and 15 entries, and the last 15 ticks, and 15 entries, are left out."]
 DRAWN = [
@@ -42,7 +55,8 @@ REFUSED = [
     (["--around", "4"], "member 4 was not judged in this run"),
     (["--around", "1"], "member 1 was not judged in this run"),
 ]
-NUMBERS = [["--from", "0"], ["--around", "0"], ["--from", "x"], ["--around", ""], ["--from", "-1"], ["--around", "4294967296"],
+NUMBERS = [["--from", "0"], ["--around", "0"], ["--from", "x"], ["--around", ""], ["--from", "-1"],
+           ["--around", "4294967296"],
            ["--from", "18446744073709551616"], ["--from", "1", "--from", "2"]]
 
 
@@ -78,12 +92,14 @@ def with_a_part_of_a_picture(program):
 
 
 def with_other_numbers_of_a_part(program):
-    """A number that can't be one, a part without a picture, and two parts are refused before anything is played or written."""
+    """A number that can't be one, a part without a picture, and two parts are refused before anything is played or
+    written."""
     said = []
     with tempfile.TemporaryDirectory() as folder:
         path = f"{folder}/run.svg"
         tries = [["--timeline", path, *words] for words in NUMBERS]
-        tries += [["--from", "8"], ["--around", "2"], ["--timeline", path, "--from", "8", "--around", "2"], ["--timeline", path, "--from"],
+        tries += [["--from", "8"], ["--around", "2"], ["--timeline", path, "--from", "8", "--around", "2"],
+                  ["--timeline", path, "--from"],
                   ["--verify", path, "--from", "8"], ["--around", "2", "--verify", path]]
         for words in tries:
             ran = played(program, JUDGED, *words)

@@ -1,7 +1,9 @@
-"""Journal files that `swimsim --verify` is given, with what it has to tell of them, worked out by hand from docs/FORMATS.md.
+"""Journal files that `swimsim --verify` is given, with what it has to tell of them, worked out by hand from
+docs/FORMATS.md.
 
-In the histories below member 1 asks one relay (in `two_relays` two, in `one_member` none is there), waits one tick for an ack, and has
-periods of three ticks. No order is told, so that members 2 and 3 are probed in turn, and the first of them that may be asked is the relay.
+In the histories below member 1 asks one relay (in `two_relays` two, in `one_member` none is there), waits one tick for
+an ack, and has periods of three ticks. No order is told, so that members 2 and 3 are probed in turn, and the first of
+them that may be asked is the relay.
 """
 
 import os
@@ -61,17 +63,31 @@ def judgements():
     tells += "ack of 2 for period 1 at entry 4: too late\nack of 2 for period 1 at entry 5: too late\n"
     yield one("an ack that came too late, twice", [*HEAD, *late], 0, tells)
     strays = [(ack(2, 9), "dropped 6"), (ack(3, 1), "dropped 6")]
-    others = told(STARTED, strays[0], ASKED, QUIET, strays[1], JUDGED, (ack(2, 9), "dropped 6"), (ack(3, 1), "dropped 6"))
+    others = told(
+        STARTED, strays[0], ASKED, QUIET, strays[1], JUDGED, (ack(2, 9), "dropped 6"), (ack(3, 1), "dropped 6")
+    )
     tells = "a: entries 8 confirmed 8 periods 2 judged 1\n"
     tells += "judged 2 in period 1: probed at entry 0, relays 3 asked at entry 2, no ack of period 1 until entry 5\n"
     tells += "ack of 2 for period 9 at entry 1: another period\n"
     yield one("acks for another period, and of another member", [*HEAD, *others], 0, tells)
-    early = [(TICK, "started judged 2 probe 3 2"), (ack(3, 1), "dropped 6"), (TICK, "asked 3 2 by -"), QUIET, (TICK, "started judged 3 probe -")]
+    early = [
+        (TICK, "started judged 2 probe 3 2"),
+        (ack(3, 1), "dropped 6"),
+        (TICK, "asked 3 2 by -"),
+        QUIET,
+        (TICK, "started judged 3 probe -"),
+    ]
     tells = "a: entries 8 confirmed 8 periods 3 judged 2\n" + EVIDENCE
     tells += "judged 3 in period 2: probed at entry 3, no relays asked at entry 5, no ack of period 2 until entry 7\n"
     tells += "ack of 3 for period 1 at entry 4: another period\n"
     yield one("a second judgement, without relays", [*HEAD, *told(STARTED, ASKED, QUIET, *early)], 0, tells)
-    three = [FIRST, "open 1 2 1 3 0 1000\n", *ROWS, "row 4 10.0.0.4:7000\n", *told(STARTED, (TICK, "asked 2 1 by 3,4"), QUIET, JUDGED)]
+    three = [
+        FIRST,
+        "open 1 2 1 3 0 1000\n",
+        *ROWS,
+        "row 4 10.0.0.4:7000\n",
+        *told(STARTED, (TICK, "asked 2 1 by 3,4"), QUIET, JUDGED),
+    ]
     tells = "a: entries 4 confirmed 4 periods 2 judged 1\n" + EVIDENCE.replace("relays 3 ", "relays 3, 4 ")
     yield one("two relays", three, 0, tells)
     again = ("join 2 10.0.0.2:7000\n", "joined 1")
@@ -115,7 +131,9 @@ def times():
     at = lambda comment: [*HEAD, *WHOLE[4:6], *comment, *WHOLE[6:]]
     timed = TELLS.replace("entry 0,", "entry 0 (1764072000),")
     yield one("a time", at(["# 1764072000\n"]), 0, timed)
-    for comment in ("#1764072000\n", "# 01764072000\n", "# 1764072000 \n", "# about 1764072000\n", "#\n", "# 18446744073709551616\n"):
+    for comment in (
+        "#1764072000\n", "# 01764072000\n", "# 1764072000 \n", "# about 1764072000\n", "#\n", "# 18446744073709551616\n"
+    ):
         yield one(f"no time: {comment!r}", at([comment]), 0, TELLS)
     yield one("no time: a line between", at(["\n", "# 1764072000\n"]), 0, TELLS)
     yield one("no time: behind another line", [*HEAD, *WHOLE[4:8], "# 1764072000\n", *WHOLE[8:]], 0, TELLS)
@@ -124,11 +142,14 @@ def times():
 
 
 def differences():
-    """Lines of WHOLE that are missing, or stand twice: the lines are counted from 1, and the calls are lines 5, 7, 9 and 11."""
+    """Lines of WHOLE that are missing, or stand twice: the lines are counted from 1, and the calls are lines 5, 7, 9
+    and 11."""
     fault = lambda line, text: f"swimsim: a: line {line}: {text}\n"
     unanswered = lambda line, entry: fault(line, f"no answer stands behind the call of entry {entry}")
     foreign = "swimsim: a: it is no journal file: its first line isn't `journal 1`\n"
-    tells = lambda entries, confirmed, periods: f"a: entries {entries} confirmed {confirmed} periods {periods} judged 0\n"
+    tells = (
+        lambda entries, confirmed, periods: f"a: entries {entries} confirmed {confirmed} periods {periods} judged 0\n"
+    )
     dropped = {
         1: ("", foreign),
         2: (tells(0, 0, 0), fault(2, "word, before entry 0")),
@@ -211,14 +232,27 @@ def lives():
     empty = "two: entries 0 confirmed 0 periods 0 judged 0\n"
     yield Verified("a second life without a call", both(ONE, header), 0, ONE_TELLS + empty)
     stderr = "swimsim: two: does not follow one: its life isn't the next\n"
-    yield Verified("another second life without a call", both(ONE, header.replace(f"{SEED} 1", f"{SEED} 7")), 1, ONE_TELLS + empty, stderr)
+    yield Verified(
+        "another second life without a call",
+        both(ONE, header.replace(f"{SEED} 1", f"{SEED} 7")),
+        1,
+        ONE_TELLS + empty,
+        stderr,
+    )
     yield Verified("a second life whose header is cut", both(ONE, header[: header.index("row")]), 0, ONE_TELLS + empty)
-    yield Verified("the same, in the midst of a line", both(ONE, header[: header.index("seed") + 9]), 0, ONE_TELLS + empty + "cut before entry 0\n")
+    yield Verified(
+        "the same, in the midst of a line",
+        both(ONE, header[: header.index("seed") + 9]),
+        0,
+        ONE_TELLS + empty + "cut before entry 0\n",
+    )
     cut = ONE_TELLS.splitlines(True)[0].replace("4 confirmed 4 periods 2 judged 1", "4 confirmed 3 periods 1 judged 0")
     stderr = "swimsim: two: does not follow one: what one left isn't known, as it isn't whole\n"
     shorter = "".join(ONE.splitlines(True)[:-1])
     yield Verified("a first life that is cut", both(shorter, TWO), 1, cut + "cut behind entry 2\n" + TWO_TELLS, stderr)
-    yield Verified("a second life that is cut", both(ONE, TWO + "ti"), 0, ONE_TELLS + TWO_TELLS + "cut behind entry 0\n")
+    yield Verified(
+        "a second life that is cut", both(ONE, TWO + "ti"), 0, ONE_TELLS + TWO_TELLS + "cut behind entry 0\n"
+    )
 
 
 def expected_of_front(text):
@@ -307,16 +341,26 @@ def same_or_told(program, text):
 def verified_with_other_words(program):
     """`--verify` stands beside files alone, of which there is one at least, and which can be opened."""
     said = []
-    for words in (["--verify"], ["--verify", "a", "--decode"], ["--explain", "--verify", "a"], ["--verify", "a", "--", "b"], ["--force", "--verify", "a"]):
+    for words in (
+        ["--verify"],
+        ["--verify", "a", "--decode"],
+        ["--explain", "--verify", "a"],
+        ["--verify", "a", "--", "b"],
+        ["--force", "--verify", "a"],
+    ):
         ran = subprocess.run([program, *words], capture_output=True, timeout=SECONDS)
         if ran.returncode != 2 or ran.stdout or not ran.stderr.startswith(b"error: "):
             said.append(f"{words}: {ran}")
     ran = subprocess.run([program, "--verify", "/nowhere", "/"], capture_output=True, timeout=SECONDS)
     lines = ran.stderr.splitlines()
-    named = len(lines) == 2 and all(line.startswith(b"swimsim: " + path + b": ") for line, path in zip(lines, (b"/nowhere", b"/")))
+    named = len(lines) == 2 and all(
+        line.startswith(b"swimsim: " + path + b": ") for line, path in zip(lines, (b"/nowhere", b"/"))
+    )
     if ran.returncode != 1 or ran.stdout or not named:
         said.append(f"files that can't be opened: {ran}")
-    ran = subprocess.run([program, "--verify", "-"], input="".join(WHOLE).encode(), capture_output=True, timeout=SECONDS)
+    ran = subprocess.run(
+        [program, "--verify", "-"], input="".join(WHOLE).encode(), capture_output=True, timeout=SECONDS
+    )
     return said + difference("of standard input", TELLS.replace("a:", "-:", 1).encode(), ran.stdout)
 
 
@@ -324,5 +368,7 @@ def verified_cases():
     for make in CASES:
         for case in make():
             yield f"verified: {make.__name__}: {case.name}", lambda program, case=case: verified(program, case)
-    for attempt in (verified_with_other_digits, verified_with_another_version, verified_with_moved_lines, verified_with_other_words):
+    for attempt in (
+        verified_with_other_digits, verified_with_another_version, verified_with_moved_lines, verified_with_other_words
+    ):
         yield attempt.__name__, attempt

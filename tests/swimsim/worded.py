@@ -97,8 +97,8 @@ def names_in_formats():
 
 
 def with_names(program):
-    """Each number of a reason is followed by the name that docs/FORMATS.md lists, and each of them comes up; all else on
-    standard output is as it is without the word. A fault's line stays the first on standard error."""
+    """Each number of a reason is followed by the name that docs/FORMATS.md lists, and each of them comes up; all else
+    on standard output is as it is without the word. A fault's line stays the first on standard error."""
     names, met, said, words = names_in_formats(), set(), [], {}
     cases = [it for folder in SCRIPTS for it in kept_scripts(folder)]
     cases += [it for path in EVENTS for it in short_scripts(path, words)]
@@ -149,8 +149,8 @@ def with_both(program):
 
 
 def with_a_picture(program):
-    """The run is drawn into the file, and all else is as without the word. A file that can't be written is named, and so is one
-    for which there is nothing to draw."""
+    """The run is drawn into the file, and all else is as without the word. A file that can't be written is named, and
+    so is one for which there is nothing to draw."""
     script, wanted = "examples/first.swim", re.escape(content("examples/first.stdout"))
     with tempfile.TemporaryDirectory() as folder:
         path, nowhere = f"{folder}/run.svg", f"{folder}/none/run.svg"
@@ -159,7 +159,9 @@ def with_a_picture(program):
         said = called(program, [
             Called(["--timeline", path], 1, b"", nothing, OPENED[: OPENED.index(b"tick")]),
             Called(["--timeline", nowhere, script], 1, wanted, named(nowhere, rb"[^\n]+")),
-            Called(["--timeline", "/dev/full", script], 1, wanted, named("/dev/full", rb"the picture can't be written")),
+            Called(
+                ["--timeline", "/dev/full", script], 1, wanted, named("/dev/full", rb"the picture can't be written")
+            ),
             Called(["--timeline", path, script], 0, wanted, b""),
             Called([f"--timeline={path}", "--explain", script], 0, wanted, rb"(?s)entries .*"),
         ])
@@ -168,8 +170,9 @@ def with_a_picture(program):
 
 
 def with_a_picture_over_a_file(program):
-    """A picture is drawn over a picture of ours and over an empty file, and over nothing else: not over the script that is played,
-    whether it is named or standard input, nor over another program's picture or a part of ours. With `--force` it is."""
+    """A picture is drawn over a picture of ours and over an empty file, and over nothing else: not over the script that
+    is played, whether it is named or standard input, nor over another program's picture or a part of ours. With
+    `--force` it is."""
     script, ours = content("examples/first.swim"), content("docs/timeline.svg")
     kept = {
         "played.swim": script,
@@ -189,7 +192,8 @@ def with_a_picture_over_a_file(program):
 
 
 def drawn_over(program, path, script, is_kept):
-    """What isn't so of a picture over the file of this path, which has to be kept or not; in the end it is drawn over it anyway."""
+    """What isn't so of a picture over the file of this path, which has to be kept or not; in the end it is drawn over
+    it anyway."""
     wanted, held = re.escape(content("examples/first.stdout")), content(path)
     fault = b"it holds something else than a picture of swimsim: --force writes over it"
     refusal = b"swimsim: " + re.escape(path.encode()) + b": " + fault + b"\n" if is_kept else b""
@@ -231,14 +235,27 @@ def with_a_file_that_cannot_be_read(program):
             file.write(OPENED)
         os.chmod(secret, 0)
         named = lambda path: b"swimsim: " + re.escape(path.encode()) + rb": [^\n]+\n"
-        said = called(program, [Called([it], 1, b"", named(it), OPENED) for it in ("", f"{folder}/nowhere.swim", folder)])
+        said = called(
+            program, [Called([it], 1, b"", named(it), OPENED) for it in ("", f"{folder}/nowhere.swim", folder)]
+        )
         # whoever may read everything becomes nobody first
         become = (lambda: os.setuid(65534)) if os.getuid() == 0 else None
-        ran = subprocess.run([copy, secret], stdin=subprocess.DEVNULL, capture_output=True, timeout=SECONDS, preexec_fn=become)
+        ran = subprocess.run(
+            [copy, secret], stdin=subprocess.DEVNULL, capture_output=True, timeout=SECONDS, preexec_fn=become
+        )
         if ran.returncode != 1 or ran.stdout or not ran.stderr.startswith(f"swimsim: {secret}: ".encode()):
             said.append(f"a file that may not be read: {ran}")
         return said
 
 
-ATTEMPTS = [with_a_file, with_decode, with_names, with_explain, with_failures, with_both, with_a_picture, with_a_picture_over_a_file]
+ATTEMPTS = [
+    with_a_file,
+    with_decode,
+    with_names,
+    with_explain,
+    with_failures,
+    with_both,
+    with_a_picture,
+    with_a_picture_over_a_file,
+]
 ATTEMPTS += [with_help, with_other_words, with_a_file_that_cannot_be_read]

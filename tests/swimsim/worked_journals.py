@@ -1,4 +1,5 @@
-"""Journal files with what swimsim has to write for them, worked out by hand from docs/FORMATS.md, as in worked_scripts.py."""
+"""Journal files with what swimsim has to write for them, worked out by hand from docs/FORMATS.md, as in
+worked_scripts.py."""
 
 FIRST = "journal 1\n"
 ROWS = "row 2 10.0.0.2:7000\nrow 3 10.0.0.3:7000\n"
@@ -37,7 +38,11 @@ def answers_as_they_were():
     yield good("some answers are told", FIRST + OPEN + "tick\ntick\n" + TOLD[1] + "tick\n", STARTED + ASKED + "quiet\n")
     yield good("an answer is told twice", FIRST + OPEN + "tick\n" + TOLD[0] + "\n# again\n" + TOLD[0], STARTED)
     shows = FIRST + OPEN + "tick\ngap 2\n" + TOLD[0] + "hear 10.0.0.2:7000 53\n" + TOLD[0] + "table\n" + TOLD[0]
-    yield good("behind lines that make no entry", shows, STARTED + "gap none\nwire 1\n2 10.0.0.2:7000 up\n3 10.0.0.3:7000 up\n.\n")
+    yield good(
+        "behind lines that make no entry",
+        shows,
+        STARTED + "gap none\nwire 1\n2 10.0.0.2:7000 up\n3 10.0.0.3:7000 up\n.\n",
+    )
     full = FIRST + OPEN.replace("1000", "1") + "tick\ntick\n" + TOLD[0]
     yield good("behind a call that meets the full journal", full, STARTED + "journal full\n")
     yield good("comments behind the first line", FIRST + "\n# a comment\n" + OPEN + "tick\n" + TOLD[0], STARTED)
@@ -91,9 +96,13 @@ def answers_that_differ():
     yield bad("differs: a last line that is cut", two + "= 1 asked 2 1", "line 8: differs", STARTED + ASKED)
     later = FIRST + OPEN + "tick\n# a comment\n" + TOLD[0] + "tick\n\ntable\n" + TOLD[0]
     table = "2 10.0.0.2:7000 up\n3 10.0.0.3:7000 up\n.\n"
-    yield bad("differs: an earlier entry, behind lines that are skipped", later, "line 11: differs", STARTED + ASKED + table)
+    yield bad(
+        "differs: an earlier entry, behind lines that are skipped", later, "line 11: differs", STARTED + ASKED + table
+    )
     yield bad("differs: there is no entry", FIRST + OPEN + "gap 2\n= 0 quiet\n", "line 6: differs", "gap none\n")
-    yield bad("differs: there is no entry, and it says so", FIRST + OPEN + "gap 2\n= none\n", "line 6: differs", "gap none\n")
+    yield bad(
+        "differs: there is no entry, and it says so", FIRST + OPEN + "gap 2\n= none\n", "line 6: differs", "gap none\n"
+    )
     full = FIRST + OPEN.replace("1000", "1") + "tick\ntick\n"
     yield bad("differs: a call met the full journal", full + TOLD[1], "line 7: differs", STARTED + "journal full\n")
     wire = FIRST + OPEN + "hear 10.0.0.2:7000 53\n= 0 wire 1\n"
@@ -118,7 +127,17 @@ def other_first_lines():
     told = OPEN + "tick\n" + TOLD[0]
     yield bad("a script tells no answer", told, "line 5: word", STARTED)
     yield bad("a script tells no life", OPEN + SEED + " 0\ntick\n", "line 4: extra")
-    for first in ("journal 2", "journal 01", "journal", "journal 1 ", "journal  1", " journal 1", "Journal 1", "journal 1\r", "journal 1 x"):
+    for first in (
+        "journal 2",
+        "journal 01",
+        "journal",
+        "journal 1 ",
+        "journal  1",
+        " journal 1",
+        "Journal 1",
+        "journal 1\r",
+        "journal 1 x",
+    ):
         yield bad(f"the first line {first!r}", f"{first}\n" + told, "line 1: word")
     yield bad("journal behind an empty line", "\n" + FIRST + told, "line 2: word")
     yield bad("journal behind a comment", "# a comment\n" + FIRST + told, "line 2: word")
@@ -150,7 +169,8 @@ def lives():
 
 
 def members_that_failed():
-    """Member 3 failed in period 4 of an earlier life, of which 9 periods were used. It is known, and neither probed nor asked."""
+    """Member 3 failed in period 4 of an earlier life, of which 9 periods were used. It is known, and neither probed nor
+    asked."""
     head = FIRST + "open 1 1 1 3 9 1000\nrow 3 10.0.0.3:7000 failed 4\nrow 2 10.0.0.2:7000\n"
     ping = "> 10.0.0.2:7000 53570101000000010000000100000002000000000000000a\n"
     shown = "2 10.0.0.2:7000 up\n3 10.0.0.3:7000 failed 4\n.\n"
@@ -164,7 +184,9 @@ def members_that_failed():
         ("join 3 10.0.0.3:7001\n= 4 refused 2\n", "refused 2\n"),
         ("table\n", shown.replace("7000 failed 4", "7001 up")),
     ]
-    yield good("a member that failed before", head + "".join(call for call, _ in calls), "".join(answer for _, answer in calls))
+    yield good(
+        "a member that failed before", head + "".join(call for call, _ in calls), "".join(answer for _, answer in calls)
+    )
     gone = head + "remove 3\n= 0 removed\nremove 3\n= 1 refused 4\ntable\n"
     yield good("a member that failed before is removed", gone, "removed\nrefused 4\n2 10.0.0.2:7000 up\n.\n")
     alone = FIRST + "open 1 1 1 3 9 1000\nrow 3 10.0.0.3:7000 failed 9\ntick\n= 0 started judged - probe -\n"
@@ -175,18 +197,28 @@ def members_that_failed():
     yield good("as many as may be known, all of which failed before", full, "refused 3\njoined 0\n")
     last = "18446744073709551615"
     spent = FIRST + f"open 1 1 1 3 {last} 9\nrow 2 10.0.0.2:7000 failed {last}\ntable\ntick\n= 0 refused 5\n"
-    yield good("a member that failed in the last period of all", spent, f"2 10.0.0.2:7000 failed {last}\n.\nrefused 5\n")
+    yield good(
+        "a member that failed in the last period of all", spent, f"2 10.0.0.2:7000 failed {last}\n.\nrefused 5\n"
+    )
 
 
 def words_of_a_member_that_failed():
     head = FIRST + "open 1 1 1 3 9 1000\n"
-    others = [" ", " x", " up", " Failed 4", " failed4", " faile", " failedd 4", " 4", "  failed 4", " failed\r", " failed\t4"]
+    others = [
+        " ", " x", " up", " Failed 4", " failed4", " faile", " failedd 4", " 4", "  failed 4", " failed\r", " failed\t4"
+    ]
     for end in others:
         yield bad(f"a row with {end!r} behind it", head + f"row 3 10.0.0.3:7000{end}\n", "line 3: extra")
-    for end in ("", " ", " x", " 04", " -4", " +4", " 4\r", "  4", " 18446744073709551616", " 0x4", " four", " 4,5", " x 5"):
+    for end in (
+        "", " ", " x", " 04", " -4", " +4", " 4\r", "  4", " 18446744073709551616", " 0x4", " four", " 4,5", " x 5"
+    ):
         yield bad(f"a row that failed{end!r}", head + f"row 3 10.0.0.3:7000 failed{end}\n", "line 3: number")
     for end in (" 4 ", " 4 5", " 4 failed 4", " 0 x"):
-        yield bad(f"a row that failed{end!r}, with words left over", head + f"row 3 10.0.0.3:7000 failed{end}\n", "line 3: extra")
+        yield bad(
+            f"a row that failed{end!r}, with words left over",
+            head + f"row 3 10.0.0.3:7000 failed{end}\n",
+            "line 3: extra",
+        )
     yield bad("a bad ID before what is behind the address", head + "row 0 10.0.0.3:7000 failed x\n", "line 3: number")
     yield bad("a bad address before what is behind it", head + "row 3 10.0.0.3 failed x\n", "line 3: peer")
     yield bad("a script tells nobody that failed", OPEN + "row 4 10.0.0.4:7000 failed 4\n", "line 4: extra")
@@ -196,18 +228,25 @@ def words_of_a_member_that_failed():
 
 
 def periods_that_were_not_used():
-    """A member failed in a period from 1 to LAST, and any other number is told where no other fault of the opening is."""
+    """A member failed in a period from 1 to LAST, and any other number is told where no other fault of the opening
+    is."""
     head, row = FIRST + "# the opening is in line 3\nopen 1 1 1 3 9 1000\n", "row 3 10.0.0.3:7000 failed"
     for number in (1, 2, 8, 9):
         yield good(f"a member failed in period {number} of 9", head + f"{row} {number}\ngap 3\n", "gap none\n")
     for number in (0, 10, 11, 2**32, 2**64 - 1):
         yield bad(f"a member failed in period {number} of 9", head + f"{row} {number}\ngap 3\n", "line 3: opening 6")
-        yield bad(f"a member failed in period {number} of 9, at the end", head + f"{row} {number}\n", "line 3: opening 6")
+        yield bad(
+            f"a member failed in period {number} of 9, at the end", head + f"{row} {number}\n", "line 3: opening 6"
+        )
     for number in (0, 1):
         none = FIRST + f"open 1 1 1 3 0 9\n{row} {number}\n"
         yield bad(f"a member failed in period {number}, and none was used", none, "line 2: opening 6")
-    yield bad("the second of two failed in no period", head + f"{row} 4\n{row.replace('3', '4')} 0\n", "line 3: opening 6")
-    yield bad("the first of two failed in no period", head + f"{row} 0\n{row.replace('3', '4')} 4\n", "line 3: opening 6")
+    yield bad(
+        "the second of two failed in no period", head + f"{row} 4\n{row.replace('3', '4')} 0\n", "line 3: opening 6"
+    )
+    yield bad(
+        "the first of two failed in no period", head + f"{row} 0\n{row.replace('3', '4')} 4\n", "line 3: opening 6"
+    )
     yield bad("too many relays first", head.replace("1 1 1 3 9", "1 9 1 3 9") + f"{row} 0\n", "line 3: opening 1")
     yield bad("the timing first", head.replace("1 1 1 3 9", "1 1 1 2 9") + f"{row} 0\n", "line 3: opening 2")
     many = "".join(f"row {id} 10.0.0.2:7000 failed 0\n" for id in range(2, 131))
@@ -223,5 +262,7 @@ def periods_that_were_not_used():
 def worked_journals():
     for part in (answers_as_they_were, each_kind_of_answer, answers_that_differ, lines_that_tell_no_answer):
         yield from part()
-    for part in (other_first_lines, lives, members_that_failed, words_of_a_member_that_failed, periods_that_were_not_used):
+    for part in (
+        other_first_lines, lives, members_that_failed, words_of_a_member_that_failed, periods_that_were_not_used
+    ):
         yield from part()

@@ -1,8 +1,8 @@
 """Scripts with the answers that they must have, worked out by hand from the rules.
 
-tests/swimsim/run gives them to swimsim. They are also the ground on which the reference stands: tests/swimsim/compare gives them
-to both programs first. Each is (name, script,
-standard output, standard error, status), as in made_scripts.py. Those of worked_journals.py and worked_versions.py are among them.
+tests/swimsim/run gives them to swimsim. They are also the ground on which the reference stands: tests/swimsim/compare
+gives them to both programs first. Each is (name, script, standard output, standard error, status), as in
+made_scripts.py. Those of worked_journals.py and worked_versions.py are among them.
 """
 
 from tests.swimsim.worked_journals import worked_journals
@@ -162,7 +162,8 @@ asked 2 1 by 5,3
 
 
 def seeded_rounds():
-    """The first shuffle of five is 4 3 2 1 5 by places, the second 3 1 2 4 5, and the places of nine then 1, 7, 1, 8."""
+    """The first shuffle of five is 4 3 2 1 5 by places, the second 3 1 2 4 5, and the places of nine then 1, 7, 1,
+    8."""
     head = "open 9 0 1 3 0 1000\nseed " + "0" * 64 + "\n"
     head += "".join(f"row {id} 10.0.0.{id}:7000\n" for id in range(1, 6))
     stdout = """\

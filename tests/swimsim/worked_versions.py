@@ -1,5 +1,5 @@
-"""Scripts over both versions of a datagram, with the answers that they must have, worked out by hand from docs/FORMATS.md and
-docs/PROTOCOL.md, as in worked_scripts.py."""
+"""Scripts over both versions of a datagram, with the answers that they must have, worked out by hand from
+docs/FORMATS.md and docs/PROTOCOL.md, as in worked_scripts.py."""
 
 OPEN = "open 1 1 1 3 0 100\n"
 ROWS = "row 2 10.0.0.2:7000\nrow 3 10.0.0.3:7000\n"
@@ -84,7 +84,9 @@ def a_relay_pings_whom_it_does_not_list():
         yield good(f"the same, and an ack of version 2, twice: {name}", head + REQUEST_2 + ACK_2 * 2, twice)
         yield good(f"in version 1 it doesn't: {name}", head + REQUEST_1 + ACK_1, "dropped 4\ndropped 7\n")
     nobody = "open 1 0 1 3 0 100\n"
-    yield good("a relay that lists nobody", nobody + REQUEST_2 + ACK_1 + REQUEST_1, PINGED_2 + FORWARDED_2 + "dropped 4\n")
+    yield good(
+        "a relay that lists nobody", nobody + REQUEST_2 + ACK_1 + REQUEST_1, PINGED_2 + FORWARDED_2 + "dropped 4\n"
+    )
     far = "hear 1.2.3.4:5 53570202fffffffffffffffffffffffeffffffffffffffffffffffffffff\n"
     ping = "sent\n> 255.255.255.255:65535 5357020100000001fffffffffffffffeffffffffffffffff\n"
     ack = "hear 1.2.3.4:6 53570203fffffffefffffffffffffffeffffffffffffffff\n"
@@ -96,7 +98,9 @@ def where_a_target_is():
     """At its row's address where it is listed, else where it is told."""
     yield good("a listed target, in version 2", TWO + LISTED_2 + ACK_OF_3, PINGED_3_IN_2 + FORWARDED_3_IN_2)
     told = PINGED_3_IN_2.replace("10.0.0.3:7000", "172.16.0.3:7")
-    yield good("a target that was removed", TWO + "remove 3\n" + LISTED_2 + LISTED_1, "removed\n" + told + "dropped 4\n")
+    yield good(
+        "a target that was removed", TWO + "remove 3\n" + LISTED_2 + LISTED_1, "removed\n" + told + "dropped 4\n"
+    )
     again = PINGED_3_IN_2.replace("10.0.0.3:7000", "10.0.0.33:33")
     calls = "remove 3\njoin 3 10.0.0.33:33\n" + LISTED_2
     yield good("a target that joined again elsewhere", TWO + calls, "removed\njoined 1\n" + again)
@@ -118,14 +122,26 @@ hear 10.0.0.2:7000 5357020200000001000000010000000300000000000000090a0000031b58
 hear 10.0.0.2:7000 5357020200000002000000020000000100000000000000090a0000011b58
 """
     for name, head in ANY_VERSION.items():
-        yield good(f"requests of version 2 that are dropped: {name}", head + script, "dropped 2\ndropped 2\ndropped 2\ndropped 3\n")
+        yield good(
+            f"requests of version 2 that are dropped: {name}",
+            head + script,
+            "dropped 2\ndropped 2\ndropped 2\ndropped 3\n",
+        )
     ask = lambda number: f"hear 10.0.0.2:7000 53570202000000020000000200000009{number:016x}0a0000091b58\n"
     pinged = lambda number: f"sent\n> 10.0.0.9:7000 53570201000000010000000200000009{number:016x}\n"
     full, waiting = "".join(map(ask, range(100, 164))), "".join(map(pinged, range(100, 164)))
     head = TWO.replace(" 100\n", " 1000\n")
-    yield good("64 wait, and one more of version 2", head + full + REQUEST_2 + ask(163), waiting + "dropped 5\n" + pinged(163))
-    yield good("64 wait, and one more of version 1", head + full + REQUEST_1 + LISTED_1, waiting + "dropped 4\ndropped 5\n")
-    yield good("64 wait, and one about this member", head + full + script, waiting + "dropped 2\ndropped 2\ndropped 2\ndropped 3\n")
+    yield good(
+        "64 wait, and one more of version 2", head + full + REQUEST_2 + ask(163), waiting + "dropped 5\n" + pinged(163)
+    )
+    yield good(
+        "64 wait, and one more of version 1", head + full + REQUEST_1 + LISTED_1, waiting + "dropped 4\ndropped 5\n"
+    )
+    yield good(
+        "64 wait, and one about this member",
+        head + full + script,
+        waiting + "dropped 2\ndropped 2\ndropped 2\ndropped 3\n",
+    )
     again = "hear 10.0.0.5:5 535701020000000200000002000000030000000000000009\n"
     last = LISTED_2 + again + ACK_OF_3
     stdout = PINGED_3_IN_2 + PINGED_3_IN_1 + FORWARDED_3_IN_1.replace("10.0.0.2:7000", "10.0.0.5:5")
@@ -148,7 +164,11 @@ def requests_again():
     calls = REQUEST_2 + unlisted + ACK_1
     yield good("again in version 1, where that is dropped", TWO + calls, PINGED_2 + "dropped 4\n" + FORWARDED_2)
     forgotten = REQUEST_2 + "tick\ntick\ntick\n" + ACK_2
-    yield good("a request of version 2 that is forgotten", TWO + forgotten, PINGED_2 + STARTED_1 + ASKED_1 + "quiet\ndropped 7\n")
+    yield good(
+        "a request of version 2 that is forgotten",
+        TWO + forgotten,
+        PINGED_2 + STARTED_1 + ASKED_1 + "quiet\ndropped 7\n",
+    )
 
 
 def pings_and_acks():
@@ -177,7 +197,11 @@ dropped 1
 def probes_in_version_2():
     head = OPEN + "wire 2\n" + ROWS
     yield good("relays are told where the aim is", head + "order 2,3\ntick\ntick\n", STARTED_2 + ASKED_2)
-    yield good("a judgement in version 2", head + FOUR_TICKS + "table\n", SILENT_2 + "2 10.0.0.2:7000 failed 1\n3 10.0.0.3:7000 up\n.\n")
+    yield good(
+        "a judgement in version 2",
+        head + FOUR_TICKS + "table\n",
+        SILENT_2 + "2 10.0.0.2:7000 failed 1\n3 10.0.0.3:7000 up\n.\n",
+    )
     yield good("nobody is left to be asked in version 2", head + FOUR_TICKS + "tick\n", SILENT_2 + "asked 3 2 by -\n")
     # 2 comes back elsewhere while 3 is probed, and is asked about it; then 3 does while 2 is probed.
     script = FOUR_TICKS + "join 2 10.0.0.9:7002\n" + "tick\n" * 3 + "join 3 10.0.0.3:7003\ntick\n"
@@ -207,13 +231,38 @@ asked 4294967294 18446744073709551615 by 2,3
 
 
 def lines_that_tell_a_version():
-    for place, head in enumerate((OPEN + "wire 2\n" + ROWS, OPEN + ROWS.replace("row 3", "wire 2\nrow 3"), TWO + "wire 2\n")):
+    for place, head in enumerate(
+        (OPEN + "wire 2\n" + ROWS, OPEN + ROWS.replace("row 3", "wire 2\nrow 3"), TWO + "wire 2\n")
+    ):
         yield good(f"version 2 told at place {place}", head + FOUR_TICKS, SILENT_2)
-    yield good("version 2 told behind an order and a comment", TWO + "order 2,3\n# its version\n\nwire 2\nplace 0\n" + FOUR_TICKS, SILENT_2)
-    yield good("version 2 told behind a seed", OPEN + "row 2 10.0.0.2:7000\nseed " + "0" * 64 + "\nwire 2\ntick\n", STARTED_2)
+    yield good(
+        "version 2 told behind an order and a comment",
+        TWO + "order 2,3\n# its version\n\nwire 2\nplace 0\n" + FOUR_TICKS,
+        SILENT_2,
+    )
+    yield good(
+        "version 2 told behind a seed", OPEN + "row 2 10.0.0.2:7000\nseed " + "0" * 64 + "\nwire 2\ntick\n", STARTED_2
+    )
     yield good("version 1 told", TWO + "wire 1\n" + FOUR_TICKS, SILENT_1)
     yield good("a version alone", OPEN + "wire 2", "")
-    for text in ("0", "3", "00", "01", "02", "-1", "+2", "2.", "2,", "x", "\t2", "2\r", "10", "258", "4294967298", "18446744073709551618"):
+    for text in (
+        "0",
+        "3",
+        "00",
+        "01",
+        "02",
+        "-1",
+        "+2",
+        "2.",
+        "2,",
+        "x",
+        "\t2",
+        "2\r",
+        "10",
+        "258",
+        "4294967298",
+        "18446744073709551618",
+    ):
         yield bad(f"version {text!r}", TWO + f"wire {text}\ntick\n", "line 4: number")
     for line in ("wire", "wire ", "wire  2", "wire 3 x", "wire  "):
         yield bad(f"a version: {line!r}", TWO + line + "\n", "line 4: number")
@@ -226,7 +275,12 @@ def lines_that_tell_a_version():
         yield bad(f"a second version: {line!r}", OPEN + "wire 2\n" + ROWS + line + "\ntick\n", "line 5: word")
         yield bad(f"a version behind an event line: {line!r}", TWO + "table\n" + line + "\n", "line 5: word", table)
         yield bad(f"a version before the opening: {line!r}", line + "\n" + TWO, "line 1: word")
-    yield bad("a second version behind an event line", OPEN + "wire 2\ntick\nwire 2\n", "line 4: word", "started judged - probe -\n")
+    yield bad(
+        "a second version behind an event line",
+        OPEN + "wire 2\ntick\nwire 2\n",
+        "line 4: word",
+        "started judged - probe -\n",
+    )
     yield bad("a version and an opening that is refused", "open 1 9 1 3 0 100\nwire 2\ntick\n", "line 1: opening 1")
     yield bad("a bad version before an opening that is refused", "open 1 9 1 3 0 100\nwire 3\ntick\n", "line 2: number")
 
@@ -240,15 +294,25 @@ def journal_files():
     yield good("a journal file with its version behind a seed", late, "2 10.0.0.2:7000 up\n3 10.0.0.3:7000 up\n.\n")
     known = "journal 1\nopen 1 1 1 3 4 100\nwire 2\nrow 9 10.0.0.8:7000 failed 4\n" + ROWS
     calls = REQUEST_2 + "= 0 sent\n" + ACK_1 + "= 1 sent\n" + REQUEST_1 + "= 2 dropped 4\n"
-    yield good("a request about one that failed in an earlier life", known + calls, PINGED_2 + FORWARDED_2 + "dropped 4\n")
+    yield good(
+        "a request about one that failed in an earlier life", known + calls, PINGED_2 + FORWARDED_2 + "dropped 4\n"
+    )
     yield bad("a version and a life", head + "wire 2 1\n", "line 6: word")
     yield bad("a version behind the first line", "journal 1\nwire 2\n" + TWO, "line 2: word")
-    yield bad("a version behind an answer", head + "tick\n= 0 started judged - probe 2 1\nwire 2\n", "line 8: word", STARTED_2)
+    yield bad(
+        "a version behind an answer", head + "tick\n= 0 started judged - probe 2 1\nwire 2\n", "line 8: word", STARTED_2
+    )
     yield bad("a version with a word more", "journal 1\n" + OPEN + "wire 2 0\n", "line 3: extra")
 
 
 def worked_versions():
-    for part in (faults_of_bytes, a_relay_pings_whom_it_does_not_list, where_a_target_is, requests_that_are_dropped, requests_again):
+    for part in (
+        faults_of_bytes,
+        a_relay_pings_whom_it_does_not_list,
+        where_a_target_is,
+        requests_that_are_dropped,
+        requests_again,
+    ):
         yield from part()
     for part in (pings_and_acks, probes_in_version_2, lines_that_tell_a_version, journal_files):
         yield from part()

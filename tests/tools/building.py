@@ -1,5 +1,6 @@
-"""Which program tests/support/build and tests/support/play take, what they build, and what tests/support/check checks. Each test has a
-copy of the sources in a folder of its own, where `rt` is a stand-in that writes down what it is asked for: nothing is proved here."""
+"""Which program tests/support/build and tests/support/play take, what they build, and what tests/support/check checks.
+Each test has a copy of the sources in a folder of its own, where `rt` is a stand-in that writes down what it is asked
+for: nothing is proved here."""
 
 import os
 import re
@@ -13,8 +14,8 @@ from tests.support.parts import TOP
 SECONDS = 60
 # What stands on swim_life.
 ABOVE_LIFE = ["swim_guard", "swim_guard_tests", "swim_life_tests", "swimd"]
-# It makes a library or a program where there is none, as `rt` leaves what is there where only times are newer. It fails where a
-# file `refused` lies.
+# It makes a library or a program where there is none, as `rt` leaves what is there where only times are newer. It fails
+# where a file `refused` lies.
 STAND_IN = """\
 #!/bin/sh
 crate=$(basename "$PWD")
@@ -49,7 +50,9 @@ class Copy:
 
     def run(self, *words):
         variables = {**os.environ, "PATH": f"{self.bin}:{os.environ['PATH']}"}
-        words = {"cwd": self.top, "env": variables, "capture_output": True, "text": True, "timeout": SECONDS, "args": words}
+        words = {
+            "cwd": self.top, "env": variables, "capture_output": True, "text": True, "timeout": SECONDS, "args": words
+        }
         return subprocess.run(**words)
 
     def calls(self):
@@ -102,9 +105,12 @@ def another_program_s_sources_make_none_older(_programs, folder):
 
 
 def an_older_program_is_built_anew(_programs, folder):
-    """Whatever of it is newer: a file of its own, one below it, the list of crates, or a folder, from which a file went."""
+    """Whatever of it is newer: a file of its own, one below it, the list of crates, or a folder, from which a file
+    went."""
     copy, said = Copy(folder), []
-    newer = ["crates/swimsim/src/main.rt", "crates/swim_history/specs/Run.antt", "crates.txt", "crates/swim_wire/proofs"]
+    newer = [
+        "crates/swimsim/src/main.rt", "crates/swim_history/specs/Run.antt", "crates.txt", "crates/swim_wire/proofs"
+    ]
     for path in newer:
         copy.with_program().touch(path)
         copy.run("tests/support/build", "swimsim")
@@ -126,7 +132,8 @@ def what_was_built_anew_is_fresh(_programs, folder):
 
 
 def crates_are_proved_one_by_one(_programs, folder):
-    """The libraries below a program first, each behind those that it stands on, with a line for each; and its path last."""
+    """The libraries below a program first, each behind those that it stands on, with a line for each; and its path
+    last."""
     copy = Copy(folder)
     ran = copy.run("tests/support/build", "swimsim")
     calls, said = copy.calls(), unlike("standard output", "crates/swimsim/out/swimsim\n", ran.stdout)

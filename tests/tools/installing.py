@@ -1,6 +1,6 @@
-"""Installs the built swimsim and swimd below a temporary folder and removes them again, and looks what lies where. Where `groff`
-is at hand the man pages are also set, and where `systemd-analyze` is, the service is read. Each test gets the programs by name,
-and a folder of its own."""
+"""Installs the built swimsim and swimd below a temporary folder and removes them again, and looks what lies where.
+Where `groff` is at hand the man pages are also set, and where `systemd-analyze` is, the service is read. Each test gets
+the programs by name, and a folder of its own."""
 
 import glob
 import os
@@ -17,7 +17,9 @@ SERVICE = "lib/systemd/system/swimd.service"
 
 
 def make(programs, target, **variables):
-    words = ["make", "--no-print-directory", "-C", TOP, target, *(f"{name.upper()}={it}" for name, it in programs.items())]
+    words = [
+        "make", "--no-print-directory", "-C", TOP, target, *(f"{name.upper()}={it}" for name, it in programs.items())
+    ]
     words += [f"{name}={value}" for name, value in {"DESTDIR": "", **variables}.items()]
     # What another make, which runs this test, was given is none of its business.
     clean = {name: value for name, value in os.environ.items() if not name.startswith("MAKE")}
@@ -61,7 +63,9 @@ def misplaced(programs, below, prefix=None):
 
 def played(words, text, wanted):
     ran = subprocess.run(words, input=text, capture_output=True, timeout=SECONDS)
-    return [] if (ran.stdout, ran.stderr, ran.returncode) == (wanted, b"", 0) else [f"it writes {ran.stdout + ran.stderr!r}"]
+    return [] if (ran.stdout, ran.stderr, ran.returncode) == (wanted, b"", 0) else [
+        f"it writes {ran.stdout + ran.stderr!r}"
+    ]
 
 
 def installs(programs, prefix):
@@ -77,7 +81,9 @@ def what_is_installed_runs(programs, prefix):
     example = f"{prefix}/share/doc/swimsim/examples/first"
     said += played([f"{prefix}/bin/swimsim"], content(f"{example}.swim"), content(f"{example}.stdout"))
     for path in glob.glob(f"{glob.escape(prefix)}/share/doc/swimd/examples/*.toml"):
-        ran = subprocess.run([f"{prefix}/bin/swimd", "check"], input=content(path), capture_output=True, timeout=SECONDS)
+        ran = subprocess.run(
+            [f"{prefix}/bin/swimd", "check"], input=content(path), capture_output=True, timeout=SECONDS
+        )
         said += [f"swimd check writes {ran.stderr!r} for {path}"] if ran.returncode else []
     return said
 
