@@ -2,7 +2,7 @@
 use Rattle.std.proofs.Common.{◌≡◌, ℕ, List, [], ◌∷◌, ◌++◌, Option, Bool, true, false, refl, sym, ap, subst, ◌∙◌, append_assoc, append-nil}
 use mathlib.Core.List.{IsPrefix}
 use Rattle.std.specs.Io.KnownBytes.{Appends, Keeps}
-use Rattle.swim_wire.specs.Streams.{Puts, puts_then, puts_kept}
+use Rattle.swim_wire.specs.Streams.{Puts, puts_less, puts_then, puts_kept}
 use Rattle.swim_node.specs.Cells.{Filing}
 use Rattle.swim_journal.specs.declared.writing.Progress.{Progress}
 use Rattle.swim_journal.specs.declared.writing.Progress.TheVariants.{All, Part, Cut}
@@ -60,3 +60,15 @@ written_more start o m read new more done w is p =
 pub flushed_more : (start o m n : Option (List ℕ)) (read new more : List Filing) (done : Bool) → Puts start o (calls_text read) true → new ≡ read ++ more → Puts o m (calls_text more) true → Keeps m n → Puts start n (calls_text new) done
 flushed_more start o m n read new more done w is p same =
     all_put start n (calls_text new) done (puts_kept start m n (calls_text new) true (written_more start o m read new more true w is p) same)
+
+-- ---- one call more, which was written where the file was whole
+
+pub next_written : (page o n : Option (List ℕ)) (read new : List Filing) (f : Filing) (whole done : Bool) →
+    Puts page o (calls_text read) whole → new ≡ read ++ f ∷ [] → (whole ≡ true → Puts o n (kept_text f.kept) done) →
+    (whole ≡ false → (done ≡ false) × (n ≡ o)) → Puts page n (calls_text new) done
+next_written page o n read new f true done w is puts cut =
+    subst (λ (t : List ℕ). Puts page n t done) (sym (ap calls_text is ∙ calls_more read f))
+    (puts_then page o n (calls_text read) (kept_text f.kept) done w (puts refl))
+next_written page o n read new f false done w is puts cut =
+    rw ((cut refl).0, (cut refl).1) (subst (λ (t : List ℕ). Puts page o t false) (sym (ap calls_text is ∙ calls_more read f))
+    (puts_less page o (calls_text read) (kept_text f.kept) w))

@@ -64,7 +64,7 @@ fn put_joined<W: Sink>(writer: &mut W, id: Id, peer: Peer) -> bool
 }
 
 /// The line of a call reads back as the call.
-fn read_back(call: &Call)
+pub(crate) fn read_back(call: &Call)
     ensures { IsReadBack call.now }
 {
     check_spoken(call);

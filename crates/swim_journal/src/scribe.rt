@@ -1,22 +1,22 @@
 //! Who writes a node's journal down while the node runs.
 
-ghost use Rattle.std.specs.Prelude.{◌≡◌, ◌+◌, ◌<◌, [], Bool, true, false, length};
+ghost use Rattle.std.specs.Prelude.{◌≡◌, ◌+◌, ◌<◌, ◌++◌, ◌∷◌, [], Bool, true, false, IfNone, IfSome, length};
 ghost use mathlib.Core.List.{IsPrefix};
 ghost use Rattle.swim_wire.specs.Streams.{Puts, failures_if};
 ghost use Rattle.swim_journal.specs.Journals.{calls_text, AreReadBack, step_calls};
 
 use crate::naming::PageNaming;
-use crate::writing::{Progress, write_next};
+use crate::writing::{Progress, put_unless_cut, write_next};
 use std::alloc::Global;
 use std::marker::Model;
 use std::sync::Wait;
-use swim_node::{Follower, Node};
+use swim_node::{Followed, Follower, Node};
 use swim_targets::Chooser;
 use swim_wire::Sink;
 
-/// Writes a node's journal into a sink while the node runs. Once the sink has failed, at a text or where it was to hand on
-/// what it held back, nothing more is read or written. A contract sees the calls that were read, the sink, and whether all
-/// of their text was taken and handed on.
+/// Writes a node's journal into a sink while the node runs. Once the sink has failed, at a text or where it was to hand
+/// on what it held back, nothing more is read or written. A contract sees the calls that were read, the sink, and
+/// whether all of their text was taken and handed on.
 #[derive(Drop)]
 pub struct Scribe<N: PageNaming, W: Sink + Drop> {
     follower: Follower<N>,
@@ -50,6 +50,47 @@ impl<N: PageNaming, W: Sink + Drop> Scribe<N, W> {
             follower: node.follower(alloc),
             writer,
             is_whole: true,
+        }
+    }
+
+    /// Reads the next call of the journal, and writes it, as long as the sink took all; what the sink holds back is
+    /// handed on by `hand_on`. `None` where all was read. So who tells the calls on reads them all, also where they
+    /// aren't written.
+    pub fn next<C: Chooser, H: Wait + Drop, R: Wait>(
+        &mut self,
+        rt: &R,
+        node: &Node<N, C, H>,
+    ) -> Option<Followed>
+        ensures some { IfSome result (λ f. self.new.read ≡ self.old.read ++ f ∷ []) }
+        ensures none { IfNone result (self.new ≡ self.old) }
+        ensures cut { self.old.whole ≡ false → (self.new.whole ≡ false) × (self.new.writer ≡ self.old.writer) }
+        ensures failures { self.old.whole ≡ true →
+            W.failures self.new.writer ≡ failures_if (W.failures self.old.writer) self.new.whole }
+    {
+        let Some(next) = node.follow(rt, &mut self.follower) else {
+            return None;
+        };
+        self.is_whole = put_unless_cut(&mut self.writer, self.is_whole, &next.kept);
+        Some(next)
+    }
+
+    /// Whether the sink took all of the text of what was read, and handed on what it was asked to.
+    pub fn is_whole(&self) -> bool
+        ensures { result ≡ self.now.whole }
+    {
+        self.is_whole
+    }
+
+    /// Has the sink hand on what it holds back, as long as it took all.
+    pub fn hand_on(&mut self)
+        ensures read { self.new.read ≡ self.old.read }
+        ensures cut { self.old.whole ≡ false → self.new ≡ self.old }
+        ensures failures { self.old.whole ≡ true →
+            W.failures self.new.writer ≡ failures_if (W.failures self.old.writer) self.new.whole }
+        ensures sent { self.new.whole ≡ true → W.held self.new.writer ≡ 0 }
+    {
+        if self.is_whole {
+            self.is_whole = self.writer.flush();
         }
     }
 
@@ -100,8 +141,8 @@ impl<N: PageNaming, W: Sink + Drop> Scribe<N, W> {
         unreachable!()
     }
 
-    /// The reader of the journal, the sink, and whether it took all of the text of what was read and handed it on. Where
-    /// the reader has read as many calls as the journal has entries, it has read all of it.
+    /// The reader of the journal, the sink, and whether it took all of the text of what was read and handed it on.
+    /// Where the reader has read as many calls as the journal has entries, it has read all of it.
     pub fn into_parts(self) -> (Follower<N>, W, bool)
         ensures reader { result.0 ≡ self.read }
         ensures writer { result.1 ≡ self.writer }

@@ -1,6 +1,6 @@
 //! A node's journal, written down while the node runs.
 
-ghost use Rattle.std.specs.Prelude.{◌≡◌, ◌++◌, List, length};
+ghost use Rattle.std.specs.Prelude.{◌≡◌, ◌++◌, List, false, length, true};
 ghost use Rattle.swim_wire.specs.Streams.{Puts, failures_if};
 ghost use Rattle.swim_history.specs.Texts.{feed};
 ghost use Rattle.swim_node.specs.Cells.{Filing};
@@ -8,7 +8,7 @@ ghost use Rattle.swim_script.specs.Texts.{placed_text};
 ghost use Rattle.swim_journal.specs.Lines.{answer_line, IsReadBack};
 ghost use Rattle.swim_journal.specs.Journals.{kept_text, calls_text, AreReadBack, is_taken, StopsAfter};
 
-use crate::lines::put_call;
+use crate::lines::{put_call, read_back};
 use std::sync::Wait;
 use swim_history::{Kept, Reply};
 use swim_node::{Follower, Naming, Node};
@@ -31,8 +31,8 @@ pub enum Progress {
 }
 
 /// Writes the calls that stand in a node's journal and that the follower hasn't read: at most 1,024 of them, so that it
-/// comes to an end however fast they are made. After `Progress::Cut` the follower has read on, and the sink has a front of
-/// the text of what was read.
+/// comes to an end however fast they are made. After `Progress::Cut` the follower has read on, and the sink has a front
+/// of the text of what was read.
 pub fn write_next<N: Naming, C: Chooser, H: Wait + Drop, R: Wait, W: Sink>(
     rt: &R,
     node: &Node<N, C, H>,
@@ -65,6 +65,20 @@ pub fn put_kept<W: Sink>(writer: &mut W, kept: &Kept) -> bool
         return false;
     }
     put_answer(writer, kept.position, &kept.reply)
+}
+
+/// The same, as long as the sink took all: once it failed, nothing more is written.
+pub(crate) fn put_unless_cut<W: Sink>(writer: &mut W, is_whole: bool, kept: &Kept) -> bool
+    ensures bytes { is_whole ≡ true → Puts (W.written writer.old) (W.written writer.new) (kept_text kept.now) result }
+    ensures failures { is_whole ≡ true → W.failures writer.new ≡ failures_if (W.failures writer.old) result }
+    ensures cut { is_whole ≡ false → (result ≡ false) × (writer.new ≡ writer.old) }
+    ensures back { IsReadBack kept.now.call }
+{
+    if !is_whole {
+        read_back(&kept.call);
+        return false;
+    }
+    put_kept(writer, kept)
 }
 
 /// The line of what was answered, and where.
