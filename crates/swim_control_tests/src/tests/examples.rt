@@ -1,31 +1,45 @@
 //! Lines and their answers, as they are written down in docs/FORMATS.md.
 
-use super::groups::{Group, serve_at_once, serve_bytes, serve_lines};
+use super::groups::{Group, assert_at_once, assert_bytes, assert_lines};
 use swim_control::Served;
-use swim_wire::Page;
+
+const DIALOGUE: &[u8] = b"list\njoin 0 1.2.3.4:5\nlis";
+
+const ITS_ANSWERS: &[u8] = b"2 10.0.0.2:7000 up\n3 10.0.0.3:7000 up\n.\nfault 3\nfault 6\n";
 
 #[test]
 fn answers_a_dialogue(rt: HostRuntime) {
-    let text = b"list\njoin 0 1.2.3.4:5\nlis".as_slice();
-    let answers = b"2 10.0.0.2:7000 up\n3 10.0.0.3:7000 up\n.\nfault 3\nfault 6\n".as_slice();
-    let mut page = Page::new(rt.alloc());
-    let end = serve_lines(&rt, rt.alloc(), text, &mut page, &mut Group::of_two());
-    assert_eq!(rt; end, Served::Unended);
-    assert_eq!(rt; page.text(), answers);
+    let mut group = Group::of_two();
+    assert_lines(
+        &rt,
+        rt.alloc(),
+        &mut group,
+        DIALOGUE,
+        ITS_ANSWERS,
+        Served::Unended,
+    );
 }
 
 #[test]
 fn answers_however_the_bytes_come(rt: HostRuntime) {
-    let text = b"list\njoin 0 1.2.3.4:5\nlis".as_slice();
-    let answers = b"2 10.0.0.2:7000 up\n3 10.0.0.3:7000 up\n.\nfault 3\nfault 6\n".as_slice();
-    let mut page = Page::new(rt.alloc());
-    let end = serve_bytes(&rt, rt.alloc(), text, &mut page, &mut Group::of_two());
-    assert_eq!(rt; end, Served::Unended);
-    assert_eq!(rt; page.text(), answers);
-    let mut page = Page::new(rt.alloc());
-    let end = serve_at_once(&rt, rt.alloc(), text, &mut page, &mut Group::of_two());
-    assert_eq!(rt; end, Served::Unended);
-    assert_eq!(rt; page.text(), answers);
+    let mut group = Group::of_two();
+    assert_bytes(
+        &rt,
+        rt.alloc(),
+        &mut group,
+        DIALOGUE,
+        ITS_ANSWERS,
+        Served::Unended,
+    );
+    let mut group = Group::of_two();
+    assert_at_once(
+        &rt,
+        rt.alloc(),
+        &mut group,
+        DIALOGUE,
+        ITS_ANSWERS,
+        Served::Unended,
+    );
 }
 
 #[test]
@@ -44,46 +58,50 @@ fn answers_one_after_another(rt: HostRuntime) {
     ];
     let mut group = Group::of_two();
     for (text, answer) in table {
-        let mut page = Page::new(rt.alloc());
-        let end = serve_lines(&rt, rt.alloc(), text, &mut page, &mut group);
-        assert_eq!(rt; end, Served::Ended);
-        assert_eq!(rt; page.text(), answer);
+        assert_lines(&rt, rt.alloc(), &mut group, text, answer, Served::Ended);
     }
 }
 
 #[test]
 fn stops_where_it_is_asked_to(rt: HostRuntime) {
-    let mut page = Page::new(rt.alloc());
-    let end = serve_lines(
+    let text = b"gap 2\nstop\ngap 2\n";
+    let answers = b"gap none\nstopping\n";
+    assert_lines(
         &rt,
         rt.alloc(),
-        b"gap 2\nstop\ngap 2\n",
-        &mut page,
         &mut Group::of_two(),
+        text,
+        answers,
+        Served::Stopped,
     );
-    assert_eq!(rt; end, Served::Stopped);
-    assert_eq!(rt; page.text(), b"gap none\nstopping\n".as_slice());
 }
 
 #[test]
 fn shows_what_joined(rt: HostRuntime) {
     let text = b"join 5 10.0.0.5:7000\nlist\n";
-    let answers =
-        b"joined 2\n2 10.0.0.2:7000 up\n3 10.0.0.3:7000 up\n5 10.0.0.5:7000 up\n.\n".as_slice();
-    let mut page = Page::new(rt.alloc());
-    let end = serve_lines(&rt, rt.alloc(), text, &mut page, &mut Group::of_two());
-    assert_eq!(rt; end, Served::Ended);
-    assert_eq!(rt; page.text(), answers);
+    let answers = b"joined 2\n2 10.0.0.2:7000 up\n3 10.0.0.3:7000 up\n5 10.0.0.5:7000 up\n.\n";
+    assert_lines(
+        &rt,
+        rt.alloc(),
+        &mut Group::of_two(),
+        text,
+        answers,
+        Served::Ended,
+    );
 }
 
 #[test]
 fn shows_nobody_who_was_removed(rt: HostRuntime) {
     let text = b"remove 2\nlist\n";
-    let answers = b"removed\n3 10.0.0.3:7000 up\n.\n".as_slice();
-    let mut page = Page::new(rt.alloc());
-    let end = serve_lines(&rt, rt.alloc(), text, &mut page, &mut Group::of_two());
-    assert_eq!(rt; end, Served::Ended);
-    assert_eq!(rt; page.text(), answers);
+    let answers = b"removed\n3 10.0.0.3:7000 up\n.\n";
+    assert_lines(
+        &rt,
+        rt.alloc(),
+        &mut Group::of_two(),
+        text,
+        answers,
+        Served::Ended,
+    );
 }
 
 #[test]
@@ -112,77 +130,85 @@ fn tells_faults(rt: HostRuntime) {
         (b"join 5  1.2.3.4:5\n", b"fault 4\n"),
     ];
     for (text, answer) in table {
-        let mut page = Page::new(rt.alloc());
-        let end = serve_lines(&rt, rt.alloc(), text, &mut page, &mut Group::of_two());
-        assert_eq!(rt; end, Served::Ended);
-        assert_eq!(rt; page.text(), answer);
+        assert_lines(
+            &rt,
+            rt.alloc(),
+            &mut Group::of_two(),
+            text,
+            answer,
+            Served::Ended,
+        );
     }
 }
 
 #[test]
 fn ends_in_every_place_of_a_line(rt: HostRuntime) {
-    let line = b"join 5 10.0.0.5:7000\n";
+    let line = b"join 5 10.0.0.5:7000\n".as_slice();
     for count in 1..line.len() {
-        let mut page = Page::new(rt.alloc());
-        let end = serve_lines(
+        let mut group = Group::of_two();
+        assert_lines(
             &rt,
             rt.alloc(),
+            &mut group,
             &line[..count],
-            &mut page,
-            &mut Group::of_two(),
+            b"fault 6\n",
+            Served::Unended,
         );
-        assert_eq!(rt; end, Served::Unended);
-        assert_eq!(rt; page.text(), b"fault 6\n".as_slice());
     }
-    let mut page = Page::new(rt.alloc());
-    let end = serve_lines(&rt, rt.alloc(), line, &mut page, &mut Group::of_two());
-    assert_eq!(rt; end, Served::Ended);
-    assert_eq!(rt; page.text(), b"joined 2\n".as_slice());
+    assert_lines(
+        &rt,
+        rt.alloc(),
+        &mut Group::of_two(),
+        line,
+        b"joined 2\n",
+        Served::Ended,
+    );
 }
 
 #[test]
 fn ends_an_empty_text(rt: HostRuntime) {
-    let mut page = Page::new(rt.alloc());
-    let end = serve_lines(&rt, rt.alloc(), b"", &mut page, &mut Group::of_two());
-    assert_eq!(rt; end, Served::Ended);
-    assert!(rt; page.text().is_empty());
+    assert_lines(
+        &rt,
+        rt.alloc(),
+        &mut Group::of_two(),
+        b"",
+        b"",
+        Served::Ended,
+    );
 }
 
 #[test]
 fn ends_at_a_full_journal(rt: HostRuntime) {
     let text = b"remove 3\nremove 9\nlist\nremove 2\nlist\n";
-    let answers = b"removed\nrefused 4\n2 10.0.0.2:7000 up\n.\njournal full\n".as_slice();
-    let mut page = Page::new(rt.alloc());
-    let end = serve_lines(&rt, rt.alloc(), text, &mut page, &mut Group::with_room(2));
-    assert_eq!(rt; end, Served::JournalFull);
-    assert_eq!(rt; page.text(), answers);
+    let answers = b"removed\nrefused 4\n2 10.0.0.2:7000 up\n.\njournal full\n";
+    let mut group = Group::with_room(2);
+    assert_lines(
+        &rt,
+        rt.alloc(),
+        &mut group,
+        text,
+        answers,
+        Served::JournalFull,
+    );
 }
 
 #[test]
 fn goes_on_without_memory(rt: HostRuntime) {
-    let text = b"join 5 10.0.0.5:7000\njoin 5 10.0.0.5:7000\nremove 1\n".as_slice();
-    let mut page = Page::new(rt.alloc());
-    let end = serve_lines(
-        &rt,
-        rt.alloc(),
-        text,
-        &mut page,
-        &mut Group::with_memory_for(0),
-    );
-    assert_eq!(rt; end, Served::Ended);
-    assert_eq!(rt; page.text(), b"no memory\njoined 2\nrefused 1\n".as_slice());
+    let text = b"join 5 10.0.0.5:7000\njoin 5 10.0.0.5:7000\nremove 1\n";
+    let answers = b"no memory\njoined 2\nrefused 1\n";
+    let mut group = Group::with_memory_for(0);
+    assert_lines(&rt, rt.alloc(), &mut group, text, answers, Served::Ended);
 }
 
 #[test]
 fn tells_that_there_is_no_table(rt: HostRuntime) {
-    let mut page = Page::new(rt.alloc());
-    let end = serve_lines(
+    let answers = b"closed\ngap none\n";
+    assert_lines(
         &rt,
         rt.alloc(),
-        b"list\ngap 2\n",
-        &mut page,
         &mut Group::closed(),
+        b"list\ngap 2\n",
+        answers,
+        Served::Ended,
     );
-    assert_eq!(rt; end, Served::Ended);
-    assert_eq!(rt; page.text(), b"closed\ngap none\n".as_slice());
 }

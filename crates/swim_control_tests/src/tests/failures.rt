@@ -1,7 +1,11 @@
 //! One read, one write or one flush that fails, at each place.
 
-use super::groups::Group;
-use swim_control::{Served, serve};
+use super::groups::{Group, assert_served, serve_two};
+use std::alloc::Global;
+use std::process::Abort;
+use std::sync::Wait;
+use std::test::*;
+use swim_control::Served;
 use swim_wire::{Page, Text};
 
 /// A dialogue, and its answers.
@@ -24,57 +28,70 @@ fn answered(bytes: u32) -> &'static [u8] {
 fn tells_a_failing_read(rt: HostRuntime) {
     for calls in 0..26 {
         let mut source = Text::failing_after(TEXT, calls);
-        let mut page = Page::new(rt.alloc());
-        let end = serve(
+        let mut group = Group::of_two();
+        assert_served(
             &rt,
             rt.alloc(),
+            &mut group,
             &mut source,
-            &mut page,
-            &mut Group::of_two(),
+            answered(calls),
+            Served::ReadFault,
         );
-        assert_eq!(rt; end, Served::ReadFault);
-        assert_eq!(rt; page.text(), answered(calls));
     }
 }
 
 #[test]
 fn needs_no_more_reads(rt: HostRuntime) {
     let mut source = Text::failing_after(TEXT, 26);
-    let mut page = Page::new(rt.alloc());
-    let end = serve(
+    assert_served(
         &rt,
         rt.alloc(),
-        &mut source,
-        &mut page,
         &mut Group::of_two(),
+        &mut source,
+        ANSWERS,
+        Served::Unended,
     );
-    assert_eq!(rt; end, Served::Unended);
-    assert_eq!(rt; page.text(), ANSWERS);
+}
+
+/// Whether a put of the answers fails where so many are taken.
+fn fails_after<R: Wait + Abort>(rt: &R, alloc: Global, puts: u32) -> bool {
+    let mut page = Page::failing_after(alloc, Some(puts), None);
+    let end = serve_two(rt, alloc, &mut Text::new(TEXT), &mut page);
+    assert!(rt; ANSWERS.starts_with(page.text()));
+    let fails = end == Served::WriteFault;
+    if fails {
+        assert!(rt; page.text().len() < ANSWERS.len());
+    } else {
+        assert_eq!(rt; end, Served::Unended);
+        assert_eq!(rt; page.text(), ANSWERS);
+    }
+    fails
 }
 
 #[test]
 fn tells_a_failing_write(rt: HostRuntime) {
     let mut failed = 0;
     for puts in 0..40 {
-        let mut page = Page::failing_after(rt.alloc(), Some(puts), None);
-        let end = serve(
-            &rt,
-            rt.alloc(),
-            &mut Text::new(TEXT),
-            &mut page,
-            &mut Group::of_two(),
-        );
-        assert!(rt; ANSWERS.starts_with(page.text()));
-        if end == Served::WriteFault {
-            assert!(rt; page.text().len() < ANSWERS.len());
+        if fails_after(&rt, rt.alloc(), puts) {
             failed = puts + 1;
-        } else {
-            assert_eq!(rt; end, Served::Unended);
-            assert_eq!(rt; page.text(), ANSWERS);
         }
     }
     // The puts of the answers: the table takes 5 for each row and 1 for its end, and a fault 3.
     assert_eq!(rt; failed, 17);
+}
+
+/// Where the flush after so many others fails, that is told, and this text has been answered so.
+fn assert_unflushed<R: Wait + Abort>(
+    rt: &R,
+    alloc: Global,
+    flushes: u32,
+    text: &[u8],
+    answers: &[u8],
+) {
+    let mut page = Page::failing_after(alloc, None, Some(flushes));
+    let end = serve_two(rt, alloc, &mut Text::new(text), &mut page);
+    assert_eq!(rt; end, Served::WriteFault);
+    assert_eq!(rt; page.text(), answers);
 }
 
 #[test]
@@ -88,29 +105,11 @@ fn tells_a_failing_flush(rt: HostRuntime) {
         (4, ANSWERS),
     ];
     for (flushes, answers) in table {
-        let mut page = Page::failing_after(rt.alloc(), None, Some(flushes));
-        let end = serve(
-            &rt,
-            rt.alloc(),
-            &mut Text::new(TEXT),
-            &mut page,
-            &mut Group::of_two(),
-        );
-        assert_eq!(rt; end, Served::WriteFault);
-        assert_eq!(rt; page.text(), answers);
+        assert_unflushed(&rt, rt.alloc(), flushes, TEXT, answers);
     }
 }
 
 #[test]
 fn tells_a_flush_that_fails_after_a_stop(rt: HostRuntime) {
-    let mut page = Page::failing_after(rt.alloc(), None, Some(1));
-    let end = serve(
-        &rt,
-        rt.alloc(),
-        &mut Text::new(b"stop\n"),
-        &mut page,
-        &mut Group::of_two(),
-    );
-    assert_eq!(rt; end, Served::WriteFault);
-    assert_eq!(rt; page.text(), b"stopping\n".as_slice());
+    assert_unflushed(&rt, rt.alloc(), 1, b"stop\n", b"stopping\n");
 }

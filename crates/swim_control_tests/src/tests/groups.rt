@@ -1,7 +1,9 @@
 //! A desk of a small group, and runs of connections to it.
 
 use std::alloc::Global;
+use std::process::Abort;
 use std::sync::Wait;
+use std::test::*;
 use swim_control::{Answer, Desk, Served, serve};
 use swim_history::{Gap, Row, RowState, Table};
 use swim_wire::{Id, Page, Peer, ReadSource, Sink, Source, Text};
@@ -139,41 +141,63 @@ impl Desk for Group {
     }
 }
 
-/// How serving a text ends whose lines come one after another.
-pub fn serve_lines<R: Wait>(
+/// A text whose lines come one after another is answered so, and serving it ends so.
+pub fn assert_lines<R: Wait + Abort>(
     rt: &R,
     alloc: Global,
-    text: &[u8],
-    page: &mut Page,
     group: &mut Group,
-) -> Served {
-    serve(rt, alloc, &mut Text::new(text), page, group)
+    text: &[u8],
+    answers: &[u8],
+    end: Served,
+) {
+    assert_served(rt, alloc, group, &mut Text::new(text), answers, end);
 }
 
 /// The same, of a text whose bytes come one by one.
-pub fn serve_bytes<R: Wait>(
+pub fn assert_bytes<R: Wait + Abort>(
     rt: &R,
     alloc: Global,
-    text: &[u8],
-    page: &mut Page,
     group: &mut Group,
-) -> Served {
-    serve(
-        rt,
-        alloc,
-        &mut Text::failing_after(text, u32::MAX),
-        page,
-        group,
-    )
+    text: &[u8],
+    answers: &[u8],
+    end: Served,
+) {
+    let mut source = Text::failing_after(text, u32::MAX);
+    assert_served(rt, alloc, group, &mut source, answers, end);
 }
 
 /// The same, of a text that comes at once.
-pub fn serve_at_once<R: Wait>(
+pub fn assert_at_once<R: Wait + Abort>(
     rt: &R,
     alloc: Global,
-    text: &[u8],
-    page: &mut Page,
     group: &mut Group,
+    text: &[u8],
+    answers: &[u8],
+    end: Served,
+) {
+    assert_served(rt, alloc, group, &mut ReadSource::new(text), answers, end);
+}
+
+/// How serving what a source gives ends, by a group of members 2 and 3.
+pub fn serve_two<S: Source, R: Wait>(
+    rt: &R,
+    alloc: Global,
+    source: &mut S,
+    page: &mut Page,
 ) -> Served {
-    serve(rt, alloc, &mut ReadSource::new(text), page, group)
+    serve(rt, alloc, source, page, &mut Group::of_two())
+}
+
+/// What a source gives is answered so, and serving it ends so.
+pub fn assert_served<S: Source, R: Wait + Abort>(
+    rt: &R,
+    alloc: Global,
+    group: &mut Group,
+    source: &mut S,
+    answers: &[u8],
+    end: Served,
+) {
+    let mut page = Page::new(alloc);
+    assert_eq!(rt; serve(rt, alloc, source, &mut page, group), end);
+    assert_eq!(rt; page.text(), answers);
 }

@@ -4,7 +4,10 @@ ghost use Rattle.std.specs.Prelude.{None, length};
 
 use super::groups::Group;
 use arrayvec::ArrayVec;
+use std::alloc::Global;
 use std::cell::{Cell, RefCell};
+use std::process::Abort;
+use std::sync::Wait;
 use std::test::*;
 use swim_control::{Close, Connections, MOST_CONNECTIONS, Served, Stand};
 use swim_wire::{Sink, Text};
@@ -78,37 +81,74 @@ impl<'s> Sink for Client<'s> {
     }
 }
 
+type Clients<'s> = Connections<Text<'s>, Client<'s>>;
+
+// A client of this text comes then.
+fn add<'s, R: Abort>(
+    rt: &R,
+    alloc: Global,
+    clients: &mut Clients<'s>,
+    text: Text<'s>,
+    client: Client<'s>,
+    now: u64,
+) {
+    assert!(rt; clients.add(alloc, text, client, now));
+}
+
+// Who has the next turn stands so then.
+fn assert_turn<R: Wait + Abort>(
+    rt: &R,
+    alloc: Global,
+    clients: &mut Clients<'_>,
+    group: &mut Group,
+    now: u64,
+    stand: Option<Stand>,
+) {
+    assert_eq!(rt; clients.turn(rt, alloc, now, group), stand);
+}
+
+// How serving one of them ends, in the first twenty turns.
+fn first_end<R: Wait + Abort>(
+    rt: &R,
+    alloc: Global,
+    clients: &mut Clients<'_>,
+    group: &mut Group,
+) -> Option<Served> {
+    for _turn in 0..20 {
+        if let Some(Stand::Ended(served)) = clients.turn(rt, alloc, 1, group) {
+            return Some(served);
+        }
+    }
+    None
+}
+
 // Two clients, each of which is answered in its turn; the second stops the daemon, while the first is within a line.
 #[test]
 fn each_in_its_turn(rt: HostRuntime) {
     let seen = Seen::new(true);
     let mut group = Group::of_two();
-    let mut all = Connections::new(rt.alloc());
-    assert!(rt;
-        all.add(
-            rt.alloc(),
-            Text::new(b"gap 9\nList\nli"),
-            client_of(b'1', &seen),
-            0
-        )
+    let mut clients = Connections::new(rt.alloc());
+    let text = Text::new(b"gap 9\nList\nli");
+    add(
+        &rt,
+        rt.alloc(),
+        &mut clients,
+        text,
+        client_of(b'1', &seen),
+        0,
     );
-    assert!(rt;
-        all.add(
-            rt.alloc(),
-            Text::new(b"remove 9\nstop\n"),
-            client_of(b'2', &seen),
-            0
-        )
+    let text = Text::new(b"remove 9\nstop\n");
+    add(
+        &rt,
+        rt.alloc(),
+        &mut clients,
+        text,
+        client_of(b'2', &seen),
+        0,
     );
-    let mut end = None;
-    for _turn in 0..20 {
-        if let Some(Stand::Ended(served)) = all.turn(&rt, rt.alloc(), 1, &mut group) {
-            end = Some(served);
-            break;
-        }
-    }
+    let end = first_end(&rt, rt.alloc(), &mut clients, &mut group);
     assert_eq!(rt; end, Some(Served::Stopped));
-    assert_eq!(rt; all.len(), 2);
+    assert_eq!(rt; clients.len(), 2);
     assert!(rt; seen.is(b"1gap none\n2refused 4\n1fault 2\n2stopping\n"));
 }
 
@@ -117,27 +157,48 @@ fn each_in_its_turn(rt: HostRuntime) {
 fn a_minute_of_silence(rt: HostRuntime) {
     let seen = Seen::new(true);
     let mut group = Group::of_two();
-    let mut all = Connections::new(rt.alloc());
+    let mut clients = Connections::new(rt.alloc());
     // A text of which a read will fail is one of which nothing comes until then.
-    assert!(rt;
-        all.add(
+    let text = Text::failing_after(b"list\n", 1_000);
+    add(
+        &rt,
+        rt.alloc(),
+        &mut clients,
+        text,
+        client_of(b'1', &seen),
+        5,
+    );
+    for now in [5, 60_004] {
+        assert_turn(
+            &rt,
             rt.alloc(),
-            Text::failing_after(b"list\n", 1_000),
-            client_of(b'1', &seen),
-            5
-        )
-    );
-    assert_eq!(rt; all.turn(&rt, rt.alloc(), 5, &mut group), Some(Stand::Idle));
-    assert_eq!(rt;
-        all.turn(&rt, rt.alloc(), 60_004, &mut group),
-        Some(Stand::Idle)
-    );
-    assert_eq!(rt;
-        all.turn(&rt, rt.alloc(), 60_005, &mut group),
-        Some(Stand::Closed(Close::Silent))
-    );
-    assert_eq!(rt; all.len(), 0);
-    assert_eq!(rt; all.turn(&rt, rt.alloc(), 60_006, &mut group), None);
+            &mut clients,
+            &mut group,
+            now,
+            Some(Stand::Idle),
+        );
+    }
+    let silent = Some(Stand::Closed(Close::Silent));
+    assert_turn(&rt, rt.alloc(), &mut clients, &mut group, 60_005, silent);
+    assert_eq!(rt; clients.len(), 0);
+    assert_turn(&rt, rt.alloc(), &mut clients, &mut group, 60_006, None);
+}
+
+// Whether one of nine turns closes a connection whose answer isn't taken.
+fn closes_untaken<R: Wait + Abort>(
+    rt: &R,
+    alloc: Global,
+    clients: &mut Clients<'_>,
+    group: &mut Group,
+    now: u64,
+) -> bool {
+    let mut is_closed = false;
+    for _turn in 0..9 {
+        if let Some(Stand::Closed(Close::Untaken)) = clients.turn(rt, alloc, now, group) {
+            is_closed = true;
+        }
+    }
+    is_closed
 }
 
 // An answer that isn't taken within a second closes its connection; one that is taken in time doesn't.
@@ -145,46 +206,58 @@ fn a_minute_of_silence(rt: HostRuntime) {
 fn a_second_for_an_answer(rt: HostRuntime) {
     let seen = Seen::new(false);
     let mut group = Group::of_two();
-    let mut all = Connections::new(rt.alloc());
-    assert!(rt; all.add(rt.alloc(), Text::new(b"gap 9\n"), client_of(b'1', &seen), 0));
-    assert_eq!(rt; all.turn(&rt, rt.alloc(), 7, &mut group), Some(Stand::Busy));
-    assert_eq!(rt; all.turn(&rt, rt.alloc(), 7, &mut group), Some(Stand::Busy));
-    assert_eq!(rt;
-        all.turn(&rt, rt.alloc(), 1_006, &mut group),
-        Some(Stand::Idle)
+    let mut clients = Connections::new(rt.alloc());
+    add(
+        &rt,
+        rt.alloc(),
+        &mut clients,
+        Text::new(b"gap 9\n"),
+        client_of(b'1', &seen),
+        0,
     );
+    for (now, stand) in [(7, Stand::Busy), (7, Stand::Busy), (1_006, Stand::Idle)] {
+        assert_turn(&rt, rt.alloc(), &mut clients, &mut group, now, Some(stand));
+    }
     seen.takes.set(true);
-    assert_eq!(rt;
-        all.turn(&rt, rt.alloc(), 1_006, &mut group),
-        Some(Stand::Busy)
+    assert_turn(
+        &rt,
+        rt.alloc(),
+        &mut clients,
+        &mut group,
+        1_006,
+        Some(Stand::Busy),
     );
     assert!(rt; seen.is(b"1gap none\n"));
     seen.takes.set(false);
-    assert!(rt; all.add(rt.alloc(), Text::new(b"gap 9\n"), client_of(b'2', &seen), 0));
-    let mut is_closed = false;
-    for _turn in 0..9 {
-        if let Some(Stand::Closed(Close::Untaken)) = all.turn(&rt, rt.alloc(), 2_000, &mut group) {
-            is_closed = true;
-        }
-    }
-    assert!(rt; !is_closed);
-    for _turn in 0..9 {
-        if let Some(Stand::Closed(Close::Untaken)) = all.turn(&rt, rt.alloc(), 3_000, &mut group) {
-            is_closed = true;
-        }
-    }
-    assert!(rt; is_closed);
+    add(
+        &rt,
+        rt.alloc(),
+        &mut clients,
+        Text::new(b"gap 9\n"),
+        client_of(b'2', &seen),
+        0,
+    );
+    assert!(rt; !closes_untaken(&rt, rt.alloc(), &mut clients, &mut group, 2_000));
+    assert!(rt; closes_untaken(&rt, rt.alloc(), &mut clients, &mut group, 3_000));
 }
 
 // There are as many places as there are, and no more.
 #[test]
 fn as_many_as_may_be(rt: HostRuntime) {
     let seen = Seen::new(true);
-    let mut all = Connections::new(rt.alloc());
+    let mut clients = Connections::new(rt.alloc());
     for _place in 0..MOST_CONNECTIONS {
-        assert!(rt; all.add(rt.alloc(), Text::new(b""), client_of(b'1', &seen), 0));
+        add(
+            &rt,
+            rt.alloc(),
+            &mut clients,
+            Text::new(b""),
+            client_of(b'1', &seen),
+            0,
+        );
     }
-    assert!(rt; all.is_full());
-    assert!(rt; !all.add(rt.alloc(), Text::new(b""), client_of(b'1', &seen), 0));
-    assert_eq!(rt; all.len(), MOST_CONNECTIONS);
+    assert!(rt; clients.is_full());
+    let one_more = client_of(b'1', &seen);
+    assert!(rt; !clients.add(rt.alloc(), Text::new(b""), one_more, 0));
+    assert_eq!(rt; clients.len(), MOST_CONNECTIONS);
 }
