@@ -1,0 +1,9 @@
+pub mod Fairness
+pub mod Finding
+pub mod Following
+pub mod Joining
+pub mod Looking
+pub mod Padding
+pub mod Showing
+pub mod Starting
+pub mod Waiting

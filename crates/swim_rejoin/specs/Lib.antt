@@ -1,0 +1,9 @@
+pub mod Believing
+pub mod Failed
+pub mod Histories
+pub mod Knockers
+pub mod Knocking
+pub mod Knowing
+pub mod Rejoiners
+pub mod Turns
+pub mod Waits

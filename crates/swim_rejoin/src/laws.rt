@@ -1,0 +1,69 @@
+//! Laws of knocks and of joins. Each is the contract of a function that does nothing, so that it stays proved.
+
+ghost use Rattle.std.specs.Prelude.{◌≡◌, ◌≢◌, ◌+◌, ◌*◌, ◌<◌, ◌≤◌, ◌⊎◌, ◌∷◌, ℕ, List, length, min, nat_lt, true};
+ghost use Rattle.std.specs.Prelude.{count_by};
+ghost use Rattle.swim_history.specs.declared.rows.Row.{Row};
+ghost use Rattle.swim_history.specs.declared.rows.RowState.TheVariants.{Failed};
+ghost use Rattle.swim_history.specs.Rows.{row_at};
+ghost use Rattle.swim_rejoin.specs.Believing.{believed, tells};
+ghost use Rattle.swim_rejoin.specs.Failed.{is_failed, verdict_in};
+ghost use Rattle.swim_rejoin.specs.Histories.{Event, is_known, last_joined, last_knocks, last_verdict, table_in, times};
+ghost use Rattle.swim_rejoin.specs.Histories.Event.{Looked};
+ghost use Rattle.swim_rejoin.specs.Knocking.{knocked_by};
+ghost use Rattle.swim_rejoin.specs.Turns.{StaysFailed, was_knocked_at};
+ghost use Rattle.swim_wire.specs.Address.{Address};
+ghost use Rattle.swim_wire.specs.Ids.{has};
+ghost use Rattle.swim_wire.specs.Messages.{Message};
+
+/// Who is joined again is the sender, and failed by the table that was last looked at, and the datagram is from that
+/// row's address.
+pub fn a_failed_member_is_joined()
+    ensures row { (rejoin me : ℕ) (h : List Event) (m : Message) (from : Address) (row : Row)
+        → believed rejoin me h m from ≡ Some row → row_at (table_in h) m.sender ≡ Some row }
+    ensures failed { (rejoin me : ℕ) (h : List Event) (m : Message) (from : Address) (row : Row)
+        → believed rejoin me h m from ≡ Some row → is_failed row ≡ true }
+    ensures address { (rejoin me : ℕ) (h : List Event) (m : Message) (from : Address) (row : Row)
+        → believed rejoin me h m from ≡ Some row → row.peer ≡ from }
+    ensures told { (rejoin me : ℕ) (h : List Event) (m : Message) (from : Address) (row : Row)
+        → believed rejoin me h m from ≡ Some row → tells m.kind me (last_knocks m.sender h) m ≡ true }
+{}
+
+/// A message from an address that isn't the row's of its sender is never believed.
+pub fn a_stranger_is_not_believed()
+    ensures { (rejoin me : ℕ) (h : List Event) (m : Message) (from : Address) (row : Row)
+        → row_at (table_in h) m.sender ≡ Some row → row.peer ≢ from → believed rejoin me h m from ≡ None }
+{}
+
+/// Who waits is joined again only once it was knocked at so many times since the verdict.
+pub fn who_waits_is_knocked_at()
+    ensures { (rejoin me : ℕ) (h : List Event) (m : Message) (from : Address) (row : Row) (number : ℕ)
+        → believed rejoin me h m from ≡ Some row → row.state ≡ Failed number
+        → (times m.sender h ≡ 1) ⊎ (times m.sender h ≤ count_by (nat_lt number) (last_knocks m.sender h)) }
+{}
+
+/// A member waits at most 64 times as many knocks as at first, twice as many as the last time where it is judged within
+/// 16 periods of a join, and as many as at first after 256 periods without a verdict.
+pub fn waits_double_up_to_64()
+    ensures least { (id : ℕ) (h : List Event) → 1 ≤ times id h }
+    ensures most { (id : ℕ) (h : List Event) → times id h ≤ 64 }
+    ensures doubled { (id number joined : ℕ) (rows : List Row) (h : List Event) → is_known id h ≡ true
+        → verdict_in rows id ≡ Some number → last_verdict id h ≢ Some number → last_joined id h ≡ Some joined
+        → joined < number → number ≤ joined + 16 → times id (Looked rows ∷ h) ≡ min 64 (2 * times id h) }
+    ensures set_back { (id number joined shown : ℕ) (rows : List Row) (h : List Event)
+        → verdict_in rows id ≡ Some number → last_verdict id h ≡ Some shown → last_joined id h ≡ Some joined
+        → joined + 256 < number → shown + 256 < number → times id (Looked rows ∷ h) ≡ 1 }
+{}
+
+/// With a rejoin of 0 nobody is knocked at, and nobody joined again.
+pub fn with_0_nothing_happens()
+    ensures knock { (h : List (List Row)) (rows : List Row) → knocked_by 0 h rows ≡ None }
+    ensures join { (me : ℕ) (h : List Event) (m : Message) (from : Address) → believed 0 me h m from ≡ None }
+{}
+
+/// Each failed member has its turn: who is failed at so many starts in a row as there are failed members, times N, was
+/// knocked at by one of these.
+pub fn each_failed_member_has_its_turn()
+    ensures { (rejoin id : ℕ) (ids : List ℕ) (recent before : List (List Row)) → 0 < rejoin → has ids id ≡ true
+        → StaysFailed id ids recent → length ids * rejoin ≤ length recent
+        → was_knocked_at id rejoin recent before ≡ true }
+{}

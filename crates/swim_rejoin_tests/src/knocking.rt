@@ -1,0 +1,95 @@
+use crate::rows::{failed, id, peer, period, up};
+use swim_history::Row;
+use swim_rejoin::Knocker;
+use swim_wire::{Kind, Message, Version};
+
+// Whom a start knocks at, as a number, and 0 where it knocks at nobody.
+fn knocked(knocker: &mut Knocker, rows: &[Row], number: u64) -> u32 {
+    match knocker.start(rows, period(number)) {
+        Some(knock) => knock.message.target.get(),
+        None => 0,
+    }
+}
+
+#[test]
+fn each_third_start_knocks_in_turn(rt: HostRuntime) {
+    let rows = [failed(2, 9), failed(4, 8), up(5), failed(7, 3)];
+    let mut knocker = Knocker::new(3, id(1), Version::One);
+    let expected = [0, 0, 2, 0, 0, 4, 0, 0, 7, 0, 0, 2, 0, 0, 4];
+    let mut number = 10u64;
+    for whom in expected {
+        assert_eq!(rt; knocked(&mut knocker, &rows, number), whom, "{number}");
+        number = number.saturating_add(1);
+    }
+}
+
+#[test]
+fn each_start_knocks(rt: HostRuntime) {
+    let rows = [failed(2, 9), failed(4, 8)];
+    let mut knocker = Knocker::new(1, id(1), Version::One);
+    assert_eq!(rt; knocked(&mut knocker, &rows, 10), 2);
+    assert_eq!(rt; knocked(&mut knocker, &rows, 11), 4);
+    assert_eq!(rt; knocked(&mut knocker, &rows, 12), 2);
+}
+
+#[test]
+fn no_start_knocks_where_rejoin_is_0(rt: HostRuntime) {
+    let rows = [failed(2, 9), failed(4, 8)];
+    let mut knocker = Knocker::new(0, id(1), Version::One);
+    for number in 10..30u64 {
+        assert_eq!(rt; knocked(&mut knocker, &rows, number), 0, "{number}");
+    }
+}
+
+#[test]
+fn nobody_is_knocked_at_where_all_are_up(rt: HostRuntime) {
+    let mut knocker = Knocker::new(2, id(1), Version::One);
+    let rows = [up(2), up(4)];
+    for number in 10..14u64 {
+        assert_eq!(rt; knocked(&mut knocker, &rows, number), 0, "{number}");
+    }
+    // The starts 5 and 6: the count went on.
+    let rows = [up(2), failed(4, 13)];
+    assert_eq!(rt; knocked(&mut knocker, &rows, 14), 0);
+    assert_eq!(rt; knocked(&mut knocker, &rows, 15), 4);
+}
+
+#[test]
+fn the_turn_goes_on_in_another_table(rt: HostRuntime) {
+    let mut knocker = Knocker::new(1, id(1), Version::One);
+    let rows = [failed(2, 9), failed(4, 8), failed(7, 3)];
+    assert_eq!(rt; knocked(&mut knocker, &rows, 10), 2);
+    assert_eq!(rt; knocked(&mut knocker, &rows, 11), 4);
+    // Member 4 is gone, and 3 and 6 failed: 6 comes next.
+    let rows = [failed(2, 9), failed(3, 11), failed(6, 10), failed(7, 3)];
+    assert_eq!(rt; knocked(&mut knocker, &rows, 12), 6);
+    assert_eq!(rt; knocked(&mut knocker, &rows, 13), 7);
+    assert_eq!(rt; knocked(&mut knocker, &rows, 14), 2);
+    assert_eq!(rt; knocked(&mut knocker, &rows, 15), 3);
+    // All but 2 are up.
+    let rows = [failed(2, 9), up(3), up(6), up(7)];
+    assert_eq!(rt; knocked(&mut knocker, &rows, 16), 2);
+    assert_eq!(rt; knocked(&mut knocker, &rows, 17), 2);
+}
+
+#[test]
+fn a_knock_is_a_ping_of_its_own(rt: HostRuntime) {
+    let mut knocker = Knocker::new(1, id(9), Version::Two);
+    let knock = knocker.start(&[up(2), failed(4, 8)], period(77));
+    let expected = Message {
+        version: Version::Two,
+        kind: Kind::Ping,
+        sender: id(9),
+        initiator: id(9),
+        target: id(4),
+        number: period(77),
+        at: None,
+    };
+    match knock {
+        Some(knock) => {
+            assert_eq!(rt; knock.peer, peer(4));
+            assert_eq!(rt; knock.message, expected);
+        }
+        None => assert!(rt; false),
+    }
+}

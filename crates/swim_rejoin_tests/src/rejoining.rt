@@ -1,0 +1,152 @@
+use crate::rows::{ack, failed, id, message, peer, period, ping, up};
+use swim_history::Row;
+use swim_rejoin::Rejoiner;
+use swim_wire::{Kind, Message, Peer};
+
+// A rejoiner of member 1, whose table shows member 2 as up and member 3 as failed in period 20, and who knocked at 3 in
+// the periods 21 and 24.
+fn waiting() -> Rejoiner {
+    let mut rejoiner = Rejoiner::new(3, id(1));
+    rejoiner.looked_at(&[up(2), failed(3, 20)]);
+    rejoiner.knocked(id(3), period(21));
+    rejoiner.knocked(id(3), period(24));
+    rejoiner
+}
+
+// Who is joined after that message, as a number, and 0 for nobody.
+fn joined(rejoiner: &Rejoiner, message: &Message, from: Peer) -> u32 {
+    match rejoiner.believes(message, &from) {
+        Some(row) => row.id.get(),
+        None => 0,
+    }
+}
+
+#[test]
+fn an_ack_of_a_knock_is_believed(rt: HostRuntime) {
+    let rejoiner = waiting();
+    let believed: Option<Row> = rejoiner.believes(&ack(3, 24), &peer(3));
+    assert_eq!(rt; believed, Some(failed(3, 20)));
+    assert_eq!(rt; joined(&rejoiner, &ack(3, 21), peer(3)), 3);
+}
+
+#[test]
+fn an_ack_of_no_knock_is_not(rt: HostRuntime) {
+    let rejoiner = waiting();
+    assert_eq!(rt; joined(&rejoiner, &ack(3, 20), peer(3)), 0);
+    assert_eq!(rt; joined(&rejoiner, &ack(3, 22), peer(3)), 0);
+    assert_eq!(rt; joined(&rejoiner, &ack(3, 25), peer(3)), 0);
+}
+
+#[test]
+fn an_ack_of_a_knock_at_another_is_not(rt: HostRuntime) {
+    let mut rejoiner = waiting();
+    rejoiner.looked_at(&[failed(2, 24), failed(3, 20)]);
+    rejoiner.knocked(id(2), period(27));
+    assert_eq!(rt; joined(&rejoiner, &ack(3, 27), peer(3)), 0);
+    assert_eq!(rt; joined(&rejoiner, &ack(2, 24), peer(2)), 0);
+    assert_eq!(rt; joined(&rejoiner, &ack(2, 27), peer(2)), 2);
+}
+
+#[test]
+fn an_ack_of_anothers_probe_is_not(rt: HostRuntime) {
+    let rejoiner = waiting();
+    // Member 2 began the probe; member 2 sends the ack on; the ack is of member 2.
+    let others = message(Kind::Ack, 3, 2, 3, 24);
+    let relayed = message(Kind::Ack, 2, 1, 3, 24);
+    let of_another = message(Kind::Ack, 3, 1, 2, 24);
+    assert_eq!(rt; joined(&rejoiner, &others, peer(3)), 0);
+    assert_eq!(rt; joined(&rejoiner, &relayed, peer(3)), 0);
+    assert_eq!(rt; joined(&rejoiner, &of_another, peer(3)), 0);
+}
+
+#[test]
+fn a_ping_of_its_own_is_believed(rt: HostRuntime) {
+    let rejoiner = waiting();
+    assert_eq!(rt; joined(&rejoiner, &ping(3), peer(3)), 3);
+    // Of whichever target, and in whichever of its periods.
+    let of_another = message(Kind::Ping, 3, 3, 2, 999);
+    assert_eq!(rt; joined(&rejoiner, &of_another, peer(3)), 3);
+}
+
+#[test]
+fn a_ping_for_another_is_not(rt: HostRuntime) {
+    let rejoiner = waiting();
+    let for_another = message(Kind::Ping, 3, 2, 1, 24);
+    let by_another = message(Kind::Ping, 2, 3, 1, 24);
+    assert_eq!(rt; joined(&rejoiner, &for_another, peer(3)), 0);
+    assert_eq!(rt; joined(&rejoiner, &by_another, peer(3)), 0);
+}
+
+#[test]
+fn a_request_is_not(rt: HostRuntime) {
+    let rejoiner = waiting();
+    let request = message(Kind::PingReq, 3, 3, 2, 24);
+    assert_eq!(rt; joined(&rejoiner, &request, peer(3)), 0);
+}
+
+#[test]
+fn a_stranger_is_not_believed(rt: HostRuntime) {
+    let rejoiner = waiting();
+    assert_eq!(rt; joined(&rejoiner, &ack(3, 24), peer(4)), 0);
+    assert_eq!(rt; joined(&rejoiner, &ping(3), peer(2)), 0);
+    let other_port = Peer {
+        ip: [10, 0, 0, 3],
+        port: 7001,
+    };
+    assert_eq!(rt; joined(&rejoiner, &ping(3), other_port), 0);
+}
+
+#[test]
+fn who_is_up_or_unknown_is_not_joined(rt: HostRuntime) {
+    let mut rejoiner = waiting();
+    assert_eq!(rt; joined(&rejoiner, &ping(2), peer(2)), 0);
+    assert_eq!(rt; joined(&rejoiner, &ping(4), peer(4)), 0);
+    rejoiner.looked_at(&[up(2), up(3)]);
+    assert_eq!(rt; joined(&rejoiner, &ack(3, 24), peer(3)), 0);
+    assert_eq!(rt; joined(&rejoiner, &ping(3), peer(3)), 0);
+    // The ids 3 and 259 leave the same rest.
+    let ping = message(Kind::Ping, 259, 259, 1, 1);
+    rejoiner.looked_at(&[
+        failed(3, 20),
+        Row {
+            id: id(259),
+            ..up(9)
+        },
+    ]);
+    assert_eq!(rt; joined(&rejoiner, &ping, peer(9)), 0);
+}
+
+#[test]
+fn the_last_64_knocks_are_remembered(rt: HostRuntime) {
+    let mut rejoiner = Rejoiner::new(1, id(1));
+    rejoiner.looked_at(&[failed(3, 20)]);
+    for number in 21..85u64 {
+        rejoiner.knocked(id(3), period(number));
+    }
+    assert_eq!(rt; joined(&rejoiner, &ack(3, 21), peer(3)), 3);
+    rejoiner.knocked(id(3), period(85));
+    assert_eq!(rt; joined(&rejoiner, &ack(3, 21), peer(3)), 0);
+    assert_eq!(rt; joined(&rejoiner, &ack(3, 22), peer(3)), 3);
+    assert_eq!(rt; joined(&rejoiner, &ack(3, 85), peer(3)), 3);
+}
+
+#[test]
+fn knocks_at_who_is_not_in_the_table_are_not_remembered(rt: HostRuntime) {
+    let mut rejoiner = waiting();
+    rejoiner.looked_at(&[up(2)]);
+    rejoiner.knocked(id(3), period(27));
+    rejoiner.looked_at(&[up(2), failed(3, 29)]);
+    assert_eq!(rt; joined(&rejoiner, &ack(3, 24), peer(3)), 0);
+    assert_eq!(rt; joined(&rejoiner, &ack(3, 27), peer(3)), 0);
+    rejoiner.knocked(id(3), period(30));
+    assert_eq!(rt; joined(&rejoiner, &ack(3, 30), peer(3)), 3);
+}
+
+#[test]
+fn nobody_is_joined_where_rejoin_is_0(rt: HostRuntime) {
+    let mut rejoiner = Rejoiner::new(0, id(1));
+    rejoiner.looked_at(&[failed(3, 20)]);
+    rejoiner.knocked(id(3), period(21));
+    assert_eq!(rt; joined(&rejoiner, &ack(3, 21), peer(3)), 0);
+    assert_eq!(rt; joined(&rejoiner, &ping(3), peer(3)), 0);
+}

@@ -1,0 +1,69 @@
+//! Members, their rows and their messages, as the tests tell them.
+
+use swim_history::{Row, RowState};
+use swim_wire::{Id, Kind, Message, Peer, PeriodNumber, Version};
+
+/// The member with that id.
+pub(crate) fn id(number: u32) -> Id {
+    Id::new(number).unwrap_or_default()
+}
+
+/// The period with that number.
+pub(crate) fn period(number: u64) -> PeriodNumber {
+    PeriodNumber::new(number).unwrap_or_default()
+}
+
+/// The address whose last octet is that.
+pub(crate) fn peer(octet: u8) -> Peer {
+    Peer {
+        ip: [10, 0, 0, octet],
+        port: 7000,
+    }
+}
+
+/// A member that is up, at the address of its own number.
+pub(crate) fn up(member: u8) -> Row {
+    Row {
+        id: id(u32::from(member)),
+        peer: peer(member),
+        state: RowState::Up,
+    }
+}
+
+/// A member that was judged at the end of that period, at the address of its own number.
+pub(crate) fn failed(member: u8, number: u64) -> Row {
+    Row {
+        id: id(u32::from(member)),
+        peer: peer(member),
+        state: RowState::Failed(number),
+    }
+}
+
+/// A message.
+pub(crate) fn message(
+    kind: Kind,
+    sender: u32,
+    initiator: u32,
+    target: u32,
+    number: u64,
+) -> Message {
+    Message {
+        version: Version::One,
+        kind,
+        sender: id(sender),
+        initiator: id(initiator),
+        target: id(target),
+        number: period(number),
+        at: None,
+    }
+}
+
+/// The ack that a member sends to member 1, which knocked at it with that number.
+pub(crate) fn ack(member: u8, number: u64) -> Message {
+    message(Kind::Ack, u32::from(member), 1, u32::from(member), number)
+}
+
+/// A ping of that member's own, of member 1.
+pub(crate) fn ping(member: u8) -> Message {
+    message(Kind::Ping, u32::from(member), u32::from(member), 1, 1)
+}
