@@ -21,6 +21,7 @@ TOP = [
     Key("id", "integer", (1, LARGEST_ID), None, "this member"),
     Key("listen", "peer", (), None, "where its datagrams come in"),
     Key("control", "path", (), None, "the path of the control socket"),
+    Key("events", "path", (), "", "the path of the events' socket, not that of control"),
     Key("k", "integer", (0, LARGEST_ID), None, "how many relays are asked, at most 8"),
     Key("rtt", "integer", (0, LARGEST_ID), None, "ticks for which a direct ack is waited for, at least 1"),
     Key("period", "integer", (0, LARGEST_ID), None, "ticks of a period, from three times rtt to 65535"),
@@ -30,6 +31,7 @@ TOP = [
     Key("last", "integer", (0, 2**63 - 1), 0, "the last period number that was used before"),
     Key("wire", "integer", (1, 2), 1, "the version of its own pings and ping-reqs"),
     Key("keys", "keys", (), (), "the keys of the group, of which the first signs"),
+    Key("fence", "integer", (0, LARGEST_ID), 1000, "datagrams a second of an address, 0 for all"),
     Key("journal_dir", "path", (), "", "the folder of the journal files"),
     Key("journal_keep", "integer", (0, LARGEST_ID), 16, "how many journal files stay, 0 for all"),
     Key("member", "members", (), [], "the other members, at most 128"),
@@ -58,10 +60,16 @@ RULES = [
 def rows():
     """The rows of the table of keys in docs/FORMATS.md."""
     for text, key in BY_TEXT.items():
-        default = {None: "none", "": "no files", (): "no keys"}.get(
-            key.default, key.default
-        ) if key.default != [] else "none of them"
-        yield f"| `{text}` | {expected_form(key)} | {default} | {key.about} |"
+        yield f"| `{text}` | {expected_form(key)} | {default_text(key)} | {key.about} |"
+
+
+def default_text(key):
+    """What the table says of a key that is left out."""
+    if key.default == "":
+        return "no socket" if key.name == "events" else "no files"
+    if key.default == []:
+        return "none of them"
+    return {None: "none", (): "no keys"}.get(key.default, key.default)
 
 
 def expected_of(key):

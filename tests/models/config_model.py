@@ -4,6 +4,7 @@ TOML reader, and the rest by the rules of docs/FORMATS.md."""
 import math
 import re
 import tomllib
+from fractions import Fraction
 
 from tests.models.config_keys import BY_TEXT, LARGEST_ID, MEMBER, RULES, TOP, expected_of
 from tests.swimd.worked_configs import BELOW
@@ -14,6 +15,8 @@ MOST_KEYS = 4
 OCTET = "(0|[1-9][0-9]{0,2})"
 PEER = re.compile(rf"{OCTET}\.{OCTET}\.{OCTET}\.{OCTET}:([1-9][0-9]{{0,4}})")
 DAY_MS = 86_400_000
+# The most entries of a flood that are counted: a thousandth of what 64 bits count, rounded up.
+MOST_COUNTED = -(-(2**64 - 1) // 1_000)
 # The most bytes of a line below a fault, without the spaces before it.
 LINE_BYTES = 160
 # What parts the words of a line, and from how many hexadecimal digits on one isn't shown.
@@ -96,6 +99,7 @@ def read_config(document):
     config = values(top, TOP, "")
     # Where keys are set, a last number that isn't given is the clock's, which nobody knows yet.
     config["last"] = None if config["keys"] and "last" not in top else config["last"]
+    config["is_fence_given"] = "fence" in top
     if not isinstance(config["member"], list) or not all(isinstance(it, dict) for it in config["member"]):
         raise Fault("5 member")
     config["member"] = [member(it) for it in config["member"]]
@@ -145,7 +149,12 @@ def values(table, keys, before):
     """The values of all keys of a table; faults call them by their names with that text before."""
     if not set(table) <= {key.name for key in keys}:
         raise Fault("3")
-    return {key.name: value(table, key, before + key.name) for key in keys}
+    found = {}
+    for key in keys:
+        found[key.name] = value(table, key, before + key.name)
+        if key.name == "events" and found["events"] == found["control"]:
+            raise Fault("6 events")
+    return found
 
 
 def value(table, key, name):
@@ -216,8 +225,10 @@ def summary(config):
     numbers = " ".join(f"{key} {config[key]}" for key in told)
     numbers += " wire 2" if config["wire"] == 2 else ""
     numbers += f" keys {len(config['keys'])}" if config["keys"] else ""
+    numbers += f" fence {config['fence']}" if config["is_fence_given"] else ""
     files = config["journal_dir"] != ""
-    lines = [f"{key} {config[key]}" for key in ("id", "listen", "control", *["journal_dir"] * files)]
+    paths = [key for key in ("events", "journal_dir") if config[key] != ""]
+    lines = [f"{key} {config[key]}" for key in ("id", "listen", "control", *paths)]
     lines += [numbers, *[f"journal_keep {config['journal_keep']}"] * files, f"members {len(config['member'])}"]
     return "".join(f"{line}\n" for line in lines + [f"{id} {at}" for id, at in sorted(config["member"])])
 
@@ -228,6 +239,10 @@ def warnings(config):
     rounds = 3 * (len(members) * (period + 2) + 2 * len(members))
     if config["journal"] < rounds:
         yield f"journal {config['journal']} is shorter than three rounds, which take {rounds} entries"
+    flood = math.ceil(Fraction(3 * len(members) * period * config["tick_ms"] * config["fence"], 1_000))
+    if config["is_fence_given"] and config["journal"] < min(flood, MOST_COUNTED):
+        flooded = f"a flood of {config['fence']} datagrams a second adds in three rounds"
+        yield f"journal {config['journal']} is shorter than what {flooded}, {min(flood, MOST_COUNTED)} entries"
     for id, at in members:
         if at == config["listen"]:
             yield f"member {id} is at this member's own address, {at}"

@@ -38,6 +38,9 @@ def keys():
     yield caused("an unknown table", table, "3", "found: jurnal; the nearest known key: journal", "line 19: [[jurnal]]")
     near = {"journal_dirs": "journal_dir", "journal-keep": "journal_keep", "journals": "journal"}
     near.update(wires="wire", wir="wire", Wire="wire", wier="wire")
+    near.update(
+        fences="fence", fenc="fence", Fence="fence", fnece="fence", event="events", Events="events", evetns="events"
+    )
     for name, known in near.items():
         found = f"found: {name}; the nearest known key: {known}"
         yield caused(f"`{name}`", with_keys(f"{name} = 1"), "3", found, f"line 1: {name} = 1")
@@ -83,6 +86,17 @@ def values():
     yield caused("version 0", with_keys("\nwire = 0 # none"), "6 wire", version, "line 2: wire = 0 # none")
     yield caused("a version in quotes", with_keys('wire = "2"'), "5 wire", version, 'line 1: wire = "2"')
     yield caused("a version that is a table", FULL + "\n[wire]\n", "5 wire", version, "line 19: [wire]")
+    fence = "expected: an integer from 0 to 4294967295 (datagrams a second of an address, 0 for all)"
+    yield caused("less than no fence", with_keys("fence = -1"), "6 fence", fence, "line 1: fence = -1")
+    yield caused(
+        "a fence in quotes", with_keys('\nfence = "7" # a second'), "5 fence", fence, 'line 2: fence = "7" # a second'
+    )
+    path = "expected: a string of 1 to 100 characters of ASCII that print"
+    path += " (the path of the events' socket, not that of control)"
+    yield caused("no path of events", with_keys('events = ""'), "6 events", path, 'line 1: events = ""')
+    yield caused("many paths of events", with_keys("events = [\n]"), "5 events", path, "line 1: events = [")
+    both = FULL.replace("k = 1\n", "k = 1\nevents = '/tmp/swimd.sock'\n")
+    yield caused("events on the control socket", both, "6 events", path, "line 5: events = '/tmp/swimd.sock'")
     folder = "expected: a string of 1 to 100 characters of ASCII that print (the folder of the journal files)"
     yield caused("no folder", with_keys('journal_dir = ""'), "6 journal_dir", folder, 'line 1: journal_dir = ""')
     yield caused(
@@ -173,6 +187,28 @@ def warnings():
     yield warned("a short journal", with_value("journal", "41"), SUMMARY.replace("journal 1000", "journal 41"), short)
     yield warned(
         "a journal of three rounds", with_value("journal", "42"), SUMMARY.replace("journal 1000", "journal 42")
+    )
+    told = lambda journal, fence: SUMMARY.replace("journal 1000", f"journal {journal} fence {fence}")
+    fenced = lambda journal, fence, document=FULL: with_keys(
+        f"fence = {fence}", with_value("journal", journal, document)
+    )
+    # three rounds of two members last six periods of 3 seconds
+    flood = "journal {} is shorter than what a flood of {} datagrams a second adds in three rounds, {} entries"
+    yield warned("a journal of 18 seconds", fenced("18000", "1000"), told("18000", "1000"))
+    yield warned("an entry less", fenced("17999", "1000"), told("17999", "1000"), flood.format(17_999, 1_000, 18_000))
+    unsaid = SUMMARY.replace("journal 1000", "journal 17999")
+    yield warned("the same unsaid", with_value("journal", "17999"), unsaid)
+    yield warned("a fence of one", fenced("18", "1"), told("18", "1"), short.replace("41", "18"))
+    both = [short.replace("41", "17"), flood.format(17, 1, 18)]
+    yield warned("a fence of one, and an entry less", fenced("17", "1"), told("17", "1"), *both)
+    # 6 periods of 3 ticks of 7 milliseconds, so 126 milliseconds, in which 15 datagrams a second are 1.89
+    quick = lambda journal: fenced(journal, "15", with_value("tick_ms", "7"))
+    quickly = lambda journal: told(journal, "15").replace("tick_ms 1000", "tick_ms 7")
+    yield warned("a part of an entry", quick("1"), quickly("1"), short.replace("41", "1"), flood.format(1, 15, 2))
+    yield warned("no part of an entry", quick("2"), quickly("2"), short.replace("41", "2"))
+    alone = with_keys("fence = 4294967295", with_value("journal", "1", ALONE))
+    yield warned(
+        "a fence, and nobody is listed", alone, SUMMARY_ALONE.replace("journal 1000", "journal 1 fence 4294967295")
     )
     own = FULL.replace("10.0.0.3:7000", "10.0.0.1:7000")
     wanted = SUMMARY.replace("10.0.0.3:7000", "10.0.0.1:7000")

@@ -53,8 +53,8 @@ def is_as(found, wanted):
     return found.startswith(front) and lines[-1] == "" and all(re.fullmatch("  [ -~]+", it) for it in lines[:-1])
 
 
-def good(name, document, stdout):
-    return name, document.encode(), stdout.encode(), b"", 0
+def good(name, document, stdout, *warnings):
+    return name, document.encode(), stdout.encode(), "".join(f"warning: {it}\n" for it in warnings).encode(), 0
 
 
 def bad(name, document, fault):
@@ -220,6 +220,80 @@ def group_keys():
     yield bad("keys of a member", FULL + f'keys = ["{one}"]\n', "3")
 
 
+def fences():
+    """How many datagrams a second are handed on stands behind how many keys there are, where it is given."""
+    told = lambda fence: with_summary("journal 1000\n", f"journal 1000{fence}\n")
+    added = lambda rate: f"a flood of {rate} datagrams a second adds in three rounds"
+    flood = lambda rate, entries: f"journal 1000 is shorter than what {added(rate)}, {entries} entries"
+    # three rounds of two periods of three seconds
+    yield good("a fence", with_keys("fence = 500"), told(" fence 500"), flood(500, 9_000))
+    yield good("no fence", with_keys("fence = 0"), told(" fence 0"))
+    yield good(
+        "the fence that goes without saying", with_keys("fence = 1000"), told(" fence 1000"), flood(1_000, 18_000)
+    )
+    yield good("a flood that just fits", with_keys("fence = 55"), told(" fence 55"))
+    yield good("a flood that just doesn't fit", with_keys("fence = 56"), told(" fence 56"), flood(56, 1_008))
+    for text in ("1_0", "0xa", "+10", "0b1010"):
+        yield good(f"a fence of {text}", with_keys(f"fence = {text}"), told(" fence 10"))
+    yield good(
+        "the highest fence",
+        with_keys("fence = 4294967295"),
+        told(" fence 4294967295"),
+        flood(4294967295, 77_309_411_310),
+    )
+    one = "0123456789abcdefABCDEF9876543210" * 2
+    among = with_summary(" last 0 journal 1000\n", " journal 1000 wire 2 keys 1 fence 7\n")
+    yield good("a fence, a key and version 2", with_keys(f'fence = 7\nkeys = ["{one}"]\nwire = 2'), among)
+    files = told(" fence 7").replace("\nk 1 ", "\njournal_dir files\nk 1 ").replace(
+        "\nmembers", "\njournal_keep 16\nmembers"
+    )
+    yield good("a fence, and a folder", with_keys('journal_dir = "files"\nfence = 7'), files)
+    for text in ("-1", "4294967296", "9223372036854775807", "-9223372036854775808"):
+        yield bad(f"`fence` is {text}", with_keys(f"fence = {text}"), "6 fence")
+    for text in ('"1000"', "1000.0", "true", "[1000]", "[]", "{}", "{rate = 2}", "2020-01-02"):
+        yield bad(f"`fence` is {text}", with_keys(f"fence = {text}"), "5 fence")
+    yield bad("`fence` is a table", FULL + "\n[fence]\n", "5 fence")
+    yield bad("`fence` is an array of tables", FULL + "\n[[fence]]\nrate = 2\n", "5 fence")
+    yield bad("`fence` twice", with_keys("fence = 1\nfence = 1"), "2")
+    yield bad("keys before a fence", with_keys("fence = -1\nkeys = []"), "6 keys")
+    yield bad("a fence before a folder", with_keys('journal_dir = ""\nfence = -1'), "6 fence")
+    yield bad("a fence before a member", with_keys("fence = -1", with_member("id = 0")), "6 fence")
+    for name in ("fences", "fenc", "Fence", "fence_", "fense", "rate", "fence-rate"):
+        yield bad(f"`{name}`", with_keys(f"{name} = 2"), "3")
+    yield bad("a fence of a member", FULL + "fence = 2\n", "3")
+
+
+def events():
+    """The path of the events' socket stands behind that of the control socket, which is another one."""
+    told = lambda path: with_summary("\nk 1 ", f"\nevents {path}\nk 1 ")
+    yield good("events", with_keys('events = "/run/swimd.events"'), told("/run/swimd.events"))
+    yield good("events beside control", with_keys('events = "/tmp/swimd.sock "'), told("/tmp/swimd.sock "))
+    yield good("the same file by another text", with_keys('events = "/tmp//swimd.sock"'), told("/tmp//swimd.sock"))
+    yield good("the longest path of events", with_keys(f'events = "{"~" * 100}"'), told("~" * 100))
+    yield good("the shortest path of events", with_keys("events = 'e'"), told("e"))
+    files = told("e").replace("\nk 1 ", "\njournal_dir files\nk 1 ").replace("\nmembers", "\njournal_keep 16\nmembers")
+    yield good("events, and a folder", with_keys('journal_dir = "files"\nevents = "e"'), files)
+    yield good(
+        "events in the folder's name", with_keys('journal_dir = "e"\nevents = "e"'), files.replace("dir files", "dir e")
+    )
+    for text in ("1", "true", "[]", "{}", "2020-01-01", '["e"]'):
+        yield bad(f"`events` is {text}", with_keys(f"events = {text}"), "5 events")
+    for text in ('""', f'"{"x" * 101}"', '"\\t"', '"\\u007f"', '"\u00e9"', '"a\\nb"', '"a\\u0000"'):
+        yield bad(f"`events` is {text[:20]!r}", with_keys(f"events = {text}"), "6 events")
+    yield bad("events on the control socket", with_keys('events = "/tmp/swimd.sock"'), "6 events")
+    yield bad("the same by an escape", with_keys('events = "\\u002ftmp/swimd.sock"'), "6 events")
+    yield bad("`events` is a table", FULL + "\n[events]\n", "5 events")
+    yield bad("`events` twice", with_keys('events = "a"\nevents = "b"'), "2")
+    yield bad("control before events", with_keys('events = ""', with_value("control", '""')), "6 control")
+    yield bad("events before k", with_keys('events = ""', with_value("k", "-1")), "6 events")
+    same = with_keys('events = "/tmp/swimd.sock"', with_value("k", "-1"))
+    yield bad("events on the control socket before k", same, "6 events")
+    yield bad("a listener before events", with_keys('events = ""', with_value("listen", '""')), "7 listen")
+    for name in ("event", "Events", "events_", "events-path", "evens", "watch"):
+        yield bad(f"`{name}`", with_keys(f'{name} = "e"'), "3")
+    yield bad("events of a member", FULL + 'events = "e"\n', "3")
+
+
 def texts():
     yield bad("a byte too many", FULL + "#" * (65_537 - len(FULL)), "1")
     yield bad("a byte too many, and no TOML", "=" * 65_537, "1")
@@ -305,5 +379,5 @@ def openings():
 
 
 def worked_configs():
-    for part in (accepted, files, versions, group_keys, texts, keys, ranges, members, openings):
+    for part in (accepted, files, versions, group_keys, fences, events, texts, keys, ranges, members, openings):
         yield from part()

@@ -27,6 +27,7 @@ use Rattle.swim_config.specs.declared.keys.Key.TheVariants as keys
 use Rattle.swim_config.specs.declared.config.Place.{Place}
 use Rattle.swim_config.specs.declared.config.Times.{Times}
 use Rattle.swim_config.specs.declared.config.Kept.{Kept}
+use Rattle.swim_config.specs.declared.config.Fence.{Fence}
 use Rattle.swim_config.specs.declared.config.JournalFiles.{JournalFiles}
 use Rattle.swim_config.specs.declared.config.Settings.{Settings}
 use Rattle.swim_config.specs.GroupKeys.{keys_at}
@@ -118,6 +119,16 @@ path_in key (Some value) = do
 abbrev pub path_if : Key → Members → Result (Option (List ℕ)) ConfigFault
 path_if key table = path_in key (get_member (name_of key) table)
 
+-- the path of the events' socket, which isn't that of the control socket
+abbrev pub another_than : List ℕ → Option (List ℕ) → Result (Option (List ℕ)) ConfigFault
+another_than control None = Ok None
+another_than control (Some path) = if bytes_eq path control then Err (faults.Range keys.Events) else Ok (Some path)
+
+abbrev pub events_at : List ℕ → Members → Result (Option (List ℕ)) ConfigFault
+events_at control table = do
+  path ← path_if keys.Events table
+  another_than control path
+
 -- the 32 bytes that 64 hexadecimal digits spell
 abbrev pub seed_at : Members → Result (List ℕ) ConfigFault
 seed_at table = do
@@ -171,7 +182,8 @@ place_in table = do
   id ← number_at keys.Id table
   listen ← peer_at keys.Listen table
   control ← path_at table
-  Ok (record { id = id; listen = listen; control = control })
+  events ← events_at control table
+  Ok (record { id = id; listen = listen; control = control; events = events })
 
 -- how many relays are asked, and how long things last
 unfoldable pub times_in : Members → Result Times ConfigFault
@@ -203,6 +215,12 @@ files_in table = do
   keep ← number_at keys.JournalKeep table
   Ok (record { dir = dir; keep = keep })
 
+-- how many datagrams a second of an address are handed on
+unfoldable pub fence_in : Members → Result Fence ConfigFault
+fence_in table = do
+  rate ← number_at keys.Fence table
+  Ok (record { rate = rate; is_given = is_given keys.Fence table })
+
 -- all of it, but for the members
 unfoldable pub settings_in : Members → Result Settings ConfigFault
 settings_in table = do
@@ -211,8 +229,17 @@ settings_in table = do
   kept ← kept_in table
   version ← version_in table
   group ← keys_at table
+  fence ← fence_in table
   files ← files_in table
-  Ok (record { place = place; times = times; kept = kept; version = version; keys = group; files = files })
+  Ok (record {
+    place = place;
+    times = times;
+    kept = kept;
+    version = version;
+    keys = group;
+    fence = fence;
+    files = files;
+  })
 
 -- what the detector starts from
 abbrev pub setting_with : Settings → List (ℕ × Address) → Setting
@@ -230,11 +257,14 @@ config_unless None s opening =
     Ok (record {
       listen = s.place.listen;
       control = s.place.control;
+      events = s.place.events;
       tick_ms = s.times.tick_ms;
       seed = s.kept.seed;
       journal = s.kept.journal;
       keys = s.keys;
       begins_by_clock = begins_by_clock s;
+      fence = s.fence.rate;
+      is_fence_given = s.fence.is_given;
       files = s.files;
       opening = opening;
     })
@@ -267,6 +297,10 @@ told_count count = if nat_lt 0 count then Some count else None
 abbrev pub told_last : Config → Option ℕ
 told_last config = if config.begins_by_clock then None else Some config.opening.last
 
+-- the datagrams a second, where they are given
+abbrev pub told_fence : Config → Option ℕ
+told_fence config = if config.is_fence_given then Some config.fence else None
+
 -- the number that a summary tells of a key; none where it tells none, as of a key that is left out
 abbrev pub number_of : Key → Config → Option ℕ
 number_of keys.K config = Some config.opening.k
@@ -277,6 +311,7 @@ number_of keys.Last config = told_last config
 number_of keys.Journal config = Some config.journal
 number_of keys.Wire config = told_version config.opening.version
 number_of keys.Keys config = told_count (length config.keys.items)
+number_of keys.Fence config = told_fence config
 number_of keys.JournalKeep config = told_keep config.files
 number_of key config = None
 

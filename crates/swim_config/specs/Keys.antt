@@ -24,6 +24,7 @@ abbrev pub entry_of : Key → KeyEntry
 entry_of keys.Id = required (codes "id") (Number 1 4294967295) (codes "this member")
 entry_of keys.Listen = required (codes "listen") Peer (codes "where its datagrams come in")
 entry_of keys.Control = required (codes "control") Path (codes "the path of the control socket")
+entry_of keys.Events = required (codes "events") Path (codes "the path of the events' socket, not that of control")
 entry_of keys.K =
     record {
       name = codes "k";
@@ -56,6 +57,14 @@ entry_of keys.Wire =
       begins_line = false;
     }
 entry_of keys.Keys = required (codes "keys") Keys (codes "the keys of the group, of which the first signs")
+entry_of keys.Fence =
+    record {
+      name = codes "fence";
+      form = Number 0 4294967295;
+      default = Some 1000;
+      about = codes "datagrams a second of an address, 0 for all";
+      begins_line = false;
+    }
 entry_of keys.JournalDir = required (codes "journal_dir") Path (codes "the folder of the journal files")
 entry_of keys.JournalKeep =
     record {
@@ -72,8 +81,8 @@ entry_of keys.MemberAt = required (codes "at") Peer (codes "where another member
 -- the keys of a configuration, and those of a member, in the order in which their faults are told
 abbrev pub top_keys : List Key
 top_keys =
-    keys.Id ∷ keys.Listen ∷ keys.Control ∷ keys.K ∷ keys.Rtt ∷ keys.Period ∷ keys.TickMs ∷ keys.Seed ∷ keys.Journal ∷
-    keys.Last ∷ keys.Wire ∷ keys.Keys ∷ keys.JournalDir ∷ keys.JournalKeep ∷ keys.Member ∷ []
+    keys.Id ∷ keys.Listen ∷ keys.Control ∷ keys.Events ∷ keys.K ∷ keys.Rtt ∷ keys.Period ∷ keys.TickMs ∷ keys.Seed ∷
+    keys.Journal ∷ keys.Last ∷ keys.Wire ∷ keys.Keys ∷ keys.Fence ∷ keys.JournalDir ∷ keys.JournalKeep ∷ keys.Member ∷ []
 
 abbrev pub member_keys : List Key
 member_keys = keys.MemberId ∷ keys.MemberAt ∷ []
@@ -81,8 +90,8 @@ member_keys = keys.MemberId ∷ keys.MemberAt ∷ []
 -- those whose numbers a summary tells behind its first three lines, in this order
 abbrev pub number_keys : List Key
 number_keys =
-    keys.K ∷ keys.Rtt ∷ keys.Period ∷ keys.TickMs ∷ keys.Last ∷ keys.Journal ∷ keys.Wire ∷ keys.Keys ∷ keys.JournalKeep ∷
-    []
+    keys.K ∷ keys.Rtt ∷ keys.Period ∷ keys.TickMs ∷ keys.Last ∷ keys.Journal ∷ keys.Wire ∷ keys.Keys ∷ keys.Fence ∷
+    keys.JournalKeep ∷ []
 
 -- ---- what follows of a key
 

@@ -46,17 +46,25 @@ all_members_text rows = count_text (length rows) ++ members_text (ascending rows
 
 -- ---- the whole
 
--- where the journal files are made
-abbrev pub dir_text : Option (List ℕ) → List ℕ
-dir_text None = []
-dir_text (Some dir) = codes "\njournal_dir " ++ dir
-
--- who this member is, where it listens, and where its journal files are made
-abbrev pub place_text : Config → List ℕ
-place_text config =
+-- who this member is, and where it listens
+abbrev pub own_text : Config → List ℕ
+own_text config =
     codes "id " ++ (decimal config.opening.me
-    ++ (codes "\nlisten " ++ (address_text config.listen
-    ++ (codes "\ncontrol " ++ (config.control ++ dir_text config.files.dir)))))
+    ++ (codes "\nlisten " ++ (address_text config.listen ++ (codes "\ncontrol " ++ config.control))))
+
+-- a path that may be left out
+abbrev pub path_text : List ℕ → Option (List ℕ) → List ℕ
+path_text words None = []
+path_text words (Some path) = words ++ path
+
+-- where events are told, and where the journal files are made
+abbrev pub paths_text : Config → List ℕ
+paths_text config =
+    path_text (codes "\nevents ") config.events ++ path_text (codes "\njournal_dir ") config.files.dir
+
+-- all of that
+abbrev pub place_text : Config → List ℕ
+place_text config = own_text config ++ paths_text config
 
 -- the numbers, and what follows
 abbrev pub numbers_and_members_text : Config → List ℕ

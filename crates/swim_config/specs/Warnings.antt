@@ -1,6 +1,6 @@
 -- What a configuration allows and can't work, as it is warned of.
-use Rattle.std.specs.Prelude.{ℕ, ◌+◌, ◌*◌, ◌-◌, Bool, ◌&&◌, ◌==◌, nat_lt, nat_le, List, [], ◌∷◌, ◌++◌, length, slice_index}
-use Rattle.std.specs.Prelude.{if◌then◌else◌, codes, decimal}
+use Rattle.std.specs.Prelude.{ℕ, ◌+◌, ◌*◌, ◌-◌, ◌/◌, ◌^◌, min, Bool, ◌&&◌, ◌==◌, nat_lt, nat_le, List, [], ◌∷◌, ◌++◌, length}
+use Rattle.std.specs.Prelude.{slice_index, if◌then◌else◌, codes, decimal}
 use Rattle.std.specs.List.{list_all}
 use Rattle.std.specs.Str.{bytes_eq}
 use Rattle.swim_wire.specs.Address.{Address, address_text}
@@ -26,6 +26,32 @@ journal_text journal wanted =
 
 abbrev pub short_journal_text : ℕ → ℕ → List ℕ
 short_journal_text journal wanted = text_if (nat_lt journal wanted) (journal_text journal wanted)
+
+-- how long a period lasts, and how long three rounds do, in milliseconds
+abbrev pub period_ms : Config → ℕ
+period_ms config = config.opening.period * config.tick_ms
+
+abbrev pub rounds_ms : Config → ℕ
+rounds_ms config = 3 * (length config.opening.rows * period_ms config)
+
+-- the entries that so many datagrams a second add within that time; more than 64 bits count is as many as they do
+abbrev pub flood_entries : ℕ → ℕ → ℕ
+flood_entries rate milliseconds = (min (rate * milliseconds) (2 ^ 64 - 1) + 999) / 1000
+
+abbrev pub flood_text : ℕ → ℕ → ℕ → List ℕ
+flood_text journal rate wanted =
+    codes "warning: journal " ++ (decimal journal
+    ++ (codes " is shorter than what a flood of " ++ (decimal rate
+    ++ (codes " datagrams a second adds in three rounds, " ++ (decimal wanted ++ codes " entries\n")))))
+
+abbrev pub short_for_a_flood_text : ℕ → ℕ → ℕ → List ℕ
+short_for_a_flood_text journal rate wanted = text_if (nat_lt journal wanted) (flood_text journal rate wanted)
+
+-- of a fence that isn't given nothing is told
+abbrev pub floods_text : Config → List ℕ
+floods_text config =
+    text_if config.is_fence_given
+    (short_for_a_flood_text config.journal config.fence (flood_entries config.fence (rounds_ms config)))
 
 -- ---- addresses
 
@@ -75,9 +101,6 @@ relays_text relays could_relay =
 abbrev pub few_relays_text : ℕ → ℕ → List ℕ
 few_relays_text relays members = text_if (has_few_relays relays members) (relays_text relays (members - 1))
 
-abbrev pub period_ms : Config → ℕ
-period_ms config = config.opening.period * config.tick_ms
-
 abbrev pub period_text : ℕ → List ℕ
 period_text milliseconds =
     codes "warning: a period has " ++ (decimal milliseconds ++ codes " milliseconds, which is beyond a day\n")
@@ -112,7 +135,11 @@ abbrev pub addresses_and_more_text : Config → List ℕ
 addresses_and_more_text config =
     own_addresses_text config.listen config.opening.rows ++ shared_and_more_text config
 
+-- of a flood, and what follows
+abbrev pub floods_and_more_text : Config → List ℕ
+floods_and_more_text config = floods_text config ++ addresses_and_more_text config
+
 -- the whole, each where it applies, in this order
 abbrev pub warnings_text : Config → List ℕ
 warnings_text config =
-    short_journal_text config.journal (three_rounds config.opening) ++ addresses_and_more_text config
+    short_journal_text config.journal (three_rounds config.opening) ++ floods_and_more_text config

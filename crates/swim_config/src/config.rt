@@ -3,8 +3,9 @@
 ghost use Rattle.std.specs.Prelude.{◌≡◌};
 ghost use Rattle.toml.specs.View.{table_view};
 ghost use Rattle.swim_wire.specs.Layout.{version_of};
-ghost use Rattle.swim_config.specs.Configuration.{config_with, files_in, kept_in, number_of, place_in, settings_in, times_in};
-ghost use Rattle.swim_config.specs.Configuration.{told_count, told_keep, told_last, told_version, version_in};
+ghost use Rattle.swim_config.specs.Configuration.{another_than, config_with, events_at, fence_in, files_in, kept_in};
+ghost use Rattle.swim_config.specs.Configuration.{number_of, place_in, settings_in, times_in, told_count, told_fence, told_keep};
+ghost use Rattle.swim_config.specs.Configuration.{told_last, told_version, version_in};
 
 use crate::config_fault::ConfigFault;
 use crate::group_keys::{GroupKeys, take_keys};
@@ -12,6 +13,7 @@ use crate::keys::Key;
 use crate::socket_path::SocketPath;
 use crate::values::{
     find, take_id, take_number, take_path, take_path_if, take_peer, take_seed, take_small,
+    take_small_or,
 };
 use swim_history::Opening;
 use swim_wire::{Id, Peer, Version};
@@ -24,6 +26,8 @@ pub struct Config {
     pub listen: Peer,
     /// The path of the control socket.
     pub control: SocketPath,
+    /// The path of the socket where events are told, if they are; not that of the control socket.
+    pub events: Option<SocketPath>,
     /// How long a tick lasts, in milliseconds: 1 to 60000.
     pub tick_ms: u32,
     /// The seed of the draws.
@@ -34,6 +38,10 @@ pub struct Config {
     pub keys: GroupKeys,
     /// Whether `last` is to be the system's clock as the daemon starts: keys are set, and `last` was left out.
     pub begins_by_clock: bool,
+    /// How many datagrams a second are handed on of each listed member's address, and of all others together; 0 for all.
+    pub fence: u32,
+    /// Whether `fence` stands in the document.
+    pub is_fence_given: bool,
     /// Where each life's journal is written to a file, if it is.
     pub files: JournalFiles,
     /// What its detector starts from.
@@ -46,6 +54,7 @@ pub struct Place {
     pub id: Id,
     pub listen: Peer,
     pub control: SocketPath,
+    pub events: Option<SocketPath>,
 }
 
 /// How many relays are asked, and how long things last.
@@ -67,6 +76,15 @@ pub struct Kept {
     pub is_last_given: bool,
 }
 
+/// What is thrown away before it is looked at.
+#[derive(Clone, Copy, Debug, PartialEq, Eq)]
+pub struct Fence {
+    /// How many datagrams a second of an address are handed on; 0 for all.
+    pub rate: u32,
+    /// Whether it stands in the document.
+    pub is_given: bool,
+}
+
 /// The journal files.
 #[derive(Debug, Drop)]
 pub struct JournalFiles {
@@ -85,6 +103,7 @@ pub struct Settings {
     /// The version of its own pings and ping-reqs.
     pub version: Version,
     pub keys: GroupKeys,
+    pub fence: Fence,
     pub files: JournalFiles,
 }
 
@@ -103,6 +122,7 @@ impl Config {
             Key::Journal => Some(u64::from(self.journal)),
             Key::Wire => told_version(opening.version()),
             Key::Keys => told_count(self.keys.len()),
+            Key::Fence => self.told_fence(),
             Key::JournalKeep => self.files.told_keep(),
             _ => None,
         }
@@ -116,6 +136,17 @@ impl Config {
             None
         } else {
             Some(self.opening.last())
+        }
+    }
+
+    /// The datagrams a second, where they are given.
+    fn told_fence(&self) -> Option<u64>
+        ensures { result ≡ told_fence self.now }
+    {
+        if self.is_fence_given {
+            Some(u64::from(self.fence))
+        } else {
+            None
         }
     }
 }
@@ -160,6 +191,7 @@ pub fn take_settings(table: &Table) -> Result<Settings, ConfigFault>
     let kept = take_kept(table)?;
     let version = take_version(table)?;
     let keys = take_keys(table)?;
+    let fence = take_fence(table)?;
     let files = take_files(table)?;
     Ok(Settings {
         place,
@@ -167,6 +199,7 @@ pub fn take_settings(table: &Table) -> Result<Settings, ConfigFault>
         kept,
         version,
         keys,
+        fence,
         files,
     })
 }
@@ -178,11 +211,37 @@ fn take_place(table: &Table) -> Result<Place, ConfigFault>
     let id = take_id(table, Key::Id)?;
     let listen = take_peer(table, Key::Listen)?;
     let control = take_path(table)?;
+    let events = take_events(table, &control)?;
     Ok(Place {
         id,
         listen,
         control,
+        events,
     })
+}
+
+fn take_events(table: &Table, control: &SocketPath) -> Result<Option<SocketPath>, ConfigFault>
+    ensures { result ≡ events_at control.now (table_view table.now) }
+{
+    let path = take_path_if(table, Key::Events)?;
+    another_than(control, path)
+}
+
+/// The path, where it isn't that of the control socket.
+fn another_than(
+    control: &SocketPath,
+    path: Option<SocketPath>,
+) -> Result<Option<SocketPath>, ConfigFault>
+    ensures { result ≡ another_than control.now path }
+{
+    let Some(path) = path else {
+        return Ok(None);
+    };
+    if path.as_str() == control.as_str() {
+        Err(ConfigFault::Range(Key::Events))
+    } else {
+        Ok(Some(path))
+    }
 }
 
 #[tactic(auto, unfolding(crate::specs::Configuration::times_in))]
@@ -236,6 +295,15 @@ fn version_of(wire: u64) -> Version
     }
 }
 
+#[tactic(auto, unfolding(crate::specs::Configuration::fence_in))]
+fn take_fence(table: &Table) -> Result<Fence, ConfigFault>
+    ensures { result ≡ fence_in (table_view table.now) }
+{
+    let rate = take_small_or(table, Key::Fence, 1_000)?;
+    let is_given = find(table, Key::Fence).is_some();
+    Ok(Fence { rate, is_given })
+}
+
 #[tactic(auto, unfolding(crate::specs::Configuration::files_in))]
 fn take_files(table: &Table) -> Result<JournalFiles, ConfigFault>
     ensures { result ≡ files_in (table_view table.now) }
@@ -255,6 +323,7 @@ pub fn config_with(settings: Settings, members: &[(Id, Peer)]) -> Result<Config,
         kept,
         version,
         keys,
+        fence,
         files,
     } = settings;
     let seed = kept.seed;
@@ -272,11 +341,14 @@ pub fn config_with(settings: Settings, members: &[(Id, Peer)]) -> Result<Config,
         Ok(opening) => Ok(Config {
             listen: place.listen,
             control: place.control,
+            events: place.events,
             tick_ms: times.tick_ms,
             seed,
             journal: kept.journal,
             keys,
             begins_by_clock,
+            fence: fence.rate,
+            is_fence_given: fence.is_given,
             files,
             opening,
         }),

@@ -13,6 +13,8 @@ pub enum Key {
     Listen,
     /// The path of its control socket.
     Control,
+    /// The path of the socket where events are told.
+    Events,
     /// How many relays are asked.
     K,
     /// For how many ticks a direct ack is waited for.
@@ -31,6 +33,8 @@ pub enum Key {
     Wire,
     /// The keys of the group, by which datagrams are signed.
     Keys,
+    /// How many datagrams a second of an address are handed on.
+    Fence,
     /// The folder of the journal files.
     JournalDir,
     /// How many journal files stay.
@@ -76,10 +80,11 @@ struct Entry {
 }
 
 /// The keys of a configuration, in the order in which their faults are told.
-pub const TOP_KEYS: [Key; 15] = [
+pub const TOP_KEYS: [Key; 17] = [
     Key::Id,
     Key::Listen,
     Key::Control,
+    Key::Events,
     Key::K,
     Key::Rtt,
     Key::Period,
@@ -89,13 +94,14 @@ pub const TOP_KEYS: [Key; 15] = [
     Key::Last,
     Key::Wire,
     Key::Keys,
+    Key::Fence,
     Key::JournalDir,
     Key::JournalKeep,
     Key::Member,
 ];
 
 /// The keys whose numbers a summary tells behind its first three lines, in this order.
-pub const NUMBER_KEYS: [Key; 9] = [
+pub const NUMBER_KEYS: [Key; 10] = [
     Key::K,
     Key::Rtt,
     Key::Period,
@@ -104,6 +110,7 @@ pub const NUMBER_KEYS: [Key; 9] = [
     Key::Journal,
     Key::Wire,
     Key::Keys,
+    Key::Fence,
     Key::JournalKeep,
 ];
 
@@ -123,6 +130,11 @@ impl Key {
             Key::Id => required("id", Form::Number(1, 4_294_967_295), "this member"),
             Key::Listen => required("listen", Form::Peer, "where its datagrams come in"),
             Key::Control => required("control", Form::Path, "the path of the control socket"),
+            Key::Events => required(
+                "events",
+                Form::Path,
+                "the path of the events' socket, not that of control",
+            ),
             Key::K => Entry {
                 name: "k",
                 form: Form::Number(0, 4_294_967_295),
@@ -166,6 +178,13 @@ impl Key {
                 Form::Keys,
                 "the keys of the group, of which the first signs",
             ),
+            Key::Fence => Entry {
+                name: "fence",
+                form: Form::Number(0, 4_294_967_295),
+                default: Some(1_000),
+                about: "datagrams a second of an address, 0 for all",
+                begins_line: false,
+            },
             Key::JournalDir => required(
                 "journal_dir",
                 Form::Path,

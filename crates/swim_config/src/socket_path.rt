@@ -1,4 +1,4 @@
-//! The path of a control socket.
+//! The path of a socket or a folder.
 
 ghost use Rattle.std.specs.Prelude.{◌≡◌};
 ghost use Rattle.std.specs.List.{list_all};
@@ -7,10 +7,10 @@ ghost use Rattle.swim_config.specs.Configuration.{is_printing, is_path, path_of}
 use arrayvec::ArrayString;
 use std::marker::Model;
 
-/// The longest path of a control socket, in bytes.
+/// The longest path, in bytes.
 pub const PATH_BYTES: usize = 100;
 
-/// The path of a control socket: 1 to 100 bytes, each a character of ASCII that prints, or a space. A contract sees
+/// The path of a socket or a folder: 1 to 100 bytes, each a character of ASCII that prints, or a space. A contract sees
 /// the bytes.
 #[derive(Debug, Drop)]
 pub struct SocketPath {

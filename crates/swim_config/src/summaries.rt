@@ -1,13 +1,14 @@
 //! The summary of a configuration.
 
-ghost use Rattle.std.specs.Prelude.{◌≡◌, ◌++◌, length, codes, decimal};
-ghost use Rattle.swim_wire.specs.Address.{address_text};
+ghost use Rattle.std.specs.Prelude.{◌≡◌, ◌++◌, length};
 ghost use Rattle.swim_wire.specs.Streams.{Puts, failures_if};
 ghost use Rattle.swim_config.specs.Summary.{all_members_text, count_text, mark_of, member_text, members_text, number_text};
-ghost use Rattle.swim_config.specs.Summary.{numbers_and_members_text, numbers_text, place_text, summary_text, told_text};
+ghost use Rattle.swim_config.specs.Summary.{numbers_and_members_text, numbers_text, own_text, path_text, paths_text};
+ghost use Rattle.swim_config.specs.Summary.{place_text, summary_text, told_text};
 
 use crate::config::Config;
 use crate::keys::{Key, NUMBER_KEYS};
+use crate::socket_path::SocketPath;
 use swim_history::{Opening, Row, table_of};
 use swim_wire::{Piece, Sink, put_pieces};
 
@@ -22,23 +23,20 @@ pub fn summary<W: Sink>(config: &Config, writer: &mut W) -> bool
     put_numbers_and_members(writer, config)
 }
 
-/// Who this member is, where it listens, and where its journal files are made.
+/// Who this member is, where it listens, where events are told, and where its journal files are made.
 fn put_place<W: Sink>(writer: &mut W, config: &Config) -> bool
     ensures bytes { Puts (W.written writer.old) (W.written writer.new) (place_text config.now) result }
     ensures failures { W.failures writer.new ≡ failures_if (W.failures writer.old) result }
 {
-    match &config.files.dir {
-        None => put_lines(writer, config, b"", b""),
-        Some(dir) => put_lines(writer, config, b"\njournal_dir ", dir.as_str().as_bytes()),
+    if !put_own(writer, config) {
+        return false;
     }
+    put_paths(writer, config)
 }
 
-/// The lines of who this member is and where it listens, and what follows them.
-fn put_lines<'a, W: Sink>(writer: &mut W, config: &'a Config, word: &'a [u8], dir: &'a [u8]) -> bool
-    ensures bytes { Puts (W.written writer.old) (W.written writer.new)
-        (codes "id " ++ (decimal config.now.opening.me
-        ++ (codes "\nlisten " ++ (address_text config.now.listen
-        ++ (codes "\ncontrol " ++ (config.now.control ++ (word.now ++ dir.now))))))) result }
+/// Who this member is, and where it listens.
+fn put_own<W: Sink>(writer: &mut W, config: &Config) -> bool
+    ensures bytes { Puts (W.written writer.old) (W.written writer.new) (own_text config.now) result }
     ensures failures { W.failures writer.new ≡ failures_if (W.failures writer.old) result }
 {
     let pieces = [
@@ -48,10 +46,37 @@ fn put_lines<'a, W: Sink>(writer: &mut W, config: &'a Config, word: &'a [u8], di
         Piece::Address(config.listen),
         Piece::Text(b"\ncontrol "),
         Piece::Text(config.control.as_str().as_bytes()),
-        Piece::Text(word),
-        Piece::Text(dir),
     ];
     put_pieces(writer, &pieces)
+}
+
+/// Where events are told, and where the journal files are made.
+fn put_paths<W: Sink>(writer: &mut W, config: &Config) -> bool
+    ensures bytes { Puts (W.written writer.old) (W.written writer.new) (paths_text config.now) result }
+    ensures failures { W.failures writer.new ≡ failures_if (W.failures writer.old) result }
+{
+    if !put_path(writer, b"\nevents ", &config.events) {
+        return false;
+    }
+    put_path(writer, b"\njournal_dir ", &config.files.dir)
+}
+
+/// A path that may be left out, behind these words.
+fn put_path<W: Sink>(writer: &mut W, words: &[u8], path: &Option<SocketPath>) -> bool
+    ensures bytes { Puts (W.written writer.old) (W.written writer.new) (path_text words.now path.now) result }
+    ensures failures { W.failures writer.new ≡ failures_if (W.failures writer.old) result }
+{
+    match path {
+        None => writer.put(b""),
+        Some(path) => put_words(writer, words, path.as_str().as_bytes()),
+    }
+}
+
+fn put_words<'a, W: Sink>(writer: &mut W, words: &'a [u8], text: &'a [u8]) -> bool
+    ensures bytes { Puts (W.written writer.old) (W.written writer.new) (words.now ++ text.now) result }
+    ensures failures { W.failures writer.new ≡ failures_if (W.failures writer.old) result }
+{
+    put_pieces(writer, &[Piece::Text(words), Piece::Text(text)])
 }
 
 /// The numbers of the keys that have some, and what follows.

@@ -104,6 +104,21 @@ pub fn take_small(table: &Table, key: Key) -> Result<u32, ConfigFault>
     Ok(number as u32)
 }
 
+/// The number of a key whose numbers fit 32 bits, its default where it is left out.
+pub fn take_small_or(table: &Table, key: Key, default: u32) -> Result<u32, ConfigFault>
+    requires small { IsSmall (form_of key) }
+    requires default { default_of key ≡ Some default }
+    ensures { result ≡ number_at key (table_view table.now) }
+{
+    match find(table, key) {
+        None => Ok(default),
+        Some(value) => {
+            let number = number_as(value, key)?;
+            Ok(number as u32)
+        }
+    }
+}
+
 /// The value of a key as an id.
 pub fn take_id(table: &Table, key: Key) -> Result<Id, ConfigFault>
     requires range { form_of key ≡ Form.Number 1 4294967295 }

@@ -2,7 +2,8 @@
 
 ghost use Rattle.std.specs.Prelude.{◌≡◌, length};
 ghost use Rattle.swim_wire.specs.Streams.{Puts, failures_if};
-ghost use Rattle.swim_config.specs.Warnings.{addresses_and_more_text, few_relays_text, is_plain, is_same_address};
+ghost use Rattle.swim_config.specs.Warnings.{addresses_and_more_text, few_relays_text, flood_entries, flood_text, floods_and_more_text};
+ghost use Rattle.swim_config.specs.Warnings.{floods_text, is_plain, is_same_address, rounds_ms, short_for_a_flood_text};
 ghost use Rattle.swim_config.specs.Warnings.{journal_text, long_period_text, own_address_text, own_addresses_text, own_line};
 ghost use Rattle.swim_config.specs.Warnings.{period_ms, period_text, plain_seed_text, relays_and_times_text, relays_text};
 ghost use Rattle.swim_config.specs.Warnings.{shared_address_text, shared_addresses_text, shared_and_more_text, shared_line};
@@ -21,6 +22,17 @@ pub fn put_warnings<W: Sink>(writer: &mut W, config: &Config) -> bool
     ensures failures { W.failures writer.new ≡ failures_if (W.failures writer.old) result }
 {
     if !put_journal(writer, config) {
+        return false;
+    }
+    put_floods_and_more(writer, config)
+}
+
+/// That a flood fills the journal, and what follows.
+fn put_floods_and_more<W: Sink>(writer: &mut W, config: &Config) -> bool
+    ensures bytes { Puts (W.written writer.old) (W.written writer.new) (floods_and_more_text config.now) result }
+    ensures failures { W.failures writer.new ≡ failures_if (W.failures writer.old) result }
+{
+    if !put_floods(writer, config) {
         return false;
     }
     put_addresses(writer, config)
@@ -113,6 +125,63 @@ fn three_rounds(opening: &Opening) -> u64
     let members = opening.rows().len() as u64;
     let period = u64::from(opening.period());
     3 * (members * (period + 2) + 2 * members)
+}
+
+/// That a flood that the given fence lets through fills the journal within three rounds.
+fn put_floods<W: Sink>(writer: &mut W, config: &Config) -> bool
+    ensures bytes { Puts (W.written writer.old) (W.written writer.new) (floods_text config.now) result }
+    ensures failures { W.failures writer.new ≡ failures_if (W.failures writer.old) result }
+{
+    if !config.is_fence_given {
+        return writer.put(b"");
+    }
+    let entries = flood_entries(config.fence, rounds_ms(config));
+    put_short_for_a_flood(writer, config.journal, config.fence, entries)
+}
+
+fn put_short_for_a_flood<W: Sink>(writer: &mut W, journal: u32, rate: u32, entries: u64) -> bool
+    ensures bytes { Puts (W.written writer.old) (W.written writer.new)
+        (short_for_a_flood_text journal rate entries) result }
+    ensures failures { W.failures writer.new ≡ failures_if (W.failures writer.old) result }
+{
+    let journal = u64::from(journal);
+    if journal < entries {
+        put_flood_line(writer, journal, u64::from(rate), entries)
+    } else {
+        writer.put(b"")
+    }
+}
+
+fn put_flood_line<W: Sink>(writer: &mut W, journal: u64, rate: u64, wanted: u64) -> bool
+    ensures bytes { Puts (W.written writer.old) (W.written writer.new) (flood_text journal rate wanted) result }
+    ensures failures { W.failures writer.new ≡ failures_if (W.failures writer.old) result }
+{
+    let pieces = [
+        Piece::Text(b"warning: journal "),
+        Piece::Number(journal),
+        Piece::Text(b" is shorter than what a flood of "),
+        Piece::Number(rate),
+        Piece::Text(b" datagrams a second adds in three rounds, "),
+        Piece::Number(wanted),
+        Piece::Text(b" entries\n"),
+    ];
+    put_pieces(writer, &pieces)
+}
+
+/// The entries that so many datagrams a second add within so many milliseconds.
+fn flood_entries(rate: u32, milliseconds: u64) -> u64
+    ensures { result ≡ flood_entries rate milliseconds }
+{
+    let thousandths = u64::from(rate).saturating_mul(milliseconds);
+    thousandths.div_ceil(1_000)
+}
+
+/// How long three rounds last: a round has as many periods as members are listed.
+fn rounds_ms(config: &Config) -> u64
+    ensures { result ≡ rounds_ms config.now }
+{
+    let members = config.opening.rows().len() as u64;
+    3 * (members * period_ms(config))
 }
 
 /// Which members are at this member's own address.
@@ -250,12 +319,19 @@ fn put_period<W: Sink>(writer: &mut W, config: &Config) -> bool
         (long_period_text (period_ms config.now)) result }
     ensures failures { W.failures writer.new ≡ failures_if (W.failures writer.old) result }
 {
-    let period = u64::from(config.opening.period()) * u64::from(config.tick_ms);
+    let period = period_ms(config);
     if DAY_MS < period {
         put_period_line(writer, period)
     } else {
         writer.put(b"")
     }
+}
+
+/// How long a period lasts.
+fn period_ms(config: &Config) -> u64
+    ensures { result ≡ period_ms config.now }
+{
+    u64::from(config.opening.period()) * u64::from(config.tick_ms)
 }
 
 fn put_period_line<W: Sink>(writer: &mut W, milliseconds: u64) -> bool

@@ -1,4 +1,4 @@
-use Rattle.std.proofs.Common.{◌≡◌, ℕ, Bool, true, List, rules, subst, sym, ap, ◌∙◌, nat_lt, ◌-◌}
+use Rattle.std.proofs.Common.{◌≡◌, ℕ, Bool, true, List, rules, subst, sym, ap, ◌∙◌}
 use Rattle.swim_wire.specs.Streams.{Puts}
 use Rattle.std.proofs.Common.{◌∷◌, if◌then◌else◌}
 use Rattle.swim_wire.specs.TwoPuts.{first_and_others, others_of}

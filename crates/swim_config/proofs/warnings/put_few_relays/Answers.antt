@@ -1,4 +1,4 @@
-use Rattle.std.proofs.Common.{◌≡◌, ℕ, Bool, true, List, rules, subst, sym, ap, ◌∙◌, nat_lt, ◌-◌}
+use Rattle.std.proofs.Common.{◌≡◌, ℕ, Bool, true, rules, subst, sym, ◌-◌}
 use Rattle.swim_wire.specs.Streams.{Puts}
 use Rattle.swim_config.specs.Warnings.{has_few_relays, relays_text, text_if}
 use Rattle.swim_config.proofs.warnings.put_few_relays.Goals as goal
