@@ -24,8 +24,9 @@ LIVES_AND_CLOSING = re.compile(rb"((?:life [^\n]*\n)*)ended (no memory|socket|st
 ROW = re.compile(rb"(\d+) ([\d.]+:\d+) (up|failed \d+)")
 # What a daemon tells people: warnings before it begins, and while it runs lines with the time.
 TIME = rb"\d{4}-\d\d-\d\dT\d\d:\d\d:\d\d\.\d{3}Z"
-FORGED = rb"datagrams from [\d.]+:\d+ have no tag by one of our keys, forged \d+"
-NOTICES = rb"swimd [\d.]+ listens [^\n]*|life \d+ begins|removed [^\n]*|journal [^\n]*: [^\n]*|" + FORGED
+WHY_THROWN = rb"have no tag by one of our keys, forged|come faster than the fence lets in, fenced"
+THROWN_AWAY = rb"datagrams from [\d.]+:\d+ (?:" + WHY_THROWN + rb") \d+"
+NOTICES = rb"swimd [\d.]+ listens [^\n]*|life \d+ begins|removed [^\n]*|journal [^\n]*: [^\n]*|" + THROWN_AWAY
 NOTICE = re.compile(rb"warning: [^\n]*\n|" + TIME + rb" (?:" + NOTICES + rb")\n")
 
 

@@ -20,7 +20,7 @@ from tests.support.journals import must_verify_all
 from tests.support.parts import ended, leave_out, program, reference, timed
 
 PROGRAMS = ["swimd", "swimsim"]
-# So many tests are run at the same time: some measure how soon a daemon answers.
+# So many tests are run at the same time, where a part doesn't ask for less: some measure how soon a daemon answers.
 AT_A_TIME = 2
 # The tests of the part that is played. A process for one of them is told its place here.
 TESTS = []
@@ -51,8 +51,8 @@ def run(paths, place):
     return printed.getvalue(), said, seconds
 
 
-def run_all(counts, paths, places, shows_times):
-    with ProcessPoolExecutor(AT_A_TIME, mp_context=multiprocessing.get_context("fork")) as pool:
+def run_all(counts, paths, places, shows_times, at_a_time):
+    with ProcessPoolExecutor(at_a_time, mp_context=multiprocessing.get_context("fork")) as pool:
         try:
             running = [(TESTS[it].__name__, pool.submit(run, paths, it)) for it in places]
             for name, (printed, said, seconds) in ((name, it.result()) for name, it in running):
@@ -67,8 +67,9 @@ def run_all(counts, paths, places, shows_times):
             raise
 
 
-def played(what, tests):
-    """Plays a part of these tests, as the words of the command line ask, and answers its status."""
+def played(what, tests, at_a_time=AT_A_TIME):
+    """Plays a part of these tests, so many at the same time, as the words of the command line ask, and answers its
+    status."""
     TESTS[:] = tests
     parser = argparse.ArgumentParser(description=what)
     parser.add_argument("--only", choices=[it.__name__ for it in TESTS])
@@ -80,6 +81,6 @@ def played(what, tests):
     def play(counts):
         paths = [*(program(*it) for it in zip_longest(PROGRAMS, options.programs)), ordinary()]
         places = [place for place, it in enumerate(TESTS) if options.only in (None, it.__name__)]
-        run_all(counts, paths, places, options.times)
+        run_all(counts, paths, places, options.times, at_a_time)
 
     return ended(play)

@@ -51,7 +51,7 @@ def datagrams_that_are_none(machine):
 def forged_datagrams(machine):
     """Of texts that are nearly a datagram each is counted or makes an entry, and none is answered but pings of this
     member."""
-    daemon, peer, other = machine.started(2, tick_ms=MINUTE), machine.socket(), machine.socket()
+    daemon, peer, other = machine.started(2, tick_ms=MINUTE, fence=0), machine.socket(), machine.socket()
     texts, markers = [b"", *forgeries()], 0
     for place, text in enumerate(texts):
         other.sendto(text, daemon.address)

@@ -1,5 +1,6 @@
 """Groups of daemons: who is listed as what, where members fail, are cut off, come back, or are flooded."""
 
+import contextlib
 import os
 import shutil
 import threading
@@ -10,6 +11,7 @@ from tests.support.datagrams import ACK, PING, REQUEST, datagram, fields, versio
 from tests.support.parts import leave_out, reference
 
 FLOOD_SECONDS = 10
+BETWEEN_ANSWERS = 0.01
 MOST_GROWTH = 2**21
 # So many pings a second leave room in the longest journal.
 MOST_PINGS = 75_000
@@ -17,29 +19,34 @@ MOST_PINGS = 75_000
 
 class Answerer(threading.Thread):
     """A member that isn't a daemon: it answers the pings that it is told to, each in its version, and keeps which came,
-    and all bytes that did. What it sends for the text of an ack is told by `seal`."""
+    and all bytes that did. What it sends for the text of an ack is told by `seal`, and how often by `times`."""
 
-    def __init__(self, socket, id, answers, seal=bytes):
+    def __init__(self, socket, id, answers, seal=bytes, times=1):
         super().__init__(daemon=True)
         self.socket, self.id, self.answers, self.pings, self.versions = socket, id, answers, [], set()
-        self.port, self.seal, self.came = socket.getsockname()[1], seal, []
+        self.port, self.seal, self.times, self.came = socket.getsockname()[1], seal, times, []
         self.start()
 
     def run(self):
-        while True:
-            try:
-                text, source = self.socket.recvfrom(100)
-            except OSError:
-                return
-            kind, sender, initiator, target, number = fields(text)
-            self.came.append(text)
-            if kind == PING and target == self.id:
-                self.pings.append((sender, initiator))
-                self.versions.add((sender, version_of(text)))
-                if self.answers(sender, initiator):
-                    self.socket.sendto(
-                        self.seal(datagram(ACK, self.id, initiator, self.id, number, version_of(text))), source
-                    )
+        # It ends where its socket is closed.
+        with contextlib.suppress(OSError):
+            while True:
+                self.hear(*self.socket.recvfrom(100))
+
+    def hear(self, text, source):
+        kind, sender, initiator, target, number = fields(text)
+        self.came.append(text)
+        if kind == PING and target == self.id:
+            self.pings.append((sender, initiator))
+            self.versions.add((sender, version_of(text)))
+            if self.answers(sender, initiator):
+                self.answer(self.seal(datagram(ACK, self.id, initiator, self.id, number, version_of(text))), source)
+
+    def answer(self, text, to):
+        self.socket.sendto(text, to)
+        for _ in range(self.times - 1):
+            time.sleep(BETWEEN_ANSWERS)
+            self.socket.sendto(text, to)
 
 
 def all_up(daemons):
@@ -196,7 +203,7 @@ def a_group_that_changes_lives(machine):
 def memory_of_lives(machine):
     """A life that ended gives its memory back: after many there isn't more of it than after some."""
     how = {"env": {**os.environ, **ONE_ARENA}}
-    daemon, sender = machine.started(how=how, tick_ms=60_000, journal=10_000), machine.socket()
+    daemon, sender = machine.started(how=how, tick_ms=60_000, journal=10_000, fence=0), machine.socket()
     number, found = 0, []
     for lives in (10, 40):
         while daemon.lives_so_far() < lives:
@@ -230,7 +237,7 @@ def flood(socket, daemon, seconds):
 def a_flood(machine):
     """Ten seconds of it, as fast as one sender keeps it up: nobody is judged, all garbage is counted, all pings
     answered."""
-    daemons = machine.group(3, rtt=10, period=30)
+    daemons = machine.group(3, rtt=10, period=30, fence=0)
     sender = machine.socket()
     count, lost = flood(sender, daemons[0], FLOOD_SECONDS)
     print(f"  {count:,} pings and as much garbage in {FLOOD_SECONDS} seconds; {lost} times an ack didn't come")
@@ -251,7 +258,7 @@ def receive_buffer():
 
 def a_burst_of_pings(machine):
     """1,024 pings at once, more than a receive buffer of the usual size holds. Those that it held are answered."""
-    daemon, sender, answered = machine.started(tick_ms=60_000), machine.socket(), set()
+    daemon, sender, answered = machine.started(tick_ms=60_000, fence=0), machine.socket(), set()
 
     def collect():
         while True:

@@ -1,11 +1,11 @@
 -- What is heard over a line is the texts of the datagrams of the line below.
-use Rattle.std.proofs.Common.{◌≡◌, ℕ, List, [], ◌∷◌, ◌++◌, length, take, drop, map, flat_map, Option, Some, None, refl, sym, subst, ◌∙◌, ap, append_assoc, append-nil}
+use Rattle.std.proofs.Common.{◌≡◌, ℕ, List, [], ◌∷◌, ◌++◌, length, take, drop, map, Option, Some, None, refl, sym, subst, ◌∙◌, ap, append_assoc, append-nil}
 use Rattle.std.proofs.lemmas.Grind.{flat_map-append}
 use Rattle.std.specs.Option.{option_map, option_to_list}
 use Rattle.std.proofs.lemmas.List.{take-append-drop, length-take, take_min}
 use Rattle.std.proofs.Math.Seq.{take-append_seam}
 use Rattle.swim_wire.specs.Address.{Address}
-use Rattle.swim_keys.specs.Sealing.{Keyring, opened, tag_of}
+use Rattle.swim_keys.specs.Sealing.{Keyring, tag_of}
 use Rattle.swim_keys.proofs.Opening.{sealed_when_opened}
 use Rattle.swim_life.specs.declared.gates.Got.{Got}
 use Rattle.swim_life.specs.declared.gates.Got.TheVariants.{Datagram, Idle, Fault}

@@ -2,12 +2,13 @@
 use Rattle.std.specs.Prelude.{◌≡◌, ℕ, ◌<◌, ◌≤◌, Bool, false, List, [], ◌∷◌, length, take, flat_map, Option, Some, None}
 use Rattle.std.specs.Option.{option_map, option_to_list}
 use Rattle.swim_wire.specs.Address.{Address}
-use Rattle.swim_wire.specs.Streams.{one_more}
 use Rattle.swim_keys.specs.Sealing.{Keyring, opened, sealed}
 use Rattle.swim_life.specs.declared.gates.Got.{Got}
 use Rattle.swim_life.specs.declared.gates.Got.TheVariants.{Datagram, Idle}
 use Rattle.swim_life.specs.Gates.{Received}
 use Rattle.swim_life.specs.Posts.{Posted, Grows}
+use Rattle.swim_guard.specs.declared.thrown.Thrown.{Thrown}
+use Rattle.swim_guard.specs.Thrown.{one_thrown}
 
 -- the text of a datagram's bytes: all of them where there are no keys; else those in front of a tag by one of the keys
 abbrev pub text_by : Option Keyring → List ℕ → Option (List ℕ)
@@ -47,20 +48,11 @@ abbrev pub stranger : Option Keyring → Got → List ℕ → Option Address
 stranger keys (Datagram count source) bytes = stranger_of source (text_by keys (take count bytes))
 stranger keys got bytes = None
 
--- how many datagrams were thrown away, and where the newest of them came from; the count stops at 2^64-1
-pub record Forgeries : Type 0 where
-  pub count : ℕ
-  pub newest : Option Address
-
-abbrev pub one_forged : Option Address → Forgeries → Forgeries
-one_forged None f = f
-one_forged (Some source) f = record { count = one_more f.count; newest = Some source }
-
 -- what a contract sees of a line over another
 pub record AtLine (L : Type 0) : Type 0 where
   pub line : L
   pub keys : Option Keyring
-  pub forged : Forgeries
+  pub forged : Thrown
 
 -- what a contract sees of a post over another
 pub record AtPost (O : Type 0) : Type 0 where
@@ -73,7 +65,7 @@ pub record HandsOn {L : Type 0} (received : L → Option (List Received)) (old n
   pub below : Got
   pub grows : Grows (received old.line) (received new.line) (record { got = below; bytes = bytes } ∷ [])
   pub is : got ≡ given old.keys below bytes
-  pub forged : new.forged ≡ one_forged (stranger old.keys below bytes) old.forged
+  pub forged : new.forged ≡ one_thrown (stranger old.keys below bytes) old.forged
   pub keys : new.keys ≡ old.keys
 
 -- the post below was handed a text as it is sent, or where that is longer than a datagram nothing

@@ -1,1 +1,3 @@
+pub mod Fenced
 pub mod Guarded
+pub mod Thrown

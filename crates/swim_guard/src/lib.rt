@@ -1,9 +1,15 @@
-//! Who is heard: a line and a post over others, for a group whose members sign what they send.
+//! Who is heard: lines and a post over others, for a group whose members sign what they send, and against floods.
 #![tactic(auto)]
 
+mod fenced_lines;
 pub mod laws;
 mod sealed_lines;
 mod sealed_posts;
+mod thrown;
+mod timepieces;
 
+pub use fenced_lines::FencedLine;
 pub use sealed_lines::SealedLine;
 pub use sealed_posts::SealedPost;
+pub use thrown::{Sieve, Thrown};
+pub use timepieces::{ClockTimepiece, Timepiece};

@@ -1,16 +1,17 @@
 //! A line on which only who has a key of the group is heard.
 
-ghost use Rattle.std.specs.Prelude.{◌≡◌, ◌∷◌, [], None, Some, length, map};
+ghost use Rattle.std.specs.Prelude.{◌≡◌, ◌≤◌, ◌∷◌, [], None, Some, length, map};
 ghost use Rattle.std.specs.Option.{option_map};
 ghost use Rattle.swim_life.specs.Gates.{FitsInto};
 ghost use Rattle.swim_life.specs.Posts.{Grows};
-ghost use Rattle.swim_guard.specs.Guarded.{HandsOn, handed_on, one_forged, text_by};
+ghost use Rattle.swim_guard.specs.Guarded.{HandsOn, handed_on, text_by};
 
+use crate::thrown::{Sieve, Thrown};
 use std::marker::Model;
 use std::sync::Wait;
 use swim_keys::Keys;
 use swim_life::{Got, Line};
-use swim_wire::Peer;
+use swim_wire::{KNOWN_MEMBERS, Peer};
 
 /// A line over another. Where there are keys, it hands on each datagram that has a tag by one of them, without its tag,
 /// and throws the others away, before anything is decoded; where there are none, it hands on all. A contract sees the line
@@ -19,8 +20,7 @@ use swim_wire::Peer;
 pub struct SealedLine<'k, L: Line> {
     line: L,
     keys: Option<&'k Keys>,
-    forged: u64,
-    newest: Option<Peer>,
+    forged: Thrown,
 }
 
 impl<'k, L: Line> Model for SealedLine<'k, L> {
@@ -32,7 +32,7 @@ impl<'k, L: Line> Model for SealedLine<'k, L> {
     ghost view = { λ s. record {
       line = s.line;
       keys = option_map (λ keys. keys.now) s.keys;
-      forged = record { count = s.forged; newest = s.newest };
+      forged = s.forged;
     } };
 }
 
@@ -48,23 +48,8 @@ impl<'k, L: Line> SealedLine<'k, L> {
         SealedLine {
             line,
             keys,
-            forged: 0,
-            newest: None,
+            forged: Thrown::none(),
         }
-    }
-
-    /// How many datagrams were thrown away. The count stops at 2^64-1.
-    pub fn forged(&self) -> u64
-        ensures { result ≡ self.now.forged.count }
-    {
-        self.forged
-    }
-
-    /// Where the newest datagram came from that was thrown away.
-    pub fn newest(&self) -> Option<Peer>
-        ensures { result ≡ self.now.forged.newest }
-    {
-        self.newest
     }
 
     /// How many bytes of a datagram are its text; `None` where it is thrown away.
@@ -76,26 +61,19 @@ impl<'k, L: Line> SealedLine<'k, L> {
             None => Some(bytes.len()),
         }
     }
-
-    /// Counts a datagram that is thrown away.
-    fn count(&mut self, source: Peer)
-        ensures line { self.new.line ≡ self.old.line }
-        ensures keys { self.new.keys ≡ self.old.keys }
-        ensures forged { self.new.forged ≡ one_forged (Some source) self.old.forged }
-    {
-        self.forged = self.forged.saturating_add(1);
-        self.newest = Some(source);
-    }
 }
 
 impl<'k, L: Line> Line for SealedLine<'k, L> {
     ghost received = { λ s. option_map (map (handed_on s.keys)) (L.received s.line) };
+
+    ghost listed = { λ s. L.listed s.line };
 
     fn receive<R: Wait>(&mut self, rt: &R, bytes: &mut [u8]) -> Got
         ensures fits { FitsInto result bytes.new }
         ensures received { Grows (option_map (map (handed_on self.old.keys)) (L.received self.old.line))
             (option_map (map (handed_on self.new.keys)) (L.received self.new.line))
             (record { got = result; bytes = bytes.new } ∷ []) }
+        ensures listed { L.listed self.new.line ≡ L.listed self.old.line }
         ensures hands { HandsOn L.received self.old self.new result bytes.new }
     {
         let got = self.line.receive(rt, bytes);
@@ -105,9 +83,28 @@ impl<'k, L: Line> Line for SealedLine<'k, L> {
         match self.text_bytes(&bytes[..count]) {
             Some(text_bytes) => Got::Datagram(text_bytes, source),
             None => {
-                self.count(source);
+                self.forged.one_more(source);
                 Got::Idle
             }
         }
+    }
+
+    fn list(&mut self, members: &[Peer])
+        requires { length members.now ≤ KNOWN_MEMBERS }
+        ensures received { L.received self.new.line ≡ L.received self.old.line }
+        ensures listed { Grows (L.listed self.old.line) (L.listed self.new.line) (members.now ∷ []) }
+        ensures same { self.new ≡ record self.old { line = self.new.line } }
+    {
+        self.line.list(members);
+    }
+}
+
+impl<'k, L: Line> Sieve for SealedLine<'k, L> {
+    ghost thrown_away = { λ s. s.forged };
+
+    fn thrown(&self) -> Thrown
+        ensures { result ≡ self.now.forged }
+    {
+        self.forged
     }
 }

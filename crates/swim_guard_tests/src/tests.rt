@@ -3,10 +3,12 @@
 ghost use Rattle.std.specs.Prelude.{None};
 ghost use Rattle.swim_life.specs.Gates.{FitsInto};
 
+mod fences;
+
 use std::sync::Wait;
 use std::sync::atomic::{AtomicBool, Ordering};
 use std::test::Fail;
-use swim_guard::{SealedLine, SealedPost};
+use swim_guard::{SealedLine, SealedPost, Sieve};
 use swim_keys::{Key, Keys};
 use swim_life::{Got, Line, Post};
 use swim_wire::Peer;
@@ -52,6 +54,8 @@ struct OneDatagram<'d> {
 impl<'d> Line for OneDatagram<'d> {
     ghost received = { λ line. None };
 
+    ghost listed = { λ line. None };
+
     fn receive<R: Wait>(&mut self, _rt: &R, bytes: &mut [u8]) -> Got
         ensures { FitsInto result bytes.new }
     {
@@ -63,6 +67,8 @@ impl<'d> Line for OneDatagram<'d> {
             None => Got::Idle,
         }
     }
+
+    fn list(&mut self, _members: &[Peer]) {}
 }
 
 // What is heard of a datagram, and how many were thrown away.
@@ -78,7 +84,8 @@ fn heard<R: Wait>(
     let mut line = SealedLine::new(line, keys);
     let mut bytes = [0; 64];
     let got = line.receive(rt, &mut bytes);
-    (got, bytes, line.forged(), line.newest())
+    let thrown = line.thrown();
+    (got, bytes, thrown.count, thrown.newest)
 }
 
 #[test]

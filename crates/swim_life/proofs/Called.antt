@@ -13,7 +13,7 @@ use Rattle.swim_node.specs.Answered.{kept, refused, IsAnswered, MayRefuse, MayRe
 use Rattle.swim_node.specs.Seats.{Seated}
 use Rattle.swim_life.specs.declared.counts.Counts.{Counts}
 use Rattle.swim_life.specs.declared.counts.Why.{Why}
-use Rattle.swim_life.specs.Calling.{IsMade, IsRefused, Hears, Ticks}
+use Rattle.swim_life.specs.Calling.{IsRefused, Hears, Ticks}
 use Rattle.swim_life.specs.Finished.{AreSent, IsFinished}
 use Rattle.swim_life.specs.Posts.{AtSender, Posted}
 

@@ -1,5 +1,5 @@
 -- Who ends for a full journal has a seat that knows of it.
-use Rattle.std.proofs.Common.{◌≡◌, ◌⊎◌, ℕ, ◌+◌, ◌<◌, Bool, true, false, List, [], ◌∷◌, length, Option, Some, None, Result, Ok, Err, sym, subst, ◌∙◌, inl, inr, arith}
+use Rattle.std.proofs.Common.{◌≡◌, ◌⊎◌, ℕ, ◌<◌, Bool, true, false, List, [], ◌∷◌, length, Option, Some, None, Result, Ok, Err, sym, subst, ◌∙◌, inl, inr, arith}
 use Rattle.std.specs.Prelude.{IfErr, MatchOption, nat_lt, if◌then◌else◌}
 use Rattle.std.specs.Option.{unwrap_or}
 use Rattle.swim_wire.specs.Address.{Address}
@@ -13,7 +13,6 @@ use Rattle.swim_history.specs.declared.replies.Reply.TheVariants as replies
 use Rattle.swim_history.specs.Setting.{Setting}
 use Rattle.swim_control.specs.declared.connections.Stand.{Stand}
 use Rattle.swim_control.specs.declared.connections.Stand.TheVariants as stands
-use Rattle.swim_control.specs.declared.desks.Answer.{Answer}
 use Rattle.swim_control.specs.declared.desks.Answer.TheVariants as answers
 use Rattle.swim_control.specs.declared.desks.Command.{Command}
 use Rattle.swim_control.specs.declared.desks.Command.TheVariants as commands
@@ -37,7 +36,7 @@ use Rattle.swim_node.specs.OneHistory.{AreFullWhereMet}
 use Rattle.swim_node.specs.Seats.{Seated}
 use Rattle.swim_life.specs.declared.counts.Counts.{Counts}
 use Rattle.swim_life.specs.declared.counts.Why.{Why}
-use Rattle.swim_life.specs.declared.counts.Why.TheVariants.{JournalFull, NoMemory, Socket, Stopped}
+use Rattle.swim_life.specs.declared.counts.Why.TheVariants.{JournalFull, NoMemory, Stopped}
 use Rattle.swim_life.specs.Desk.{AtDesk, Asks, Calls, Tells}
 use Rattle.swim_life.specs.Ends.{graver, gravity, why_of, why_at}
 use Rattle.swim_life.specs.Finished.{IsFinished}

@@ -1,9 +1,12 @@
 pub mod Called
+pub mod Crying
 pub mod Fullness
+pub mod Heard
 pub mod LifeFiles
 pub mod Living
 pub mod Posting
 pub mod Sent
+pub mod Showing
 pub mod Told
 pub mod Turning
 pub mod Written

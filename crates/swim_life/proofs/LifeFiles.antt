@@ -12,6 +12,8 @@ use Rattle.swim_journal.specs.Replays.{IsDrawnRun, IsJournalFile}
 use Rattle.swim_life.specs.declared.lives.Past.{Past}
 use Rattle.swim_life.specs.Draws.{WasDrawn}
 use Rattle.swim_life.specs.Lives.{IsLife, IsDrawnLife}
+use Rattle.swim_events.specs.Guests.{AtGuest}
+use Rattle.swim_life.specs.Watched.{AreToldLife}
 use Rattle.swim_life.specs.Written.{IsFile, IsWritten}
 
 -- of each opening that a header can tell, the header and the calls of a run that is drawn so are a journal file
@@ -59,6 +61,12 @@ drawn_with_cut opening limit seed number past new cut same is = (
   life_with_cut opening limit past new cut same is.0,
   was_drawn_with_cut opening (record (of_seed seed) { stream = number }) past new cut same is.1,
 )
+
+pub told_with_cut : (number : ℕ) (opening : Setting) (before after : List AtGuest) (past new : Past) (cut : Bool) →
+    new ≡ record past { is_cut = cut } → AreToldLife number opening before past.journal.past after →
+    AreToldLife number opening before new.journal.past after
+told_with_cut number opening before after past new cut same is =
+    subst (λ (p : Past). AreToldLife number opening before p.journal.past after) (sym same) is
 
 pub same_but_cut : (past new : Past) (cut : Bool) → new ≡ record past { is_cut = cut } → new ≡ record past { is_cut = new.is_cut }
 same_but_cut past new cut same = subst (λ (p : Past). p ≡ record past { is_cut = p.is_cut }) (sym same) refl

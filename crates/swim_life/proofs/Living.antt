@@ -1,6 +1,6 @@
 -- Lives that went on one from the other, step by step.
 use Rattle.std.proofs.Common.{◌≡◌, ℕ, ◌+◌, ◌-◌, ◌^◌, min, true, false, List, [], ◌∷◌, length, Some, None}
-use Rattle.std.proofs.Common.{refl, subst, inl, inr, arith}
+use Rattle.std.proofs.Common.{Option, refl, subst, sym, inl, inr, arith}
 use Rattle.swim_history.specs.After.{setting_after}
 use Rattle.swim_history.specs.Setting.{Setting}
 use Rattle.swim_node.specs.declared.receipts.OpenFault.{OpenFault}
@@ -21,11 +21,11 @@ pub record HaveLived (first : Setting) (limit : ℕ) (seed : List ℕ) (next : S
   pub number_is : number ≡ number_after lives
   pub told : AreTold old new lives
 
-pub none_lived : (first : Setting) (limit : ℕ) (seed : List ℕ) (old : Written) → HaveLived first limit seed first 0 old old
+unfoldable pub none_lived : (first : Setting) (limit : ℕ) (seed : List ℕ) (old : Written) → HaveLived first limit seed first 0 old old
 none_lived first limit seed old = record { lives = []; lived = tt; full = tt; next_is = refl; number_is = refl; told = refl }
 
 -- a life more
-lives_with : (first : Setting) (limit : ℕ) (seed : List ℕ) (next : Setting) (number : ℕ) (old mid : Written) (past : Past)
+pub lives_with : (first : Setting) (limit : ℕ) (seed : List ℕ) (next : Setting) (number : ℕ) (old mid : Written) (past : Past)
     (so : HaveLived first limit seed next number old mid) → IsDrawnLife next limit seed number past →
     AreLives first limit seed (past ∷ so.lives)
 lives_with first limit seed next number old mid past so is = (
@@ -34,19 +34,19 @@ lives_with first limit seed next number old mid past so is = (
   so.lived,
 )
 
-told_with : (first : Setting) (limit : ℕ) (seed : List ℕ) (next : Setting) (number : ℕ) (old mid new : Written) (past : Past)
+pub told_with : (first : Setting) (limit : ℕ) (seed : List ℕ) (next : Setting) (number : ℕ) (old mid new : Written) (past : Past)
     (so : HaveLived first limit seed next number old mid) → TellsLife number past mid new → AreTold old new (past ∷ so.lives)
 told_with first limit seed next number old mid new past so line =
     (mid, so.told, subst (λ n. TellsLife n past mid new) so.number_is line)
 
 -- a full journal alone ends no daemon
-full_where_none : (why : Why) → end_after why ≡ None → why ≡ JournalFull
+pub full_where_none : (why : Why) → end_after why ≡ None → why ≡ JournalFull
 full_where_none JournalFull is = refl
 full_where_none NoMemory is = absurd cc
 full_where_none Socket is = absurd cc
 full_where_none Stopped is = absurd cc
 
-pub one_more_lived : (first : Setting) (limit : ℕ) (seed : List ℕ) (next after : Setting) (number count : ℕ) (old mid new : Written)
+unfoldable pub one_more_lived : (first : Setting) (limit : ℕ) (seed : List ℕ) (next after : Setting) (number count : ℕ) (old mid new : Written)
     (past : Past) → HaveLived first limit seed next number old mid → IsDrawnLife next limit seed number past →
     end_after past.why ≡ None →
     past.is_stopped ≡ false → TellsLife number past mid new →
@@ -62,7 +62,7 @@ one_more_lived first limit seed next after number count old mid new past so is g
 }
 
 -- the last one
-pub last_lived : (first : Setting) (limit : ℕ) (seed : List ℕ) (next : Setting) (number : ℕ) (old mid new : Written) (past : Past)
+unfoldable pub last_lived : (first : Setting) (limit : ℕ) (seed : List ℕ) (next : Setting) (number : ℕ) (old mid new : Written) (past : Past)
     (end : LivesEnd) → HaveLived first limit seed next number old mid → IsDrawnLife next limit seed number past →
     end_after past.why ≡ Some end →
     TellsLife number past mid new → AreLived first limit seed old new end
@@ -75,7 +75,7 @@ last_lived first limit seed next number old mid new past end so is ends line = r
 }
 
 -- the last one, which was told to stop while its journal was full
-pub last_stopped : (first : Setting) (limit : ℕ) (seed : List ℕ) (next : Setting) (number : ℕ) (old mid told new : Written) (past : Past) →
+unfoldable pub last_stopped : (first : Setting) (limit : ℕ) (seed : List ℕ) (next : Setting) (number : ℕ) (old mid told new : Written) (past : Past) →
     HaveLived first limit seed next number old mid → IsDrawnLife next limit seed number past →
     end_after past.why ≡ None → past.is_stopped ≡ true →
     TellsLife number past mid told → TellsText stopped_text told new → AreLived first limit seed old new life_ends.Stopped
@@ -88,7 +88,7 @@ last_stopped first limit seed next number old mid told new past so is goes_on st
 }
 
 -- and none more, as it got no node
-pub last_opened : (first : Setting) (limit : ℕ) (seed : List ℕ) (next : Setting) (number : ℕ) (old new : Written) (fault : OpenFault)
+unfoldable pub last_opened : (first : Setting) (limit : ℕ) (seed : List ℕ) (next : Setting) (number : ℕ) (old new : Written) (fault : OpenFault)
     (end : LivesEnd) → HaveLived first limit seed next number old new → end ≡ end_without fault →
     AreLived first limit seed old new end
 last_opened first limit seed next number old new fault end so is = record {
@@ -98,3 +98,9 @@ last_opened first limit seed next number old new fault end so is = record {
   told = so.told;
   ended = inr (inl (refl, so.full, (fault, is)));
 }
+
+-- no end was found
+pub none_where : (why : Why) (found : Option LivesEnd) → found ≡ end_after why → ((end : LivesEnd) → found ≡ Some end → ⊥) →
+    end_after why ≡ None
+none_where why None is none = sym is
+none_where why (Some end) is none = absurd (none end refl)

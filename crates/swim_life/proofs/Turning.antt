@@ -1,7 +1,6 @@
 -- One turn of a worker after the other.
-use Rattle.std.proofs.Common.{◌≡◌, List, [], ◌∷◌, ◌++◌, Option, Some, None, refl, subst}
+use Rattle.std.proofs.Common.{List, [], ◌∷◌, ◌++◌, Option, Some, None, refl, subst}
 use Rattle.swim_life.specs.declared.counts.Why.{Why}
-use Rattle.swim_life.specs.Posts.{Grows}
 use Rattle.swim_life.specs.Turns.{IsTurn, Turns, HasWorked}
 use Rattle.swim_life.proofs.Posting.{grows_none, grows_both}
 

@@ -11,5 +11,8 @@ pub mod Notices
 pub mod Pacing
 pub mod Places
 pub mod Posts
+pub mod Showing
 pub mod Turns
+pub mod Watched
+pub mod Watching
 pub mod Written

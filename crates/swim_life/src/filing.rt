@@ -1,16 +1,19 @@
 //! Lives with files: each life's journal in a file of its own, where a shelf opens one.
 
-ghost use Rattle.std.specs.Prelude.{◌≡◌, IfOk, true};
+ghost use Rattle.std.specs.Prelude.{◌≡◌, IfOk, MatchResult, true};
 ghost use Rattle.swim_life.specs.Lives.{IsDrawnLife};
 ghost use Rattle.swim_life.specs.Notices.{Notices};
+ghost use Rattle.swim_life.specs.Watched.{AreToldLife};
 ghost use Rattle.swim_life.specs.Written.{IsFile};
 
 use crate::gates::{Door, Line, Pace, Post, Shelf};
 use crate::halls::Hall;
-use crate::lives::{Lived, Past, Terms, chooser_of, live, live_recorded};
+use crate::lives::{Lived, Past, Terms, chooser_of, live_recorded};
+use crate::nowhere::Nowhere;
 use std::alloc::Global;
 use std::sync::Wait;
 use std::thread::Threads;
+use swim_events::{Entrance, Gallery, Outlet};
 use swim_history::Opening;
 use swim_journal::laws::a_header_tells_its_opening;
 use swim_journal::put_header;
@@ -29,6 +32,8 @@ pub(crate) fn live_next<
     S: Shelf<V>,
     Q: Pace + Send,
     F: Sink,
+    E: Outlet + Drop + Send,
+    I: Entrance<E> + Send,
 >(
     rt: &R,
     alloc: Global,
@@ -42,16 +47,23 @@ pub(crate) fn live_next<
     shelf: &mut S,
     pause: &mut Q,
     notices: &mut F,
+    gallery: &mut Gallery<E>,
+    entrance: &mut I,
 ) -> Result<Past, OpenFault>
     ensures life { IfOk result (IsDrawnLife opening terms.limit terms.seed number) }
+    ensures watched { MatchResult result
+        (λ past. AreToldLife number opening gallery.old past.journal.past gallery.new)
+        (λ fault. gallery.new ≡ gallery.old) }
     ensures notices { Notices (F.written notices.old, F.failures notices.old)
         (F.written notices.new, F.failures notices.new) }
 {
     let Some(writer) = shelf.open(number, notices) else {
-        return live_unfiled(rt, alloc, opening, terms, number, line, post, pace, hall);
+        return live_unfiled(
+            rt, alloc, opening, terms, number, line, post, pace, hall, pause, gallery, entrance,
+        );
     };
     match live_filed(
-        rt, alloc, opening, terms, number, line, post, pace, hall, writer, pause,
+        rt, alloc, opening, terms, number, line, post, pace, hall, writer, pause, gallery, entrance,
     ) {
         Ok(lived) => Ok(put_back(shelf, terms, number, lived, notices)),
         Err(fault) => Err(fault),
@@ -59,13 +71,16 @@ pub(crate) fn live_next<
 }
 
 /// The life of this number, whose journal is written nowhere.
-#[tactic(auto, using(crate::proofs::LifeFiles::drawn_life))]
+#[tactic(auto, using(crate::proofs::LifeFiles::drawn_life, crate::proofs::LifeFiles::drawn_with_cut))]
 fn live_unfiled<
     R: Threads + Wait + Sync,
     O: Post + Drop + Send,
     L: Line + Send,
     P: Pace + Send,
     D: Door + Drop,
+    Q: Pace + Send,
+    E: Outlet + Drop + Send,
+    I: Entrance<E> + Send,
 >(
     rt: &R,
     alloc: Global,
@@ -76,22 +91,34 @@ fn live_unfiled<
     post: &O,
     pace: &mut P,
     hall: &mut Hall<D>,
+    pause: &mut Q,
+    gallery: &mut Gallery<E>,
+    entrance: &mut I,
 ) -> Result<Past, OpenFault>
-    ensures { IfOk result (IsDrawnLife opening terms.limit terms.seed number) }
+    ensures life { IfOk result (IsDrawnLife opening terms.limit terms.seed number) }
+    ensures watched { MatchResult result
+        (λ past. AreToldLife number opening gallery.old past.journal.past gallery.new)
+        (λ fault. gallery.new ≡ gallery.old) }
 {
     let chooser = chooser_of(terms, number);
-    match live(
+    let writer = Nowhere::new();
+    match live_recorded(
         rt,
         alloc,
         opening,
         chooser,
         terms.limit,
+        number,
         line,
         post,
         pace,
         hall,
+        writer,
+        pause,
+        gallery,
+        entrance,
     ) {
-        Ok(past) => Ok(past),
+        Ok(lived) => Ok(with_cut(lived.past, false)),
         Err(fault) => Err(fault),
     }
 }
@@ -128,6 +155,8 @@ fn live_filed<
     D: Door + Drop,
     V: Sink + Drop + Send,
     Q: Pace + Send,
+    E: Outlet + Drop + Send,
+    I: Entrance<E> + Send,
 >(
     rt: &R,
     alloc: Global,
@@ -140,14 +169,21 @@ fn live_filed<
     hall: &mut Hall<D>,
     writer: V,
     pause: &mut Q,
+    gallery: &mut Gallery<E>,
+    entrance: &mut I,
 ) -> Result<Lived<V>, OpenFault>
     ensures life { IfOk result (λ lived. IsDrawnLife opening terms.limit terms.seed number lived.past) }
     ensures file { IfOk result (λ lived. IsFile (V.written writer) (V.written lived.writer)
         terms.limit terms.seed number lived.past) }
+    ensures watched { MatchResult result
+        (λ lived. AreToldLife number opening gallery.old lived.past.journal.past gallery.new)
+        (λ fault. gallery.new ≡ gallery.old) }
 {
     let mut writer = writer;
     if !put_header(&mut writer, &opening, terms.limit, &terms.seed, number) {
-        return match live_unfiled(rt, alloc, opening, terms, number, line, post, pace, hall) {
+        return match live_unfiled(
+            rt, alloc, opening, terms, number, line, post, pace, hall, pause, gallery, entrance,
+        ) {
             Ok(past) => Ok(Lived {
                 past: with_cut(past, true),
                 writer,
@@ -163,12 +199,15 @@ fn live_filed<
         opening,
         chooser,
         terms.limit,
+        number,
         line,
         post,
         pace,
         hall,
         writer,
         pause,
+        gallery,
+        entrance,
     ) {
         Ok(lived) => Ok(lived),
         Err(fault) => Err(fault),

@@ -2,7 +2,7 @@
 //! once a turn, so a gate that has nothing waits a moment, but not long, before it answers that it is idle; a door is told
 //! when to wait. A herald tells people that a life begins, and a shelf has the files of the lives' journals.
 
-ghost use Rattle.std.specs.Prelude.{◌≡◌, ℕ, [], ◌∷◌, List, Option, IfSome};
+ghost use Rattle.std.specs.Prelude.{◌≡◌, ◌≤◌, ℕ, [], ◌∷◌, List, Option, IfSome, length};
 ghost use Rattle.swim_life.specs.Gates.{FitsInto, is_fault};
 ghost use Rattle.swim_life.specs.Notices.{Notices};
 ghost use Rattle.swim_life.specs.Posts.{Grows, IsFresh};
@@ -11,7 +11,7 @@ ghost use Rattle.swim_wire.specs.Streams.{one_more};
 
 use crate::lives::{Past, Terms};
 use std::sync::Wait;
-use swim_wire::{Peer, Polled, Sink};
+use swim_wire::{KNOWN_MEMBERS, Peer, Polled, Sink};
 
 /// What a line got.
 #[derive(Clone, Copy, Debug, PartialEq, Eq)]
@@ -27,16 +27,28 @@ pub enum Got {
 /// Where datagrams come in. The receiver has it for itself.
 pub trait Line {
     ghost use Rattle.std.specs.Prelude.{List, Option};
+    ghost use Rattle.swim_wire.specs.Address.{Address};
     ghost use Rattle.swim_life.specs.Gates.{Received};
 
     // what it gave so far, oldest first, where that is known
     ghost received: { Self → Option (List Received) };
 
+    // what it was shown so far, the addresses of each time in a list of their own, oldest first; where that is known
+    ghost listed: { Self → Option (List (List Address)) };
+
     /// The next datagram, which is put at the front of the buffer.
     fn receive<R: Wait>(&mut self, rt: &R, bytes: &mut [u8]) -> Got
         ensures fits { FitsInto result bytes.new }
         ensures received { Grows (received self.old) (received self.new)
-            (record { got = result; bytes = bytes.new } ∷ []) };
+            (record { got = result; bytes = bytes.new } ∷ []) }
+        ensures listed { listed self.new ≡ listed self.old };
+
+    /// Shows it the addresses of the members: of all that stood in the member table when the receiver looked at it last,
+    /// whether they are up or failed. A line to which all are alike does nothing.
+    fn list(&mut self, members: &[Peer])
+        requires { length members.now ≤ KNOWN_MEMBERS }
+        ensures received { received self.new ≡ received self.old }
+        ensures listed { Grows (listed self.old) (listed self.new) (members.now ∷ []) };
 }
 
 /// Where a worker's datagrams go out. Each worker that sends has one of its own.

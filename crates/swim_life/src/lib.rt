@@ -3,6 +3,7 @@
 
 mod controlling;
 mod counts;
+mod criers;
 mod endings;
 mod filing;
 mod gates;
@@ -10,6 +11,8 @@ mod halls;
 mod holding;
 mod life;
 mod lives;
+mod lookouts;
+mod naming;
 mod node_desk;
 mod nowhere;
 mod places;
@@ -21,6 +24,7 @@ mod sleeping_pace;
 mod threads;
 mod udp_line;
 mod unix_door;
+mod unix_entrance;
 mod unix_streams;
 mod workers;
 
@@ -30,10 +34,12 @@ pub use halls::Hall;
 pub use holding::Seats;
 pub use life::{Life, run_life};
 pub use lives::{Lived, LivesEnd, Past, Terms, live, live_recorded, run_lives};
-pub use nowhere::{Never, NoShelf, Nowhere};
+pub use naming::GuestNaming;
+pub use nowhere::{Never, NoEntrance, NoOutlet, NoShelf, Nowhere};
 pub use places::{Place, Sight};
 pub use posts::Posts;
 pub use sleeping_pace::{ClockSleeper, Sleeper, SleepingPace};
 pub use udp_line::UdpLine;
 pub use unix_door::UnixDoor;
+pub use unix_entrance::{StreamOutlet, UnixEntrance};
 pub use unix_streams::{StreamSink, StreamSource};

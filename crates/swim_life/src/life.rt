@@ -9,11 +9,15 @@ ghost use Rattle.swim_node.specs.OneHistory.{IsOneHistory};
 ghost use Rattle.swim_journal.specs.Journals.{calls_text, AreReadBack};
 ghost use Rattle.swim_life.specs.Ends.{both, why_of};
 ghost use Rattle.swim_life.specs.Posts.{HavePosted, IsFresh};
+ghost use Rattle.swim_life.specs.Watched.{AreToldOn};
 
 use crate::counts::Why;
+use crate::criers::Crier;
 use crate::gates::{Door, Line, Pace, Post};
 use crate::halls::Hall;
 use crate::holding::{Held, Seats};
+use crate::lookouts::Lookout;
+use crate::naming::GuestNaming;
 use crate::posts::Posts;
 use crate::recording::{Recorded, close_recorded};
 use crate::senders::Sender;
@@ -22,15 +26,15 @@ use std::alloc::Global;
 use std::sync::Wait;
 use std::sync::atomic::AtomicBool;
 use std::thread::Threads;
+use swim_events::{Entrance, Gallery, Outlet};
 use swim_history::Journal;
-use swim_journal::{PageNaming, Scribe};
 use swim_node::{Naming, Node, Seat, Viewer};
 use swim_targets::Seeded;
 use swim_wire::Sink;
 
 /// What a life leaves behind.
 #[derive(Drop)]
-pub struct Life<N: PageNaming, O: Post + Drop, W: Sink + Drop> {
+pub struct Life<N: GuestNaming, O: Post + Drop, W: Sink + Drop, E: Outlet + Drop> {
     /// Why it ended: the gravest reason of its workers.
     pub why: Why,
     /// Whether a worker was told to stop, whatever else it ended for.
@@ -51,22 +55,29 @@ pub struct Life<N: PageNaming, O: Post + Drop, W: Sink + Drop> {
     pub writer: W,
     /// Whether that took all of the journal's text, and handed it on.
     pub is_whole: bool,
+    /// Those who watch.
+    pub gallery: Gallery<E>,
 }
 
-/// Runs a node over its gates until a worker ends: the receiver with the first seat, the ticker with the second, and
-/// the controller with the third and the first viewer, all at the same time. A worker ends, and the others with it,
+/// Runs a node over its gates until a worker ends: the receiver with the first seat and the second viewer, the ticker with
+/// the second seat, and the controller with the third and the first viewer, all at the same time. The receiver shows the line
+/// who stands in the member table, before the first datagram and then at most once a tick. A worker ends, and the others with it,
 /// where it is told to, where the journal is full, and after 16 faults in a row of its line or door. Each sends the
 /// datagrams of its own replies after the node's lock was given back.
 ///
 /// Beside them a writer writes the journal into a sink, at each tick of a pace of its own, and what is left once the
-/// others have ended. Where the sink fails nothing more is written, and the life goes on. The writer changes nothing of
-/// the node.
+/// others have ended. Where the sink fails nothing more is written, and the life goes on. It tells those who watch what
+/// the journal changes of the member table, takes in who comes by the entrance, and waits for none of them. The writer
+/// changes nothing of the node.
 ///
 /// Whatever came, and in whatever order, the journal is one run of the detector that holds the calls of the four seats,
-/// with as many entries as it may have where it is what ended the life; and what was written is its text, or where the sink failed a front of it. What the posts were handed are the datagrams of
-/// the replies that stand in the journal, each once, in order, and those that a post didn't take are counted.
+/// with as many entries as it may have where it is what ended the life; and what was written is its text, or where the
+/// sink failed a front of it. What the posts were handed are the datagrams of the replies that stand in the journal,
+/// each once, in order, and those that a post didn't take are counted. Those who watched and had been told that the
+/// life begins were told all its changes, and who came was told the table of a moment and all changes after it, as far
+/// as each kept up.
 pub fn run_life<
-    N: PageNaming + Send + Sync,
+    N: GuestNaming + Send + Sync,
     O: Post + Drop + Send,
     H: Wait + Drop + Send,
     R: Threads + Wait + Sync,
@@ -75,6 +86,8 @@ pub fn run_life<
     D: Door + Drop,
     W: Sink + Drop + Send,
     Q: Pace + Send,
+    E: Outlet + Drop + Send,
+    I: Entrance<E> + Send,
 >(
     rt: &R,
     alloc: Global,
@@ -87,11 +100,14 @@ pub fn run_life<
     hall: &mut Hall<D>,
     writer: W,
     pause: &mut Q,
-) -> Life<N, O, W>
+    gallery: Gallery<E>,
+    entrance: &mut I,
+) -> Life<N, O, W, E>
     requires seats { AreNew seats }
     requires hearing { IsFresh (O.posted (box_value posts.hearing)) }
     requires ticking { IsFresh (O.posted (box_value posts.ticking)) }
     requires page { W.written writer ≡ N.page }
+    requires guests { gallery ≡ N.guests }
     ensures opening { result.journal.opening ≡ N.opening }
     ensures within { length result.journal.past ≤ N.limit }
     ensures seats { let s = result.seats in AreTheSeats (s.first ∷ s.second ∷ s.third ∷ s.fourth ∷ []) }
@@ -106,12 +122,13 @@ pub fn run_life<
     ensures full { result.why ≡ Why.JournalFull → length result.journal.past ≡ N.limit }
     ensures posted { HavePosted N.opening result.journal.past (O.posted (box_value result.posts.hearing))
         (O.posted (box_value result.posts.ticking)) result.unsent }
+    ensures watched { AreToldOn N.opening N.guests result.journal.past result.gallery }
 {
-    let (viewer, _others) = apart(viewers);
+    let (viewers, _others) = apart(viewers);
     let (workers, fourth) = held(seats, posts);
-    let scribe = Scribe::new(alloc, &node, writer);
+    let crier = Crier::new(alloc, &node, writer, gallery, entrance.is_open());
     let ended = work(
-        rt, alloc, &node, line, pace, hall, workers, viewer, scribe, pause,
+        rt, alloc, &node, line, pace, hall, workers, viewers, crier, pause, entrance,
     );
     closed(rt, node, ended, fourth)
 }
@@ -142,15 +159,26 @@ fn held<N: Naming, O: Post + Drop>(
     (workers, Held { seat: fourth })
 }
 
-/// The controller's viewer, and the others.
-fn apart<N: Naming>(viewers: [Viewer<N>; 4]) -> (Viewer<N>, [Viewer<N>; 3]) {
-    let [first, second, third, fourth] = viewers;
-    (first, [second, third, fourth])
+/// The viewers of the workers that look at the member table.
+#[derive(Drop)]
+struct Viewers<N: Naming> {
+    controlling: Viewer<N>,
+    hearing: Viewer<N>,
+}
+
+/// The workers' viewers, and the others.
+fn apart<N: Naming>(viewers: [Viewer<N>; 4]) -> (Viewers<N>, [Viewer<N>; 2]) {
+    let [controlling, hearing, third, fourth] = viewers;
+    let ours = Viewers {
+        controlling,
+        hearing,
+    };
+    (ours, [third, fourth])
 }
 
 /// Runs the workers of a node.
 fn work<
-    N: PageNaming + Send + Sync,
+    N: GuestNaming + Send + Sync,
     O: Post + Drop + Send,
     H: Wait + Drop + Send,
     R: Threads + Wait + Sync,
@@ -159,6 +187,8 @@ fn work<
     D: Door + Drop,
     W: Sink + Drop + Send,
     Q: Pace + Send,
+    E: Outlet + Drop + Send,
+    I: Entrance<E> + Send,
 >(
     rt: &R,
     alloc: Global,
@@ -167,36 +197,43 @@ fn work<
     pace: &mut P,
     hall: &mut Hall<D>,
     workers: Workers<N, O>,
-    viewer: Viewer<N>,
-    scribe: Scribe<N, W>,
+    viewers: Viewers<N>,
+    crier: Crier<N, W, E>,
     pause: &mut Q,
-) -> Over<N, O, W> {
+    entrance: &mut I,
+) -> Over<N, O, W, E> {
     let over = AtomicBool::new(false);
+    // It's time to look before the first datagram.
+    let looking = AtomicBool::new(true);
     let hearing = Hearing {
         node,
         over: &over,
         sender: workers.first,
         line,
+        lookout: Lookout::new(viewers.hearing, &looking),
     };
     let ticking = Ticking {
         node,
         over: &over,
         sender: workers.second,
         pace,
+        looking: &looking,
     };
     let controlling = Controlling {
         alloc,
         node,
         over: &over,
         held: workers.third,
-        viewer,
+        viewer: viewers.controlling,
         hall,
     };
     let recording = Recording {
+        alloc,
         node,
         over: &over,
-        scribe,
+        crier,
         pause,
+        entrance,
     };
     work_at_once(rt, &over, hearing, ticking, controlling, recording)
 }
@@ -216,12 +253,14 @@ fn given_back<N: Naming>(
 
 /// Closes the node after its workers have ended.
 #[tactic(auto, using(crate::proofs::Sent::closed_posted))]
-fn closed<N: PageNaming, O: Post + Drop, H: Wait + Drop, R: Wait, W: Sink + Drop>(
-    rt: &R,
-    node: Node<N, Seeded, H>,
-    ended: Over<N, O, W>,
-    fourth: Held<N, 3>,
-) -> Life<N, O, W>
+fn closed<
+    N: GuestNaming,
+    O: Post + Drop,
+    H: Wait + Drop,
+    R: Wait,
+    W: Sink + Drop,
+    E: Outlet + Drop,
+>(rt: &R, node: Node<N, Seeded, H>, ended: Over<N, O, W, E>, fourth: Held<N, 3>) -> Life<N, O, W, E>
     ensures opening { result.journal.opening ≡ N.opening }
     ensures within { length result.journal.past ≤ N.limit }
     ensures seats { let s = result.seats in AreTheSeats (s.first ∷ s.second ∷ s.third ∷ s.fourth ∷ []) }
@@ -236,6 +275,7 @@ fn closed<N: PageNaming, O: Post + Drop, H: Wait + Drop, R: Wait, W: Sink + Drop
     ensures posted { HavePosted N.opening result.journal.past (O.posted (box_value result.posts.hearing))
         (O.posted (box_value result.posts.ticking)) result.unsent }
     ensures full { result.why ≡ Why.JournalFull → length result.journal.past ≡ N.limit }
+    ensures watched { AreToldOn N.opening N.guests result.journal.past result.gallery }
     ensures why { result.why ≡ why_of ended.first.why ended.second.why ended.third.why ended.all_began }
     ensures stopped { result.is_stopped ≡ (ended.first.is_stopped || ended.second.is_stopped || ended.third.is_stopped) }
     ensures unsent { result.unsent ≡ both ended.first.sender.counts.unsent ended.second.sender.counts.unsent }
@@ -248,7 +288,7 @@ fn closed<N: PageNaming, O: Post + Drop, H: Wait + Drop, R: Wait, W: Sink + Drop
         second,
         third,
         all_began,
-        scribe,
+        crier,
     } = ended;
     let began = if all_began {
         Why::Stopped
@@ -266,7 +306,8 @@ fn closed<N: PageNaming, O: Post + Drop, H: Wait + Drop, R: Wait, W: Sink + Drop
         seats,
         writer,
         is_whole,
-    } = close_recorded(rt, node, seats, scribe);
+        gallery,
+    } = close_recorded(rt, node, seats, crier);
     Life {
         why,
         is_stopped,
@@ -278,5 +319,6 @@ fn closed<N: PageNaming, O: Post + Drop, H: Wait + Drop, R: Wait, W: Sink + Drop
         refused: counts.refused.saturating_add(third.refused),
         writer,
         is_whole,
+        gallery,
     }
 }

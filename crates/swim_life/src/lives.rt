@@ -1,12 +1,16 @@
 //! Lives: one node after another, each of which goes on from the journal of the one before.
 
-ghost use Rattle.std.specs.Prelude.{◌≡◌, IfOk, false};
+ghost use Rattle.std.specs.Prelude.{◌≡◌, IfOk, MatchResult, false, map};
 ghost use Rattle.swim_targets.specs.Draws.{DrawsOrder, DrawsPlace, of_seed};
 ghost use Rattle.swim_node.specs.Draws.{DrawsAll};
+ghost use Rattle.swim_events.specs.Guests.{put_text};
+ghost use Rattle.swim_events.specs.Texts.{life_text};
 ghost use Rattle.swim_life.specs.Draws.{WasDrawn};
 ghost use Rattle.swim_life.specs.Endings.{TellsLife, TellsText, stopped_text};
 ghost use Rattle.swim_life.specs.Lives.{AreLived, IsLife, end_after, end_without};
 ghost use Rattle.swim_life.specs.Notices.{Notices};
+ghost use Rattle.swim_life.specs.Watched.{AreToldLife};
+ghost use Rattle.swim_life.specs.Watching.{AreWatched};
 ghost use Rattle.swim_life.specs.Written.{IsWritten};
 
 use crate::counts::Why;
@@ -15,14 +19,16 @@ use crate::filing::{live_next, with_cut};
 use crate::gates::{Door, Herald, Line, Pace, Post, Shelf};
 use crate::halls::Hall;
 use crate::life::run_life;
-use crate::nowhere::{Never, Nowhere};
+use crate::naming::GuestNaming;
+use crate::nowhere::{Never, NoEntrance, NoOutlet, Nowhere};
 use crate::posts::Posts;
 use std::alloc::Global;
 use std::marker::Brand;
+use std::mem;
 use std::sync::Wait;
 use std::thread::Threads;
+use swim_events::{Entrance, Event, Gallery, Outlet};
 use swim_history::{Journal, Opening};
-use swim_journal::PageNaming;
 use swim_node::{Node, OpenFault, Parts};
 use swim_targets::Seeded;
 use swim_wire::Sink;
@@ -83,8 +89,11 @@ pub enum LivesEnd {
 /// once. Before each life the herald, who has told of none yet, tells of it among the notices.
 ///
 /// Where the shelf opens a file for a life, the journal is written into it while the life goes on, at each tick of the
-/// pause. The file goes back to the shelf before the line of the life is written, which tells where the journal was cut.
-/// Nothing of a file changes what a node answers.
+/// pause. The file goes back to the shelf before the line of the life is written, which tells where the journal was
+/// cut. Nothing of a file changes what a node answers.
+///
+/// Those who watch are told that each life begins, and its changes of the member table. They come by the entrance, and
+/// stay from life to life. Of the end they are told nothing yet: whoever has the gallery tells them.
 pub fn run_lives<
     R: Threads + Wait + Sync,
     O: Post + Drop + Send,
@@ -97,6 +106,8 @@ pub fn run_lives<
     W: Sink,
     H: Herald,
     F: Sink,
+    E: Outlet + Drop + Send,
+    I: Entrance<E> + Send,
 >(
     rt: &R,
     alloc: Global,
@@ -111,19 +122,24 @@ pub fn run_lives<
     writer: &mut W,
     herald: &mut H,
     notices: &mut F,
+    gallery: &mut Gallery<E>,
+    entrance: &mut I,
 ) -> LivesEnd
     requires { H.begun herald.old ≡ 0 }
     ensures lived { AreLived opening terms.limit terms.seed (W.written writer.old, W.failures writer.old)
         (W.written writer.new, W.failures writer.new) result }
     ensures notices { Notices (F.written notices.old, F.failures notices.old)
         (F.written notices.new, F.failures notices.new) }
+    ensures watched { AreWatched opening terms.limit terms.seed (W.written writer.old, W.failures writer.old)
+        (W.written writer.new, W.failures writer.new) result gallery.old gallery.new }
 {
     let mut opening = opening;
     let mut number: u64 = 0;
     for _life in rt.forever() {
         herald.begins(number, notices);
-        let past = match live_next::<R, O, L, P, D, V, S, Q, F>(
+        let past = match live_next::<R, O, L, P, D, V, S, Q, F, E, I>(
             rt, alloc, opening, terms, number, line, post, pace, hall, shelf, pause, notices,
+            gallery, entrance,
         ) {
             Ok(past) => past,
             Err(fault) => return end_without(fault),
@@ -194,7 +210,7 @@ fn end_without(fault: OpenFault) -> LivesEnd
 
 /// Opens a node with a journal of at most `limit` entries, and runs its life over these gates. There is no life where
 /// the node gets no memory (`NoMemory`), or no reader of its member table (`NoPlace`). What its journal holds was drawn
-/// from the chooser. It is written nowhere.
+/// from the chooser. It is written nowhere, and nobody watches it.
 #[tactic(auto, using(crate::proofs::LifeFiles::life_with_cut, crate::proofs::LifeFiles::was_drawn_with_cut))]
 pub fn live<
     R: Threads + Wait + Sync,
@@ -219,17 +235,34 @@ pub fn live<
 {
     let writer = Nowhere::new();
     let mut pause = Never {};
+    let mut gallery = Gallery::<NoOutlet>::new(alloc);
+    let mut entrance = NoEntrance {};
     match live_recorded(
-        rt, alloc, opening, chooser, limit, line, post, pace, hall, writer, &mut pause,
+        rt,
+        alloc,
+        opening,
+        chooser,
+        limit,
+        0,
+        line,
+        post,
+        pace,
+        hall,
+        writer,
+        &mut pause,
+        &mut gallery,
+        &mut entrance,
     ) {
         Ok(lived) => Ok(with_cut(lived.past, false)),
         Err(fault) => Err(fault),
     }
 }
 
-/// As `live`; and a writer writes the journal into a sink while the life goes on, at each tick of a pace of its own, and
-/// what is left once the life is over. Where the sink fails the life goes on, and is told as cut: what was written is then
-/// a front of the text of the journal's calls.
+/// As `live`; and a writer writes the journal into a sink while the life goes on, at each tick of a pace of its own,
+/// and what is left once the life is over. Where the sink fails the life goes on, and is told as cut: what was written
+/// is then a front of the text of the journal's calls. Those who watch are told that the life of this number begins,
+/// and then its changes; who comes by the entrance is told the table first. Where there is no life they are told
+/// nothing.
 pub fn live_recorded<
     R: Threads + Wait + Sync,
     O: Post + Drop + Send,
@@ -238,36 +271,45 @@ pub fn live_recorded<
     D: Door + Drop,
     W: Sink + Drop + Send,
     Q: Pace + Send,
+    E: Outlet + Drop + Send,
+    I: Entrance<E> + Send,
 >(
     rt: &R,
     alloc: Global,
     opening: Opening,
     chooser: Seeded,
     limit: u32,
+    number: u64,
     line: &mut L,
     post: &O,
     pace: &mut P,
     hall: &mut Hall<D>,
     writer: W,
     pause: &mut Q,
+    gallery: &mut Gallery<E>,
+    entrance: &mut I,
 ) -> Result<Lived<W>, OpenFault>
     ensures life { IfOk result (λ lived. IsLife opening limit lived.past) }
     ensures drawn { IfOk result (λ lived. WasDrawn DrawsOrder DrawsPlace opening chooser lived.past.journal.past) }
     ensures written { IfOk result (λ lived. IsWritten (W.written writer) (W.written lived.writer) lived.past) }
     ensures sent { IfOk result (λ lived. lived.past.is_cut ≡ false → W.held lived.writer ≡ 0) }
+    ensures watched { MatchResult result
+        (λ lived. AreToldLife number opening gallery.old lived.past.journal.past gallery.new)
+        (λ fault. gallery.new ≡ gallery.old) }
 {
     let Ok(parts) = Parts::make(alloc, limit) else {
         return Err(OpenFault::NoMemory);
     };
-    live_so::<Brand, R, O, L, P, D, W, Q>(
-        rt, alloc, parts, opening, chooser, limit, line, post, pace, hall, writer, pause,
+    live_so::<Brand, R, O, L, P, D, W, Q, E, I>(
+        rt, alloc, parts, opening, chooser, limit, number, line, post, pace, hall, writer, pause,
+        gallery, entrance,
     )
 }
 
 /// The same, of a node that its types know by a name.
 #[tactic(auto, using(crate::proofs::LifeFiles::is_left))]
 fn live_so<
-    N: PageNaming + Send + Sync,
+    N: GuestNaming + Send + Sync,
     R: Threads + Wait + Sync,
     O: Post + Drop + Send,
     L: Line + Send,
@@ -275,6 +317,8 @@ fn live_so<
     D: Door + Drop,
     W: Sink + Drop + Send,
     Q: Pace + Send,
+    E: Outlet + Drop + Send,
+    I: Entrance<E> + Send,
 >(
     rt: &R,
     alloc: Global,
@@ -282,22 +326,29 @@ fn live_so<
     opening: Opening,
     chooser: Seeded,
     limit: u32,
+    number: u64,
     line: &mut L,
     post: &O,
     pace: &mut P,
     hall: &mut Hall<D>,
     writer: W,
     pause: &mut Q,
+    gallery: &mut Gallery<E>,
+    entrance: &mut I,
 ) -> Result<Lived<W>, OpenFault>
     requires parts { parts ≡ record { limit = N.limit; ledgers = N.ledgers; log = N.log; cells = N.cells } }
     requires opening { opening ≡ N.opening }
     requires limit { limit ≡ N.limit }
     requires drawn { DrawsAll DrawsOrder DrawsPlace N.opening chooser N.drawn }
     requires page { W.written writer ≡ N.page }
+    requires guests { N.guests ≡ map (put_text (life_text number)) gallery.old }
     ensures life { IfOk result (λ lived. IsLife opening limit lived.past) }
     ensures drawn { IfOk result (λ lived. N.drawn lived.past.journal.past) }
     ensures written { IfOk result (λ lived. IsWritten N.page (W.written lived.writer) lived.past) }
     ensures sent { IfOk result (λ lived. lived.past.is_cut ≡ false → W.held lived.writer ≡ 0) }
+    ensures watched { MatchResult result
+        (λ lived. AreToldLife number opening gallery.old lived.past.journal.past gallery.new)
+        (λ fault. gallery.new ≡ gallery.old) }
 {
     let Ok(posts) = Posts::of(alloc, post) else {
         return Err(OpenFault::NoMemory);
@@ -305,9 +356,13 @@ fn live_so<
     match Node::<N, Seeded, &R>::open(alloc, rt, parts, opening, chooser, limit) {
         Ok(opened) => {
             let (node, seats, viewers) = opened;
+            gallery.tell(&Event::Life(number));
+            let guests = mem::replace(gallery, Gallery::new(alloc));
             let life = run_life(
-                rt, alloc, node, seats, viewers, line, posts, pace, hall, writer, pause,
+                rt, alloc, node, seats, viewers, line, posts, pace, hall, writer, pause, guests,
+                entrance,
             );
+            *gallery = life.gallery;
             let past = Past {
                 why: life.why,
                 is_stopped: life.is_stopped,

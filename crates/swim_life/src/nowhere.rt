@@ -1,4 +1,4 @@
-//! Where the journals of lives are written that have no files.
+//! Where the journals of lives are written that have no files, and where nobody comes in to watch.
 
 ghost use Rattle.std.specs.Prelude.{◌≡◌, None, false};
 ghost use Rattle.swim_wire.specs.Streams.{failures_if};
@@ -6,6 +6,7 @@ ghost use Rattle.swim_wire.specs.Streams.{failures_if};
 use crate::gates::{Beat, Pace, Shelf};
 use crate::lives::{Past, Terms};
 use std::sync::Wait;
+use swim_events::{Entrance, Offer, Outlet};
 use swim_wire::Sink;
 
 /// A sink that takes nothing.
@@ -55,6 +56,34 @@ impl Pace for Never {
 
     fn next<R: Wait>(&mut self, _rt: &R) -> Beat {
         Beat::Stop
+    }
+}
+
+/// An entrance by which nobody comes.
+#[derive(Drop)]
+pub struct NoEntrance {}
+
+/// An outlet that takes nothing.
+#[derive(Drop)]
+pub struct NoOutlet {}
+
+impl Outlet for NoOutlet {
+    ghost taken = { λ o. None };
+
+    ghost offers = { λ o. None };
+
+    fn offer(&mut self, _bytes: &[u8]) -> Offer {
+        Offer::Gone
+    }
+}
+
+impl Entrance<NoOutlet> for NoEntrance {
+    fn is_open(&self) -> bool {
+        false
+    }
+
+    fn next(&mut self) -> Option<NoOutlet> {
+        None
     }
 }
 

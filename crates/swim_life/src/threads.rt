@@ -1,11 +1,15 @@
-//! The four workers of a life at work at the same time: three in threads, the controller in the thread that started them.
+//! The four workers of a life at work at the same time: three in threads, the controller in the thread that started
+//! them.
 
 ghost use denote.Param.Send.{IsSend, IsSync};
 
 use crate::controlling::control;
+use crate::criers::Crier;
 use crate::gates::{Door, Line, Pace, Post};
 use crate::halls::Hall;
 use crate::holding::{Ended, Held, Left};
+use crate::lookouts::Lookout;
+use crate::naming::GuestNaming;
 use crate::recording::write_along;
 use crate::senders::Sender;
 use crate::workers::{receive, tick};
@@ -14,7 +18,7 @@ use std::sync::Wait;
 use std::sync::atomic::{AtomicBool, Ordering};
 use std::thread;
 use std::thread::Threads;
-use swim_journal::{PageNaming, Scribe};
+use swim_events::{Entrance, Outlet};
 use swim_node::{Naming, Node, Viewer};
 use swim_targets::{Chooser, Seeded};
 use swim_wire::Sink;
@@ -26,6 +30,7 @@ pub(crate) struct Hearing<'n, 'o, 'l, N: Naming, O: Post + Drop, C: Chooser, H: 
     pub(crate) over: &'o AtomicBool,
     pub(crate) sender: Sender<N, O, 0>,
     pub(crate) line: &'l mut L,
+    pub(crate) lookout: Lookout<'o, N>,
 }
 
 /// What the ticker takes into its thread.
@@ -35,6 +40,7 @@ pub(crate) struct Ticking<'n, 'o, 'p, N: Naming, O: Post + Drop, C: Chooser, H: 
     pub(crate) over: &'o AtomicBool,
     pub(crate) sender: Sender<N, O, 1>,
     pub(crate) pace: &'p mut P,
+    pub(crate) looking: &'o AtomicBool,
 }
 
 /// What the controller takes.
@@ -54,26 +60,31 @@ pub(crate) struct Recording<
     'n,
     'o,
     'q,
-    N: PageNaming,
+    'i,
+    N: GuestNaming,
     C: Chooser,
     H: Wait + Drop,
     W: Sink + Drop,
     Q,
+    E: Outlet + Drop,
+    I,
 > {
+    pub(crate) alloc: Global,
     pub(crate) node: &'n Node<N, C, H>,
     pub(crate) over: &'o AtomicBool,
-    pub(crate) scribe: Scribe<N, W>,
+    pub(crate) crier: Crier<N, W, E>,
     pub(crate) pause: &'q mut Q,
+    pub(crate) entrance: &'i mut I,
 }
 
 /// What the workers hand back, and whether each of those that call the node was started.
 #[derive(Drop)]
-pub(crate) struct Over<N: PageNaming, O: Post + Drop, W: Sink + Drop> {
+pub(crate) struct Over<N: GuestNaming, O: Post + Drop, W: Sink + Drop, E: Outlet + Drop> {
     pub(crate) first: Ended<N, O, 0>,
     pub(crate) second: Ended<N, O, 1>,
     pub(crate) third: Left<N, 2>,
     pub(crate) all_began: bool,
-    pub(crate) scribe: Scribe<N, W>,
+    pub(crate) crier: Crier<N, W, E>,
 }
 
 fn run_hearing<'n, 'o, 'l, N: Naming, O: Post + Drop, C: Chooser, H: Wait + Drop, L: Line, R: Wait>(
@@ -85,8 +96,9 @@ fn run_hearing<'n, 'o, 'l, N: Naming, O: Post + Drop, C: Chooser, H: Wait + Drop
         over,
         sender,
         line,
+        lookout,
     } = it;
-    receive(rt, node, over, sender, line)
+    receive(rt, node, over, sender, line, lookout)
 }
 
 fn run_ticking<'n, 'o, 'p, N: Naming, O: Post + Drop, C: Chooser, H: Wait + Drop, P: Pace, R: Wait>(
@@ -98,8 +110,9 @@ fn run_ticking<'n, 'o, 'p, N: Naming, O: Post + Drop, C: Chooser, H: Wait + Drop
         over,
         sender,
         pace,
+        looking,
     } = it;
-    tick(rt, node, over, sender, pace)
+    tick(rt, node, over, sender, pace, looking)
 }
 
 fn run_controlling<'n, 'o, 'd, N: Naming, H: Wait + Drop, D: Door + Drop, R: Wait>(
@@ -121,20 +134,25 @@ fn run_recording<
     'n,
     'o,
     'q,
-    N: PageNaming,
+    'i,
+    N: GuestNaming,
     C: Chooser,
     H: Wait + Drop,
     W: Sink + Drop,
     Q: Pace,
+    E: Outlet + Drop,
+    I: Entrance<E>,
     R: Wait,
->(rt: &R, it: Recording<'n, 'o, 'q, N, C, H, W, Q>) -> Scribe<N, W> {
+>(rt: &R, it: Recording<'n, 'o, 'q, 'i, N, C, H, W, Q, E, I>) -> Crier<N, W, E> {
     let Recording {
+        alloc,
         node,
         over,
-        scribe,
+        crier,
         pause,
+        entrance,
     } = it;
-    write_along(rt, node, over, scribe, pause)
+    write_along(rt, alloc, node, over, crier, pause, entrance)
 }
 
 /// Tells the workers that run to end, where one could not be started.
@@ -144,11 +162,11 @@ fn tell(over: &AtomicBool, is_missing: bool) {
     }
 }
 
-/// Runs the workers to their ends. One that could not be started for want of memory runs when the others have ended, sees
-/// the flag, and hands back what it was given. The others end where that is one that calls the node; the writer isn't
-/// missed, since what is left of the journal is written once the life is over.
+/// Runs the workers to their ends. One that could not be started for want of memory runs when the others have ended,
+/// sees the flag, and hands back what it was given. The others end where that is one that calls the node; the writer
+/// isn't missed, since what is left of the journal is written once the life is over.
 pub(crate) fn work_at_once<
-    N: PageNaming + Send + Sync,
+    N: GuestNaming + Send + Sync,
     O: Post + Drop + Send,
     H: Wait + Drop + Send,
     R: Threads + Wait + Sync,
@@ -157,20 +175,22 @@ pub(crate) fn work_at_once<
     D: Door + Drop,
     W: Sink + Drop + Send,
     Q: Pace + Send,
+    E: Outlet + Drop + Send,
+    I: Entrance<E> + Send,
 >(
     rt: &R,
     over: &AtomicBool,
     hearing: Hearing<N, O, Seeded, H, L>,
     ticking: Ticking<N, O, Seeded, H, P>,
     controlling: Controlling<N, H, D>,
-    recording: Recording<N, Seeded, H, W, Q>,
-) -> Over<N, O, W> {
+    recording: Recording<N, Seeded, H, W, Q, E, I>,
+) -> Over<N, O, W, E> {
     thread::scope(
         thread::scope_env(),
         rt,
-        move |scope| -> Over<N, O, W>
+        move |scope| -> Over<N, O, W, E>
             requires { IsSync R.row × IsSend L.row × IsSend O.row × IsSend P.row × IsSend N.row × IsSync N.row
-                × IsSend H.row × IsSend W.row × IsSend Q.row }
+                × IsSend H.row × IsSend W.row × IsSend Q.row × IsSend E.row × IsSend I.row }
         {
             let first = scope.spawn(move || run_hearing(rt, hearing));
             tell(over, first.is_err());
@@ -187,7 +207,7 @@ pub(crate) fn work_at_once<
                 Ok(handle) => handle.join(rt),
                 Err(refused) => (refused.value)(),
             };
-            let scribe = match fourth {
+            let crier = match fourth {
                 Ok(handle) => handle.join(rt),
                 Err(refused) => (refused.value)(),
             };
@@ -196,7 +216,7 @@ pub(crate) fn work_at_once<
                 second,
                 third,
                 all_began,
-                scribe,
+                crier,
             }
         },
     )

@@ -37,6 +37,8 @@ impl UdpLine {
 impl<'s> Line for &'s UdpLine {
     ghost received = { λ s. None };
 
+    ghost listed = { λ s. None };
+
     fn receive<R: Wait>(&mut self, _rt: &R, bytes: &mut [u8]) -> Got
         ensures { FitsInto result bytes.new }
     {
@@ -48,6 +50,8 @@ impl<'s> Line for &'s UdpLine {
             Err(fault) => got_by(fault.kind()),
         }
     }
+
+    fn list(&mut self, _members: &[Peer]) {}
 }
 
 impl<'s> Post for &'s UdpLine {

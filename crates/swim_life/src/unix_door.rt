@@ -76,7 +76,7 @@ impl<K: Clock + Drop> UnixDoor<K> {
 }
 
 /// Closes what connected before only the owner might.
-fn turn_away(listener: &UnixListener) {
+pub(crate) fn turn_away(listener: &UnixListener) {
     for _connection in 0..EARLY {
         if listener.accept().is_err() {
             break;

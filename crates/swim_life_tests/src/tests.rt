@@ -4,10 +4,14 @@ mod desk;
 mod files;
 mod gates;
 mod lives;
+mod operators;
 mod posts;
+mod readers;
 mod refusals;
 mod sending;
+mod showing;
 mod two;
+mod watching;
 
 use crate::tests::gates::NoDoor;
 use std::alloc::Global;

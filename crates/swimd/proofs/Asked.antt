@@ -1,16 +1,16 @@
 -- From line to line: what has been asked when one more was.
-use Rattle.std.proofs.Common.{◌≡◌, ◌⊎◌, ℕ, ◌<◌, Bool, true, false, ◌||◌, List, [], ◌∷◌, ◌++◌, map, Option, Some, None, Ok, Err}
+use Rattle.std.proofs.Common.{◌≡◌, ℕ, Bool, true, false, ◌||◌, List, [], ◌∷◌, ◌++◌, Option, Some, None, Ok, Err}
 use Rattle.std.proofs.Common.{refl, sym, ap, ◌∙◌, append_assoc, append-nil, inl, inr}
 use Rattle.std.proofs.lemmas.Grind.{flat_map-append}
 use Rattle.std.proofs.lemmas.List.{map-append}
 use Rattle.std.proofs.lemmas.List.Folds.{list_any-append}
-use Rattle.std.specs.List.{flat_map, list_any}
-use Rattle.std.specs.Io.KnownBytes.{Appends, Consumes, IsAtEnd, Keeps}
-use Rattle.swim_wire.specs.Streams.{PutsFront, appends_both, appends_none, keeps_self}
-use Rattle.swimd.specs.Answers.{is_answer, is_refusal, is_stopping}
-use Rattle.swimd.specs.Asking.{Asker, Asking, EndsInStop, Exchange, Grows, HasAsked, InputLine, IsBroken, IsDone, IsStopped}
-use Rattle.swimd.specs.Asking.{IsUnread, Loses, Misses, Passes, Reads, Sent, TakesLine, TakesPart, asked_so, bytes_of, has_refusal}
-use Rattle.swimd.specs.Asking.{sent, sent_of, stopped_so}
+use Rattle.std.specs.List.{flat_map}
+use Rattle.std.specs.Io.KnownBytes.{Appends, Consumes}
+use Rattle.swim_wire.specs.Streams.{appends_both, appends_none, keeps_self}
+use Rattle.swimd.specs.Answers.{is_refusal, is_stopping}
+use Rattle.swimd.specs.Asking.{Asker, Asking, EndsInStop, Exchange, Grows, HasAsked, IsDone, IsStopped}
+use Rattle.swimd.specs.Asking.{Passes, Reads, Sent, asked_so, bytes_of, has_refusal}
+use Rattle.swimd.specs.Asking.{sent, stopped_so}
 use Rattle.swimd.proofs.ControlLines.{all_taken}
 use Rattle.swimd.specs.declared.askers.Came.{Came}
 use Rattle.swimd.specs.declared.askers.Came.TheVariants as came
@@ -20,6 +20,7 @@ use Rattle.swimd.specs.declared.outcomes.Outcome.TheVariants as outcomes
 use Rattle.swimd.specs.declared.outcomes.Outcome.TheVariants.{AskRefused, AskTimeout, Unanswered, AskUnwritten, AskUnread, Helped}
 use Rattle.swimd.specs.declared.outcomes.Outcome.TheVariants.{Checked, Stopped, Usage, Unread, Refused, Unwritten, NoListen}
 use Rattle.swimd.specs.declared.outcomes.Outcome.TheVariants.{NoControl, NoMemory, Socket, NoPlace, NoDaemon, NoRandom}
+use Rattle.swimd.specs.declared.outcomes.Outcome.TheVariants.{NoEvents, NoTeller, WatchUnwritten}
 
 consumes_none : (o : Option (List ℕ)) → Consumes o o []
 consumes_none None = tt
@@ -188,6 +189,9 @@ ends_broken o l1 l2 w1 w2 a1 a2 line answer refused Socket going reads passes = 
 ends_broken o l1 l2 w1 w2 a1 a2 line answer refused NoPlace going reads passes = absurd passes
 ends_broken o l1 l2 w1 w2 a1 a2 line answer refused NoDaemon going reads passes = absurd passes
 ends_broken o l1 l2 w1 w2 a1 a2 line answer refused NoRandom going reads passes = absurd passes
+ends_broken o l1 l2 w1 w2 a1 a2 line answer refused NoEvents going reads passes = absurd passes
+ends_broken o l1 l2 w1 w2 a1 a2 line answer refused NoTeller going reads passes = absurd passes
+ends_broken o l1 l2 w1 w2 a1 a2 line answer refused WatchUnwritten going reads passes = absurd passes
 
 stop_of : (o n : Asker) (refused : Bool) (answer : List ℕ) → OneMore o n refused answer → is_stopping answer ≡ true →
     IsDone refused o n × IsStopped o n

@@ -9,6 +9,7 @@ use Rattle.swim_config.specs.declared.config_fault.ConfigFault.TheVariants.{Size
 use Rattle.swimd.specs.declared.outcomes.Outcome.{Outcome}
 use Rattle.swimd.specs.declared.outcomes.Outcome.TheVariants.{Checked, Stopped, Asked, Usage, Unread, Refused, Unwritten}
 use Rattle.swimd.specs.declared.outcomes.Outcome.TheVariants.{NoListen, NoControl, NoMemory, Socket, NoPlace, NoDaemon, NoRandom}
+use Rattle.swimd.specs.declared.outcomes.Outcome.TheVariants.{NoEvents, NoTeller, WatchUnwritten}
 use Rattle.swimd.specs.declared.outcomes.Outcome.TheVariants.{AskRefused, AskTimeout, Unanswered, AskUnwritten, AskUnread, Helped}
 use Rattle.swimd.specs.Checking.{ChecksKnown, Shows}
 use Rattle.swim_config.specs.Configuration.{config_of}
@@ -56,6 +57,9 @@ shown None old new faults then items config Socket read is shows = absurd shows
 shown None old new faults then items config NoPlace read is shows = absurd shows
 shown None old new faults then items config NoDaemon read is shows = absurd shows
 shown None old new faults then items config NoRandom read is shows = absurd shows
+shown None old new faults then items config NoEvents read is shows = absurd shows
+shown None old new faults then items config NoTeller read is shows = absurd shows
+shown None old new faults then items config WatchUnwritten read is shows = absurd shows
 shown None old new faults then items config AskRefused read is shows = absurd shows
 shown None old new faults then items config AskTimeout read is shows = absurd shows
 shown None old new faults then items config Unanswered read is shows = absurd shows
@@ -78,6 +82,9 @@ shown (Some text) old new faults then items config Socket read is shows = absurd
 shown (Some text) old new faults then items config NoPlace read is shows = absurd shows
 shown (Some text) old new faults then items config NoDaemon read is shows = absurd shows
 shown (Some text) old new faults then items config NoRandom read is shows = absurd shows
+shown (Some text) old new faults then items config NoEvents read is shows = absurd shows
+shown (Some text) old new faults then items config NoTeller read is shows = absurd shows
+shown (Some text) old new faults then items config WatchUnwritten read is shows = absurd shows
 shown (Some text) old new faults then items config AskRefused read is shows = absurd shows
 shown (Some text) old new faults then items config AskTimeout read is shows = absurd shows
 shown (Some text) old new faults then items config Unanswered read is shows = absurd shows

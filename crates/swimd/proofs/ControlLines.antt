@@ -1,14 +1,14 @@
 -- How the reader of a control line goes on from byte to byte, and how a line is made of words.
-use Rattle.std.proofs.Common.{◌≡◌, ℕ, zero, suc, ◌<◌, ◌==◌, ◌||◌, Bool, true, false, List, [], ◌∷◌, ◌++◌, length, take, drop, cond}
+use Rattle.std.proofs.Common.{◌≡◌, ℕ, zero, suc, ◌<◌, ◌==◌, ◌||◌, Bool, true, false, List, [], ◌∷◌, ◌++◌, length, take, drop}
 use Rattle.std.proofs.Common.{◌+◌, ◌≤◌, Bor, slice_index_or}
-use Rattle.std.proofs.Common.{Option, Some, None, map, refl, sym, ap, ◌∙◌, append_assoc, append-nil, arith, length-append}
+use Rattle.std.proofs.Common.{Option, Some, None, refl, sym, ap, ◌∙◌, append_assoc, append-nil, arith, length-append}
 use Rattle.std.proofs.lemmas.Grind.{flat_map-append}
 use Rattle.std.proofs.lemmas.List.{length-take}
 use Rattle.std.proofs.lemmas.List.Folds.{list_any-append}
 use Rattle.std.specs.List.{flat_map}
 use Rattle.std.specs.Io.KnownBytes.{Consumes, IsAtEnd, Keeps}
 use Rattle.swim_wire.specs.Lines.{has_feed}
-use Rattle.swimd.specs.Asking.{InputLine, IsAll, Reads, TakesLine, end_met, joined}
+use Rattle.swimd.specs.Asking.{IsAll, Reads, end_met, joined}
 use Rattle.swimd.proofs.Lines.{texts_of, next_word}
 use Rattle.swimd.specs.declared.control_lines.Met.{Met}
 use Rattle.swimd.specs.declared.control_lines.Met.TheVariants.{Line, Over, Fault}

@@ -7,6 +7,7 @@ use Rattle.swimd.specs.declared.outcomes.Outcome.{Outcome}
 use Rattle.swimd.specs.declared.outcomes.Outcome.TheVariants.{Checked, Stopped, Asked, Usage, Unread, Refused, Unwritten}
 use Rattle.swimd.specs.declared.outcomes.Outcome.TheVariants.{NoListen, NoControl, NoMemory, Socket, NoPlace, NoDaemon}
 use Rattle.swimd.specs.declared.outcomes.Outcome.TheVariants.{AskRefused, AskTimeout, Unanswered, AskUnwritten, AskUnread, Helped, NoRandom}
+use Rattle.swimd.specs.declared.outcomes.Outcome.TheVariants.{NoEvents, NoTeller, WatchUnwritten}
 use Rattle.swimd.specs.Asking.{Asks}
 use Rattle.swimd.specs.Checking.{Shows}
 use Rattle.swimd.specs.Commands.{AsksWanted, Helps, MakesKey}
@@ -31,10 +32,13 @@ explains_if (Refused fault) details refused = refused fault refl
 explains_if Unwritten details refused = tt
 explains_if NoListen details refused = tt
 explains_if NoControl details refused = tt
+explains_if NoEvents details refused = tt
 explains_if NoMemory details refused = tt
 explains_if Socket details refused = tt
 explains_if NoPlace details refused = tt
 explains_if NoDaemon details refused = tt
+explains_if NoTeller details refused = tt
+explains_if WatchUnwritten details refused = tt
 
 -- nothing stands there
 pub nothing_explains : (outcome : Outcome) (details : List ℕ) → details ≡ [] → Explains outcome details

@@ -5,15 +5,27 @@ use Rattle.swim_config.specs.declared.config.Config.{Config}
 use Rattle.swim_life.specs.Endings.{TellsText, Written}
 use Rattle.swim_life.specs.Notices.{Notices, line_text, notices_both}
 use Rattle.swimd.specs.declared.outcomes.Outcome.{Outcome}
-use Rattle.swimd.specs.Daemon.{IsNoDoor, Starts}
+use Rattle.swimd.specs.Daemon.{IsNoDoor, IsNoEntrance, Starts}
 
 pub one_noticed : (old new : Written) (line : List ℕ) → has_feed line ≡ false → TellsText (line_text line) old new →
     Notices old new
 one_noticed old new line one told = (line ∷ [], (old, refl, one, told))
 
+pub two_noticed : (old then new : Written) → Notices old then → Notices then new → Notices old new
+two_noticed old then new a b = notices_both old then new a b
+
 pub three_noticed : (old first then new : Written) → Notices old first → Notices first then → Notices then new →
     Notices old new
 three_noticed old first then new a b c = notices_both old first new a (notices_both first then new b c)
+
+pub four_noticed : (old first second then new : Written) → Notices old first → Notices first second → Notices second then →
+    Notices then new → Notices old new
+four_noticed old first second then new a b c d =
+    notices_both old first new a (three_noticed first second then new b c d)
+
+-- without an entrance nothing was written
+pub no_entrance : (config : Config) (old : Written) (outcome : Outcome) → IsNoEntrance outcome → Starts config old old outcome
+no_entrance config old outcome is = subst (λ o. Starts config old old o) (sym is) refl
 
 -- without a door nothing was written
 pub no_door : (config : Config) (old : Written) (outcome : Outcome) → IsNoDoor outcome → Starts config old old outcome

@@ -13,7 +13,8 @@ use Rattle.swimd.specs.Daemon.{Runs}
 use Rattle.swim_config.specs.Causes.{AreIndented}
 use Rattle.swimd.specs.Details.{Explains}
 use Rattle.swimd.specs.Outcomes.{outcome_text, status_of}
-use Rattle.swimd.specs.Words.{Wanted, Check, Run, Ask, MakeKey, Help, Version}
+use Rattle.swimd.specs.Watched.{WatchesDaemon}
+use Rattle.swimd.specs.Words.{Wanted, Check, Run, Ask, Watch, MakeKey, Help, Version}
 
 -- an outcome was told on standard error, with details below it, as far as it took the text, and by the status; failed writes
 -- and a failed flush were counted. The details are lines that begin with two spaces, and of a refused configuration its cause
@@ -65,6 +66,8 @@ DoesWanted (Some (Run file is_quiet)) old new outcome =
     (new.left ≡ old.left) × Runs old.written new.written old.faults new.faults outcome
 DoesWanted (Some (Ask path line seconds)) old new outcome =
     AsksWanted line old.left new.left old.written.0 new.written.0 outcome × (new.faults ≡ old.faults)
+DoesWanted (Some (Watch path is_json)) old new outcome =
+    WatchesDaemon is_json old.written.0 new.written.0 outcome × (new.left ≡ old.left) × (new.faults ≡ old.faults)
 DoesWanted (Some Help) old new outcome =
     ((text : List ℕ) × Helps text old.written.0 new.written.0 outcome) × (new.left ≡ old.left) × (new.faults ≡ old.faults)
 DoesWanted (Some MakeKey) old new outcome =

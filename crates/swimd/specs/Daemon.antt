@@ -1,12 +1,12 @@
 -- What a daemon does.
-use Rattle.std.specs.Prelude.{◌≡◌, ◌⊎◌, ℕ, List, Option, Ok, Err}
+use Rattle.std.specs.Prelude.{◌≡◌, ◌⊎◌, ℕ, List, Ok, Err}
 use Rattle.swim_config.specs.declared.config.Config.{Config}
 use Rattle.swim_config.specs.declared.config_fault.ConfigFault.TheVariants as faults
 use Rattle.swim_life.specs.declared.lives.LivesEnd.{LivesEnd}
 use Rattle.swim_life.specs.declared.lives.LivesEnd.TheVariants as ends
 use Rattle.swimd.specs.declared.outcomes.Outcome.{Outcome}
 use Rattle.swimd.specs.declared.outcomes.Outcome.TheVariants.{Unread, Refused, NoListen, NoControl, NoMemory, Stopped, Socket}
-use Rattle.swimd.specs.declared.outcomes.Outcome.TheVariants.{NoPlace}
+use Rattle.swimd.specs.declared.outcomes.Outcome.TheVariants.{NoEvents, NoPlace}
 use Rattle.swim_config.specs.Beginnings.{begun_at}
 use Rattle.swim_config.specs.Configuration.{config_of}
 use Rattle.swim_life.specs.Endings.{Written}
@@ -39,14 +39,18 @@ pub record IsLivedBy (config : Config) (old new : Written) (outcome : Outcome) :
   pub lived : AreLived config.opening config.journal config.seed old new end
   pub is : outcome ≡ outcome_of end
 
--- why there is no control socket
+-- why there is no control socket, and no events' socket
 abbrev pub IsNoDoor : Outcome → Type 0
 IsNoDoor outcome = (outcome ≡ NoControl) ⊎ (outcome ≡ NoMemory)
+
+abbrev pub IsNoEntrance : Outcome → Type 0
+IsNoEntrance outcome = outcome ≡ NoEvents
 
 -- what a daemon of this configuration does: without its sockets nothing is written
 abbrev pub Starts : Config → Written → Written → Outcome → Type 0
 Starts config old new NoListen = new ≡ old
 Starts config old new NoControl = new ≡ old
+Starts config old new NoEvents = new ≡ old
 Starts config old new NoMemory = new ≡ old
 Starts config old new outcome = IsLivedBy config old new outcome
 

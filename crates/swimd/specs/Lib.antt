@@ -6,5 +6,6 @@ pub mod Daemon
 pub mod Details
 pub mod OldFiles
 pub mod Outcomes
+pub mod Watched
 pub mod Words
 pub mod Worked

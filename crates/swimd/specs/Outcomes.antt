@@ -5,6 +5,7 @@ use Rattle.swimd.specs.declared.outcomes.Outcome.{Outcome}
 use Rattle.swimd.specs.declared.outcomes.Outcome.TheVariants.{Checked, Stopped, Asked, Usage, Unread, Refused}
 use Rattle.swimd.specs.declared.outcomes.Outcome.TheVariants.{Unwritten, NoListen, NoControl, NoMemory, Socket, NoPlace, NoDaemon}
 use Rattle.swimd.specs.declared.outcomes.Outcome.TheVariants.{AskRefused, AskTimeout, Unanswered, AskUnwritten, AskUnread, Helped, NoRandom}
+use Rattle.swimd.specs.declared.outcomes.Outcome.TheVariants.{NoEvents, NoTeller, WatchUnwritten}
 use Rattle.swim_config.specs.FaultTexts.{fault_text}
 
 abbrev pub status_of : Outcome → ℕ
@@ -25,10 +26,13 @@ status_of (Refused fault) = 1
 status_of Unwritten = 1
 status_of NoListen = 5
 status_of NoControl = 5
+status_of NoEvents = 5
 status_of NoMemory = 4
 status_of Socket = 5
 status_of NoPlace = 4
 status_of NoDaemon = 5
+status_of NoTeller = 5
+status_of WatchUnwritten = 1
 
 abbrev pub outcome_text : Outcome → List ℕ
 outcome_text Checked = []
@@ -47,7 +51,10 @@ outcome_text (Refused fault) = fault_text fault
 outcome_text Unwritten = []
 outcome_text NoListen = codes "bind listen\n"
 outcome_text NoControl = codes "bind control\n"
+outcome_text NoEvents = codes "bind events\n"
 outcome_text NoMemory = codes "no memory\n"
 outcome_text Socket = []
 outcome_text NoPlace = codes "no place\n"
 outcome_text NoDaemon = codes "connect control\n"
+outcome_text NoTeller = codes "connect events\n"
+outcome_text WatchUnwritten = codes "watch write\n"

@@ -6,7 +6,7 @@ use Rattle.std.specs.Option.{option_map_or}
 use Rattle.std.specs.Str.{bytes_eq}
 use Rattle.clap.specs.Faults.{fault_of}
 use Rattle.clap.specs.Kinds.{IsAmong, Kinds}
-use Rattle.clap.specs.Simple.{App, Shape, new_app, new_rule, new_shape, on_top, subcommand_of, with_rule, with_subcommand}
+use Rattle.clap.specs.Simple.{App, new_app, new_rule, new_shape, subcommand_of, with_rule, with_subcommand}
 use Rattle.clap.specs.Walk.{Row, Rule, Text, all_of, first_of}
 use Rattle.clap.specs.declared.builder.action.ArgAction.TheVariants.{Append, Set, SetTrue}
 use Rattle.clap.specs.declared.error.kind.ErrorKind.{ErrorKind}
@@ -16,16 +16,17 @@ use Rattle.swim_wire.specs.Numbers.{number_of}
 use Rattle.swimd.specs.Asking.{joined}
 use Rattle.swimd.specs.declared.words.Asked.{Asked}
 use Rattle.swimd.specs.declared.words.Asked.TheVariants as asked
-use Rattle.swimd.specs.declared.words.Request.{Request}
 use Rattle.swimd.specs.declared.words.Unasked.{Unasked}
 use Rattle.swimd.specs.declared.words.Unasked.TheVariants.{Usage, NoMemory}
 
 -- a check; a daemon with the configuration of a file, and whether it tells no starts; the daemon at a path is asked a
--- line, or those on standard input, and each answer may take so many seconds; a key; help; the version
+-- line, or those on standard input, and each answer may take so many seconds; what the daemon at a path tells is written,
+-- and whether as JSON; a key; help; the version
 pub data Wanted : Type 0 where
   Check : Wanted
   Run : (file : List ℕ) → (is_quiet : Bool) → Wanted
   Ask : (path : List ℕ) → (line : Option (List ℕ)) → (seconds : ℕ) → Wanted
+  Watch : (path : List ℕ) → (is_json : Bool) → Wanted
   MakeKey : Wanted
   Help : Wanted
   Version : Wanted
@@ -34,6 +35,7 @@ abbrev pub wanted : Asked → Wanted
 wanted asked.Check = Check
 wanted (asked.Run file is_quiet) = Run file.now is_quiet
 wanted (asked.Ask request) = Ask request.path.now (option_map (λ line. line.items) request.line) request.seconds
+wanted (asked.Watch path is_json) = Watch path.now is_json
 wanted asked.MakeKey = MakeKey
 wanted (asked.Help text) = Help
 wanted asked.Version = Version
@@ -63,6 +65,9 @@ abbrev pub ask_app : App
 ask_app = with_rule (with_rule (with_rule (new_app (codes "ask")) (needed_rule (codes "control")))
     (option_rule (codes "timeout"))) (words_rule (codes "WORDS"))
 
+abbrev pub watch_app : App
+watch_app = with_rule (with_rule (new_app (codes "watch")) (needed_rule (codes "events"))) (flag_rule (codes "json"))
+
 -- the program: the words are those after its name, and each command has a version
 abbrev pub program_alone : App
 program_alone = record {
@@ -80,9 +85,11 @@ program =
     with_subcommand
     (with_subcommand
     (with_subcommand
+    (with_subcommand
     (with_subcommand program_alone (new_shape (codes "check")))
     run_app.top)
     ask_app.top)
+    watch_app.top)
     (new_shape (codes "key"))
 
 -- ---- what is asked
@@ -118,6 +125,8 @@ asked_in (Some met) =
     if bytes_eq met.0 (codes "run")
     then option_map (λ file. Run file (flag_of (codes "quiet") met.1)) (first_of (codes "config") met.1)
     else if bytes_eq met.0 (codes "ask") then asking_in met.1
+    else if bytes_eq met.0 (codes "watch")
+    then option_map (λ path. Watch path (flag_of (codes "json") met.1)) (first_of (codes "events") met.1)
     else if bytes_eq met.0 (codes "key") then Some MakeKey
     else Some Check
 

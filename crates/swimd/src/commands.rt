@@ -13,6 +13,7 @@ use crate::daemon;
 use crate::details::Details;
 use crate::key_making::make_key;
 use crate::outcomes::{Outcome, put_outcome};
+use crate::watch::watch_daemon;
 use crate::words::{Asked, Request, Unasked, VERSION_LINE, read_words};
 use std::alloc::Global;
 use std::fs::File;
@@ -95,6 +96,7 @@ fn carry_out<
             rt, alloc, file, is_quiet, writer, faults, log, details,
         ),
         Ok(Asked::Ask(request)) => ask_for(rt, &request, reader, writer, details),
+        Ok(Asked::Watch(path, is_json)) => watch_daemon(rt, alloc, path, is_json, writer, details),
         Ok(Asked::MakeKey) => make_key(rt, writer),
         Ok(Asked::Help(text)) => help(text.as_bytes(), writer),
         Ok(Asked::Version) => version(writer),

@@ -7,6 +7,7 @@ ghost use Rattle.swimd.specs.Details.{Explains};
 
 use crate::checking::warn;
 use crate::details::{Details, words_of};
+use crate::entrances::{end_watching, open_entrance, pause_ms, tell_socket};
 use crate::folders::Folder;
 use crate::notices::{Announcer, Notice, is_taken_at_once};
 use crate::outcomes::Outcome;
@@ -22,20 +23,20 @@ use std::rt::{Clock, Files};
 use std::sync::Wait;
 use std::thread::Threads;
 use swim_config::{Config, ConfigFault, INPUT_BYTES, read_config, read_input};
-use swim_guard::{SealedLine, SealedPost};
+use swim_events::Gallery;
+use swim_guard::{ClockTimepiece, FencedLine, SealedLine, SealedPost};
 use swim_keys::Keys;
 use swim_life::{
-    ClockSleeper, Hall, LivesEnd, Place, Sight, SleepingPace, Terms, UdpLine, UnixDoor, run_lives,
+    ClockSleeper, Hall, LivesEnd, Place, SleepingPace, Terms, UdpLine, UnixDoor, UnixEntrance,
+    run_lives,
 };
 use swim_wire::{Peer, ReadSource, Sink};
-
-/// How often a life's journal is written to its file, in milliseconds.
-const WRITE_MS: u32 = 50;
 
 /// Runs the daemon of a configuration file, and writes how its lives ended. What stands in the way of a start is told in
 /// the details. Among the faults stands what the configuration is warned of, and then, while it runs, notices; where it is
 /// quiet, only that a stale socket was removed. Where the group has keys, and the configuration tells no last number, the
-/// detector begins behind the clock's. In the log stands where datagrams came from that nobody of the group sent.
+/// detector begins behind the clock's. In the log stands where datagrams came from that nobody of the group
+/// sent, or more than the fence lets in.
 pub fn run<
     R: Files<File = File> + Net + Clock + Threads + Wait + Sync,
     W: Sink,
@@ -117,7 +118,7 @@ fn warn_at_once<R: Net, F: Sink>(rt: &R, alloc: Global, config: &Config, faults:
 }
 
 /// Opens the gates of a configuration, and lives over them.
-#[tactic(auto, using(swim_life::specs::Notices::no_notices, crate::proofs::Noticed::three_noticed, crate::proofs::Noticed::no_door, crate::proofs::Explained::nothing_explains))]
+#[tactic(auto, using(swim_life::specs::Notices::no_notices, crate::proofs::Noticed::two_noticed, crate::proofs::Noticed::no_door, crate::proofs::Noticed::no_entrance, crate::proofs::Explained::nothing_explains))]
 fn start<
     R: Files<File = File> + Net + Clock + Threads + Wait + Sync,
     W: Sink,
@@ -147,13 +148,17 @@ fn start<
             return Outcome::NoListen;
         }
     };
+    let entrance = match open_entrance(rt, alloc, &config.events, faults, details) {
+        Ok(entrance) => entrance,
+        Err(outcome) => return outcome,
+    };
     let door = match open_door(rt, alloc, config.control.as_str(), faults, details) {
         Ok(door) => door,
         Err(outcome) => return outcome,
     };
     announce(rt, alloc, &config, is_quiet, faults);
     live(
-        rt, alloc, config, is_quiet, &line, door, writer, faults, log,
+        rt, alloc, config, is_quiet, &line, door, entrance, writer, faults, log,
     )
 }
 
@@ -171,6 +176,7 @@ fn live<
     is_quiet: bool,
     line: &UdpLine,
     door: UnixDoor<&'r R>,
+    mut entrance: UnixEntrance,
     writer: &mut W,
     faults: &mut F,
     log: G,
@@ -182,7 +188,10 @@ fn live<
 {
     let keys = Keys::of(config.keys.as_slice());
     let strangers = Strangers::new();
-    let mut hearing = NotingLine::new(SealedLine::new(line, keys.as_ref()), &strangers);
+    let fenced = FencedLine::new(line, ClockTimepiece::new(rt), config.fence);
+    let fenced = NotingLine::new(fenced, &strangers.fenced);
+    let sealed = SealedLine::new(fenced, keys.as_ref());
+    let mut hearing = NotingLine::new(sealed, &strangers.forged);
     let sending = SealedPost::new(line, keys.as_ref());
     let door = TellingDoor::new(rt, alloc, door, &strangers, log, is_quiet);
     let mut hall = Hall::new(alloc, door);
@@ -191,7 +200,8 @@ fn live<
     let terms = terms_of(&config);
     let opening = config.opening;
     let mut shelf = Folder::new(rt, alloc, config.files, opening.me(), seconds(rt));
-    let mut pause = SleepingPace::new(ClockSleeper::new(rt), WRITE_MS);
+    let mut pause = SleepingPace::new(ClockSleeper::new(rt), pause_ms(&config.events));
+    let mut gallery = Gallery::new(alloc);
     let end = run_lives(
         rt,
         alloc,
@@ -206,7 +216,10 @@ fn live<
         writer,
         &mut herald,
         faults,
+        &mut gallery,
+        &mut entrance,
     );
+    end_watching(&mut gallery);
     outcome_of(end)
 }
 
@@ -249,7 +262,7 @@ fn open_door<'r, R: Files<File = File> + Net + Clock, F: Sink>(
         Ok(door) => Ok(door),
         Err(fault) if fault.kind() == ErrorKind::OutOfMemory => Err(Outcome::NoMemory),
         Err(fault) => {
-            tell_control(path, fault.kind(), place.sight(), details);
+            tell_socket(path, fault.kind(), place.sight(), details);
             Err(Outcome::NoControl)
         }
     }
@@ -259,17 +272,6 @@ fn open_door<'r, R: Files<File = File> + Net + Clock, F: Sink>(
 fn tell_listen(listen: Peer, kind: ErrorKind, details: &mut Details) {
     let address = listen.write();
     details.add_of(address.as_str(), words_of(kind));
-}
-
-/// Tells why the control socket can't be bound, and what stands at its path.
-fn tell_control(path: &str, kind: ErrorKind, sight: Sight, details: &mut Details) {
-    details.add_of(path, words_of(kind));
-    match sight {
-        Sight::NoSocket => details.add("what stands there is no socket; it is kept"),
-        Sight::Served => details.add("somebody serves this socket; it is kept"),
-        Sight::Stale => details.add("nobody serves this socket; remove it"),
-        Sight::Free | Sight::Unclear => {}
-    }
 }
 
 /// The milliseconds since 1970; 0 where the system can't tell them.

@@ -10,6 +10,8 @@ mod comments;
 mod control_lines;
 mod daemon;
 mod details;
+mod entrances;
+mod event_sockets;
 mod folders;
 mod journal_files;
 mod key_making;
@@ -18,6 +20,7 @@ mod old_files;
 mod outcomes;
 mod sockets;
 mod strangers;
+mod watch;
 mod words;
 
 use details::Details;

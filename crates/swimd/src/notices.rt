@@ -121,6 +121,19 @@ impl Notice {
         notice
     }
 
+    /// That datagrams come faster than the fence lets in, how many were thrown away so far, and where the newest came from.
+    pub fn fenced<K: Clock>(clock: &K, source: Peer, count: u64) -> Notice {
+        let mut notice = Notice::begun(clock);
+        let address = source.write();
+        let _is_added = write!(
+            notice,
+            "datagrams from {} come faster than the fence lets in, fenced {}",
+            address.as_str(),
+            count
+        );
+        notice
+    }
+
     /// That a life begins.
     fn begins<K: Clock>(clock: &K, number: u64) -> Notice {
         let mut notice = Notice::begun(clock);

@@ -42,6 +42,8 @@ pub enum Outcome {
     NoListen,
     /// The control socket can't be bound.
     NoControl,
+    /// The events' socket can't be bound.
+    NoEvents,
     /// Memory for the control socket was refused.
     NoMemory,
     /// A socket of the daemon failed too often in a row.
@@ -50,6 +52,10 @@ pub enum Outcome {
     NoPlace,
     /// No daemon listens at the control socket.
     NoDaemon,
+    /// No daemon listens at the events' socket.
+    NoTeller,
+    /// What a daemon tells can't be written.
+    WatchUnwritten,
 }
 
 impl Outcome {
@@ -59,13 +65,14 @@ impl Outcome {
     {
         match self {
             Outcome::Checked | Outcome::Stopped | Outcome::Asked | Outcome::Helped => 0,
-            Outcome::AskUnwritten | Outcome::AskUnread => 1,
+            Outcome::AskUnwritten | Outcome::AskUnread | Outcome::WatchUnwritten => 1,
             Outcome::Usage => 2,
             Outcome::AskRefused => 3,
             Outcome::Refused(ConfigFault::NoMemory) | Outcome::NoMemory | Outcome::NoPlace => 4,
             Outcome::Refused(_) | Outcome::Unread | Outcome::Unwritten => 1,
             Outcome::NoListen | Outcome::NoControl | Outcome::Socket | Outcome::NoDaemon => 5,
             Outcome::AskTimeout | Outcome::Unanswered | Outcome::NoRandom => 5,
+            Outcome::NoEvents | Outcome::NoTeller => 5,
         }
     }
 }
@@ -81,9 +88,12 @@ pub fn put_outcome<W: Sink>(writer: &mut W, outcome: Outcome) -> bool
         Outcome::Unread => writer.put(b"configuration file\n"),
         Outcome::NoListen => writer.put(b"bind listen\n"),
         Outcome::NoControl => writer.put(b"bind control\n"),
+        Outcome::NoEvents => writer.put(b"bind events\n"),
         Outcome::NoMemory => writer.put(b"no memory\n"),
         Outcome::NoPlace => writer.put(b"no place\n"),
         Outcome::NoDaemon => writer.put(b"connect control\n"),
+        Outcome::NoTeller => writer.put(b"connect events\n"),
+        Outcome::WatchUnwritten => writer.put(b"watch write\n"),
         Outcome::AskTimeout => writer.put(b"ask timeout\n"),
         Outcome::Unanswered => writer.put(b"ask unanswered\n"),
         Outcome::AskUnwritten => writer.put(b"ask write\n"),

@@ -1,9 +1,7 @@
-//! Telling people that datagrams come which nobody of the group sent. The receiver counts them, and the worker at the door
-//! tells of them, so that no datagram waits for a line on standard error.
+//! Telling people that datagrams come which nobody of the group sent, or more than the fence lets in. The receiver counts
+//! them, and the worker at the door tells of them, so that no datagram waits for a line on standard error.
 
-ghost use Rattle.std.specs.Prelude.{◌≡◌, ◌∷◌, [], map};
-ghost use Rattle.std.specs.Option.{option_map};
-ghost use Rattle.swim_guard.specs.Guarded.{HandsOn, handed_on};
+ghost use Rattle.std.specs.Prelude.{◌≡◌, ◌≤◌, ◌∷◌, [], length};
 ghost use Rattle.swim_life.specs.Gates.{FitsInto, is_fault};
 ghost use Rattle.swim_life.specs.Posts.{Grows};
 
@@ -15,33 +13,63 @@ use std::rt::Clock;
 use std::sync::Wait;
 use std::sync::atomic::{AtomicU64, Ordering};
 use std::time::{Duration, Instant};
-use swim_guard::SealedLine;
+use swim_guard::{Sieve, Thrown};
 use swim_life::{Door, Got, Knock, Line};
-use swim_wire::{Peer, Sink};
+use swim_wire::{KNOWN_MEMBERS, Peer, Sink};
 
 /// How long no more of them is told, once some were, in seconds.
 const PAUSE_SECONDS: u64 = 60;
 
 /// How many datagrams were thrown away, and where the newest came from, as two threads share it.
 #[derive(Drop)]
-pub struct Strangers {
+pub struct Tally {
     count: AtomicU64,
     newest: AtomicU64,
+}
+
+impl Tally {
+    /// None was yet.
+    fn new() -> Tally {
+        Tally {
+            count: AtomicU64::new(0),
+            newest: AtomicU64::new(0),
+        }
+    }
+
+    fn count(&self) -> u64 {
+        self.count.load(Ordering::SeqCst)
+    }
+
+    fn newest(&self) -> Option<Peer> {
+        unpacked(self.newest.load(Ordering::SeqCst))
+    }
+
+    /// So many were by now.
+    fn note(&self, thrown: Thrown) {
+        if thrown.count == self.count() {
+            return;
+        }
+        if let Some(newest) = thrown.newest {
+            self.newest.store(packed(newest), Ordering::SeqCst);
+            self.count.store(thrown.count, Ordering::SeqCst);
+        }
+    }
+}
+
+/// What a daemon throws away: what came faster than the fence lets in, and of the rest what has no tag by a key of the group.
+#[derive(Drop)]
+pub struct Strangers {
+    pub fenced: Tally,
+    pub forged: Tally,
 }
 
 impl Strangers {
     /// None came yet.
     pub fn new() -> Strangers {
         Strangers {
-            count: AtomicU64::new(0),
-            newest: AtomicU64::new(0),
+            fenced: Tally::new(),
+            forged: Tally::new(),
         }
-    }
-
-    /// So many came by now, the newest from this address.
-    fn note(&self, count: u64, newest: Peer) {
-        self.newest.store(packed(newest), Ordering::SeqCst);
-        self.count.store(count, Ordering::SeqCst);
     }
 }
 
@@ -65,68 +93,95 @@ fn unpacked(number: u64) -> Option<Peer> {
     })
 }
 
-/// A line over a sealed one, which notes what that throws away.
+/// A line over one that throws datagrams away, which notes how many.
 #[derive(Drop)]
-pub struct NotingLine<'s, 'k, L: Line> {
-    line: SealedLine<'k, L>,
-    strangers: &'s Strangers,
-    noted: u64,
+pub struct NotingLine<'s, L: Sieve> {
+    line: L,
+    tally: &'s Tally,
 }
 
-// A contract sees the sealed line.
-impl<'s, 'k, L: Line> Model for NotingLine<'s, 'k, L> {
-    ghost use Rattle.swim_guard.specs.Guarded.{AtLine};
-
-    ghost Value = { AtLine L };
+// A contract sees the line below.
+impl<'s, L: Sieve> Model for NotingLine<'s, L> {
+    ghost Value = { L };
 
     ghost view = { λ n. n.line };
 }
 
-impl<'s, 'k, L: Line> NotingLine<'s, 'k, L> {
-    /// A line over that one, which noted nothing yet.
-    pub fn new(line: SealedLine<'k, L>, strangers: &'s Strangers) -> NotingLine<'s, 'k, L>
-        ensures { result ≡ line.entry }
+impl<'s, L: Sieve> NotingLine<'s, L> {
+    pub fn new(line: L, tally: &'s Tally) -> NotingLine<'s, L>
+        ensures { result ≡ line }
     {
-        NotingLine {
-            line,
-            strangers,
-            noted: 0,
-        }
-    }
-
-    /// Notes what was thrown away since the last time.
-    fn note(&mut self)
-        ensures { self.new ≡ self.old }
-    {
-        let forged = self.line.forged();
-        if forged == self.noted {
-            return;
-        }
-        self.noted = forged;
-        if let Some(newest) = self.line.newest() {
-            self.strangers.note(forged, newest);
-        }
+        NotingLine { line, tally }
     }
 }
 
-impl<'s, 'k, L: Line> Line for NotingLine<'s, 'k, L> {
-    ghost received = { λ n. option_map (map (handed_on n.keys)) (L.received n.line) };
+impl<'s, L: Sieve> Line for NotingLine<'s, L> {
+    ghost received = { λ n. L.received n };
+
+    ghost listed = { λ n. L.listed n };
 
     fn receive<R: Wait>(&mut self, rt: &R, bytes: &mut [u8]) -> Got
         ensures fits { FitsInto result bytes.new }
-        ensures received { Grows (option_map (map (handed_on self.old.keys)) (L.received self.old.line))
-            (option_map (map (handed_on self.new.keys)) (L.received self.new.line))
+        ensures received { Grows (L.received self.old) (L.received self.new)
             (record { got = result; bytes = bytes.new } ∷ []) }
-        ensures hands { HandsOn L.received self.old self.new result bytes.new }
+        ensures listed { L.listed self.new ≡ L.listed self.old }
     {
         let got = self.line.receive(rt, bytes);
-        self.note();
+        self.tally.note(self.line.thrown());
         got
+    }
+
+    fn list(&mut self, members: &[Peer])
+        requires { length members.now ≤ KNOWN_MEMBERS }
+        ensures received { L.received self.new ≡ L.received self.old }
+        ensures listed { Grows (L.listed self.old) (L.listed self.new) (members.now ∷ []) }
+    {
+        self.line.list(members);
     }
 }
 
-/// A door over another. When that waited, it tells how many strangers came and where the newest came from, at most once a
-/// minute, and waits for nobody.
+/// How many of one kind people were told of, and when.
+#[derive(Drop)]
+struct Telling {
+    told: u64,
+    told_at: Option<Instant>,
+}
+
+impl Telling {
+    /// They were told of none.
+    fn new() -> Telling {
+        Telling {
+            told: 0,
+            told_at: None,
+        }
+    }
+
+    /// How many there are and where the newest came from, if that is to be told now. Then nothing more is for a minute.
+    fn due<K: Clock>(&mut self, clock: &K, tally: &Tally) -> Option<(u64, Peer)> {
+        let count = tally.count();
+        if count == self.told || self.is_pausing(clock) {
+            return None;
+        }
+        let newest = tally.newest()?;
+        self.told_at = Some(Instant::now(clock).ok()?);
+        self.told = count;
+        Some((count, newest))
+    }
+
+    /// Whether less than a minute passed since something was told.
+    fn is_pausing<K: Clock>(&self, clock: &K) -> bool {
+        match &self.told_at {
+            Some(told_at) => match told_at.elapsed(clock) {
+                Ok(time) => time < Duration::from_secs(PAUSE_SECONDS),
+                Err(_) => true,
+            },
+            None => false,
+        }
+    }
+}
+
+/// A door over another. When that waited, it tells how many datagrams were thrown away and where the newest came from, of each
+/// kind at most once a minute, and waits for nobody.
 #[derive(Drop)]
 pub struct TellingDoor<'s, 'r, R, D: Door + Drop, G: Sink + Drop> {
     rt: &'r R,
@@ -135,9 +190,8 @@ pub struct TellingDoor<'s, 'r, R, D: Door + Drop, G: Sink + Drop> {
     strangers: &'s Strangers,
     log: G,
     is_quiet: bool,
-    // How many it told of, and when.
-    told: u64,
-    told_at: Option<Instant>,
+    fenced: Telling,
+    forged: Telling,
 }
 
 // A contract sees the door below.
@@ -166,45 +220,26 @@ impl<'s, 'r, R: Net + Clock, D: Door + Drop, G: Sink + Drop> TellingDoor<'s, 'r,
             strangers,
             log,
             is_quiet,
-            told: 0,
-            told_at: None,
+            fenced: Telling::new(),
+            forged: Telling::new(),
         }
     }
 
-    /// Tells of the strangers, if they are to be told.
+    /// Tells of the datagrams that were thrown away, if they are to be told.
     fn tell(&mut self)
         ensures { self.new ≡ self.old }
     {
-        let count = self.strangers.count.load(Ordering::SeqCst);
-        if count == self.told || self.is_quiet || !self.is_due() {
+        if self.is_quiet {
             return;
         }
-        self.told = count;
-        if let Some(newest) = unpacked(self.strangers.newest.load(Ordering::SeqCst)) {
-            let notice = Notice::forged(self.rt, newest, count);
+        let strangers = self.strangers;
+        if let Some((count, newest)) = self.fenced.due(self.rt, &strangers.fenced) {
+            let notice = Notice::fenced(self.rt, newest, count);
             notice.tell(self.rt, self.alloc, &mut self.log);
         }
-    }
-
-    /// Whether something may be told now. Then nothing more is for a minute.
-    fn is_due(&mut self) -> bool
-        ensures { self.new ≡ self.old }
-    {
-        if self.is_pausing() {
-            return false;
-        }
-        self.told_at = Instant::now(self.rt).ok();
-        self.told_at.is_some()
-    }
-
-    /// Whether less than a minute passed since something was told.
-    fn is_pausing(&self) -> bool {
-        match &self.told_at {
-            Some(told_at) => match told_at.elapsed(self.rt) {
-                Ok(time) => time < Duration::from_secs(PAUSE_SECONDS),
-                Err(_) => true,
-            },
-            None => false,
+        if let Some((count, newest)) = self.forged.due(self.rt, &strangers.forged) {
+            let notice = Notice::forged(self.rt, newest, count);
+            notice.tell(self.rt, self.alloc, &mut self.log);
         }
     }
 }

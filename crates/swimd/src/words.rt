@@ -9,7 +9,8 @@ ghost use Rattle.clap.specs.Walk.{rows_of, rule_of};
 ghost use Rattle.clap.specs.declared.builder.command.Command.TheViews.{out-Command};
 ghost use Rattle.swim_wire.specs.Lines.{has_feed};
 ghost use Rattle.swimd.specs.Words.{IsAsked, answer_to, ask_app, asked_in, flag_of, flag_rule, line_in, line_of, needed_rule};
-ghost use Rattle.swimd.specs.Words.{option_rule, program, program_alone, run_app, seconds_in, unasked_by, wanted, words_rule};
+ghost use Rattle.swimd.specs.Words.{option_rule, program, program_alone, run_app, seconds_in, unasked_by, wanted, watch_app};
+ghost use Rattle.swimd.specs.Words.{words_rule};
 
 use crate::control_lines::{ControlLine, line_of};
 use clap::error::ErrorKind;
@@ -38,6 +39,8 @@ pub enum Asked<'a> {
     Run(&'a str, bool),
     /// That a daemon is asked.
     Ask(Request<'a>),
+    /// That what the daemon tells at the events' socket of this path is written, and whether as JSON.
+    Watch(&'a str, bool),
     /// That a key is made.
     MakeKey,
     /// Help: its text.
@@ -67,8 +70,8 @@ pub enum Unasked {
 }
 
 /// What the words ask: `check`, or no words, a check; `run --config FILE`, with `--quiet` or without;
-/// `ask --control PATH`, with `--timeout SECONDS` or without, and the words of a line or none; `key`; `--help` and
-/// `--version`, alone or behind a command.
+/// `ask --control PATH`, with `--timeout SECONDS` or without, and the words of a line or none; `watch --events PATH`, with
+/// `--json` or without; `key`; `--help` and `--version`, alone or behind a command.
 pub fn read_words<'a>(alloc: Global, words: &'a [&'a str]) -> Result<Asked<'a>, Unasked>
     ensures { MatchResult result
         (λ asked. IsAsked (map (λ word. word.now) words.now) (Some (wanted asked)))
@@ -90,12 +93,14 @@ fn program<'a>(alloc: Global) -> Result<Command<'a>, AllocError>
     let check = check_command(alloc);
     let run = run_command(alloc)?;
     let ask = ask_command(alloc)?;
+    let watch = watch_command(alloc)?;
     let key = key_command(alloc);
     let alone = program_alone(alloc)?;
     alone
         .subcommand(check)?
         .subcommand(run)?
         .subcommand(ask)?
+        .subcommand(watch)?
         .subcommand(key)
 }
 
@@ -130,7 +135,7 @@ fn run_command<'a>(alloc: Global) -> Result<Command<'a>, AllocError>
     Command::new(alloc, "run")
         .about("Runs the daemon of a configuration until it is told to stop")
         .arg(needed(alloc, "config", "FILE", "The file of its configuration"))?
-        .arg(quiet(alloc))
+        .arg(flag(alloc, "quiet", "Tells no starts on standard error"))
 }
 
 /// The command that asks a daemon.
@@ -143,6 +148,17 @@ fn ask_command<'a>(alloc: Global) -> Result<Command<'a>, AllocError>
         .arg(needed(alloc, "control", "PATH", "The path of its control socket"))?
         .arg(timeout(alloc))?
         .arg(line_words(alloc))
+}
+
+/// The command that writes what a daemon tells.
+fn watch_command<'a>(alloc: Global) -> Result<Command<'a>, AllocError>
+    ensures app { IfOk result (λ made. app_of made ≡ watch_app) }
+    ensures local { IfOk result (λ made. (out-Command made).has_globals ≡ false) }
+{
+    Command::new(alloc, "watch")
+        .about("Writes the member table of a daemon that runs, and each change of it as it happens")
+        .arg(needed(alloc, "events", "PATH", "The path of its events' socket"))?
+        .arg(flag(alloc, "json", "Writes each line as an object of JSON"))
 }
 
 /// The command that makes a key.
@@ -180,15 +196,15 @@ fn timeout<'a>(alloc: Global) -> Arg<'a>
         .help("How long an answer may take, 1 to 86400; 5 where it is left out")
 }
 
-/// Whether a daemon tells no starts.
-fn quiet<'a>(alloc: Global) -> Arg<'a>
-    ensures rule { rule_of result ≡ flag_rule (codes "quiet") }
+/// An option without a value.
+fn flag<'a>(alloc: Global, name: &'a str, help: &'a str) -> Arg<'a>
+    ensures rule { rule_of result ≡ flag_rule name.entry.now }
     ensures local { result.global ≡ false }
 {
-    Arg::new(alloc, "quiet")
-        .long("quiet")
+    Arg::new(alloc, name)
+        .long(name)
         .action(ArgAction::SetTrue)
-        .help("Tells no starts on standard error")
+        .help(help)
 }
 
 /// The words of a line.
@@ -229,6 +245,9 @@ fn asked_by<'a>(name: &str, given: &ArgMatches<'a>) -> Option<Asked<'a>>
             line,
             seconds,
         }))
+    } else if name == "watch" {
+        let path = given.get_str("events")?;
+        Some(Asked::Watch(path, is_set(given, "json")))
     } else if name == "key" {
         Some(Asked::MakeKey)
     } else {

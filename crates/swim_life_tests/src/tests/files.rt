@@ -8,7 +8,10 @@ use super::gates::{Counter, NoDoor, Signals};
 use super::lives::{line, pace};
 use super::*;
 use std::sync::atomic::AtomicBool;
-use swim_life::{ClockSleeper, Hall, LivesEnd, Shelf, SleepingPace, Terms, run_lives};
+use swim_events::Gallery;
+use swim_life::{
+    ClockSleeper, Hall, LivesEnd, NoEntrance, NoOutlet, Shelf, SleepingPace, Terms, run_lives,
+};
 use swim_script::{Session, run};
 use swim_wire::{Page, Sink, Text, Version};
 
@@ -150,6 +153,8 @@ fn live_twice<R: Threads + Wait + Clock + Send + Sync + Copy + Drop>(
         &mut page,
         &mut herald,
         &mut notices,
+        &mut Gallery::<NoOutlet>::new(alloc),
+        &mut NoEntrance {},
     );
     if end != LivesEnd::Stopped {
         return Err(Fail::new("an end"));

@@ -78,6 +78,8 @@ pub struct PingLine<'s, K: Clock + Drop> {
 impl<'s, K: Clock + Drop> Line for PingLine<'s, K> {
     ghost received = { λ line. None };
 
+    ghost listed = { λ line. None };
+
     fn receive<R: Wait>(&mut self, _rt: &R, bytes: &mut [u8]) -> Got
         ensures { FitsInto result bytes.new }
     {
@@ -101,6 +103,8 @@ impl<'s, K: Clock + Drop> Line for PingLine<'s, K> {
             None => Got::Fault,
         }
     }
+
+    fn list(&mut self, _members: &[Peer]) {}
 }
 
 /// A post that tells that the ack was sent. Its sends succeed or fail.

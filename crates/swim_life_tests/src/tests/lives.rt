@@ -6,7 +6,10 @@ use super::gates::{
 };
 use super::*;
 use std::sync::atomic::{AtomicBool, Ordering};
-use swim_life::{Beat, Got, Hall, LivesEnd, Never, NoShelf, Post, Terms, run_lives};
+use swim_events::Gallery;
+use swim_life::{
+    Beat, Got, Hall, LivesEnd, Never, NoEntrance, NoOutlet, NoShelf, Post, Terms, run_lives,
+};
 use swim_wire::{Page, Version};
 
 pub fn line<'s, K: Clock + Drop>(clock: K, signals: &'s Signals, faults: u32) -> PingLine<'s, K> {
@@ -157,6 +160,8 @@ fn two_lives(rt: HostRuntime) -> Result<(), Fail> {
         &mut page,
         &mut herald,
         &mut notices,
+        &mut Gallery::<NoOutlet>::new(rt.alloc()),
+        &mut NoEntrance {},
     );
     assert_eq!(rt; end, LivesEnd::Stopped);
     assert_eq!(rt; herald.begun, 2);
@@ -231,6 +236,8 @@ struct LateLine<'f, 'g, K: Clock + Drop> {
 impl<'f, 'g, K: Clock + Drop> Line for LateLine<'f, 'g, K> {
     ghost received = { λ line. None };
 
+    ghost listed = { λ line. None };
+
     fn receive<R: Wait>(&mut self, _rt: &R, bytes: &mut [u8]) -> Got
         ensures { FitsInto result bytes.new }
     {
@@ -247,6 +254,8 @@ impl<'f, 'g, K: Clock + Drop> Line for LateLine<'f, 'g, K> {
             None => Got::Fault,
         }
     }
+
+    fn list(&mut self, _members: &[Peer]) {}
 }
 
 // Two ticks, which fill the journal, and a stop once the ping was given.
@@ -319,6 +328,8 @@ fn a_stop_at_a_full_journal(rt: HostRuntime) -> Result<(), Fail> {
         &mut page,
         &mut herald,
         &mut notices,
+        &mut Gallery::<NoOutlet>::new(rt.alloc()),
+        &mut NoEntrance {},
     );
     assert_eq!(rt; end, LivesEnd::Stopped);
     assert_eq!(rt; herald.begun, 1);

@@ -1,8 +1,10 @@
 //! What the posts of a life were handed.
 
-ghost use Rattle.std.specs.Prelude.{◌≡◌, ◌++◌, ◌∷◌, [], List, None, Some, OnOk};
+ghost use Rattle.std.specs.Prelude.{◌≡◌, ◌++◌, ◌∷◌, [], List, None, Some, OnOk, box_value};
 ghost use Rattle.swim_history.specs.declared.entries.Entry.{Entry};
+ghost use Rattle.swim_node.specs.Seats.{AreNew};
 ghost use Rattle.swim_life.specs.Gates.{FitsInto};
+ghost use Rattle.swim_life.specs.Posts.{IsFresh};
 
 use super::gates::{ACK, NoDoor, PING, pause, set};
 use super::lives::pace;
@@ -10,9 +12,11 @@ use super::*;
 use std::alloc::AllocError;
 use std::marker::{Brand, Model};
 use std::sync::atomic::AtomicBool;
-use swim_journal::PageNaming;
-use swim_life::{Got, Never, Nowhere, Posts, run_life};
-use swim_node::{Node, Parts};
+use swim_events::Gallery;
+use swim_life::{
+    Door, Got, GuestNaming, Life, Never, NoEntrance, NoOutlet, Nowhere, Posts, run_life,
+};
+use swim_node::{Node, Parts, Seat, Viewer};
 
 // A datagram that a post was handed.
 #[derive(Drop)]
@@ -85,6 +89,8 @@ struct OnePing<'s, K: Clock + Drop> {
 impl<'s, K: Clock + Drop> Line for OnePing<'s, K> {
     ghost received = { λ line. None };
 
+    ghost listed = { λ line. None };
+
     fn receive<R: Wait>(&mut self, _rt: &R, bytes: &mut [u8]) -> Got
         ensures { FitsInto result bytes.new }
     {
@@ -102,6 +108,8 @@ impl<'s, K: Clock + Drop> Line for OnePing<'s, K> {
             None => Got::Fault,
         }
     }
+
+    fn list(&mut self, _members: &[Peer]) {}
 }
 
 // A ping is acked by the receiver's post. The ticker's is handed a ping, and a ping-req to the other member, as no ack came.
@@ -123,7 +131,7 @@ fn each_datagram_is_handed_over(rt: HostRuntime) -> Result<(), Fail> {
 }
 
 fn live_by<
-    N: PageNaming + Send + Sync,
+    N: GuestNaming + Send + Sync,
     R: Threads + Wait + Clock + Abort + Send + Sync + Copy + Drop,
 >(rt: R, alloc: Global, parts: Parts, opening: Opening, post: &KeepingPost) -> Result<(), Fail>
     requires parts { parts ≡ record { limit = N.limit; ledgers = N.ledgers; log = N.log; cells = N.cells } }
@@ -131,6 +139,7 @@ fn live_by<
     requires limit { N.limit ≡ 1000 }
     requires drawn { (h : List Entry) → N.drawn h }
     requires page { None ≡ N.page }
+    requires guests { N.guests ≡ [] }
 {
     let Ok(opened) = Node::<N, Seeded, R>::open(alloc, rt, parts, opening, chooser(), 1000) else {
         return Err(Fail::new("a node"));
@@ -144,23 +153,60 @@ fn live_by<
     };
     let mut pace = pace(rt, &is_asked_again, 2);
     let mut hall = Hall::new(alloc, NoDoor { clock: rt });
-    let life = run_life(
-        &rt,
-        alloc,
-        node,
-        seats,
-        viewers,
-        &mut line,
-        Posts::of(alloc, post)?,
-        &mut pace,
-        &mut hall,
-        Nowhere::new(),
-        &mut Never {},
+    let posts = Posts::of(alloc, post)?;
+    let life = live_unwatched(
+        &rt, alloc, node, seats, viewers, &mut line, posts, &mut pace, &mut hall,
     );
     assert_eq!(rt; life.unsent, 1);
     assert_acked(&rt, life.posts.hearing.sheets.as_slice());
     assert_probed(&rt, life.posts.ticking.sheets.as_slice());
     Ok(())
+}
+
+// A life whose journal is written nowhere, and that nobody watches.
+fn live_unwatched<
+    N: GuestNaming + Send + Sync,
+    O: Post + Drop + Send,
+    R: Threads + Wait + Send + Sync + Drop,
+    L: Line + Send,
+    P: Pace + Send,
+    D: Door + Drop,
+>(
+    rt: &R,
+    alloc: Global,
+    node: Node<N, Seeded, R>,
+    seats: [Seat<N>; 4],
+    viewers: [Viewer<N>; 4],
+    line: &mut L,
+    posts: Posts<O>,
+    pace: &mut P,
+    hall: &mut Hall<D>,
+) -> Life<N, O, Nowhere, NoOutlet>
+    requires seats { AreNew seats }
+    requires hearing { IsFresh (O.posted (box_value posts.hearing)) }
+    requires ticking { IsFresh (O.posted (box_value posts.ticking)) }
+    requires page { None ≡ N.page }
+    requires guests { N.guests ≡ [] }
+{
+    let writer = Nowhere::new();
+    let mut pause = Never {};
+    let gallery = Gallery::<NoOutlet>::new(alloc);
+    let mut entrance = NoEntrance {};
+    run_life(
+        rt,
+        alloc,
+        node,
+        seats,
+        viewers,
+        line,
+        posts,
+        pace,
+        hall,
+        writer,
+        &mut pause,
+        gallery,
+        &mut entrance,
+    )
 }
 
 fn assert_acked<R: Abort>(rt: &R, sheets: &[Sheet]) {

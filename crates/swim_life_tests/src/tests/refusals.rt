@@ -23,6 +23,8 @@ struct InsistentLine<'s, K: Clock + Drop> {
 impl<'s, K: Clock + Drop> Line for InsistentLine<'s, K> {
     ghost received = { λ line. None };
 
+    ghost listed = { λ line. None };
+
     fn receive<R: Wait>(&mut self, _rt: &R, bytes: &mut [u8]) -> Got
         ensures { FitsInto result bytes.new }
     {
@@ -38,6 +40,8 @@ impl<'s, K: Clock + Drop> Line for InsistentLine<'s, K> {
             None => Got::Fault,
         }
     }
+
+    fn list(&mut self, _members: &[Peer]) {}
 }
 
 // An operator lists the members, then a ping comes until its ack was sent, and then the operator stops the life. Each wait

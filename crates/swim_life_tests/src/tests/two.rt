@@ -19,6 +19,8 @@ struct WatchedLine {
 impl<'l> Line for &'l WatchedLine {
     ghost received = { λ line. None };
 
+    ghost listed = { λ line. None };
+
     fn receive<R: Wait>(&mut self, rt: &R, bytes: &mut [u8]) -> Got
         ensures { FitsInto result bytes.new }
     {
@@ -32,6 +34,8 @@ impl<'l> Line for &'l WatchedLine {
         }
         got
     }
+
+    fn list(&mut self, _members: &[Peer]) {}
 }
 
 impl<'l> Post for &'l WatchedLine {

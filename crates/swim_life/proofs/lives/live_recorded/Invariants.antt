@@ -1,4 +1,7 @@
 use Rattle.swim_targets.specs.Draws.{DrawsOrder, DrawsPlace}
+use Rattle.std.proofs.Common.{map}
+use Rattle.swim_events.specs.Guests.{put_text}
+use Rattle.swim_events.specs.Texts.{life_text}
 use Rattle.swim_life.specs.Draws.{WasDrawn}
 use Rattle.swim_life.proofs.lives.live_recorded.Given as goal
 
@@ -16,3 +19,7 @@ ghosts-live_so-N-Naming g a = record {
 -- what its sink was given before
 abbrev pub ghosts-live_so-N-PageNaming : goal.ghosts-live_so-N-PageNaming
 ghosts-live_so-N-PageNaming g a = record { page = g.W.Sink.written a.writer }
+
+-- who watches when it begins
+abbrev pub ghosts-live_so-N-GuestNaming : goal.ghosts-live_so-N-GuestNaming
+ghosts-live_so-N-GuestNaming g a = record { guests = map (put_text (life_text a.number)) a.gallery.now }

@@ -1,4 +1,4 @@
-use Rattle.std.proofs.Common.{List, ◌++◌, Some, option_map, refl, sym, ap, subst, ◌∙◌}
+use Rattle.std.proofs.Common.{◌++◌, Some, option_map, refl, sym, ap, subst, ◌∙◌}
 use Rattle.swimd.specs.Asking.{Asks}
 use Rattle.swimd.specs.Commands.{AsksWanted}
 use Rattle.swimd.proofs.commands.ask_for.Goals as goal

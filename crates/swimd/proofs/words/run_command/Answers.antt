@@ -1,4 +1,4 @@
-use Rattle.std.proofs.Common.{◌≡◌, ◌||◌, false, ap, ap₂, ◌∙◌, codes}
+use Rattle.std.proofs.Common.{◌≡◌, ◌||◌, ap, ap₂, ◌∙◌, codes}
 use Rattle.std.proofs.lemmas.Result.{IfOk-weaker}
 use Rattle.clap.specs.Simple.{app_of, app_of_fields, new_app, with_rule}
 use Rattle.swimd.proofs.words.run_command.Goals as goal
@@ -10,6 +10,6 @@ returns c =
     let config_is = c.in_ok-arg.ensures.shape c.needed.ensures.local ∙ ap₂ with_rule alone_is c.needed.ensures.rule in
     let config_local = c.in_ok-arg.ensures.globals ∙ ap₂ (λ a b. a || b) alone_local c.needed.ensures.local in
     record {
-      app = IfOk-weaker c.arg-2.result _ _ (λ r h. h.shape c.quiet.ensures.local ∙ ap₂ with_rule config_is c.quiet.ensures.rule) c.arg-2.ensures;
-      local = IfOk-weaker c.arg-2.result _ _ (λ r h. h.globals ∙ ap₂ (λ a b. a || b) config_local c.quiet.ensures.local) c.arg-2.ensures;
+      app = IfOk-weaker c.arg-2.result _ _ (λ r h. h.shape c.flag.ensures.local ∙ ap₂ with_rule config_is c.flag.ensures.rule) c.arg-2.ensures;
+      local = IfOk-weaker c.arg-2.result _ _ (λ r h. h.globals ∙ ap₂ (λ a b. a || b) config_local c.flag.ensures.local) c.arg-2.ensures;
     }

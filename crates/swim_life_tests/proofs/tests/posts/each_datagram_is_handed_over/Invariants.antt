@@ -1,4 +1,4 @@
-use Rattle.std.proofs.Common.{None}
+use Rattle.std.proofs.Common.{[], None}
 use Rattle.swim_life_tests.proofs.tests.posts.each_datagram_is_handed_over.Given as goal
 
 -- the node of these parts and this opening
@@ -8,3 +8,7 @@ ghosts-live_by-N-Naming g a = record { opening = a.opening; limit = a.parts.limi
 -- its journal is written nowhere
 abbrev pub ghosts-live_by-N-PageNaming : goal.ghosts-live_by-N-PageNaming
 ghosts-live_by-N-PageNaming g a = record { page = None }
+
+-- nobody watches it
+abbrev pub ghosts-live_by-N-GuestNaming : goal.ghosts-live_by-N-GuestNaming
+ghosts-live_by-N-GuestNaming g a = record { guests = [] }

@@ -1,0 +1,112 @@
+//! A line from which nobody is heard more often than a fence lets in.
+
+ghost use Rattle.std.specs.Prelude.{◌≡◌, ◌≤◌, ◌∷◌, [], None, length};
+ghost use Rattle.swim_fence.specs.Fences.{Follows};
+ghost use Rattle.swim_life.specs.Gates.{FitsInto};
+ghost use Rattle.swim_life.specs.Posts.{Grows};
+ghost use Rattle.swim_guard.specs.Fenced.{IsAsked, IsShown, LetsOn, thrown_if};
+ghost use Rattle.swim_guard.specs.Thrown.{one_thrown};
+
+use crate::thrown::{Sieve, Thrown};
+use crate::timepieces::Timepiece;
+use std::marker::Model;
+use std::sync::Wait;
+use swim_fence::Fence;
+use swim_life::{Got, Line};
+use swim_wire::{KNOWN_MEMBERS, Peer};
+
+/// A line over another, with a fence between them. It hands on each datagram that the fence lets in, as it is, and throws the
+/// others away, before anything is looked at but where they came from. A contract sees the line below, the time of the newest
+/// datagram, the fence, and what was thrown away.
+#[derive(Drop)]
+pub struct FencedLine<L: Line, T: Timepiece> {
+    line: L,
+    timepiece: T,
+    fence: Fence,
+    fenced: Thrown,
+}
+
+impl<L: Line, T: Timepiece> Model for FencedLine<L, T> {
+    ghost use Rattle.swim_guard.specs.Fenced.{AtFence};
+
+    ghost Value = { AtFence L };
+
+    ghost view = { λ f. record {
+      line = f.line;
+      time = T.time f.timepiece;
+      fence = f.fence;
+      fenced = f.fenced;
+    } };
+}
+
+impl<L: Line, T: Timepiece> FencedLine<L, T> {
+    /// A line over that one with a fence of that rate. It was shown no member and threw nothing away yet.
+    pub fn new(line: L, timepiece: T, rate: u32) -> FencedLine<L, T>
+        ensures line { result.line ≡ line }
+        ensures time { result.time ≡ T.time timepiece }
+        ensures rate { result.fence.rate ≡ rate }
+        ensures fence { Follows result.fence [] }
+        ensures fenced { result.fenced ≡ record { count = 0; newest = None } }
+    {
+        FencedLine {
+            line,
+            timepiece,
+            fence: Fence::new(rate),
+            fenced: Thrown::none(),
+        }
+    }
+
+    /// Whether a datagram that came now from that address passes. Where it doesn't it is counted.
+    fn admits(&mut self, source: Peer) -> bool
+        ensures line { self.new.line ≡ self.old.line }
+        ensures later { self.old.time ≤ self.new.time }
+        ensures asked { IsAsked self.old.fence self.new.fence source self.new.time result }
+        ensures fenced { self.new.fenced ≡ one_thrown (thrown_if result source) self.old.fenced }
+    {
+        let now = self.timepiece.now();
+        let passes = self.fence.admits(&source, now);
+        if !passes {
+            self.fenced.one_more(source);
+        }
+        passes
+    }
+}
+
+impl<L: Line, T: Timepiece> Line for FencedLine<L, T> {
+    // What it handed on hangs on all that happened, and stays unknown here: the clauses below tell what it hands on.
+    ghost received = { λ f. None };
+
+    ghost listed = { λ f. L.listed f.line };
+
+    fn receive<R: Wait>(&mut self, rt: &R, bytes: &mut [u8]) -> Got
+        ensures fits { FitsInto result bytes.new }
+        ensures listed { L.listed self.new.line ≡ L.listed self.old.line }
+        ensures lets { LetsOn L.received self.old self.new result bytes.new }
+    {
+        let got = self.line.receive(rt, bytes);
+        match got {
+            Got::Datagram(_, source) if !self.admits(source) => Got::Idle,
+            _ => got,
+        }
+    }
+
+    fn list(&mut self, members: &[Peer])
+        requires { length members.now ≤ KNOWN_MEMBERS }
+        ensures received { L.received self.new.line ≡ L.received self.old.line }
+        ensures listed { Grows (L.listed self.old.line) (L.listed self.new.line) (members.now ∷ []) }
+        ensures shown { IsShown self.old self.new members.now }
+    {
+        self.fence.list(members);
+        self.line.list(members);
+    }
+}
+
+impl<L: Line, T: Timepiece> Sieve for FencedLine<L, T> {
+    ghost thrown_away = { λ f. f.fenced };
+
+    fn thrown(&self) -> Thrown
+        ensures { result ≡ self.now.fenced }
+    {
+        self.fenced
+    }
+}

@@ -1,0 +1,83 @@
+-- Those who watch lives, life by life.
+use Rattle.std.proofs.Common.{◌≡◌, ℕ, ◌+◌, ◌-◌, ◌^◌, min, true, false, List, [], ◌∷◌, Some, None, sym, subst}
+use Rattle.swim_history.specs.After.{setting_after}
+use Rattle.swim_history.specs.Setting.{Setting}
+use Rattle.swim_node.specs.declared.receipts.OpenFault.{OpenFault}
+use Rattle.swim_events.specs.Guests.{AtGuest}
+use Rattle.swim_events.specs.Telling.{AreTold}
+use Rattle.swim_life.specs.declared.lives.LivesEnd.{LivesEnd}
+use Rattle.swim_life.specs.declared.lives.LivesEnd.TheVariants as life_ends
+use Rattle.swim_life.specs.declared.lives.Past.{Past}
+use Rattle.swim_life.specs.Endings.{TellsLife, TellsText, Written, stopped_text}
+use Rattle.swim_life.specs.Lives.{IsDrawnLife, end_after, end_without, number_after}
+use Rattle.swim_life.specs.Watched.{AreToldLife, lived as life_of}
+use Rattle.swim_life.specs.Watching.{AreWatched, told_lives}
+use Rattle.swim_life.proofs.Living.{HaveLived, none_lived, one_more_lived, last_lived, last_stopped, last_opened}
+
+-- lives so far, and those who watch
+pub record HaveWatched (first : Setting) (limit : ℕ) (seed : List ℕ) (next : Setting) (number : ℕ) (old new : Written)
+    (before now : List AtGuest) : Type 0 where
+  pub lived : HaveLived first limit seed next number old new
+  pub told : before ≡ [] → AreTold (told_lives lived.lives) now
+
+pub none_watched : (first : Setting) (limit : ℕ) (seed : List ℕ) (old : Written) (before : List AtGuest) →
+    HaveWatched first limit seed first 0 old old before before
+unfolding none_lived
+none_watched first limit seed old before = record {
+  lived = none_lived first limit seed old;
+  told = λ none. subst (λ (gs : List AtGuest). AreTold [] gs) (sym none) tt;
+}
+
+-- a life more
+told_more : (number : ℕ) (next : Setting) (lives : List Past) (past : Past) (mid now : List AtGuest) → number ≡ number_after lives →
+    past.journal.opening ≡ next → AreToldLife number next mid past.journal.past now → AreTold (told_lives lives) mid →
+    AreTold (told_lives (past ∷ lives)) now
+told_more number next lives past mid now number_is opening_is told are =
+    subst (λ n. AreTold (life_of n past.journal.opening past.journal.past ∷ told_lives lives) now) number_is
+    (subst (λ o. AreTold (life_of number o past.journal.past ∷ told_lives lives) now) (sym opening_is) (told (told_lives lives) are))
+
+pub one_more_watched : (first : Setting) (limit : ℕ) (seed : List ℕ) (next after : Setting) (number count : ℕ)
+    (old mid new : Written) (before there now : List AtGuest) (past : Past) →
+    HaveWatched first limit seed next number old mid before there → IsDrawnLife next limit seed number past →
+    AreToldLife number next there past.journal.past now → end_after past.why ≡ None → past.is_stopped ≡ false →
+    TellsLife number past mid new → after ≡ setting_after past.journal.opening past.journal.past →
+    count ≡ min (number + 1) (2 ^ 64 - 1) → HaveWatched first limit seed after count old new before now
+unfolding one_more_lived
+one_more_watched first limit seed next after number count old mid new before there now past so is told goes_on unstopped line after_is count_is =
+    record {
+      lived = one_more_lived first limit seed next after number count old mid new past so.lived is goes_on unstopped line after_is count_is;
+      told = λ none.
+          told_more number next so.lived.lives past there now so.lived.number_is is.0.opening told (so.told none);
+    }
+
+pub last_watched : (first : Setting) (limit : ℕ) (seed : List ℕ) (next : Setting) (number : ℕ) (old mid new : Written)
+    (before there now : List AtGuest) (past : Past) (end : LivesEnd) →
+    HaveWatched first limit seed next number old mid before there → IsDrawnLife next limit seed number past →
+    AreToldLife number next there past.journal.past now → end_after past.why ≡ Some end → TellsLife number past mid new →
+    AreWatched first limit seed old new end before now
+unfolding last_lived
+last_watched first limit seed next number old mid new before there now past end so is told ends line = record {
+  lived = last_lived first limit seed next number old mid new past end so.lived is ends line;
+  told = λ none. told_more number next so.lived.lives past there now so.lived.number_is is.0.opening told (so.told none);
+}
+
+pub stopped_watched : (first : Setting) (limit : ℕ) (seed : List ℕ) (next : Setting) (number : ℕ) (old mid told new : Written)
+    (before there now : List AtGuest) (past : Past) → HaveWatched first limit seed next number old mid before there →
+    IsDrawnLife next limit seed number past → AreToldLife number next there past.journal.past now →
+    end_after past.why ≡ None → past.is_stopped ≡ true → TellsLife number past mid told → TellsText stopped_text told new →
+    AreWatched first limit seed old new life_ends.Stopped before now
+unfolding last_stopped
+stopped_watched first limit seed next number old mid told new before there now past so is heard goes_on stopped line text = record {
+  lived = last_stopped first limit seed next number old mid told new past so.lived is goes_on stopped line text;
+  told = λ none. told_more number next so.lived.lives past there now so.lived.number_is is.0.opening heard (so.told none);
+}
+
+pub opened_watched : (first : Setting) (limit : ℕ) (seed : List ℕ) (next : Setting) (number : ℕ) (old new : Written)
+    (before there now : List AtGuest) (fault : OpenFault) (end : LivesEnd) →
+    HaveWatched first limit seed next number old new before there → now ≡ there → end ≡ end_without fault →
+    AreWatched first limit seed old new end before now
+unfolding last_opened
+opened_watched first limit seed next number old new before there now fault end so same is = record {
+  lived = last_opened first limit seed next number old new fault end so.lived is;
+  told = λ none. subst (λ (gs : List AtGuest). AreTold (told_lives so.lived.lives) gs) (sym same) (so.told none);
+}

@@ -1,0 +1,155 @@
+ghost use Rattle.std.specs.Prelude.{None};
+
+use std::test::Fail;
+use swim_events::Event;
+use swim_history::Change;
+use swim_watch::{Ended, EventLine, Feed, NoEvent, Said, read_said, show, watch};
+use swim_wire::{Id, Page, Peer};
+
+/// Gives these lines, and then none.
+#[derive(Drop)]
+struct Lines<'a> {
+    left: &'a [&'a str],
+}
+
+impl<'a> Feed for Lines<'a> {
+    ghost heard = { λ l. None };
+
+    fn hear(&mut self, line: &mut EventLine) -> bool {
+        let [first, others @ ..] = self.left else {
+            return false;
+        };
+        line.clear();
+        let _is_whole = line.try_extend_from_slice(first.as_bytes());
+        self.left = others;
+        true
+    }
+}
+
+fn id(value: u32) -> Result<Id, Fail> {
+    Ok(Id::new(value).ok_or("an id is not 0")?)
+}
+
+#[test]
+fn reads_each_line(rt: HostRuntime) -> Result<(), Fail> {
+    let peer = Peer {
+        ip: [10, 0, 0, 4],
+        port: 7000,
+    };
+    for (line, said) in [
+        (
+            "up 4 10.0.0.4:7000",
+            Said::Event(Event::Changed(Change::Up(id(4)?, peer))),
+        ),
+        (
+            "failed 3 17",
+            Said::Event(Event::Changed(Change::Failed(id(3)?, 17))),
+        ),
+        (
+            "gone 4294967295",
+            Said::Event(Event::Changed(Change::Gone(id(4_294_967_295)?))),
+        ),
+        (
+            "life 18446744073709551615",
+            Said::Event(Event::Life(u64::MAX)),
+        ),
+        ("lost", Said::Event(Event::Lost)),
+        ("ended", Said::Event(Event::Ended)),
+        (".", Said::TableEnds),
+        ("again", Said::Again),
+    ] {
+        assert_eq!(rt; read_said(line.as_bytes()), Ok(said), "at {line}");
+    }
+    Ok(())
+}
+
+#[test]
+fn reads_no_other_line(rt: HostRuntime) {
+    for line in [
+        "",
+        " ",
+        "up",
+        "up 4",
+        "up 0 10.0.0.4:7000",
+        "up 4 10.0.0.4:7000 ",
+        "up  4 10.0.0.4:7000",
+        "up 4 10.0.0.4",
+        "failed 3",
+        "failed 3 17 1",
+        "failed 03 17",
+        "gone 4294967296",
+        "gone",
+        "life 18446744073709551616",
+        "life -1",
+        "Lost",
+        "lost ",
+        "ended 1",
+        "..",
+        "again again",
+    ] {
+        assert_eq!(rt; read_said(line.as_bytes()), Err(NoEvent), "at {line}");
+    }
+}
+
+#[test]
+fn shows_each_line_as_an_object(rt: HostRuntime) -> Result<(), Fail> {
+    for (line, object) in [
+        (
+            "up 4 10.0.0.4:7000",
+            "{\"event\":\"up\",\"id\":4,\"peer\":\"10.0.0.4:7000\",\"time\":\"t\"}",
+        ),
+        (
+            "failed 3 17",
+            "{\"event\":\"failed\",\"id\":3,\"period\":17,\"time\":\"t\"}",
+        ),
+        ("gone 3", "{\"event\":\"gone\",\"id\":3,\"time\":\"t\"}"),
+        ("life 2", "{\"event\":\"life\",\"life\":2,\"time\":\"t\"}"),
+        ("lost", "{\"event\":\"lost\",\"time\":\"t\"}"),
+        ("ended", "{\"event\":\"ended\",\"time\":\"t\"}"),
+        (".", "{\"event\":\"table_ends\",\"time\":\"t\"}"),
+        ("again", "{\"event\":\"again\",\"time\":\"t\"}"),
+        ("again\"", "{\"event\":\"other\",\"time\":\"t\"}"),
+    ] {
+        let text = show(rt.alloc(), line.as_bytes(), "t")?;
+        assert_eq!(rt; text.as_str(), object, "at {line}");
+    }
+    Ok(())
+}
+
+#[test]
+fn writes_lines_up_to_the_last(rt: HostRuntime) {
+    let mut feed = Lines {
+        left: &["up 4 10.0.0.4:7000", ".", "what", "again"],
+    };
+    let mut page = Page::new(rt.alloc());
+    let ended = watch(&rt, rt.alloc(), &mut feed, false, &mut page);
+    assert_eq!(rt; ended, Ended::Over);
+    assert_eq!(rt;
+        page.text(),
+        b"up 4 10.0.0.4:7000\n.\nwhat\nagain\n".as_slice()
+    );
+}
+
+#[test]
+fn writes_objects_up_to_the_last(rt: HostRuntime) {
+    let mut feed = Lines {
+        left: &["gone 4", "lost"],
+    };
+    let mut page = Page::new(rt.alloc());
+    let ended = watch(&rt, rt.alloc(), &mut feed, true, &mut page);
+    assert_eq!(rt; ended, Ended::Over);
+    let front = b"{\"event\":\"gone\",\"id\":4,\"time\":\"2".as_slice();
+    assert!(rt; page.text().starts_with(front));
+    assert!(rt; page.text().ends_with(b"Z\"}\n".as_slice()));
+}
+
+#[test]
+fn ends_where_a_line_cant_be_written(rt: HostRuntime) {
+    let mut feed = Lines {
+        left: &[".", "gone 4", "lost"],
+    };
+    let mut page = Page::failing_after(rt.alloc(), None, Some(1));
+    let ended = watch(&rt, rt.alloc(), &mut feed, false, &mut page);
+    assert_eq!(rt; ended, Ended::Unwritten);
+    assert_eq!(rt; feed.left.len(), 1);
+}

@@ -1,0 +1,24 @@
+-- What watching a daemon does.
+use Rattle.std.specs.Prelude.{◌≡◌, ◌⊎◌, ℕ, Bool, List, Option, None}
+use Rattle.swim_config.specs.declared.config_fault.ConfigFault.TheVariants.{NoMemory}
+use Rattle.swim_watch.specs.Watching.{Watched, Watches}
+use Rattle.swim_watch.specs.declared.watching.Ended.{Ended}
+use Rattle.swim_watch.specs.declared.watching.Ended.TheVariants as ends
+use Rattle.swimd.specs.declared.outcomes.Outcome.{Outcome}
+use Rattle.swimd.specs.declared.outcomes.Outcome.TheVariants.{Refused, NoTeller, WatchUnwritten}
+
+-- how watching ends whose lines ended so
+abbrev pub watched_so : Ended → Outcome
+watched_so ends.Over = NoTeller
+watched_so ends.Unwritten = WatchUnwritten
+watched_so ends.NoMemory = Refused NoMemory
+
+-- so much was written of lines of which nobody knows what they are
+abbrev pub unheard : Option (List ℕ) → Watched
+unheard written = record { heard = None; written = written }
+
+-- lines were written as they were heard, or as JSON; where nobody tells any, nothing was
+abbrev pub WatchesDaemon : Bool → Option (List ℕ) → Option (List ℕ) → Outcome → Type 0
+WatchesDaemon is_json old new outcome =
+    ((outcome ≡ NoTeller) × (new ≡ old))
+    ⊎ ((ended : Ended) × Watches is_json (unheard old) (unheard new) ended × (outcome ≡ watched_so ended))

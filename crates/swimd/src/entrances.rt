@@ -1,0 +1,98 @@
+//! Where those come in who watch a daemon, and what they are told last.
+
+ghost use Rattle.std.specs.Prelude.{◌≡◌, IfErr, IfOk};
+ghost use Rattle.swim_life.specs.Notices.{Notices};
+ghost use Rattle.swimd.specs.Daemon.{IsNoEntrance};
+
+use crate::details::{Details, words_of};
+use crate::notices::Notice;
+use crate::outcomes::Outcome;
+use std::alloc::Global;
+use std::fs::File;
+use std::io::ErrorKind;
+use std::net::Net;
+use std::rt::{Clock, Files};
+use swim_config::SocketPath;
+use swim_events::{Event, Gallery, Outlet};
+use swim_life::{Place, Sight, UnixEntrance};
+use swim_wire::Sink;
+
+/// How often a life's journal is read, and written to its file, in milliseconds.
+const WRITE_MS: u32 = 50;
+
+/// The same where somebody may watch, who is to be told of a verdict within 50 milliseconds.
+const WATCHED_MS: u32 = 15;
+
+/// How often the journal is read where events are told there, in milliseconds.
+pub fn pause_ms(events: &Option<SocketPath>) -> u32 {
+    if events.is_some() {
+        WATCHED_MS
+    } else {
+        WRITE_MS
+    }
+}
+
+/// The entrance at the path of the events' socket, from which a stale socket is removed, or why there is none. Where no path
+/// is given it is closed.
+#[tactic(auto, using(swim_life::specs::Notices::no_notices))]
+pub fn open_entrance<R: Files<File = File> + Net + Clock, F: Sink>(
+    rt: &R,
+    alloc: Global,
+    events: &Option<SocketPath>,
+    faults: &mut F,
+    details: &mut Details,
+) -> Result<UnixEntrance, Outcome>
+    ensures refused { IfErr result IsNoEntrance }
+    ensures details { IfOk result (λ entrance. details.new ≡ details.old) }
+    ensures notices { Notices (F.written faults.old, F.failures faults.old)
+        (F.written faults.new, F.failures faults.new) }
+{
+    match events {
+        None => Ok(UnixEntrance::closed()),
+        Some(path) => bind_entrance(rt, alloc, path.as_str(), faults, details),
+    }
+}
+
+/// The entrance at a path, from which a stale socket is removed.
+#[tactic(auto, using(swim_life::specs::Notices::no_notices))]
+fn bind_entrance<R: Files<File = File> + Net + Clock, F: Sink>(
+    rt: &R,
+    alloc: Global,
+    path: &str,
+    faults: &mut F,
+    details: &mut Details,
+) -> Result<UnixEntrance, Outcome>
+    ensures refused { IfErr result IsNoEntrance }
+    ensures details { IfOk result (λ entrance. details.new ≡ details.old) }
+    ensures notices { Notices (F.written faults.old, F.failures faults.old)
+        (F.written faults.new, F.failures faults.new) }
+{
+    let place = Place::take(rt, path);
+    if place.is_cleared() {
+        Notice::removed(rt, path).tell(rt, alloc, faults);
+    }
+    match UnixEntrance::bind(rt, path) {
+        Ok(entrance) => Ok(entrance),
+        Err(fault) => {
+            tell_socket(path, fault.kind(), place.sight(), details);
+            Err(Outcome::NoEvents)
+        }
+    }
+}
+
+/// Tells why a socket can't be bound at a path, and what stands there.
+pub fn tell_socket(path: &str, kind: ErrorKind, sight: Sight, details: &mut Details) {
+    details.add_of(path, words_of(kind));
+    match sight {
+        Sight::NoSocket => details.add("what stands there is no socket; it is kept"),
+        Sight::Served => details.add("somebody serves this socket; it is kept"),
+        Sight::Stale => details.add("nobody serves this socket; remove it"),
+        Sight::Free | Sight::Unclear => {}
+    }
+}
+
+/// Tells all who watch that nothing happens any more, and sends what they take at once.
+pub fn end_watching<E: Outlet + Drop>(gallery: &mut Gallery<E>) {
+    gallery.tell(&Event::Ended);
+    gallery.send();
+}
