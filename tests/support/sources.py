@@ -108,7 +108,7 @@ def imports(text):
 
 
 def comment_above(lines, at):
-    """The lines of the comment that documents an item, above which attributes may stand."""
+    """The lines of the comment that documents an item. Attributes, and other comments, may stand between the two."""
     found, open_brackets = [], 0
     for line in reversed(lines[:at]):
         open_brackets -= depth(line) if open_brackets or line.strip().endswith("]") else 0
@@ -116,7 +116,7 @@ def comment_above(lines, at):
             found.insert(0, line)
         elif line.strip().startswith("#["):
             open_brackets = 0
-        elif not open_brackets:
+        elif not open_brackets and not line.strip().startswith("//"):
             break
     return found
 

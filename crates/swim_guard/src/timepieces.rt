@@ -27,6 +27,7 @@ pub struct ClockTimepiece<K: Clock + Drop> {
 }
 
 impl<K: Clock + Drop> ClockTimepiece<K> {
+    /// The time by that clock. It is 0 until the clock could be read.
     pub fn new(clock: K) -> ClockTimepiece<K> {
         ClockTimepiece { clock, told: 0 }
     }

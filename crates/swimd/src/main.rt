@@ -1,4 +1,5 @@
-//! The failure detector of one group member as a daemon, and a test of its configuration.
+//! The failure detector of one group member: its daemon (`run`), a look at a configuration (`check`, or no command),
+//! questions to a daemon that runs (`ask`, `watch`), and new keys (`key`).
 #![tactic(auto)]
 
 mod answers;

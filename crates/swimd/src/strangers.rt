@@ -108,6 +108,7 @@ impl<'s, L: Sieve> Model for NotingLine<'s, L> {
 }
 
 impl<'s, L: Sieve> NotingLine<'s, L> {
+    /// A line over that one, which notes in the tally what that one throws away.
     pub fn new(line: L, tally: &'s Tally) -> NotingLine<'s, L>
         ensures { result ≡ line }
     {
