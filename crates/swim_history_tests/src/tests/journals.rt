@@ -16,24 +16,37 @@ use swim_wire::{Id, Version};
 
 fn assert_judged<R: Abort>(rt: &R, journal: &Journal, expected: &[Judged]) {
     match journal.judgements() {
-        Ok(judgements) => assert_eq!(rt; judgements.as_slice(), expected),
+        Ok(judgements) => assert!(rt; judgements.as_slice() == expected),
         Err(_) => panic!(rt; "judgements"),
     }
 }
 
 fn assert_entry<R: Abort>(rt: &R, journal: &Journal, place: u32, expected: Option<&Entry>) {
-    assert_eq!(rt; journal.entry(place).as_ref(), expected);
+    assert!(rt; journal.entry(place).as_ref() == expected);
+}
+
+// It has so many entries, and judged nobody.
+fn assert_counts<R: Abort>(rt: &R, journal: &Journal, count: u32) {
+    assert_eq!(rt; journal.len(), count);
+    assert!(rt; journal.is_empty() == (count == 0));
+    assert!(rt; journal.judged_count() == 0);
 }
 
 #[test]
 fn begins_empty(rt: HostRuntime) {
-    let mut journal = Journal::new(rt.alloc(), opening(&rt, 0));
+    assert_empty(&rt, Journal::new(rt.alloc(), opening(&rt, 0)));
+}
+
+fn assert_empty<R: Abort>(rt: &R, journal: Journal) {
+    assert_counts(rt, &journal, 0);
+    assert_entry(rt, &journal, 0, None);
+    assert_judged(rt, &journal, &[]);
     assert_eq!(rt; journal.opening().period(), 3);
-    assert_eq!(rt; journal.len(), 0);
-    assert!(rt; journal.is_empty());
-    assert_entry(&rt, &journal, 0, None);
-    assert_eq!(rt; journal.judged_count(), 0);
-    assert_judged(&rt, &journal, &[]);
+    assert_room(rt, journal);
+}
+
+fn assert_room<R: Abort>(rt: &R, journal: Journal) {
+    let mut journal = journal;
     assert!(rt; journal.room().is_ok());
 }
 
@@ -55,13 +68,15 @@ fn holds_its_entries_in_order(rt: HostRuntime) {
     let mut journal = Journal::new(rt.alloc(), opening(&rt, u64::MAX));
     append(&rt, &mut journal, &refused(0));
     append(&rt, &mut journal, &refused(1));
-    assert_eq!(rt; journal.len(), 2);
-    assert!(rt; !journal.is_empty());
-    assert_entry(&rt, &journal, 0, Some(&refused(0)));
-    assert_entry(&rt, &journal, 1, Some(&refused(1)));
-    assert_entry(&rt, &journal, 2, None);
-    assert_eq!(rt; journal.judged_count(), 0);
-    assert_judged(&rt, &journal, &[]);
+    assert_two_refused(&rt, &journal);
+}
+
+fn assert_two_refused<R: Abort>(rt: &R, journal: &Journal) {
+    assert_counts(rt, journal, 2);
+    assert_entry(rt, journal, 0, Some(&refused(0)));
+    assert_entry(rt, journal, 1, Some(&refused(1)));
+    assert_entry(rt, journal, 2, None);
+    assert_judged(rt, journal, &[]);
 }
 
 // Of member 1, with one relay, a timeout of one tick and a period of three. Members 2 and 3 are up.
@@ -192,36 +207,45 @@ fn row(member: u8, state: RowState) -> Row
 fn assert_row<R: Abort>(rt: &R, journal: &Journal, member: u32, expected: Option<Row>)
     requires { 0 < member }
 {
-    assert_eq!(rt; journal.row(id(member)), expected);
+    assert!(rt; journal.row(id(member)) == expected);
 }
 
 // What the run that is played makes, worked by hand: member 2 failed in period 1, and member 4 is up.
 #[test]
 fn keeps_the_table(rt: HostRuntime) {
-    let journal = played(&rt, rt.alloc());
+    assert_rows(&rt, &played(&rt, rt.alloc()));
+}
+
+fn assert_rows<R: Abort>(rt: &R, journal: &Journal) {
+    assert_table(rt, journal);
+    assert_row(rt, journal, 2, Some(row(2, RowState::Failed(1))));
+    assert_row(rt, journal, 4, Some(row(4, RowState::Up)));
+    assert_row(rt, journal, 3, None);
+}
+
+fn assert_table<R: Abort>(rt: &R, journal: &Journal) {
     let rows = [row(2, RowState::Failed(1)), row(4, RowState::Up)];
-    assert_eq!(rt; journal.rows().as_slice(), rows.as_slice());
+    assert!(rt; journal.rows().as_slice() == rows.as_slice());
     assert_eq!(rt; journal.known(), 2);
-    assert_row(&rt, &journal, 2, Some(row(2, RowState::Failed(1))));
-    assert_row(&rt, &journal, 4, Some(row(4, RowState::Up)));
-    assert_row(&rt, &journal, 3, None);
 }
 
 #[test]
 fn keeps_numbers_and_judgements(rt: HostRuntime) {
-    let journal = played(&rt, rt.alloc());
+    assert_numbers_and_judgements(&rt, &played(&rt, rt.alloc()));
+}
+
+fn assert_numbers_and_judgements<R: Abort>(rt: &R, journal: &Journal) {
     let judged = Judged {
         member: id(2),
         number: 1,
     };
-    assert_eq!(rt; journal.last_number(), 2);
-    assert_eq!(rt; journal.judged_count(), 1);
-    assert_judged(&rt, &journal, &[judged]);
+    assert_eq!(rt; (journal.last_number(), journal.judged_count()), (2, 1));
+    assert_judged(rt, journal, &[judged]);
 }
 
 fn assert_probed<R: Abort>(rt: &R, journal: &Journal, expected: &[Probed]) {
     match journal.probes() {
-        Ok(probes) => assert_eq!(rt; probes.as_slice(), expected),
+        Ok(probes) => assert!(rt; probes.as_slice() == expected),
         Err(_) => panic!(rt; "probes"),
     }
 }
@@ -241,8 +265,11 @@ fn tells_its_probes(rt: HostRuntime) {
 
 #[test]
 fn gives_entries_back(rt: HostRuntime) {
-    let journal = played(&rt, rt.alloc());
-    assert_entry(&rt, &journal, 0, Some(&first_start()));
-    assert_entry(&rt, &journal, 1, Some(&ask()));
-    assert_entry(&rt, &journal, 6, None);
+    assert_entries(&rt, &played(&rt, rt.alloc()));
+}
+
+fn assert_entries<R: Abort>(rt: &R, journal: &Journal) {
+    assert_entry(rt, journal, 0, Some(&first_start()));
+    assert_entry(rt, journal, 1, Some(&ask()));
+    assert_entry(rt, journal, 6, None);
 }

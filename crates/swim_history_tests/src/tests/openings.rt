@@ -92,16 +92,29 @@ fn members_that_failed(rt: HostRuntime) -> Result<(), Fail> {
         Ok(opening) => opening,
         Err(_) => return Err("the parameters are within the limits".into()),
     };
+    assert_not_failed(&rt, &opening);
+    let failed = opening.with_failed(id(3), 9).ok_or("a period 9 was used")?;
+    assert_failed(&rt, &failed);
+    Ok(())
+}
+
+fn assert_failed<R: Abort>(rt: &R, opening: &Opening) {
+    match opening.rows() {
+        [second, third] => {
+            assert!(rt; second.state == RowState::Up);
+            assert!(rt; third.state == RowState::Failed(9));
+            assert!(rt; third.peer == address(3));
+        }
+        _ => panic!(rt; "two rows"),
+    }
+    assert_eq!(rt; opening.last(), 9);
+    assert!(rt; opening.version() == Version::Two);
+}
+
+// Nobody failed in these periods.
+fn assert_not_failed<R: Abort>(rt: &R, opening: &Opening) {
     assert!(rt; opening.with_failed(id(2), 0).is_none());
     assert!(rt; opening.with_failed(id(2), 10).is_none());
     assert!(rt; opening.with_failed(id(4), 9).is_none());
     assert!(rt; opening.with_failed(id(1), 9).is_none());
-    let failed = opening.with_failed(id(3), 9).ok_or("a period 9 was used")?;
-    assert_eq!(rt; failed.rows().len(), 2);
-    assert_eq!(rt; failed.rows()[0].state, RowState::Up);
-    assert_eq!(rt; failed.rows()[1].state, RowState::Failed(9));
-    assert_eq!(rt; failed.rows()[1].peer, address(3));
-    assert_eq!(rt; failed.last(), 9);
-    assert_eq!(rt; failed.version(), Version::Two);
-    Ok(())
 }
