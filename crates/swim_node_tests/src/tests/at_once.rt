@@ -3,8 +3,10 @@
 ghost use Rattle.std.specs.Prelude.{◌≡◌};
 
 use super::draws::Draws;
+use super::jobs::{Job, all_four, both};
 use super::steps::make;
 use super::*;
+use swim_targets::Seeded;
 
 /// What a seat asks again and again.
 #[derive(Drop)]
@@ -41,52 +43,117 @@ impl Work {
     }
 }
 
-/// Each of four seats does its work.
-pub(crate) fn four_at_once<
-    N: Naming + Send + Sync,
-    C: Chooser,
-    R: Threads + Wait + Send + Sync + Copy + Drop,
->(rt: &R, node: &Node<N, C, R>, seats: Four<Seat<N>>, works: Four<Work>) -> Four<Seat<N>>
-    ensures listening { (result.0.0.number ≡ seats.0.0.number) × (result.0.1.number ≡ seats.0.1.number) }
-    ensures changing { (result.1.0.number ≡ seats.1.0.number) × (result.1.1.number ≡ seats.1.1.number) }
+/// A seat, and the work that it does.
+#[derive(Drop)]
+pub(crate) struct Working<'n, N: Naming, C: Chooser, R: Wait + Copy + Drop> {
+    rt: R,
+    node: &'n Node<N, C, R>,
+    seat: Seat<N>,
+    work: Work,
+}
+
+// What is sent to a thread may not rest on `Chooser` as a bound, so there is one for each chooser.
+impl<'n, N: Naming + Send + Sync, R: Wait + Copy + Drop> Job for Working<'n, N, Scripted, R> {
+    type Done = Seat<N>;
+
+    ghost does = { λ job seat. seat.number ≡ job.seat.number };
+
+    fn carry_out(self) -> Seat<N> {
+        let Working {
+            rt,
+            node,
+            seat,
+            work,
+        } = self;
+        do_work(&rt, node, seat, work)
+    }
+}
+
+impl<'n, N: Naming + Send + Sync, R: Wait + Copy + Drop> Job for Working<'n, N, Seeded, R> {
+    type Done = Seat<N>;
+
+    ghost does = { λ job seat. seat.number ≡ job.seat.number };
+
+    fn carry_out(self) -> Seat<N> {
+        let Working {
+            rt,
+            node,
+            seat,
+            work,
+        } = self;
+        do_work(&rt, node, seat, work)
+    }
+}
+
+/// Two seats, and the work of each.
+pub(crate) fn two_working<'n, N: Naming, C: Chooser, R: Wait + Copy + Drop>(
+    rt: R,
+    node: &'n Node<N, C, R>,
+    seats: (Seat<N>, Seat<N>),
+    works: (Work, Work),
+) -> (Working<'n, N, C, R>, Working<'n, N, C, R>)
+    ensures first { result.0.seat ≡ seats.0 }
+    ensures second { result.1.seat ≡ seats.1 }
+{
+    let (first, second) = seats;
+    let (some, others) = works;
+    let one = Working {
+        rt,
+        node,
+        seat: first,
+        work: some,
+    };
+    let other = Working {
+        rt,
+        node,
+        seat: second,
+        work: others,
+    };
+    (one, other)
+}
+
+/// Four seats, and the work of each.
+pub(crate) fn four_working<'n, N: Naming, C: Chooser, R: Wait + Copy + Drop>(
+    rt: R,
+    node: &'n Node<N, C, R>,
+    seats: Four<Seat<N>>,
+    works: Four<Work>,
+) -> Four<Working<'n, N, C, R>>
+    ensures listening { (result.0.0.seat ≡ seats.0.0) × (result.0.1.seat ≡ seats.0.1) }
+    ensures changing { (result.1.0.seat ≡ seats.1.0) × (result.1.1.seat ≡ seats.1.1) }
 {
     let (listening, changing) = seats;
     let (some, others) = works;
-    join(
-        rt,
-        move || -> (Seat<N>, Seat<N>)
-            ensures { (result.0.number ≡ listening.0.number) × (result.1.number ≡ listening.1.number) }
-        { two_at_once(rt, node, listening, some) },
-        move || -> (Seat<N>, Seat<N>)
-            ensures { (result.0.number ≡ changing.0.number) × (result.1.number ≡ changing.1.number) }
-        { two_at_once(rt, node, changing, others) },
+    (
+        two_working(rt, node, listening, some),
+        two_working(rt, node, changing, others),
     )
 }
 
 /// Each of two seats does its work.
-pub(crate) fn two_at_once<
-    N: Naming + Send + Sync,
-    C: Chooser,
-    R: Threads + Wait + Send + Sync + Copy + Drop,
->(
+pub(crate) fn two_at_once<N: Naming + Send + Sync, R: Threads + Wait + Send + Sync + Copy + Drop>(
     rt: &R,
-    node: &Node<N, C, R>,
+    node: &Node<N, Scripted, R>,
     seats: (Seat<N>, Seat<N>),
     works: (Work, Work),
 ) -> (Seat<N>, Seat<N>)
     ensures { (result.0.number ≡ seats.0.number) × (result.1.number ≡ seats.1.number) }
 {
-    let (first, second) = seats;
-    let (some, others) = works;
-    join(
-        rt,
-        move || -> Seat<N>
-            ensures { result.number ≡ first.number }
-        { do_work(rt, node, first, some) },
-        move || -> Seat<N>
-            ensures { result.number ≡ second.number }
-        { do_work(rt, node, second, others) },
-    )
+    let (one, other) = two_working(*rt, node, seats, works);
+    both(rt, one, other)
+}
+
+/// Each of four seats does its work.
+pub(crate) fn four_at_once<N: Naming + Send + Sync, R: Threads + Wait + Send + Sync + Copy + Drop>(
+    rt: &R,
+    node: &Node<N, Scripted, R>,
+    seats: Four<Seat<N>>,
+    works: Four<Work>,
+) -> Four<Seat<N>>
+    ensures listening { (result.0.0.number ≡ seats.0.0.number) × (result.0.1.number ≡ seats.0.1.number) }
+    ensures changing { (result.1.0.number ≡ seats.1.0.number) × (result.1.1.number ≡ seats.1.1.number) }
+{
+    all_four(rt, four_working(*rt, node, seats, works))
 }
 
 fn do_work<N: Naming, C: Chooser, R: Wait + Copy + Drop>(

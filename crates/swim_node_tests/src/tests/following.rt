@@ -3,6 +3,7 @@ ghost use mathlib.Core.List.{IsPrefix};
 ghost use Rattle.swim_history.specs.declared.entries.Entry.{Entry};
 ghost use Rattle.swim_node.specs.Following.{filings_of};
 
+use super::jobs::{Job, both};
 use super::*;
 
 // What was read of a journal, and who read it.
@@ -50,11 +51,15 @@ fn read_in_threads<N: Naming + Send + Sync, R: Threads + Wait + Abort + Send + S
 {
     let opened = open::<N, Scripted, R>(rt, alloc, parts, opening, no_script(alloc), 1000)?;
     let (journal, read, is_whole) = read_and_close(&rt, alloc, opened, unread);
-    assert_eq!(rt; read.len(), 90);
     assert!(rt; is_whole == (unread == 0));
-    assert_eq!(rt; u64::from(journal.len()), 90 + u64::from(unread));
-    assert_read(&rt, &journal, read.as_slice());
+    assert_all_read(&rt, &journal, &read, unread);
     Ok(())
+}
+
+fn assert_all_read<R: Abort>(rt: &R, journal: &Journal, read: &Vec<Followed>, unread: u32) {
+    assert_eq!(rt; read.len(), 90);
+    assert_eq!(rt; u64::from(journal.len()), 90 + u64::from(unread));
+    assert_read(rt, journal, read.as_slice());
 }
 
 fn read_and_close<N: Naming + Send + Sync, R: Threads + Wait + Send + Sync + Copy + Drop>(
@@ -79,6 +84,56 @@ fn read_and_close<N: Naming + Send + Sync, R: Threads + Wait + Send + Sync + Cop
     close_read(rt, node, ((first, second), others), reading)
 }
 
+// A seat that ticks so often.
+#[derive(Drop)]
+struct Ticking<'n, N: Naming, R: Wait + Copy + Drop> {
+    rt: R,
+    node: &'n Node<N, Scripted, R>,
+    seat: Seat<N>,
+    times: u32,
+}
+
+impl<'n, N: Naming + Send + Sync, R: Wait + Copy + Drop> Job for Ticking<'n, N, R> {
+    type Done = Seat<N>;
+
+    ghost does = { λ job seat. seat.number ≡ job.seat.number };
+
+    fn carry_out(self) -> Seat<N> {
+        let Ticking {
+            rt,
+            node,
+            seat,
+            times,
+        } = self;
+        tick_often(&rt, node, seat, times)
+    }
+}
+
+// Who reads so often what comes next.
+#[derive(Drop)]
+struct Following<'n, N: Naming, R: Wait + Copy + Drop> {
+    rt: R,
+    node: &'n Node<N, Scripted, R>,
+    reading: Reading<N>,
+    times: u32,
+}
+
+impl<'n, N: Naming + Send + Sync, R: Wait + Copy + Drop> Job for Following<'n, N, R> {
+    type Done = Reading<N>;
+
+    ghost does = { λ job reading. Unit {0} };
+
+    fn carry_out(self) -> Reading<N> {
+        let Following {
+            rt,
+            node,
+            reading,
+            times,
+        } = self;
+        read_often(&rt, node, reading, times)
+    }
+}
+
 fn tick_and_read<N: Naming + Send + Sync, R: Threads + Wait + Send + Sync + Copy + Drop>(
     rt: &R,
     node: &Node<N, Scripted, R>,
@@ -87,13 +142,19 @@ fn tick_and_read<N: Naming + Send + Sync, R: Threads + Wait + Send + Sync + Copy
 ) -> (Seat<N>, Reading<N>)
     ensures { result.0.number ≡ first.number }
 {
-    join(
-        rt,
-        move || -> Seat<N>
-            ensures { result.number ≡ first.number }
-        { tick_often(rt, node, first, 90) },
-        move || -> Reading<N> { read_often(rt, node, reading, 200) },
-    )
+    let ticking = Ticking {
+        rt: *rt,
+        node,
+        seat: first,
+        times: 90,
+    };
+    let following = Following {
+        rt: *rt,
+        node,
+        reading,
+        times: 200,
+    };
+    both(rt, ticking, following)
 }
 
 fn tick_often<N: Naming, R: Wait + Copy + Drop>(

@@ -1,4 +1,4 @@
-use super::steps::{Step, take_and_close};
+use super::steps::{Step, assert_length, take_and_close};
 use super::*;
 use swim_history::Gap;
 
@@ -11,8 +11,9 @@ fn gaps_are_those_of_all_calls(rt: HostRuntime) -> Result<(), Fail> {
     let chooser = two_orders(alloc)?;
     let parts = Parts::make(alloc, 1000)?;
     let (first, second) = (periods_and_gaps(), [gap_of_2(), gap_of_3(), no_gap()]);
-    take_and_close::<Brand, _>(rt, alloc, parts, opening, chooser, 1000, (&first, &second))?;
-    Ok(())
+    let steps = (&first[..], &second[..]);
+    let journal = take_and_close::<Brand, _>(rt, alloc, parts, opening, chooser, 1000, steps);
+    assert_length(&rt, journal, 13)
 }
 
 fn two_orders(alloc: Global) -> Result<Scripted, Fail> {

@@ -6,7 +6,7 @@ ghost use Rattle.swim_history.specs.declared.entries.Entry.{Entry};
 use super::*;
 use std::rt::Clock;
 use std::sync::atomic::{AtomicBool, Ordering};
-use std::thread;
+use std::thread::{self, join};
 use std::time::Duration;
 use swim_wire::WireFault;
 
@@ -22,6 +22,16 @@ struct Hold {
     is_answered: AtomicBool,
     /// And that while the lock was held.
     was_answered: AtomicBool,
+}
+
+impl Hold {
+    fn new() -> Hold {
+        Hold {
+            is_held: AtomicBool::new(false),
+            is_answered: AtomicBool::new(false),
+            was_answered: AtomicBool::new(false),
+        }
+    }
 }
 
 /// A chooser that is asked for a place under the lock, and answers when the other caller was answered.
@@ -73,6 +83,16 @@ fn hear_beside<N: Naming, C: Chooser, R: Wait + Clock + Copy + Drop>(
     answer
 }
 
+// Whether member 4 could join.
+fn lets_join<N: Naming, C: Chooser, R: Wait + Copy + Drop>(
+    rt: &R,
+    node: &Node<N, C, R>,
+    seat: Seat<N>,
+) -> bool {
+    let mut seat = seat;
+    node.join(rt, &mut seat, id(4), at(4)).is_ok()
+}
+
 fn join_and_hear<N: Naming + Send + Sync, R: Threads + Wait + Clock + Send + Sync + Copy + Drop>(
     rt: R,
     alloc: Global,
@@ -87,28 +107,33 @@ fn join_and_hear<N: Naming + Send + Sync, R: Threads + Wait + Clock + Send + Syn
 {
     let chooser = Holder { clock: rt, hold };
     let opened = open::<N, Holder<'_, R>, R>(rt, alloc, parts, opening, chooser, 8)?;
+    Ok(hear_while_joining(&rt, opened, hold))
+}
+
+fn hear_while_joining<
+    N: Naming + Send + Sync,
+    C: Chooser,
+    R: Threads + Wait + Clock + Send + Sync + Copy + Drop,
+>(rt: &R, opened: Opened<N, C, R>, hold: &Hold) -> Option<CallFault> {
     let (node, callers) = unseen(opened);
     let ((hearing, _second), (joining, _fourth)) = callers;
-    let mut joining = joining;
+    let node = &node;
     let (answer, _joined) = join(
-        &rt,
-        || hear_beside(&rt, &node, hearing, hold),
-        || node.join(&rt, &mut joining, id(4), at(4)).is_ok(),
+        rt,
+        move || hear_beside(rt, node, hearing, hold),
+        move || lets_join(rt, node, joining),
     );
-    Ok(answer)
+    answer
 }
 
 // They are told for what they are before the other call gives the lock back.
 #[test]
 fn no_datagram_waits_for_the_lock(rt: HostRuntime) -> Result<(), Fail> {
-    let hold = Hold {
-        is_held: AtomicBool::new(false),
-        is_answered: AtomicBool::new(false),
-        was_answered: AtomicBool::new(false),
-    };
+    let opening = opening(1)?;
     let parts = Parts::make(rt.alloc(), 8)?;
-    let answer = join_and_hear::<Brand, _>(rt, rt.alloc(), parts, opening(1)?, &hold)?;
-    assert_eq!(rt; answer, Some(CallFault::Wire(WireFault::Length)));
+    let hold = Hold::new();
+    let answer = join_and_hear::<Brand, _>(rt, rt.alloc(), parts, opening, &hold)?;
+    assert!(rt; answer == Some(CallFault::Wire(WireFault::Length)));
     assert!(rt; hold.was_answered.load(Ordering::SeqCst));
     Ok(())
 }

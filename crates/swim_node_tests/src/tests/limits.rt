@@ -1,4 +1,4 @@
-use super::steps::{Step, take_and_close};
+use super::steps::{Step, assert_length, take_and_close};
 use super::*;
 
 // A journal of two entries: two calls are answered, and after them each call is refused, and leaves the seat's calls.
@@ -16,9 +16,8 @@ fn a_full_journal_refuses(rt: HostRuntime) -> Result<(), Fail> {
         no_script(alloc),
         2,
         (&steps, &[]),
-    )?;
-    assert_eq!(rt; journal.len(), 2);
-    Ok(())
+    );
+    assert_length(&rt, journal, 2)
 }
 
 fn refused_after_two() -> [Step; 6] {

@@ -9,8 +9,8 @@ use super::plans::*;
 use super::steps::make;
 use super::*;
 
-fn tell(rt: &HostRuntime, refused: bool) -> Result<(), Fail> {
-    if refused {
+fn tell(rt: &HostRuntime, refused: Result<bool, Fail>) -> Result<(), Fail> {
+    if refused? {
         println!(rt; "a call was refused")?;
     }
     Ok(())
@@ -20,7 +20,7 @@ fn tell(rt: &HostRuntime, refused: bool) -> Result<(), Fail> {
 fn parts_are_made_again(rt: HostRuntime) -> Result<(), Fail> {
     let refused = Parts::make(rt.alloc(), 8).is_err();
     assert!(rt; !refused || Parts::make(rt.alloc(), 8).is_ok());
-    tell(&rt, refused)
+    tell(&rt, Ok(refused))
 }
 
 // Parts, opening and chooser are made anew, equal to the first.
@@ -34,9 +34,18 @@ fn a_node_is_opened_again(rt: HostRuntime) -> Result<(), Fail> {
         full: &[],
         rows: &[up(2), up(3)],
     };
-    let opened = open_and_call(rt, rt.alloc(), &plan)?.is_some();
-    assert!(rt; opened || open_and_call(rt, rt.alloc(), &plan)? == Some(false));
-    tell(&rt, !opened)
+    tell(&rt, open_again(rt, rt.alloc(), &plan))
+}
+
+// Whether the first try was refused. The second one isn't.
+fn open_again<R: Wait + Abort + Copy + Drop>(
+    rt: R,
+    alloc: Global,
+    plan: &Plan,
+) -> Result<bool, Fail> {
+    let opened = open_and_call(rt, alloc, plan)?.is_some();
+    assert!(rt; opened || open_and_call(rt, alloc, plan)? == Some(false));
+    Ok(!opened)
 }
 
 #[test]
@@ -50,7 +59,7 @@ fn ticks_are_made_again(rt: HostRuntime) -> Result<(), Fail> {
         full: &[],
         rows: &rows,
     };
-    tell(&rt, make_again(rt, rt.alloc(), &plan)?)
+    tell(&rt, make_again(rt, rt.alloc(), &plan))
 }
 
 #[test]
@@ -64,7 +73,7 @@ fn a_relayed_ack_is_heard_again(rt: HostRuntime) -> Result<(), Fail> {
         full: &[],
         rows: &rows,
     };
-    tell(&rt, make_again(rt, rt.alloc(), &plan)?)
+    tell(&rt, make_again(rt, rt.alloc(), &plan))
 }
 
 #[test]
@@ -79,7 +88,7 @@ fn a_join_is_made_again(rt: HostRuntime) -> Result<(), Fail> {
         full: &[],
         rows: &rows,
     };
-    tell(&rt, make_again(rt, rt.alloc(), &plan)?)
+    tell(&rt, make_again(rt, rt.alloc(), &plan))
 }
 
 #[test]
@@ -93,7 +102,7 @@ fn a_removal_is_made_again(rt: HostRuntime) -> Result<(), Fail> {
         full: &[],
         rows: &[up(3)],
     };
-    tell(&rt, make_again(rt, rt.alloc(), &plan)?)
+    tell(&rt, make_again(rt, rt.alloc(), &plan))
 }
 
 // Whatever is refused: each call is answered that the journal is full.
@@ -109,7 +118,7 @@ fn a_full_journal_is_told_without_memory(rt: HostRuntime) -> Result<(), Fail> {
         full: &each_call(),
         rows: &rows,
     };
-    tell(&rt, make_again(rt, rt.alloc(), &plan)?)
+    tell(&rt, make_again(rt, rt.alloc(), &plan))
 }
 
 // Whether a call was refused. Where no node was opened, as memory was refused to that, one is opened in a second try.
@@ -166,7 +175,7 @@ fn called_again<N: Naming, R: Wait + Abort + Copy + Drop>(
             Some(call_and_close(&rt, node, callers, two_by_two(viewers), plan))
         }
         Err(fault) => {
-            assert_eq!(rt; fault, OpenFault::NoMemory);
+            assert!(rt; fault == OpenFault::NoMemory);
             None
         }
     }
@@ -247,16 +256,17 @@ fn assert_receipt<N: Naming, R: Abort>(
 ) {
     match answer {
         Ok(receipt) => {
-            assert_eq!(rt;
-                (receipt.position, receipt.number),
-                (wanted.position, wanted.number)
-            );
-            assert_eq!(rt; receipt.call, wanted.call);
-            assert_eq!(rt; &receipt.reply, &wanted.reply);
+            assert_answered(rt, &receipt, wanted);
             viewer.learn(&receipt.news);
         }
         Err(_) => panic!(rt; "a receipt"),
     }
+}
+
+fn assert_answered<N: Naming, R: Abort>(rt: &R, receipt: &Receipt<N>, wanted: &Kept) {
+    assert!(rt; receipt.position == wanted.position && receipt.number == wanted.number);
+    assert!(rt; receipt.call == wanted.call);
+    assert!(rt; receipt.reply == wanted.reply);
 }
 
 // Each of the calls that meet a full journal is told so, and changes nothing.

@@ -34,7 +34,7 @@ pub(crate) fn assert_replays<R: Abort>(
     alloc: Global,
     opening: Opening,
     journal: &Journal,
-    lists: Vec<Watched>,
+    lists: [Watched; 4],
 ) -> Result<(), Fail> {
     let script = script_of(alloc, journal)?;
     let recorder = Recorder::open(alloc, opening, script, journal.len());
@@ -42,7 +42,7 @@ pub(crate) fn assert_replays<R: Abort>(
     Ok(())
 }
 
-fn replay<R: Abort>(rt: &R, recorder: Recorder<Scripted>, journal: &Journal, lists: Vec<Watched>) {
+fn replay<R: Abort>(rt: &R, recorder: Recorder<Scripted>, journal: &Journal, lists: [Watched; 4]) {
     let mut recorder = recorder;
     let mut lists = lists;
     for place in 0..journal.len() {
@@ -65,14 +65,14 @@ fn assert_again<R: Abort>(rt: &R, recorder: &mut Recorder<Scripted>, entry: Opti
     }
 }
 
-fn assert_all_met<R: Abort>(rt: &R, lists: &Vec<Watched>) {
-    for watched in lists.as_slice() {
+fn assert_all_met<R: Abort>(rt: &R, lists: &[Watched]) {
+    for watched in lists {
         assert!(rt; watched.met == watched.tables.len());
     }
 }
 
-fn meet_all(lists: &mut Vec<Watched>, table: &Table) {
-    for watched in lists.as_mut_slice() {
+fn meet_all(lists: &mut [Watched], table: &Table) {
+    for watched in lists {
         watched.meet(table);
     }
 }

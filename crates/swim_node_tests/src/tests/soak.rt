@@ -3,8 +3,9 @@
 ghost use Rattle.std.specs.Prelude.{◌≡◌, List};
 ghost use Rattle.swim_history.specs.declared.entries.Entry.{Entry};
 
-use super::at_once::{Asked, Work, four_at_once};
+use super::at_once::{Asked, Work, four_working};
 use super::draws::Draws;
+use super::jobs::{Job, all_eight};
 use super::replays::{Watched, assert_replays};
 use super::*;
 use swim_targets::Seeded;
@@ -22,8 +23,12 @@ fn four_callers_and_four_readers(rt: HostRuntime) -> Result<(), Fail> {
     let (start, again) = (opening(1)?, opening(1)?);
     let parts = Parts::make(alloc, 4 * CALLS)?;
     let (journal, lists) = soaked::<Brand, _>(rt, alloc, parts, start)?;
+    assert_length(&rt, &journal);
+    assert_replays(&rt, alloc, again, &journal, in_a_row(lists))
+}
+
+fn assert_length<R: Abort>(rt: &R, journal: &Journal) {
     assert_eq!(rt; journal.len(), 4 * CALLS);
-    assert_replays(&rt, alloc, again, &journal, watched_of(alloc, lists)?)
 }
 
 fn soaked<N: Naming + Send + Sync, R: Threads + Wait + Abort + Send + Sync + Copy + Drop>(
@@ -56,14 +61,9 @@ fn call_and_close<N: Naming + Send + Sync, R: Threads + Wait + Send + Sync + Cop
     (journal, lists)
 }
 
-fn watched_of(alloc: Global, lists: Four<Watched>) -> Result<Vec<Watched>, Fail> {
+fn in_a_row(lists: Four<Watched>) -> [Watched; 4] {
     let ((one, two), (three, four)) = lists;
-    let mut watched = Vec::new(alloc);
-    watched.push(one)?;
-    watched.push(two)?;
-    watched.push(three)?;
-    watched.push(four)?;
-    Ok(watched)
+    [one, two, three, four]
 }
 
 // Calls of a seat, drawn from this seed.
@@ -84,39 +84,41 @@ fn call_and_look<N: Naming + Send + Sync, R: Threads + Wait + Send + Sync + Copy
     ensures fourth { result.0.1.1.number ≡ callers.1.1.number }
 {
     let works = ((drawn(1), drawn(2)), (drawn(3), drawn(4)));
-    join(
-        rt,
-        move || -> Four<Seat<N>>
-            ensures { (result.0.0.number ≡ callers.0.0.number) × (result.0.1.number ≡ callers.0.1.number)
-                × (result.1.0.number ≡ callers.1.0.number) × (result.1.1.number ≡ callers.1.1.number) }
-        { four_at_once(rt, node, callers, works) },
-        move || look_four(rt, alloc, readers),
-    )
+    let callers = four_working(*rt, node, callers, works);
+    all_eight(rt, callers, four_looking(alloc, readers))
 }
 
-fn look_four<N: Naming + Send + Sync, R: Threads + Wait + Send + Sync + Copy + Drop>(
-    rt: &R,
+// A reader who looks at the table again and again.
+#[derive(Drop)]
+struct Looking<N: Naming> {
     alloc: Global,
-    viewers: Four<Viewer<N>>,
-) -> Four<Watched> {
-    let (some, others) = viewers;
-    join(
-        rt,
-        move || look_two(rt, alloc, some),
-        move || look_two(rt, alloc, others),
-    )
+    viewer: Viewer<N>,
 }
 
-fn look_two<N: Naming + Send + Sync, R: Threads + Wait + Send + Sync + Copy + Drop>(
-    rt: &R,
+impl<N: Naming + Send + Sync> Job for Looking<N> {
+    type Done = Watched;
+
+    ghost does = { λ job watched. Unit {0} };
+
+    fn carry_out(self) -> Watched {
+        let Looking { alloc, viewer } = self;
+        look_often(alloc, viewer)
+    }
+}
+
+fn four_looking<N: Naming>(alloc: Global, viewers: Four<Viewer<N>>) -> Four<Looking<N>> {
+    let (some, others) = viewers;
+    (two_looking(alloc, some), two_looking(alloc, others))
+}
+
+fn two_looking<N: Naming>(
     alloc: Global,
     viewers: (Viewer<N>, Viewer<N>),
-) -> (Watched, Watched) {
+) -> (Looking<N>, Looking<N>) {
     let (one, two) = viewers;
-    join(
-        rt,
-        move || look_often(alloc, one),
-        move || look_often(alloc, two),
+    (
+        Looking { alloc, viewer: one },
+        Looking { alloc, viewer: two },
     )
 }
 

@@ -48,19 +48,37 @@ fn take<N: Naming, R: Wait + Abort + Copy + Drop>(
     match step {
         Step::Made(call) => assert_made(rt, make(rt, node, seat, call)),
         Step::Told(call, reply) => assert_told(rt, make(rt, node, seat, call), reply),
-        Step::Acked(target, number) => {
-            let ack = Call::Hear(at(2), message(Kind::Ack, 1, *target, *number));
-            assert_made(rt, make(rt, node, seat, &Call::Tick));
-            assert_made(rt, make(rt, node, seat, &ack));
-            assert_made(rt, make(rt, node, seat, &Call::Tick));
-            assert_made(rt, make(rt, node, seat, &Call::Tick));
-        }
+        Step::Acked(target, number) => take_period(rt, node, seat, *target, *number),
         Step::Full(call, count) => {
             assert_full(rt, make(rt, node, seat, call));
-            assert_eq!(rt; seat.calls().len(), *count);
+            assert_count(rt, seat, *count);
         }
-        Step::Gap(member, gap) => assert_eq!(rt; &node.gap(rt, seat, *member), gap),
+        Step::Gap(member, gap) => assert_gap(rt, node.gap(rt, seat, *member), gap),
     }
+}
+
+fn take_period<N: Naming, R: Wait + Abort + Copy + Drop>(
+    rt: &R,
+    node: &Node<N, Scripted, R>,
+    seat: &mut Seat<N>,
+    target: u32,
+    number: u64,
+)
+    ensures { seat.new.number ≡ seat.old.number }
+{
+    let ack = Call::Hear(at(2), message(Kind::Ack, 1, target, number));
+    assert_made(rt, make(rt, node, seat, &Call::Tick));
+    assert_made(rt, make(rt, node, seat, &ack));
+    assert_made(rt, make(rt, node, seat, &Call::Tick));
+    assert_made(rt, make(rt, node, seat, &Call::Tick));
+}
+
+fn assert_count<N: Naming, R: Abort>(rt: &R, seat: &Seat<N>, count: usize) {
+    assert_eq!(rt; seat.calls().len(), count);
+}
+
+fn assert_gap<R: Abort>(rt: &R, gap: Option<Gap>, expected: &Option<Gap>) {
+    assert_eq!(rt; &gap, expected);
 }
 
 fn assert_made<N: Naming, R: Abort>(rt: &R, answer: Result<Receipt<N>, CallFault>) {
@@ -73,7 +91,7 @@ fn assert_told<N: Naming, R: Abort>(
     expected: &Reply,
 ) {
     match answer {
-        Ok(receipt) => assert_eq!(rt; &receipt.reply, expected),
+        Ok(receipt) => assert!(rt; receipt.reply == *expected),
         Err(_) => panic!(rt; "a receipt"),
     }
 }
@@ -99,6 +117,16 @@ pub(crate) fn take_and_close<N: Naming, R: Wait + Abort + Copy + Drop>(
 {
     let opened = open::<N, Scripted, R>(rt, alloc, parts, opening, chooser, limit)?;
     Ok(take_by_two(&rt, opened, steps.0, steps.1))
+}
+
+/// The journal has so many entries.
+pub(crate) fn assert_length<R: Abort>(
+    rt: &R,
+    journal: Result<Journal, Fail>,
+    count: u32,
+) -> Result<(), Fail> {
+    assert_eq!(rt; journal?.len(), count);
+    Ok(())
 }
 
 fn take_by_two<N: Naming, R: Wait + Abort + Copy + Drop>(

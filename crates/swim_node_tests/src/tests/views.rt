@@ -69,7 +69,7 @@ fn learn<N: Naming, R: Abort>(
 ) {
     match answer {
         Ok(receipt) => {
-            assert_eq!(rt; &receipt.reply, expected);
+            assert!(rt; receipt.reply == *expected);
             viewer.learn(&receipt.news);
         }
         Err(_) => panic!(rt; "a receipt"),
