@@ -13,9 +13,18 @@ pub(super) fn entry(seat: u8, number: u32, call: Call, reply: Reply, choice: Cho
     }
 }
 
+// The journal has these entries, and no other.
+pub(super) fn assert_entries<R: Abort>(rt: &R, journal: &Journal, entries: &[Entry]) {
+    assert_eq!(rt; journal.len() as usize, entries.len());
+    for place in 0..journal.len() {
+        assert_entry(rt, journal, place, entries.get(place as usize));
+    }
+    assert_entry(rt, journal, journal.len(), None);
+}
+
 // The entry at that place is this one, or there is none.
 fn assert_entry<R: Abort>(rt: &R, journal: &Journal, place: u32, expected: Option<&Entry>) {
-    assert_eq!(rt; journal.entry(place).as_ref(), expected, "at {place}");
+    assert!(rt; journal.entry(place).as_ref() == expected, "at {place}");
 }
 
 // The first round goes by the first order, and the first relays by the second.
@@ -40,29 +49,31 @@ fn ticked(number: u32, reply: Reply) -> Entry {
     entry(1, number, Call::Tick, reply, Choice::Nothing)
 }
 
+// The entries of those calls.
+fn entries_of_two() -> [Entry; 6] {
+    let round = Choice::Round(order_of(&[3, 2, 4]));
+    let removal = Call::Remove(id(2));
+    [
+        entry(1, 0, Call::Tick, started(None, 3, 1), round),
+        ticked(1, asked_of(3, 1, &[4, 2])),
+        entry(2, 0, removal, Reply::Removed, Choice::Nothing),
+        ticked(2, Reply::Quiet),
+        ticked(3, started(Some(3), 4, 2)),
+        ticked(4, asked_of(4, 2, &[])),
+    ]
+}
+
 #[test]
 fn entries_come_back_whole(rt: HostRuntime) -> Result<(), Fail> {
     let journal = called_by_two(&rt, rt.alloc())?;
-    assert_eq!(rt; journal.len(), 6);
-    let round = Choice::Round(order_of(&[3, 2, 4]));
-    let first = entry(1, 0, Call::Tick, started(None, 3, 1), round);
-    assert_entry(&rt, &journal, 0, Some(&first));
-    assert_entry(&rt, &journal, 1, Some(&ticked(1, asked_of(3, 1, &[4, 2]))));
-    let removal = Call::Remove(id(2));
-    let removed = entry(2, 0, removal, Reply::Removed, Choice::Nothing);
-    assert_entry(&rt, &journal, 2, Some(&removed));
-    assert_entry(&rt, &journal, 3, Some(&ticked(2, Reply::Quiet)));
-    let judging = started(Some(3), 4, 2);
-    assert_entry(&rt, &journal, 4, Some(&ticked(3, judging)));
-    assert_entry(&rt, &journal, 5, Some(&ticked(4, asked_of(4, 2, &[]))));
-    assert_entry(&rt, &journal, 6, None);
+    assert_entries(&rt, &journal, &entries_of_two());
     Ok(())
 }
 
 // The choice of the entry at that place is this one.
 fn assert_choice<R: Abort>(rt: &R, journal: &Journal, place: u32, expected: &Choice) {
     match journal.entry(place) {
-        Some(entry) => assert_eq!(rt; &entry.choice, expected, "at {place}"),
+        Some(entry) => assert!(rt; entry.choice == *expected, "at {place}"),
         None => panic!(rt; "an entry at {place}"),
     }
 }
@@ -83,8 +94,12 @@ fn three_periods<R: Abort>(rt: &R, alloc: Global) -> Result<Journal, Fail> {
 #[test]
 fn each_round_keeps_its_order(rt: HostRuntime) -> Result<(), Fail> {
     let journal = three_periods(&rt, rt.alloc())?;
-    assert_choice(&rt, &journal, 0, &Choice::Round(order_of(&[3, 2])));
-    assert_choice(&rt, &journal, 4, &Choice::Nothing);
-    assert_choice(&rt, &journal, 8, &Choice::Round(order_of(&[2, 3])));
+    assert_rounds(&rt, &journal);
     Ok(())
+}
+
+fn assert_rounds<R: Abort>(rt: &R, journal: &Journal) {
+    assert_choice(rt, journal, 0, &Choice::Round(order_of(&[3, 2])));
+    assert_choice(rt, journal, 4, &Choice::Nothing);
+    assert_choice(rt, journal, 8, &Choice::Round(order_of(&[2, 3])));
 }

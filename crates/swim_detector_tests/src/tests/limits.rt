@@ -18,21 +18,23 @@ fn assert_numbered<R: Abort>(rt: &R, recorder: &mut Recorder<Scripted>, seat: u8
 fn assert_full<R: Abort>(rt: &R, recorder: &mut Recorder<Scripted>, seat: u8)
     requires { seat < SEATS }
 {
-    assert_eq!(rt; recorder.ready(), Err(ApplyFault::JournalFull));
-    assert_eq!(rt;
-        recorder.apply(seat, Call::Tick),
-        Err(ApplyFault::JournalFull)
-    );
+    assert!(rt; recorder.ready() == Err(ApplyFault::JournalFull));
+    let answer = recorder.apply(seat, Call::Tick);
+    assert!(rt; matches!(answer, Err(ApplyFault::JournalFull)));
 }
 
 #[test]
 fn a_journal_is_full_at_its_limit(rt: HostRuntime) {
-    let mut recorder = recorder(&rt, rt.alloc(), 1, &[2, 3], 2);
+    assert_full_at_2(&rt, recorder(&rt, rt.alloc(), 1, &[2, 3], 2));
+}
+
+fn assert_full_at_2<R: Abort>(rt: &R, recorder: Recorder<Scripted>) {
+    let mut recorder = recorder;
     for seat in [3, 1] {
-        assert_eq!(rt; recorder.ready(), Ok(()));
-        assert_numbered(&rt, &mut recorder, seat, 0);
+        assert!(rt; recorder.ready().is_ok());
+        assert_numbered(rt, &mut recorder, seat, 0);
     }
-    assert_full(&rt, &mut recorder, 0);
+    assert_full(rt, &mut recorder, 0);
     assert_eq!(rt; recorder.journal().len(), 2);
 }
 
@@ -44,24 +46,32 @@ fn a_journal_of_no_entries_is_full(rt: HostRuntime) {
 
 #[test]
 fn seats_count_their_calls(rt: HostRuntime) {
-    let mut recorder = recorder(&rt, rt.alloc(), 1, &[2, 3], 9);
+    assert_counted(&rt, recorder(&rt, rt.alloc(), 1, &[2, 3], 9));
+}
+
+fn assert_counted<R: Abort>(rt: &R, recorder: Recorder<Scripted>) {
+    let mut recorder = recorder;
     for (seat, number) in [(0, 0), (2, 0), (0, 1), (0, 2), (2, 1)] {
-        assert_numbered(&rt, &mut recorder, seat, number);
+        assert_numbered(rt, &mut recorder, seat, number);
     }
 }
 
 // The reply that it lends is that of the first start.
 fn assert_lends_start<R: Abort>(rt: &R, recorder: &Recorder<Scripted>) {
-    assert_eq!(rt; recorder.reply(), &started(None, 2, 1));
+    assert!(rt; *recorder.reply() == started(None, 2, 1));
 }
 
 #[test]
 fn a_reply_is_lent_until_the_next(rt: HostRuntime) {
-    let mut recorder = recorder(&rt, rt.alloc(), 0, &[2], 1);
-    assert_eq!(rt; recorder.reply(), &Reply::Quiet);
-    assert_eq!(rt; recorder.record(2, Call::Tick), Ok(()));
-    assert_lends_start(&rt, &recorder);
+    assert_lends(&rt, recorder(&rt, rt.alloc(), 0, &[2], 1));
+}
+
+fn assert_lends<R: Abort>(rt: &R, recorder: Recorder<Scripted>) {
+    let mut recorder = recorder;
+    assert!(rt; *recorder.reply() == Reply::Quiet);
+    assert!(rt; recorder.record(2, Call::Tick).is_ok());
+    assert_lends_start(rt, &recorder);
     let full = recorder.record(2, Call::Tick);
-    assert_eq!(rt; full, Err(ApplyFault::JournalFull));
-    assert_lends_start(&rt, &recorder);
+    assert!(rt; full == Err(ApplyFault::JournalFull));
+    assert_lends_start(rt, &recorder);
 }

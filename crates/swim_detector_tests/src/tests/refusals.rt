@@ -2,7 +2,7 @@
 //! so on; else none is. A call that is refused changes nothing, and made again it is answered as where none was refused. Where a
 //! test met a refusal of a call that it names, it writes a line.
 
-use super::entries::entry;
+use super::entries::{assert_entries, entry};
 use super::requests::{ack, forwarded, pinged, request};
 use super::*;
 use std::alloc::AllocError;
@@ -54,27 +54,19 @@ fn scripted_draws(alloc: Global) -> Result<Scripted, AllocError> {
     Ok(Scripted::new(orders, vec![in alloc; 0]?))
 }
 
-fn assert_entries<R: Abort>(rt: &R, journal: &Journal, entries: &[Entry]) {
-    assert_eq!(rt; journal.len() as usize, entries.len());
-    for place in 0..journal.len() {
-        let wanted = entries.get(place as usize);
-        assert_eq!(rt; journal.entry(place).as_ref(), wanted, "at {place}");
-    }
-}
-
 // It has these entries and this table, and lends the reply of the newest entry.
 fn assert_holds<R: Abort>(rt: &R, recorder: &Recorder<Scripted>, entries: &[Entry], rows: &[Row]) {
     assert_entries(rt, recorder.journal(), entries);
-    assert_eq!(rt; recorder.table().as_slice(), rows);
+    assert!(rt; recorder.table().as_slice() == rows);
     match entries.last() {
-        Some(newest) => assert_eq!(rt; recorder.reply(), &newest.reply),
-        None => assert_eq!(rt; recorder.reply(), &Reply::Quiet),
+        Some(newest) => assert!(rt; *recorder.reply() == newest.reply),
+        None => assert!(rt; *recorder.reply() == Reply::Quiet),
     }
 }
 
 fn assert_made<R: Abort>(rt: &R, answer: Result<Entry, ApplyFault>, wanted: &Entry) {
     match answer {
-        Ok(entry) => assert_eq!(rt; &entry, wanted),
+        Ok(entry) => assert!(rt; entry == *wanted),
         Err(_) => panic!(rt; "an entry"),
     }
 }
@@ -109,7 +101,7 @@ fn apply_ready<R: Abort>(
     let refused = recorder.ready() == Err(ApplyFault::NoMemory);
     if refused {
         assert_holds(rt, recorder, before, rows.as_slice());
-        assert_eq!(rt; recorder.ready(), Ok(()));
+        assert!(rt; recorder.ready().is_ok());
     }
     assert_holds(rt, recorder, before, rows.as_slice());
     assert_made(rt, recorder.apply(0, wanted.call), wanted);
@@ -137,6 +129,31 @@ fn apply_each_ready<R: Abort>(
     refused
 }
 
+// Whether any of these calls was refused. In the end it has these entries and this table.
+fn made_again<R: Abort>(
+    rt: &R,
+    recorder: Recorder<Scripted>,
+    entries: &[Entry],
+    rows: &[Row],
+) -> bool {
+    let mut recorder = recorder;
+    let refused = apply_each(rt, &mut recorder, entries);
+    assert_holds(rt, &recorder, entries, rows);
+    refused
+}
+
+fn made_again_ready<R: Abort>(
+    rt: &R,
+    recorder: Recorder<Scripted>,
+    entries: &[Entry],
+    rows: &[Row],
+) -> bool {
+    let mut recorder = recorder;
+    let refused = apply_each_ready(rt, &mut recorder, entries);
+    assert_holds(rt, &recorder, entries, rows);
+    refused
+}
+
 fn tell(rt: &HostRuntime, refused: bool) -> Result<(), Fail> {
     if refused {
         println!(rt; "a call was refused")?;
@@ -146,29 +163,25 @@ fn tell(rt: &HostRuntime, refused: bool) -> Result<(), Fail> {
 
 #[test]
 fn ticks_are_made_again(rt: HostRuntime) -> Result<(), Fail> {
-    let mut recorder = recorder(&rt, rt.alloc(), 1, &[2, 3], 1000);
-    let entries = four_ticks();
-    let refused = apply_each(&rt, &mut recorder, &entries);
-    assert_holds(&rt, &recorder, &entries, &[failed(2, 1), up(3)]);
-    tell(&rt, refused)
+    let recorder = recorder(&rt, rt.alloc(), 1, &[2, 3], 1000);
+    let rows = [failed(2, 1), up(3)];
+    tell(&rt, made_again(&rt, recorder, &four_ticks(), &rows))
 }
 
 #[test]
 fn room_for_ticks_is_made_again(rt: HostRuntime) -> Result<(), Fail> {
-    let mut recorder = recorder(&rt, rt.alloc(), 1, &[2, 3], 1000);
-    let entries = four_ticks();
-    let refused = apply_each_ready(&rt, &mut recorder, &entries);
-    assert_holds(&rt, &recorder, &entries, &[failed(2, 1), up(3)]);
-    tell(&rt, refused)
+    let recorder = recorder(&rt, rt.alloc(), 1, &[2, 3], 1000);
+    let rows = [failed(2, 1), up(3)];
+    tell(&rt, made_again_ready(&rt, recorder, &four_ticks(), &rows))
 }
 
 #[test]
 fn a_relayed_ack_is_heard_again(rt: HostRuntime) -> Result<(), Fail> {
-    let mut recorder = recorder(&rt, rt.alloc(), 1, &[2, 3], 1000);
-    let entries = relayed_ack();
-    let refused = apply_each(&rt, &mut recorder, &entries);
-    assert_holds(&rt, &recorder, &entries, &[up(2), up(3)]);
-    tell(&rt, refused)
+    let recorder = recorder(&rt, rt.alloc(), 1, &[2, 3], 1000);
+    tell(
+        &rt,
+        made_again(&rt, recorder, &relayed_ack(), &[up(2), up(3)]),
+    )
 }
 
 // The chooser isn't asked by a call that is refused: the same call, made again, draws what it would have drawn.
@@ -179,12 +192,9 @@ fn draws_are_made_once(rt: HostRuntime) -> Result<(), Fail> {
         Ok(chooser) => chooser,
         Err(_) => scripted_draws(alloc)?,
     };
-    let mut recorder = Recorder::open(alloc, opening(&rt, 1, &[2, 3, 4], 0), chooser, 1000);
-    let entries = drawing_calls();
-    let refused = apply_each(&rt, &mut recorder, &entries);
+    let recorder = Recorder::open(alloc, opening(&rt, 1, &[2, 3, 4], 0), chooser, 1000);
     let rows = [up(2), failed(3, 1), up(5)];
-    assert_holds(&rt, &recorder, &entries, &rows);
-    tell(&rt, refused)
+    tell(&rt, made_again(&rt, recorder, &drawing_calls(), &rows))
 }
 
 // The journal of the first ones of those calls.
@@ -207,13 +217,16 @@ fn make_room<R: Abort>(rt: &R, journal: &mut Journal, entries: &[Entry]) -> bool
 // Each of the journals of no, one, .. four ticks is as before, with room or without.
 #[test]
 fn room_in_a_journal_is_made_again(rt: HostRuntime) -> Result<(), Fail> {
-    let entries = four_ticks();
+    tell(&rt, room_made_again(&rt, rt.alloc(), &four_ticks()))
+}
+
+fn room_made_again<R: Abort>(rt: &R, alloc: Global, entries: &[Entry]) -> bool {
     let mut refused = false;
     for count in 0..=entries.len() {
-        let mut journal = journal_of(&rt, rt.alloc(), &entries[..count]);
-        refused = make_room(&rt, &mut journal, &entries[..count]) || refused;
+        let mut journal = journal_of(rt, alloc, &entries[..count]);
+        refused = make_room(rt, &mut journal, &entries[..count]) || refused;
     }
-    tell(&rt, refused)
+    refused
 }
 
 fn assert_judged<R: Abort>(rt: &R, judgements: Result<Vec<Judged>, AllocError>) {
@@ -222,27 +235,28 @@ fn assert_judged<R: Abort>(rt: &R, judgements: Result<Vec<Judged>, AllocError>) 
         number: 1,
     };
     match judgements {
-        Ok(judged) => assert_eq!(rt; judged.as_slice(), [wanted].as_slice()),
+        Ok(judged) => assert!(rt; judged.as_slice() == [wanted].as_slice()),
         Err(_) => panic!(rt; "judgements"),
     }
 }
 
 #[test]
 fn judgements_are_told_again(rt: HostRuntime) -> Result<(), Fail> {
-    let entries = four_ticks();
-    let journal = journal_of(&rt, rt.alloc(), &entries);
+    tell(&rt, judgements_told_again(&rt, rt.alloc(), &four_ticks()))
+}
+
+fn judgements_told_again<R: Abort>(rt: &R, alloc: Global, entries: &[Entry]) -> bool {
+    let journal = journal_of(rt, alloc, entries);
     let judgements = journal.judgements();
     let refused = judgements.is_err();
-    assert_judged(
-        &rt,
-        if refused {
-            journal.judgements()
-        } else {
-            judgements
-        },
-    );
-    assert_entries(&rt, &journal, &entries);
-    tell(&rt, refused)
+    let judgements = if refused {
+        journal.judgements()
+    } else {
+        judgements
+    };
+    assert_judged(rt, judgements);
+    assert_entries(rt, &journal, entries);
+    refused
 }
 
 fn assert_probed<R: Abort>(rt: &R, probes: Result<Vec<Probed>, AllocError>) {
@@ -255,18 +269,21 @@ fn assert_probed<R: Abort>(rt: &R, probes: Result<Vec<Probed>, AllocError>) {
         member: id(3),
     };
     match probes {
-        Ok(probed) => assert_eq!(rt; probed.as_slice(), [first, second].as_slice()),
+        Ok(probed) => assert!(rt; probed.as_slice() == [first, second].as_slice()),
         Err(_) => panic!(rt; "probes"),
     }
 }
 
 #[test]
 fn probes_are_told_again(rt: HostRuntime) -> Result<(), Fail> {
-    let entries = four_ticks();
-    let journal = journal_of(&rt, rt.alloc(), &entries);
+    tell(&rt, probes_told_again(&rt, rt.alloc(), &four_ticks()))
+}
+
+fn probes_told_again<R: Abort>(rt: &R, alloc: Global, entries: &[Entry]) -> bool {
+    let journal = journal_of(rt, alloc, entries);
     let probes = journal.probes();
     let refused = probes.is_err();
-    assert_probed(&rt, if refused { journal.probes() } else { probes });
-    assert_entries(&rt, &journal, &entries);
-    tell(&rt, refused)
+    assert_probed(rt, if refused { journal.probes() } else { probes });
+    assert_entries(rt, &journal, entries);
+    refused
 }
