@@ -1,10 +1,11 @@
 //! Calls of a node, again and again. Each function says how many were answered.
 
+use crate::jobs::{Job, all_four, both};
 use crate::nodes::{SOMEWHERE, passer, ping};
 use crate::working::Four;
 use std::sync::Wait;
 use std::sync::atomic::{AtomicBool, Ordering};
-use std::thread::{Threads, join};
+use std::thread::Threads;
 use swim_node::{Naming, Node, Seat};
 use swim_targets::Scripted;
 use swim_wire::encode;
@@ -36,6 +37,29 @@ fn hears<N: Naming, H: Wait + Drop, R: Wait>(
     node.hear(rt, seat, ping, SOMEWHERE).is_ok()
 }
 
+/// A seat that hears so many pings.
+#[derive(Drop)]
+pub(crate) struct Hearing<'r, 'n, N: Naming, H: Wait + Drop, R: Wait> {
+    pub(crate) rt: &'r R,
+    pub(crate) node: &'n Node<N, Scripted, H>,
+    pub(crate) seat: Seat<N>,
+    pub(crate) calls: u32,
+}
+
+impl<'r, 'n, N: Naming, H: Wait + Drop, R: Wait> Job for Hearing<'r, 'n, N, H, R> {
+    type Done = u32;
+
+    fn carry_out(self) -> u32 {
+        let Hearing {
+            rt,
+            node,
+            seat,
+            calls,
+        } = self;
+        hear(rt, node, seat, calls)
+    }
+}
+
 /// So many pings are heard by each of two threads.
 pub(crate) fn hear_by_two<N: Naming + Send + Sync, H: Wait + Drop + Send, R: Threads + Wait + Sync>(
     rt: &R,
@@ -43,13 +67,8 @@ pub(crate) fn hear_by_two<N: Naming + Send + Sync, H: Wait + Drop + Send, R: Thr
     seats: (Seat<N>, Seat<N>),
     calls: u32,
 ) -> u32 {
-    let (first, second) = seats;
-    let (some, others) = join(
-        rt,
-        move || hear(rt, node, first, calls),
-        move || hear(rt, node, second, calls),
-    );
-    some.saturating_add(others)
+    let (one, other) = two_hearing(rt, node, seats, calls);
+    sum(both(rt, one, other))
 }
 
 /// So many pings are heard by each of four threads.
@@ -59,11 +78,36 @@ pub(crate) fn hear_by_four<
     R: Threads + Wait + Sync,
 >(rt: &R, node: &Node<N, Scripted, H>, seats: Four<Seat<N>>, calls: u32) -> u32 {
     let (some, others) = seats;
-    let (some, others) = join(
+    let some = two_hearing(rt, node, some, calls);
+    let others = two_hearing(rt, node, others, calls);
+    let (some, others) = all_four(rt, (some, others));
+    sum((sum(some), sum(others)))
+}
+
+fn two_hearing<'r, 'n, N: Naming, H: Wait + Drop, R: Wait>(
+    rt: &'r R,
+    node: &'n Node<N, Scripted, H>,
+    seats: (Seat<N>, Seat<N>),
+    calls: u32,
+) -> (Hearing<'r, 'n, N, H, R>, Hearing<'r, 'n, N, H, R>) {
+    let (first, second) = seats;
+    let one = Hearing {
         rt,
-        move || hear_by_two(rt, node, some, calls),
-        move || hear_by_two(rt, node, others, calls),
-    );
+        node,
+        seat: first,
+        calls,
+    };
+    let other = Hearing {
+        rt,
+        node,
+        seat: second,
+        calls,
+    };
+    (one, other)
+}
+
+fn sum(counts: (u32, u32)) -> u32 {
+    let (some, others) = counts;
     some.saturating_add(others)
 }
 
@@ -116,6 +160,31 @@ pub(crate) fn change<N: Naming, H: Wait + Drop, R: Wait>(
         }
     }
     answered
+}
+
+/// A seat that lets a member join and leave in turn.
+#[derive(Drop)]
+pub(crate) struct Changing<'r, 'n, 'o, N: Naming, H: Wait + Drop, R: Wait> {
+    pub(crate) rt: &'r R,
+    pub(crate) node: &'n Node<N, Scripted, H>,
+    pub(crate) seat: Seat<N>,
+    pub(crate) calls: u32,
+    pub(crate) over: &'o AtomicBool,
+}
+
+impl<'r, 'n, 'o, N: Naming, H: Wait + Drop, R: Wait> Job for Changing<'r, 'n, 'o, N, H, R> {
+    type Done = u32;
+
+    fn carry_out(self) -> u32 {
+        let Changing {
+            rt,
+            node,
+            seat,
+            calls,
+            over,
+        } = self;
+        change(rt, node, seat, calls, over)
+    }
 }
 
 fn joins<N: Naming, H: Wait + Drop, R: Wait>(

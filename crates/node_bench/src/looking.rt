@@ -1,10 +1,9 @@
 //! Looks at a node's member table, again and again.
 
+use crate::jobs::Job;
 use crate::nodes::other;
 use crate::working::Four;
-use std::sync::Wait;
 use std::sync::atomic::{AtomicBool, Ordering};
-use std::thread::{Threads, join};
 use swim_node::{Naming, Viewer};
 
 /// Lists the table until it is over, or so many times, and says how often member 2 stood in it.
@@ -23,30 +22,48 @@ pub(crate) fn list<N: Naming>(viewer: Viewer<N>, looks: u32, over: &AtomicBool) 
     seen
 }
 
-/// Two viewers list the table until it is over.
-pub(crate) fn list_by_two<N: Naming + Send + Sync, R: Threads + Wait + Sync>(
-    rt: &R,
-    viewers: (Viewer<N>, Viewer<N>),
-    over: &AtomicBool,
-) {
-    let (first, second) = viewers;
-    join(
-        rt,
-        move || list(first, u32::MAX, over),
-        move || list(second, u32::MAX, over),
-    );
+/// A viewer that lists the table.
+#[derive(Drop)]
+pub(crate) struct Listing<'o, N: Naming> {
+    pub(crate) viewer: Viewer<N>,
+    pub(crate) looks: u32,
+    pub(crate) over: &'o AtomicBool,
 }
 
-/// Four viewers list the table until it is over.
-pub(crate) fn list_by_four<N: Naming + Send + Sync, R: Threads + Wait + Sync>(
-    rt: &R,
+impl<'o, N: Naming> Job for Listing<'o, N> {
+    type Done = u32;
+
+    fn carry_out(self) -> u32 {
+        let Listing {
+            viewer,
+            looks,
+            over,
+        } = self;
+        list(viewer, looks, over)
+    }
+}
+
+/// Four viewers that list the table until it is over.
+pub(crate) fn four_listing<'o, N: Naming>(
     viewers: Four<Viewer<N>>,
-    over: &AtomicBool,
-) {
+    over: &'o AtomicBool,
+) -> Four<Listing<'o, N>> {
     let (some, others) = viewers;
-    join(
-        rt,
-        move || list_by_two(rt, some, over),
-        move || list_by_two(rt, others, over),
-    );
+    (two_listing(some, over), two_listing(others, over))
+}
+
+fn two_listing<'o, N: Naming>(
+    viewers: (Viewer<N>, Viewer<N>),
+    over: &'o AtomicBool,
+) -> (Listing<'o, N>, Listing<'o, N>) {
+    let (first, second) = viewers;
+    (until_over(first, over), until_over(second, over))
+}
+
+fn until_over<'o, N: Naming>(viewer: Viewer<N>, over: &'o AtomicBool) -> Listing<'o, N> {
+    Listing {
+        viewer,
+        looks: u32::MAX,
+        over,
+    }
 }

@@ -3,6 +3,7 @@
 #![tactic(auto)]
 
 mod calling;
+mod jobs;
 mod looking;
 mod nodes;
 mod recording;

@@ -3,14 +3,15 @@
 ghost use Rattle.std.specs.Prelude.{◌≡◌, List};
 ghost use Rattle.swim_history.specs.declared.entries.Entry.{Entry};
 
-use crate::calling::{change, hear, hear_by_four, hear_by_two, tick};
-use crate::looking::{list, list_by_four};
+use crate::calling::{Changing, change, hear, hear_by_four, hear_by_two, tick};
+use crate::jobs::{Ending, both, one_and_four};
+use crate::looking::{Listing, four_listing, list};
 use crate::nodes::no_script;
 use crate::tasks::{Mode, Task};
 use std::alloc::Global;
 use std::sync::Wait;
-use std::sync::atomic::{AtomicBool, Ordering};
-use std::thread::{Threads, join};
+use std::sync::atomic::AtomicBool;
+use std::thread::Threads;
 use swim_history::Opening;
 use swim_node::{Naming, Node, Parts, Seat, Viewer};
 use swim_targets::Scripted;
@@ -50,12 +51,17 @@ fn carry_out<N: Naming + Send + Sync, H: Wait + Drop + Send, R: Threads + Wait +
     hands: Hands<N>,
 ) -> u32 {
     match task.mode {
-        Mode::Open | Mode::Record => 0,
+        Mode::Open | Mode::Record => do_nothing(hands),
         Mode::Hear => hear_beside(rt, node, task, seats_of(hands)),
         Mode::Tick => tick(rt, node, first_of(seats_of(hands)), task.calls),
         Mode::Change => change_beside(rt, node, task, hands),
         Mode::List => list_beside(rt, node, task, hands),
     }
+}
+
+fn do_nothing<N: Naming>(hands: Hands<N>) -> u32 {
+    drop(hands);
+    0
 }
 
 /// Pings are heard, by as many threads as the task tells.
@@ -143,16 +149,18 @@ fn change_while_listed<N: Naming + Send + Sync, H: Wait + Drop + Send, R: Thread
     over: &AtomicBool,
 ) -> u32 {
     let (seats, viewers) = hands;
-    let seat = first_of(seats);
-    let (answered, _) = join(
+    let changing = Changing {
         rt,
-        move || {
-            let answered = change(rt, node, seat, calls, over);
-            over.store(true, Ordering::SeqCst);
-            answered
-        },
-        move || list_by_four(rt, viewers, over),
-    );
+        node,
+        seat: first_of(seats),
+        calls,
+        over,
+    };
+    let ending = Ending {
+        job: changing,
+        over,
+    };
+    let (answered, _seen) = one_and_four(rt, ending, four_listing(viewers, over));
     answered
 }
 
@@ -165,15 +173,19 @@ fn list_while_changed<N: Naming + Send + Sync, H: Wait + Drop + Send, R: Threads
     over: &AtomicBool,
 ) -> u32 {
     let (seats, viewers) = hands;
-    let (seat, viewer) = (first_of(seats), first_of(viewers));
-    let (seen, _) = join(
+    let listing = Listing {
+        viewer: first_of(viewers),
+        looks: task.calls,
+        over,
+    };
+    let changing = Changing {
         rt,
-        move || {
-            let seen = list(viewer, task.calls, over);
-            over.store(true, Ordering::SeqCst);
-            seen
-        },
-        move || change(rt, node, seat, task.limit, over),
-    );
+        node,
+        seat: first_of(seats),
+        calls: task.limit,
+        over,
+    };
+    let ending = Ending { job: listing, over };
+    let (seen, _answered) = both(rt, ending, changing);
     seen
 }
