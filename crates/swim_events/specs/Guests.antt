@@ -6,7 +6,7 @@ use Rattle.swim_events.specs.declared.outlets.Offer.{Offer}
 use Rattle.swim_events.specs.declared.outlets.Offer.TheVariants.{Took, Full, Gone}
 use Rattle.swim_events.specs.declared.watchers.Standing.TheVariants.{Following, Lost}
 use Rattle.swim_events.specs.Texts.{change_text, table_text}
-use Rattle.swim_events.specs.Watchers.{AtWatcher, after_sent, after_text}
+use Rattle.swim_events.specs.Watchers.{AtWatcher, after_sent, after_text, is_behind}
 
 -- a watcher, the bytes that its outlet took, and what became of the offers to it, where these are known
 pub record AtGuest : Type 0 where
@@ -39,6 +39,10 @@ newcomer rows taken offers =
 
 abbrev pub put_text : List ℕ → AtGuest → AtGuest
 put_text text g = record g { watcher = after_text text g.watcher }
+
+-- it doesn't keep up
+abbrev pub is_losing : AtGuest → Bool
+is_losing g = is_behind g.watcher
 
 -- after a change, if there is one: each was put its text
 abbrev pub told_of : Option Change → List AtGuest → List AtGuest

@@ -1,5 +1,5 @@
 -- What is to be sent to a watcher, and what a watcher was told.
-use Rattle.std.specs.Prelude.{◌≡◌, ℕ, ◌+◌, nat_le, Bool, List, ◌∷◌, ◌++◌, length, drop, if◌then◌else◌}
+use Rattle.std.specs.Prelude.{◌≡◌, ℕ, ◌+◌, nat_le, Bool, true, false, List, ◌∷◌, ◌++◌, length, drop, if◌then◌else◌}
 use Rattle.std.specs.List.{concat}
 use Rattle.swim_events.specs.declared.watchers.Standing.{Standing}
 use Rattle.swim_events.specs.declared.watchers.Standing.TheVariants.{Following, Losing, Lost}
@@ -9,6 +9,15 @@ use Rattle.swim_events.specs.Texts.{lost_text}
 pub record AtWatcher : Type 0 where
   pub pending : List ℕ
   pub standing : Standing
+
+-- it can't be told all any more
+abbrev pub is_behind_at : Standing → Bool
+is_behind_at Following = false
+is_behind_at Losing = true
+is_behind_at Lost = true
+
+abbrev pub is_behind : AtWatcher → Bool
+is_behind w = is_behind_at w.standing
 
 -- how many bytes may wait
 abbrev pub watcher_bytes : ℕ

@@ -1,10 +1,10 @@
 //! All who watch.
 
-ghost use Rattle.std.specs.Prelude.{◌≡◌, ◌≤◌, ◌↔◌, ◌∷◌, ◌++◌, [], ℕ, IsTrue, List, MatchBool, length, map};
+ghost use Rattle.std.specs.Prelude.{◌≡◌, ◌≤◌, ◌↔◌, ◌∷◌, ◌++◌, [], ℕ, IsTrue, List, MatchBool, count_by, length, map};
 ghost use Rattle.swim_history.specs.Setting.{Setting};
 ghost use Rattle.swim_history.specs.Changes.{table};
 ghost use Rattle.swim_events.specs.declared.events.Event.TheVariants.{Life};
-ghost use Rattle.swim_events.specs.Guests.{AreSent, AtGuest, IsUntaken, TakesTurn, newcomer, put_text};
+ghost use Rattle.swim_events.specs.Guests.{AreSent, AtGuest, IsUntaken, TakesTurn, is_losing, newcomer, put_text};
 ghost use Rattle.swim_events.specs.Telling.{AreTold};
 ghost use Rattle.swim_events.specs.Texts.{event_text};
 ghost use Rattle.swim_events.specs.Watched.{Lived};
@@ -58,6 +58,13 @@ impl<E: Outlet + Drop> Gallery<E> {
         ensures { IsTrue result ↔ (MOST_WATCHERS ≤ length self.now) }
     {
         MOST_WATCHERS <= self.queue.len()
+    }
+
+    /// How many of those who watch don't keep up.
+    pub fn losing(&self) -> usize
+        ensures { result ≡ count_by is_losing self.now }
+    {
+        self.queue.iter().filter(|guest| guest.is_losing()).count()
     }
 
     /// Takes in who is to be told these rows first. `false` where as many watch as may, or memory was refused.

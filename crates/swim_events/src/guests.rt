@@ -2,7 +2,7 @@
 
 ghost use Rattle.std.specs.Prelude.{◌≡◌, box_value};
 ghost use Rattle.swim_events.specs.declared.outlets.Offer.{Offer as Offered};
-ghost use Rattle.swim_events.specs.Guests.{IsTurn, put_text};
+ghost use Rattle.swim_events.specs.Guests.{IsTurn, is_losing, put_text};
 
 use crate::outlets::{Offer, Outlet};
 use crate::watchers::Watcher;
@@ -46,6 +46,13 @@ impl<E: Outlet + Drop> Guest<E> {
         ensures { self.new ≡ put_text text.now self.old }
     {
         self.watcher.put(text);
+    }
+
+    /// Whether it doesn't keep up.
+    pub(crate) fn is_losing(&self) -> bool
+        ensures { result ≡ is_losing self.now }
+    {
+        self.watcher.is_losing()
     }
 
     /// Offers all that is to be sent, and answers whether there is to be another turn: not where nobody takes it any more,

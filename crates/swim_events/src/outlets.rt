@@ -34,9 +34,6 @@ pub trait Outlet {
 
 /// Where those come in who watch.
 pub trait Entrance<E: Outlet> {
-    /// Whether anybody can come in.
-    fn is_open(&self) -> bool;
-
     /// The outlet of the next who has come, if one has.
     fn next(&mut self) -> Option<E>
         ensures { IfSome result (λ outlet. IsUntaken (E.taken outlet)) };

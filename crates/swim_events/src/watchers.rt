@@ -3,7 +3,7 @@
 ghost use Rattle.std.specs.Prelude.{◌≡◌, ◌≤◌, ◌+◌, ◌*◌, ◌++◌, ◌∷◌, [], ◌↔◌, ℕ, List, IsTrue, IfOk, OnOk, length, take, drop};
 ghost use Rattle.std.specs.Vec.{vec_capacity};
 ghost use Rattle.swim_events.specs.Texts.{rows_text, table_text};
-ghost use Rattle.swim_events.specs.Watchers.{after_text, after_sent, IsStream, losing};
+ghost use Rattle.swim_events.specs.Watchers.{after_text, after_sent, IsStream, is_behind, losing};
 
 use crate::events::{Event, LINE_BYTES, event_of_row, line_of};
 use std::alloc::{AllocError, Global};
@@ -98,6 +98,13 @@ impl Watcher {
         ensures { IsTrue result ↔ (self.now.standing ≡ Standing.Following) }
     {
         self.standing == Standing::Following
+    }
+
+    /// Whether it can't be told all any more.
+    pub fn is_losing(&self) -> bool
+        ensures { result ≡ is_behind self.now }
+    {
+        self.standing != Standing::Following
     }
 
     /// Whether the watcher is lost and all was sent to it, `lost` too: its connection is to be closed.

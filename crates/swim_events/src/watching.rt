@@ -43,8 +43,8 @@ impl Watching {
         }
     }
 
-    /// Goes one entry on: the change that it makes, if it makes one. Where the entries are those of a run, what is known
-    /// then is the run's table and its last period number.
+    /// Goes one entry on: the change that it makes, if it makes one. Where the entries are those of a run, what is
+    /// known then is the run's table and its last period number.
     pub fn next(&mut self, call: &Call, reply: &Reply) -> Option<Change>
         ensures change { result ≡ change_by call.now reply.now self.old.number }
         ensures rows { self.new.rows ≡ rows_then result self.old.rows }
@@ -62,6 +62,13 @@ impl Watching {
         ensures bound { length result.now ≤ KNOWN_MEMBERS }
     {
         self.rows.as_slice()
+    }
+
+    /// The last period number used.
+    pub fn number(&self) -> u64
+        ensures { result ≡ self.now.number }
+    {
+        self.number
     }
 
     /// Goes one entry on.

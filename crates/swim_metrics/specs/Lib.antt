@@ -1,0 +1,10 @@
+pub mod Counting
+pub mod Waiting
+pub mod Following
+pub mod LastHeard
+pub mod FailedFor
+pub mod Families
+pub mod Told
+pub mod Texts
+pub mod Naming
+pub mod Worked

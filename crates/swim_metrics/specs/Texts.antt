@@ -1,0 +1,51 @@
+-- The texts that tell the metrics: Prometheus's exposition format, and the lines of `stats`.
+use Rattle.std.specs.Prelude.{ℕ, List, [], ◌∷◌, ◌++◌, codes}
+use Rattle.swim_history.specs.Texts.{feed}
+use Rattle.swim_metrics.specs.declared.families.Kind.{Kind}
+use Rattle.swim_metrics.specs.declared.families.Kind.TheVariants.{Counter, Gauge, Histogram}
+use Rattle.swim_metrics.specs.declared.families.Metric.{Metric}
+use Rattle.swim_metrics.specs.declared.outside.Outside.{Outside}
+use Rattle.swim_metrics.specs.Families.{Family, Sample, all, family_of}
+use Rattle.swim_metrics.specs.declared.measures.Measures.{Measures}
+
+abbrev pub kind_text : Kind → List ℕ
+kind_text Counter = codes "counter"
+kind_text Gauge = codes "gauge"
+kind_text Histogram = codes "histogram"
+
+-- what a metric tells, and its type
+abbrev pub head_text : List ℕ → List ℕ → Kind → List ℕ
+head_text name help kind =
+    codes "# HELP " ++ (name ++ (codes " " ++ (help ++
+    (codes "\n# TYPE " ++ (name ++ (codes " " ++ (kind_text kind ++ feed)))))))
+
+-- a line for each sample
+abbrev pub sample_text : List ℕ → Sample → List ℕ
+sample_text name sample = name ++ (sample.label ++ (codes " " ++ (sample.value ++ feed)))
+
+abbrev pub samples_text : List ℕ → List Sample → List ℕ
+samples_text name [] = []
+samples_text name (sample ∷ samples) = sample_text name sample ++ samples_text name samples
+
+-- a metric in the exposition format, and in `stats`
+abbrev pub family_text : Family → List ℕ
+family_text f = head_text f.name f.help f.kind ++ samples_text f.name f.samples
+
+abbrev pub family_lines : Family → List ℕ
+family_lines f = samples_text f.name f.samples
+
+-- the same of metrics
+abbrev pub families_text : Measures → Outside → List Metric → List ℕ
+families_text m out [] = []
+families_text m out (metric ∷ others) = family_text (family_of m out metric) ++ families_text m out others
+
+abbrev pub families_lines : Measures → Outside → List Metric → List ℕ
+families_lines m out [] = []
+families_lines m out (metric ∷ others) = family_lines (family_of m out metric) ++ families_lines m out others
+
+-- the whole texts
+abbrev pub exposition_text : Measures → Outside → List ℕ
+exposition_text m out = families_text m out all
+
+abbrev pub stats_text : Measures → Outside → List ℕ
+stats_text m out = families_lines m out all ++ codes ".\n"

@@ -1,0 +1,40 @@
+//! What is told beside what entries count.
+
+use swim_wire::Id;
+
+/// What the metrics tell of a daemon that isn't in its journals' entries. Counts go on over all lives.
+#[derive(Clone, Copy, Debug, PartialEq, Eq)]
+pub struct Outside<'a> {
+    /// The version of the daemon.
+    pub version: &'a str,
+    /// This member.
+    pub me: Id,
+    /// How many milliseconds a tick has.
+    pub tick_ms: u32,
+    /// How many ticks a period has.
+    pub period: u32,
+    /// The most entries of a journal.
+    pub journal_limit: u32,
+    /// How many entries weren't read yet.
+    pub behind: u64,
+    /// Datagrams that couldn't be sent.
+    pub unsent: u64,
+    /// Datagrams that came and are no message.
+    pub wire: u64,
+    /// Calls that were refused for want of memory.
+    pub refused: u64,
+    /// Datagrams that came without a tag by a key of the group.
+    pub forged: u64,
+    /// Datagrams that came above the rate.
+    pub fenced: u64,
+    /// How many watch now.
+    pub watchers: u64,
+    /// Watchers that didn't keep up.
+    pub lost_watchers: u64,
+    /// Pings to failed members beside the probes.
+    pub knocks: u64,
+    /// Joins that the daemon made by itself.
+    pub own_joins: u64,
+    /// Times that the metrics couldn't be written to their file.
+    pub unwritten: u64,
+}

@@ -1,0 +1,118 @@
+//! A histogram of waits.
+
+ghost use Rattle.std.specs.Prelude.{◌≡◌, ℕ, List, [], ◌∷◌, ◌++◌, map};
+ghost use Rattle.std.specs.Option.{option_to_list};
+ghost use Rattle.swim_metrics.specs.Counting.{capped};
+ghost use Rattle.swim_metrics.specs.Following.{AreOf, bucket_of, bucket_then};
+ghost use Rattle.swim_metrics.specs.Waiting.{bounds};
+
+use crate::counting::{more, more_if};
+
+/// How many waits were at most so long.
+#[derive(Clone, Copy, Debug, PartialEq, Eq)]
+pub struct Bucket {
+    /// In ticks.
+    pub bound: u64,
+    pub count: u64,
+}
+
+/// How long the acks of probes were waited for, in ticks.
+#[derive(Clone, Copy, Debug, PartialEq, Eq)]
+pub struct Waits {
+    /// Each counts the waits of those before it, too.
+    pub buckets: [Bucket; 16],
+    /// All waits together.
+    pub sum: u64,
+    /// How many there were.
+    pub count: u64,
+}
+
+impl Waits {
+    /// There was none.
+    pub(crate) fn new() -> Waits
+        ensures { AreOf result [] }
+    {
+        Waits {
+            buckets: no_buckets(),
+            sum: 0,
+            count: 0,
+        }
+    }
+
+    /// After a wait, if one ended.
+    pub(crate) fn after(&self, wait: Option<u64>) -> Waits
+        ensures { (ended waits : List ℕ) → option_to_list wait ≡ map capped ended →
+            AreOf self.now waits → AreOf result (ended ++ waits) }
+    {
+        match wait {
+            Some(wait) => self.with(wait),
+            None => *self,
+        }
+    }
+
+    /// With that one.
+    fn with(&self, wait: u64) -> Waits
+        ensures { (ended : ℕ) (waits : List ℕ) → wait ≡ capped ended →
+            AreOf self.now waits → AreOf result (ended ∷ waits) }
+    {
+        let mut buckets = self.buckets;
+        count_wait(&mut buckets, wait);
+        Waits {
+            buckets,
+            sum: more(self.sum, wait),
+            count: more(self.count, 1),
+        }
+    }
+}
+
+/// The buckets of no wait. A period has at most 65535 ticks.
+fn no_buckets() -> [Bucket; 16]
+    ensures { result ≡ map (bucket_of []) bounds }
+{
+    [
+        Bucket::new(1),
+        Bucket::new(2),
+        Bucket::new(4),
+        Bucket::new(8),
+        Bucket::new(16),
+        Bucket::new(32),
+        Bucket::new(64),
+        Bucket::new(128),
+        Bucket::new(256),
+        Bucket::new(512),
+        Bucket::new(1024),
+        Bucket::new(2048),
+        Bucket::new(4096),
+        Bucket::new(8192),
+        Bucket::new(16384),
+        Bucket::new(32768),
+    ]
+}
+
+/// Counts a wait in each bucket.
+fn count_wait(buckets: &mut [Bucket], wait: u64)
+    ensures { buckets.new ≡ map (bucket_then wait) buckets.old }
+{
+    for bucket in buckets.iter_mut() {
+        *bucket = bucket.after(wait);
+    }
+}
+
+impl Bucket {
+    /// The bucket of no wait.
+    fn new(bound: u64) -> Bucket
+        ensures { result ≡ bucket_of [] bound }
+    {
+        Bucket { bound, count: 0 }
+    }
+
+    /// After a wait.
+    fn after(self, wait: u64) -> Bucket
+        ensures { result ≡ bucket_then wait self }
+    {
+        Bucket {
+            bound: self.bound,
+            count: more_if(self.count, wait <= self.bound),
+        }
+    }
+}
