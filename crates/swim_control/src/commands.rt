@@ -17,6 +17,7 @@ pub enum Word {
     Join,
     Remove,
     Gap,
+    Stats,
     Stop,
 }
 
@@ -51,6 +52,8 @@ fn first_word(text: &[u8]) -> Option<Word>
         Some(Word::Remove)
     } else if text == b"gap".as_slice() {
         Some(Word::Gap)
+    } else if text == b"stats".as_slice() {
+        Some(Word::Stats)
     } else if text == b"stop".as_slice() {
         Some(Word::Stop)
     } else {
@@ -83,6 +86,10 @@ fn read_command(word: Word, words: &mut Words<'_>) -> Result<Said, LineFault>
             let id = take_id(words, LineFault::BadId)?;
             nothing_left(words, LineFault::Extra)?;
             Ok(Said::Asks(Command::Gap(id)))
+        }
+        Word::Stats => {
+            nothing_left(words, LineFault::Extra)?;
+            Ok(Said::Asks(Command::Stats))
         }
         Word::Stop => {
             nothing_left(words, LineFault::Extra)?;

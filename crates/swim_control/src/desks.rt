@@ -1,8 +1,9 @@
 //! Who is asked what control lines ask.
 
 ghost use Rattle.swim_control.specs.declared.desks.Command.{Command};
-ghost use Rattle.swim_control.specs.Desks.{Told, Shows, Measures, Answers};
+ghost use Rattle.swim_control.specs.Desks.{Told, Shows, Measures, Answers, Counts};
 
+use arrayvec::ArrayVec;
 use std::alloc::Global;
 use std::sync::Wait;
 use swim_history::{Gap, Table};
@@ -19,7 +20,15 @@ pub enum Command {
     Remove(Id),
     /// How far apart were the probes of the member?
     Gap(Id),
+    /// What was counted?
+    Stats,
 }
+
+/// How many bytes a text of counts has at most.
+pub const STATS_BYTES: usize = 8192;
+
+/// A text of counts: lines, and a dot in the last one.
+pub type StatsText = ArrayVec<u8, STATS_BYTES>;
 
 /// What a desk answers to a join or a removal.
 #[derive(Clone, Copy, Debug, PartialEq, Eq)]
@@ -57,4 +66,8 @@ pub trait Desk {
     /// The widest gap between successive probes of a member, if there is one.
     fn gap<R: Wait>(&mut self, rt: &R, id: Id) -> Option<Gap>
         ensures { asks self.old (Command.Gap id) (Measures result) self.new };
+
+    /// What was counted.
+    fn stats<R: Wait>(&mut self, rt: &R) -> StatsText
+        ensures { asks self.old Command.Stats (Counts result) self.new };
 }

@@ -5,7 +5,7 @@ ghost use Rattle.swim_wire.specs.Streams.{Puts, failures_if};
 ghost use Rattle.swim_history.specs.Texts.{feed};
 ghost use Rattle.swim_control.specs.Texts.{fault_text, list_text, answer_text};
 
-use crate::desks::Answer;
+use crate::desks::{Answer, StatsText};
 use crate::faults::Fault;
 use swim_history::{Table, put_table};
 use swim_wire::{Sink, put_numbered};
@@ -41,6 +41,14 @@ pub fn put_answer<W: Sink>(writer: &mut W, answer: Answer) -> bool
         Answer::JournalFull => writer.put(b"journal full\n"),
         Answer::NoMemory => writer.put(b"no memory\n"),
     }
+}
+
+/// A text of counts.
+pub fn put_counts<W: Sink>(writer: &mut W, text: &StatsText) -> bool
+    ensures bytes { Puts (W.written writer.old) (W.written writer.new) text.now.items result }
+    ensures failures { W.failures writer.new ≡ failures_if (W.failures writer.old) result }
+{
+    writer.put(text.as_slice())
 }
 
 /// The line of a word and a number.

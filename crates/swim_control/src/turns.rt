@@ -12,7 +12,7 @@ use crate::commands::{Said, read_line};
 use crate::desks::{Answer, Command, Desk};
 use crate::faults::Fault;
 use crate::serving::Served;
-use crate::texts::{put_answer, put_fault, put_list};
+use crate::texts::{put_answer, put_counts, put_fault, put_list};
 use std::alloc::Global;
 use std::sync::Wait;
 use swim_history::put_gap;
@@ -85,6 +85,10 @@ fn carry_out<R: Wait, W: Sink, D: Desk>(
         Command::Gap(id) => {
             let gap = desk.gap(rt, id);
             close(put_gap(writer, gap), None)
+        }
+        Command::Stats => {
+            let text = desk.stats(rt);
+            close(put_counts(writer, &text), None)
         }
         Command::Join(id, peer) => {
             let answer = desk.join(rt, alloc, id, peer);

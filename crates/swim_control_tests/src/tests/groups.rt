@@ -4,7 +4,7 @@ use std::alloc::Global;
 use std::process::Abort;
 use std::sync::Wait;
 use std::test::*;
-use swim_control::{Answer, Desk, Served, serve};
+use swim_control::{Answer, Desk, Served, StatsText, serve};
 use swim_history::{Gap, Row, RowState, Table};
 use swim_wire::{Id, Page, Peer, ReadSource, Sink, Source, Text};
 
@@ -138,6 +138,12 @@ impl Desk for Group {
         } else {
             None
         }
+    }
+
+    fn stats<R: Wait>(&mut self, _rt: &R) -> StatsText {
+        let mut text = StatsText::new();
+        let _is_added = text.try_extend_from_slice(b"swimd_ticks_total 5\n.\n");
+        text
     }
 }
 

@@ -1,7 +1,7 @@
 use Rattle.std.proofs.Common.{Option, ◌∙◌, ap}
-use Rattle.swim_control.specs.declared.desks.Command.TheVariants.{List as Lists, Join, Remove, Gap}
+use Rattle.swim_control.specs.declared.desks.Command.TheVariants.{List as Lists, Join, Remove, Gap, Stats}
 use Rattle.swim_control.specs.declared.serving.Served.{Served}
-use Rattle.swim_control.specs.Desks.{Shows, Measures, Answers}
+use Rattle.swim_control.specs.Desks.{Shows, Measures, Answers, Counts}
 use Rattle.swim_control.specs.Turns.{closed}
 use Rattle.swim_control.proofs.LineTurns.{told_turned, end_told}
 use Rattle.swim_control.proofs.turns.carry_out.Goals as goal
@@ -25,3 +25,8 @@ pub returns-in-Remove-clause-turned : goal.returns-in-Remove-clause-turned
 returns-in-Remove-clause-turned g c =
     rw c.in-Remove.is (told_turned g.D.Desk.asks (Remove c.in-Remove.id) (Answers c.remove-answer.result) c.args.desk.now c.remove-answer.new.self (g.W.Sink.written c.args.writer.now) (g.W.Sink.written c.put_answer-in-Remove.new.writer) c.put_answer-in-Remove.result c.close-in-Remove.result
     c.remove-answer.ensures c.put_answer-in-Remove.ensures.bytes (c.close-in-Remove.ensures ∙ ap (λ (end : Option Served). closed c.put_answer-in-Remove.result end) (c.end_of-in-Remove.ensures ∙ end_told c.remove-answer.result)))
+
+pub returns-in-Stats-clause-turned : goal.returns-in-Stats-clause-turned
+returns-in-Stats-clause-turned g c =
+    rw c.in-Stats.is (told_turned g.D.Desk.asks Stats (Counts c.stats-text.result) c.args.desk.now c.stats-text.new.self (g.W.Sink.written c.args.writer.now) (g.W.Sink.written c.put_counts.new.writer) c.put_counts.result c.close-in-Stats.result
+    c.stats-text.ensures c.put_counts.ensures.bytes c.close-in-Stats.ensures)
