@@ -28,6 +28,7 @@ use Rattle.swim_config.specs.declared.config.Place.{Place}
 use Rattle.swim_config.specs.declared.config.Times.{Times}
 use Rattle.swim_config.specs.declared.config.Kept.{Kept}
 use Rattle.swim_config.specs.declared.config.Fence.{Fence}
+use Rattle.swim_config.specs.declared.config.Rejoin.{Rejoin}
 use Rattle.swim_config.specs.declared.config.JournalFiles.{JournalFiles}
 use Rattle.swim_config.specs.declared.config.Settings.{Settings}
 use Rattle.swim_config.specs.GroupKeys.{keys_at}
@@ -119,15 +120,28 @@ path_in key (Some value) = do
 abbrev pub path_if : Key → Members → Result (Option (List ℕ)) ConfigFault
 path_if key table = path_in key (get_member (name_of key) table)
 
--- the path of the events' socket, which isn't that of the control socket
-abbrev pub another_than : List ℕ → Option (List ℕ) → Result (Option (List ℕ)) ConfigFault
-another_than control None = Ok None
-another_than control (Some path) = if bytes_eq path control then Err (faults.Range keys.Events) else Ok (Some path)
+-- the path of this key, which isn't the other one
+abbrev pub another_than : Key → List ℕ → Option (List ℕ) → Result (Option (List ℕ)) ConfigFault
+another_than key other None = Ok None
+another_than key other (Some path) = if bytes_eq path other then Err (faults.Range key) else Ok (Some path)
 
+-- the same where the other one may be left out
+abbrev pub another_than_any : Key → Option (List ℕ) → Option (List ℕ) → Result (Option (List ℕ)) ConfigFault
+another_than_any key None path = Ok path
+another_than_any key (Some other) path = another_than key other path
+
+-- the path of the events' socket, which isn't that of the control socket
 abbrev pub events_at : List ℕ → Members → Result (Option (List ℕ)) ConfigFault
 events_at control table = do
   path ← path_if keys.Events table
-  another_than control path
+  another_than keys.Events control path
+
+-- the path of the metrics' file, which is that of neither socket
+abbrev pub metrics_at : List ℕ → Option (List ℕ) → Members → Result (Option (List ℕ)) ConfigFault
+metrics_at control events table = do
+  path ← path_if keys.Metrics table
+  other ← another_than keys.Metrics control path
+  another_than_any keys.Metrics events other
 
 -- the 32 bytes that 64 hexadecimal digits spell
 abbrev pub seed_at : Members → Result (List ℕ) ConfigFault
@@ -183,7 +197,8 @@ place_in table = do
   listen ← peer_at keys.Listen table
   control ← path_at table
   events ← events_at control table
-  Ok (record { id = id; listen = listen; control = control; events = events })
+  metrics ← metrics_at control events table
+  Ok (record { id = id; listen = listen; control = control; events = events; metrics = metrics })
 
 -- how many relays are asked, and how long things last
 unfoldable pub times_in : Members → Result Times ConfigFault
@@ -221,6 +236,12 @@ fence_in table = do
   rate ← number_at keys.Fence table
   Ok (record { rate = rate; is_given = is_given keys.Fence table })
 
+-- how often a failed member is knocked at
+unfoldable pub rejoin_in : Members → Result Rejoin ConfigFault
+rejoin_in table = do
+  periods ← number_at keys.Rejoin table
+  Ok (record { periods = periods; is_given = is_given keys.Rejoin table })
+
 -- all of it, but for the members
 unfoldable pub settings_in : Members → Result Settings ConfigFault
 settings_in table = do
@@ -230,6 +251,7 @@ settings_in table = do
   version ← version_in table
   group ← keys_at table
   fence ← fence_in table
+  rejoin ← rejoin_in table
   files ← files_in table
   Ok (record {
     place = place;
@@ -238,6 +260,7 @@ settings_in table = do
     version = version;
     keys = group;
     fence = fence;
+    rejoin = rejoin;
     files = files;
   })
 
@@ -258,6 +281,7 @@ config_unless None s opening =
       listen = s.place.listen;
       control = s.place.control;
       events = s.place.events;
+      metrics = s.place.metrics;
       tick_ms = s.times.tick_ms;
       seed = s.kept.seed;
       journal = s.kept.journal;
@@ -265,6 +289,8 @@ config_unless None s opening =
       begins_by_clock = begins_by_clock s;
       fence = s.fence.rate;
       is_fence_given = s.fence.is_given;
+      rejoin = s.rejoin.periods;
+      is_rejoin_given = s.rejoin.is_given;
       files = s.files;
       opening = opening;
     })
@@ -301,6 +327,10 @@ told_last config = if config.begins_by_clock then None else Some config.opening.
 abbrev pub told_fence : Config → Option ℕ
 told_fence config = if config.is_fence_given then Some config.fence else None
 
+-- the periods between knocks, where they are given
+abbrev pub told_rejoin : Config → Option ℕ
+told_rejoin config = if config.is_rejoin_given then Some config.rejoin else None
+
 -- the number that a summary tells of a key; none where it tells none, as of a key that is left out
 abbrev pub number_of : Key → Config → Option ℕ
 number_of keys.K config = Some config.opening.k
@@ -312,6 +342,7 @@ number_of keys.Journal config = Some config.journal
 number_of keys.Wire config = told_version config.opening.version
 number_of keys.Keys config = told_count (length config.keys.items)
 number_of keys.Fence config = told_fence config
+number_of keys.Rejoin config = told_rejoin config
 number_of keys.JournalKeep config = told_keep config.files
 number_of key config = None
 

@@ -25,6 +25,7 @@ entry_of keys.Id = required (codes "id") (Number 1 4294967295) (codes "this memb
 entry_of keys.Listen = required (codes "listen") Peer (codes "where its datagrams come in")
 entry_of keys.Control = required (codes "control") Path (codes "the path of the control socket")
 entry_of keys.Events = required (codes "events") Path (codes "the path of the events' socket, not that of control")
+entry_of keys.Metrics = required (codes "metrics") Path (codes "the path of the metrics' file, not that of a socket")
 entry_of keys.K =
     record {
       name = codes "k";
@@ -65,6 +66,14 @@ entry_of keys.Fence =
       about = codes "datagrams a second of an address, 0 for all";
       begins_line = false;
     }
+entry_of keys.Rejoin =
+    record {
+      name = codes "rejoin";
+      form = Number 0 65535;
+      default = Some 0;
+      about = codes "periods between knocks at failed members, 0 for none";
+      begins_line = false;
+    }
 entry_of keys.JournalDir = required (codes "journal_dir") Path (codes "the folder of the journal files")
 entry_of keys.JournalKeep =
     record {
@@ -81,8 +90,9 @@ entry_of keys.MemberAt = required (codes "at") Peer (codes "where another member
 -- the keys of a configuration, and those of a member, in the order in which their faults are told
 abbrev pub top_keys : List Key
 top_keys =
-    keys.Id ∷ keys.Listen ∷ keys.Control ∷ keys.Events ∷ keys.K ∷ keys.Rtt ∷ keys.Period ∷ keys.TickMs ∷ keys.Seed ∷
-    keys.Journal ∷ keys.Last ∷ keys.Wire ∷ keys.Keys ∷ keys.Fence ∷ keys.JournalDir ∷ keys.JournalKeep ∷ keys.Member ∷ []
+    keys.Id ∷ keys.Listen ∷ keys.Control ∷ keys.Events ∷ keys.Metrics ∷ keys.K ∷ keys.Rtt ∷ keys.Period ∷ keys.TickMs ∷
+    keys.Seed ∷ keys.Journal ∷ keys.Last ∷ keys.Wire ∷ keys.Keys ∷ keys.Fence ∷ keys.Rejoin ∷ keys.JournalDir ∷
+    keys.JournalKeep ∷ keys.Member ∷ []
 
 abbrev pub member_keys : List Key
 member_keys = keys.MemberId ∷ keys.MemberAt ∷ []
@@ -91,7 +101,7 @@ member_keys = keys.MemberId ∷ keys.MemberAt ∷ []
 abbrev pub number_keys : List Key
 number_keys =
     keys.K ∷ keys.Rtt ∷ keys.Period ∷ keys.TickMs ∷ keys.Last ∷ keys.Journal ∷ keys.Wire ∷ keys.Keys ∷ keys.Fence ∷
-    keys.JournalKeep ∷ []
+    keys.Rejoin ∷ keys.JournalKeep ∷ []
 
 -- ---- what follows of a key
 

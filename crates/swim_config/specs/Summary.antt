@@ -57,10 +57,13 @@ abbrev pub path_text : List ℕ → Option (List ℕ) → List ℕ
 path_text words None = []
 path_text words (Some path) = words ++ path
 
--- where events are told, and where the journal files are made
+-- where events and metrics are told
+abbrev pub telling_text : Config → List ℕ
+telling_text config = path_text (codes "\nevents ") config.events ++ path_text (codes "\nmetrics ") config.metrics
+
+-- and where the journal files are made
 abbrev pub paths_text : Config → List ℕ
-paths_text config =
-    path_text (codes "\nevents ") config.events ++ path_text (codes "\njournal_dir ") config.files.dir
+paths_text config = telling_text config ++ path_text (codes "\njournal_dir ") config.files.dir
 
 -- all of that
 abbrev pub place_text : Config → List ℕ

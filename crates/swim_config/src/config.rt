@@ -3,13 +3,15 @@
 ghost use Rattle.std.specs.Prelude.{◌≡◌};
 ghost use Rattle.toml.specs.View.{table_view};
 ghost use Rattle.swim_wire.specs.Layout.{version_of};
-ghost use Rattle.swim_config.specs.Configuration.{another_than, config_with, events_at, fence_in, files_in, kept_in};
-ghost use Rattle.swim_config.specs.Configuration.{number_of, place_in, settings_in, times_in, told_count, told_fence, told_keep};
-ghost use Rattle.swim_config.specs.Configuration.{told_last, told_version, version_in};
+ghost use Rattle.swim_config.specs.Configuration.{config_with, fence_in, files_in};
+ghost use Rattle.swim_config.specs.Configuration.{kept_in, number_of, place_in, rejoin_in, settings_in, times_in};
+ghost use Rattle.swim_config.specs.Configuration.{told_count, told_fence, told_keep, told_last, told_rejoin, told_version};
+ghost use Rattle.swim_config.specs.Configuration.{version_in};
 
 use crate::config_fault::ConfigFault;
 use crate::group_keys::{GroupKeys, take_keys};
 use crate::keys::Key;
+use crate::paths::{take_events, take_metrics};
 use crate::socket_path::SocketPath;
 use crate::values::{
     find, take_id, take_number, take_path, take_path_if, take_peer, take_seed, take_small,
@@ -28,6 +30,8 @@ pub struct Config {
     pub control: SocketPath,
     /// The path of the socket where events are told, if they are; not that of the control socket.
     pub events: Option<SocketPath>,
+    /// The path of the file where metrics are told, if they are; that of neither socket.
+    pub metrics: Option<SocketPath>,
     /// How long a tick lasts, in milliseconds: 1 to 60000.
     pub tick_ms: u32,
     /// The seed of the draws.
@@ -42,6 +46,10 @@ pub struct Config {
     pub fence: u32,
     /// Whether `fence` stands in the document.
     pub is_fence_given: bool,
+    /// At every how manieth start of a period a failed member is knocked at: 0 to 65535, 0 for none.
+    pub rejoin: u32,
+    /// Whether `rejoin` stands in the document.
+    pub is_rejoin_given: bool,
     /// Where each life's journal is written to a file, if it is.
     pub files: JournalFiles,
     /// What its detector starts from.
@@ -55,6 +63,7 @@ pub struct Place {
     pub listen: Peer,
     pub control: SocketPath,
     pub events: Option<SocketPath>,
+    pub metrics: Option<SocketPath>,
 }
 
 /// How many relays are asked, and how long things last.
@@ -85,6 +94,15 @@ pub struct Fence {
     pub is_given: bool,
 }
 
+/// How members come back.
+#[derive(Clone, Copy, Debug, PartialEq, Eq)]
+pub struct Rejoin {
+    /// At every how manieth start of a period a failed member is knocked at; 0 for none.
+    pub periods: u32,
+    /// Whether it stands in the document.
+    pub is_given: bool,
+}
+
 /// The journal files.
 #[derive(Debug, Drop)]
 pub struct JournalFiles {
@@ -104,6 +122,7 @@ pub struct Settings {
     pub version: Version,
     pub keys: GroupKeys,
     pub fence: Fence,
+    pub rejoin: Rejoin,
     pub files: JournalFiles,
 }
 
@@ -123,6 +142,7 @@ impl Config {
             Key::Wire => told_version(opening.version()),
             Key::Keys => told_count(self.keys.len()),
             Key::Fence => self.told_fence(),
+            Key::Rejoin => self.told_rejoin(),
             Key::JournalKeep => self.files.told_keep(),
             _ => None,
         }
@@ -145,6 +165,17 @@ impl Config {
     {
         if self.is_fence_given {
             Some(u64::from(self.fence))
+        } else {
+            None
+        }
+    }
+
+    /// The periods between knocks, where they are given.
+    fn told_rejoin(&self) -> Option<u64>
+        ensures { result ≡ told_rejoin self.now }
+    {
+        if self.is_rejoin_given {
+            Some(u64::from(self.rejoin))
         } else {
             None
         }
@@ -192,6 +223,7 @@ pub fn take_settings(table: &Table) -> Result<Settings, ConfigFault>
     let version = take_version(table)?;
     let keys = take_keys(table)?;
     let fence = take_fence(table)?;
+    let rejoin = take_rejoin(table)?;
     let files = take_files(table)?;
     Ok(Settings {
         place,
@@ -200,6 +232,7 @@ pub fn take_settings(table: &Table) -> Result<Settings, ConfigFault>
         version,
         keys,
         fence,
+        rejoin,
         files,
     })
 }
@@ -212,36 +245,14 @@ fn take_place(table: &Table) -> Result<Place, ConfigFault>
     let listen = take_peer(table, Key::Listen)?;
     let control = take_path(table)?;
     let events = take_events(table, &control)?;
+    let metrics = take_metrics(table, &control, &events)?;
     Ok(Place {
         id,
         listen,
         control,
         events,
+        metrics,
     })
-}
-
-fn take_events(table: &Table, control: &SocketPath) -> Result<Option<SocketPath>, ConfigFault>
-    ensures { result ≡ events_at control.now (table_view table.now) }
-{
-    let path = take_path_if(table, Key::Events)?;
-    another_than(control, path)
-}
-
-/// The path, where it isn't that of the control socket.
-fn another_than(
-    control: &SocketPath,
-    path: Option<SocketPath>,
-) -> Result<Option<SocketPath>, ConfigFault>
-    ensures { result ≡ another_than control.now path }
-{
-    let Some(path) = path else {
-        return Ok(None);
-    };
-    if path.as_str() == control.as_str() {
-        Err(ConfigFault::Range(Key::Events))
-    } else {
-        Ok(Some(path))
-    }
 }
 
 #[tactic(auto, unfolding(crate::specs::Configuration::times_in))]
@@ -304,6 +315,15 @@ fn take_fence(table: &Table) -> Result<Fence, ConfigFault>
     Ok(Fence { rate, is_given })
 }
 
+#[tactic(auto, unfolding(crate::specs::Configuration::rejoin_in))]
+fn take_rejoin(table: &Table) -> Result<Rejoin, ConfigFault>
+    ensures { result ≡ rejoin_in (table_view table.now) }
+{
+    let periods = take_small_or(table, Key::Rejoin, 0)?;
+    let is_given = find(table, Key::Rejoin).is_some();
+    Ok(Rejoin { periods, is_given })
+}
+
 #[tactic(auto, unfolding(crate::specs::Configuration::files_in))]
 fn take_files(table: &Table) -> Result<JournalFiles, ConfigFault>
     ensures { result ≡ files_in (table_view table.now) }
@@ -324,6 +344,7 @@ pub fn config_with(settings: Settings, members: &[(Id, Peer)]) -> Result<Config,
         version,
         keys,
         fence,
+        rejoin,
         files,
     } = settings;
     let seed = kept.seed;
@@ -342,6 +363,7 @@ pub fn config_with(settings: Settings, members: &[(Id, Peer)]) -> Result<Config,
             listen: place.listen,
             control: place.control,
             events: place.events,
+            metrics: place.metrics,
             tick_ms: times.tick_ms,
             seed,
             journal: kept.journal,
@@ -349,6 +371,8 @@ pub fn config_with(settings: Settings, members: &[(Id, Peer)]) -> Result<Config,
             begins_by_clock,
             fence: fence.rate,
             is_fence_given: fence.is_given,
+            rejoin: rejoin.periods,
+            is_rejoin_given: rejoin.is_given,
             files,
             opening,
         }),

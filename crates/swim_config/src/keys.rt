@@ -15,6 +15,8 @@ pub enum Key {
     Control,
     /// The path of the socket where events are told.
     Events,
+    /// The path of the file where metrics are told.
+    Metrics,
     /// How many relays are asked.
     K,
     /// For how many ticks a direct ack is waited for.
@@ -35,6 +37,8 @@ pub enum Key {
     Keys,
     /// How many datagrams a second of an address are handed on.
     Fence,
+    /// At every how manieth start of a period a failed member is knocked at.
+    Rejoin,
     /// The folder of the journal files.
     JournalDir,
     /// How many journal files stay.
@@ -80,11 +84,12 @@ struct Entry {
 }
 
 /// The keys of a configuration, in the order in which their faults are told.
-pub const TOP_KEYS: [Key; 17] = [
+pub const TOP_KEYS: [Key; 19] = [
     Key::Id,
     Key::Listen,
     Key::Control,
     Key::Events,
+    Key::Metrics,
     Key::K,
     Key::Rtt,
     Key::Period,
@@ -95,13 +100,14 @@ pub const TOP_KEYS: [Key; 17] = [
     Key::Wire,
     Key::Keys,
     Key::Fence,
+    Key::Rejoin,
     Key::JournalDir,
     Key::JournalKeep,
     Key::Member,
 ];
 
 /// The keys whose numbers a summary tells behind its first three lines, in this order.
-pub const NUMBER_KEYS: [Key; 10] = [
+pub const NUMBER_KEYS: [Key; 11] = [
     Key::K,
     Key::Rtt,
     Key::Period,
@@ -111,6 +117,7 @@ pub const NUMBER_KEYS: [Key; 10] = [
     Key::Wire,
     Key::Keys,
     Key::Fence,
+    Key::Rejoin,
     Key::JournalKeep,
 ];
 
@@ -134,6 +141,11 @@ impl Key {
                 "events",
                 Form::Path,
                 "the path of the events' socket, not that of control",
+            ),
+            Key::Metrics => required(
+                "metrics",
+                Form::Path,
+                "the path of the metrics' file, not that of a socket",
             ),
             Key::K => Entry {
                 name: "k",
@@ -183,6 +195,13 @@ impl Key {
                 form: Form::Number(0, 4_294_967_295),
                 default: Some(1_000),
                 about: "datagrams a second of an address, 0 for all",
+                begins_line: false,
+            },
+            Key::Rejoin => Entry {
+                name: "rejoin",
+                form: Form::Number(0, 65_535),
+                default: Some(0),
+                about: "periods between knocks at failed members, 0 for none",
                 begins_line: false,
             },
             Key::JournalDir => required(

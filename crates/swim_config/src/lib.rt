@@ -14,6 +14,7 @@ mod hiding;
 mod inputs;
 mod keys;
 mod members;
+mod paths;
 mod places;
 mod reading;
 mod socket_path;

@@ -4,7 +4,7 @@ ghost use Rattle.std.specs.Prelude.{◌≡◌, ◌++◌, length};
 ghost use Rattle.swim_wire.specs.Streams.{Puts, failures_if};
 ghost use Rattle.swim_config.specs.Summary.{all_members_text, count_text, mark_of, member_text, members_text, number_text};
 ghost use Rattle.swim_config.specs.Summary.{numbers_and_members_text, numbers_text, own_text, path_text, paths_text};
-ghost use Rattle.swim_config.specs.Summary.{place_text, summary_text, told_text};
+ghost use Rattle.swim_config.specs.Summary.{place_text, summary_text, telling_text, told_text};
 
 use crate::config::Config;
 use crate::keys::{Key, NUMBER_KEYS};
@@ -23,7 +23,7 @@ pub fn summary<W: Sink>(config: &Config, writer: &mut W) -> bool
     put_numbers_and_members(writer, config)
 }
 
-/// Who this member is, where it listens, where events are told, and where its journal files are made.
+/// Who this member is, where it listens, where events and metrics are told, and where its journal files are made.
 fn put_place<W: Sink>(writer: &mut W, config: &Config) -> bool
     ensures bytes { Puts (W.written writer.old) (W.written writer.new) (place_text config.now) result }
     ensures failures { W.failures writer.new ≡ failures_if (W.failures writer.old) result }
@@ -50,15 +50,26 @@ fn put_own<W: Sink>(writer: &mut W, config: &Config) -> bool
     put_pieces(writer, &pieces)
 }
 
-/// Where events are told, and where the journal files are made.
+/// Where events and metrics are told, and where the journal files are made.
 fn put_paths<W: Sink>(writer: &mut W, config: &Config) -> bool
     ensures bytes { Puts (W.written writer.old) (W.written writer.new) (paths_text config.now) result }
+    ensures failures { W.failures writer.new ≡ failures_if (W.failures writer.old) result }
+{
+    if !put_telling(writer, config) {
+        return false;
+    }
+    put_path(writer, b"\njournal_dir ", &config.files.dir)
+}
+
+/// Where events are told, and where metrics are.
+fn put_telling<W: Sink>(writer: &mut W, config: &Config) -> bool
+    ensures bytes { Puts (W.written writer.old) (W.written writer.new) (telling_text config.now) result }
     ensures failures { W.failures writer.new ≡ failures_if (W.failures writer.old) result }
 {
     if !put_path(writer, b"\nevents ", &config.events) {
         return false;
     }
-    put_path(writer, b"\njournal_dir ", &config.files.dir)
+    put_path(writer, b"\nmetrics ", &config.metrics)
 }
 
 /// A path that may be left out, behind these words.

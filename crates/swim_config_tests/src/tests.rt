@@ -5,4 +5,5 @@ mod events;
 mod fences;
 mod keys;
 mod refusals;
+mod rejoins;
 mod versions;
