@@ -18,10 +18,10 @@ use Rattle.swim_life.specs.Finished.{AreSent, IsFinished}
 use Rattle.swim_life.specs.Posts.{AtSender, Posted}
 
 -- what a contract sees of a sender
-abbrev at_sender : {O : Type 0} → Seated → O → Counts → AtSender O
+abbrev pub at_sender : {O : Type 0} → Seated → O → Counts → AtSender O
 at_sender seat post counts = record { seat = seat; post = post; counts = counts }
 
-refused_so : {O N : Type 0} (posted : O → Option (List Posted)) (messages : Receipt N → List (Address × Message)) (old new : Seated)
+pub refused_so : {O N : Type 0} (posted : O → Option (List Posted)) (messages : Receipt N → List (Address × Message)) (old new : Seated)
     (fault : CallFault) (boxed post after : O) (counts next : Counts) (end : Option Why) → post ≡ boxed → new ≡ refused fault old →
     IsFinished posted (Err fault) messages post counts end after next →
     IsRefused fault (at_sender old boxed counts) end (at_sender new after next)
@@ -33,7 +33,7 @@ refused_so posted messages old new faults.JournalFull boxed post after counts ne
     record { same = rw (seat, done.1, in_box, done.2) refl; ends = done.0 }
 
 -- only what couldn't be sent was counted
-count_kept : {O : Type 0} (posted : O → Option (List Posted)) (messages : List (Address × Message)) (post after : O) (counts next : Counts) →
+pub count_kept : {O : Type 0} (posted : O → Option (List Posted)) (messages : List (Address × Message)) (post after : O) (counts next : Counts) →
     AreSent messages (posted post) (posted after) counts next → next ≡ record counts { unsent = next.unsent }
 count_kept posted messages post after counts next sent =
     subst (λ (c : Counts). c ≡ record counts { unsent = c.unsent }) (sym sent.2) refl

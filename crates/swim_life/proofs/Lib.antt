@@ -2,9 +2,14 @@ pub mod Called
 pub mod Crying
 pub mod Fullness
 pub mod Heard
+pub mod Knocked
+pub mod Learning
 pub mod LifeFiles
 pub mod Living
 pub mod Posting
+pub mod Receiving
+pub mod Rejoined
+pub mod Same
 pub mod Sent
 pub mod Showing
 pub mod Told

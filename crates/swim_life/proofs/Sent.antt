@@ -27,7 +27,7 @@ use Rattle.swim_life.specs.Posts.{Posted, ArePosted, handed, datagram, IsFresh, 
 use Rattle.swim_life.proofs.Posting.{grows_both, none_posted}
 
 -- some messages, and then others
-are_both : (xs ys : List (Address × Message)) (a b c : Option (List Posted)) (m n : ℕ) →
+pub are_both : (xs ys : List (Address × Message)) (a b c : Option (List Posted)) (m n : ℕ) →
     ArePosted xs a b m → ArePosted ys b c n → ArePosted (xs ++ ys) a c (m + n)
 are_both xs ys a b c m n p q = record {
   posted = p.posted ++ q.posted;

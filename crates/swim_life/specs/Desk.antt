@@ -13,8 +13,8 @@ use Rattle.swim_history.specs.Reasons.{refusal_number}
 use Rattle.swim_control.specs.declared.desks.Answer.{Answer}
 use Rattle.swim_control.specs.declared.desks.Answer.TheVariants.{Joined, Removed, Refused, JournalFull, NoMemory}
 use Rattle.swim_control.specs.declared.desks.Command.{Command}
-use Rattle.swim_control.specs.declared.desks.Command.TheVariants.{List as Lists, Join, Remove, Gap}
-use Rattle.swim_control.specs.Desks.{Told, Shows, Measures, Answers}
+use Rattle.swim_control.specs.declared.desks.Command.TheVariants.{List as Lists, Join, Remove, Gap, Stats}
+use Rattle.swim_control.specs.Desks.{Told, Shows, Measures, Answers, Counts}
 use Rattle.swim_node.specs.declared.receipts.CallFault.{CallFault}
 use Rattle.swim_node.specs.declared.receipts.CallFault.TheVariants as faults
 use Rattle.swim_node.specs.Seats.{Seated}
@@ -77,6 +77,7 @@ Asks o limit old Lists (Shows table) new =
     (new ≡ record old { seen = new.seen }) × IsPrefix old.seen new.seen
     × IfSome table (λ rows. rows.items ≡ table_after o new.seen)
 Asks o limit old (Gap member) (Measures gap) new = (new ≡ old) × IsGapAtMoment o old.seat member gap
+Asks o limit old Stats (Counts text) new = new ≡ old
 Asks o limit old (Join id peer) (Answers answer) new = Calls o limit old (calls.Join id peer) answer new
 Asks o limit old (Remove id) (Answers answer) new = Calls o limit old (calls.Remove id) answer new
 Asks o limit old command told new = ⊥

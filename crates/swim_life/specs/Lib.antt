@@ -1,3 +1,4 @@
+pub mod Answers
 pub mod Calling
 pub mod Desk
 pub mod Draws
@@ -6,11 +7,14 @@ pub mod Ends
 pub mod Faults
 pub mod Finished
 pub mod Gates
+pub mod Knocking
 pub mod Lives
 pub mod Notices
 pub mod Pacing
 pub mod Places
 pub mod Posts
+pub mod Rejoining
+pub mod Reports
 pub mod Showing
 pub mod Turns
 pub mod Watched

@@ -1,5 +1,5 @@
 -- What those are told who watch lives.
-use Rattle.std.specs.Prelude.{◌≡◌, ℕ, Bool, true, false, List, [], ◌∷◌}
+use Rattle.std.specs.Prelude.{◌≡◌, ℕ, List, [], ◌∷◌, Option}
 use Rattle.swim_history.specs.declared.entries.Entry.{Entry}
 use Rattle.swim_history.specs.Run.{IsRun}
 use Rattle.swim_history.specs.Setting.{Setting, IsSetting}
@@ -10,6 +10,7 @@ use Rattle.swim_events.specs.Telling.{AreTold}
 use Rattle.swim_events.specs.Watched.{Lived}
 use Rattle.swim_events.specs.Watching.{Known, known}
 use Rattle.swim_journal.specs.Journals.{Scribed}
+use Rattle.swim_life.specs.Reports.{Report, HasHeardOf}
 
 -- a life of this number, with this history
 abbrev pub lived : ℕ → Setting → List Entry → Lived
@@ -26,19 +27,22 @@ abbrev pub AreToldLife : ℕ → Setting → List AtGuest → List Entry → Lis
 AreToldLife number o before h after =
     (older : List Lived) → AreTold older before → AreTold (lived number o h ∷ older) after
 
--- of each history with the calls that were read: what is known is the history's, and those who watch are told it
-abbrev pub Tells : Setting → List AtGuest → List Filing → Known → List AtGuest → Type 0
-Tells o before read w now =
-    (h : List Entry) → IsSetting o → IsRun o h → filings_of h ≡ read → (w ≡ known o h) × AreToldOn o before h now
+-- of each history with the calls that were read: what is known is the history's, those who watch are told it, and the reporter
+-- has heard of its calls
+pub record Tells (o : Setting) (h : List Entry) (guests : List AtGuest) (heard : Option (List Report)) (w : Known)
+    (now : List AtGuest) (hears : Option (List Report)) : Type 0 where
+  pub knows : w ≡ known o h
+  pub told : AreToldOn o guests h now
+  pub reported : HasHeardOf o h heard hears
 
--- where nobody may watch, nobody does
-abbrev pub MayTell : Bool → Setting → List AtGuest → List Filing → Known → List AtGuest → Type 0
-MayTell true o before read w now = Tells o before read w now
-MayTell false o before read w now = now ≡ []
+abbrev pub TellsAll : Setting → List AtGuest → Option (List Report) → List Filing → Known → List AtGuest →
+    Option (List Report) → Type 0
+TellsAll o guests heard read w now hears =
+    (h : List Entry) → IsSetting o → IsRun o h → filings_of h ≡ read → Tells o h guests heard w now hears
 
 -- what a contract sees of who reads a journal, writes it and tells what it changes
-pub record AtCrier (W : Type 0) : Type 0 where
+pub record AtCrier (W Y : Type 0) : Type 0 where
   pub scribe : Scribed W
   pub watching : Known
   pub gallery : List AtGuest
-  pub is_heard : Bool
+  pub reporter : Y

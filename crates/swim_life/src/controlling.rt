@@ -9,7 +9,9 @@ use crate::counts::{Faults, Why};
 use crate::gates::{Door, Knock};
 use crate::halls::Hall;
 use crate::holding::{Held, Left};
+use crate::meters::Meter;
 use crate::node_desk::NodeDesk;
+use crate::reporters::Speaker;
 use std::alloc::Global;
 use std::sync::Wait;
 use std::sync::atomic::{AtomicBool, Ordering};
@@ -22,28 +24,32 @@ const ROUNDS: u32 = 16;
 
 /// The controller: takes in who comes, and serves all connections side by side. No reply to a control line sends a
 /// datagram.
-pub(crate) fn control<N: Naming, H: Wait + Drop, R: Wait, D: Door + Drop>(
+pub(crate) fn control<N: Naming, H: Wait + Drop, R: Wait, D: Door + Drop, K: Speaker>(
     rt: &R,
     alloc: Global,
     node: &Node<N, Seeded, H>,
     over: &AtomicBool,
     held: Held<N, 2>,
     viewer: Viewer<N>,
+    speaker: &K,
     hall: &mut Hall<D>,
+    meter: &Meter,
 ) -> Left<N, 2> {
-    let mut desk = NodeDesk::new(node, held, viewer);
-    let end = serve_on(rt, alloc, over, &mut desk, hall);
+    let mut desk = NodeDesk::new(node, held, viewer, speaker);
+    let end = serve_on(rt, alloc, over, &mut desk, hall, meter);
+    desk.show(meter);
     over.store(true, Ordering::SeqCst);
     left(desk, end)
 }
 
 /// Serves until the life is over (`None`), or until the controller ends it, and why.
-fn serve_on<N: Naming, H: Wait + Drop, R: Wait, D: Door + Drop>(
+fn serve_on<N: Naming, H: Wait + Drop, R: Wait, D: Door + Drop, K: Speaker>(
     rt: &R,
     alloc: Global,
     over: &AtomicBool,
-    desk: &mut NodeDesk<N, H, 2>,
+    desk: &mut NodeDesk<N, H, K, 2>,
     hall: &mut Hall<D>,
+    meter: &Meter,
 ) -> Option<Why>
     ensures full { result ≡ Some Why.JournalFull → 0 < desk.new.seat.full }
 {
@@ -52,6 +58,7 @@ fn serve_on<N: Naming, H: Wait + Drop, R: Wait, D: Door + Drop>(
         if over.load(Ordering::SeqCst) {
             return None;
         }
+        desk.show(meter);
         if let Some(end) = serve_next(rt, alloc, desk, &mut faults, hall) {
             return Some(end);
         }
@@ -60,7 +67,7 @@ fn serve_on<N: Naming, H: Wait + Drop, R: Wait, D: Door + Drop>(
 }
 
 /// What the controller hands back that ended so, or whose life was over: it was told to stop where that is why it ended.
-fn left<N: Naming, H: Wait + Drop>(desk: NodeDesk<N, H, 2>, end: Option<Why>) -> Left<N, 2>
+fn left<N: Naming, H: Wait + Drop, K>(desk: NodeDesk<N, H, K, 2>, end: Option<Why>) -> Left<N, 2>
     requires { end ≡ Some Why.JournalFull → 0 < desk.seat.full }
     ensures why { result.why ≡ unwrap_or end Why.Stopped }
     ensures stopped { (result.is_stopped ≡ true) ↔ (end ≡ Some Why.Stopped) }
@@ -77,10 +84,10 @@ fn left<N: Naming, H: Wait + Drop>(desk: NodeDesk<N, H, 2>, end: Option<Why>) ->
 
 /// Takes in who came, and gives each connection its turns; why the controller ends, if it does. Where nothing came it
 /// waits a moment.
-fn serve_next<N: Naming, H: Wait + Drop, R: Wait, D: Door + Drop>(
+fn serve_next<N: Naming, H: Wait + Drop, R: Wait, D: Door + Drop, K: Speaker>(
     rt: &R,
     alloc: Global,
-    desk: &mut NodeDesk<N, H, 2>,
+    desk: &mut NodeDesk<N, H, K, 2>,
     faults: &mut Faults,
     hall: &mut Hall<D>,
 ) -> Option<Why>
@@ -150,10 +157,10 @@ fn shut_out(faults: &mut Faults, connections: usize) -> Option<Why>
 /// Turns of each connection, round after round while something comes of one: whether something came, or why the
 /// controller ends. Neither the door nor the clock is asked between rounds, so that many short lines don't wait for
 /// them.
-fn serve_rounds<N: Naming, H: Wait + Drop, R: Wait, D: Door + Drop>(
+fn serve_rounds<N: Naming, H: Wait + Drop, R: Wait, D: Door + Drop, K: Speaker>(
     rt: &R,
     alloc: Global,
-    desk: &mut NodeDesk<N, H, 2>,
+    desk: &mut NodeDesk<N, H, K, 2>,
     hall: &mut Hall<D>,
 ) -> Result<bool, Why>
     ensures ends { IfErr result IsOfConnection }
@@ -171,11 +178,11 @@ fn serve_rounds<N: Naming, H: Wait + Drop, R: Wait, D: Door + Drop>(
 
 /// A turn of each connection: whether something came of one, or why the controller ends. The others have their turns
 /// later then, maybe in the next life.
-fn serve_each<N: Naming, H: Wait + Drop, R: Wait, D: Door + Drop>(
+fn serve_each<N: Naming, H: Wait + Drop, R: Wait, D: Door + Drop, K: Speaker>(
     rt: &R,
     alloc: Global,
     now: u64,
-    desk: &mut NodeDesk<N, H, 2>,
+    desk: &mut NodeDesk<N, H, K, 2>,
     hall: &mut Hall<D>,
 ) -> Result<bool, Why>
     ensures ends { IfErr result IsOfConnection }

@@ -1,10 +1,13 @@
-//! Who reads a node's journal while the node runs: it writes it down, and tells its changes to those who watch.
+//! Who reads a node's journal while the node runs: it writes it down, tells its changes to those who watch, and its calls to
+//! a reporter.
 
-ghost use Rattle.std.specs.Prelude.{◌≡◌, [], Bool, false, true};
+ghost use Rattle.std.specs.Prelude.{◌≡◌, false, true};
 ghost use Rattle.swim_events.specs.Watching.{Known};
-ghost use Rattle.swim_life.specs.Watched.{MayTell};
+ghost use Rattle.swim_life.specs.Watched.{TellsAll};
 
+use crate::meters::Meters;
 use crate::naming::GuestNaming;
+use crate::reporters::{Reporter, Standing};
 use std::alloc::Global;
 use std::marker::Model;
 use std::sync::Wait;
@@ -14,47 +17,60 @@ use swim_node::Node;
 use swim_targets::Chooser;
 use swim_wire::Sink;
 
-/// Reads a node's journal: its scribe writes it, and those who watch are told what it changes of the member table.
-/// Where nobody may watch, it reads no more than its scribe. A contract sees its scribe, what is known, those who
-/// watch, and whether anybody may.
+/// Reads a node's journal: its scribe writes it, those who watch are told what it changes of the member table, and its
+/// reporter hears of each call. A contract sees its scribe, what is known, those who watch, and the reporter.
 #[derive(Drop)]
-pub(crate) struct Crier<N: GuestNaming, W: Sink + Drop, E: Outlet + Drop> {
+pub(crate) struct Crier<N: GuestNaming, W: Sink + Drop, E: Outlet + Drop, Y: Reporter + Drop> {
     scribe: Scribe<N, W>,
     watching: Watching,
     gallery: Gallery<E>,
-    is_heard: bool,
+    reporter: Y,
+    // How many calls were read.
+    read: u64,
+    // How many watchers of this life didn't keep up.
+    lost: u64,
 }
 
-impl<N: GuestNaming, W: Sink + Drop, E: Outlet + Drop> Model for Crier<N, W, E> {
-    ghost use Rattle.swim_life.specs.Watched.{AtCrier, MayTell};
+impl<N: GuestNaming, W: Sink + Drop, E: Outlet + Drop, Y: Reporter + Drop> Model
+    for Crier<N, W, E, Y> {
+    ghost use Rattle.swim_life.specs.Watched.{AtCrier, TellsAll};
 
-    ghost Value = { AtCrier W };
+    ghost Value = { AtCrier W Y };
 
-    ghost view = { λ c. record { scribe = c.scribe; watching = c.watching; gallery = c.gallery; is_heard = c.is_heard } };
+    ghost view = { λ c. record {
+      scribe = c.scribe;
+      watching = c.watching;
+      gallery = c.gallery;
+      reporter = c.reporter;
+    } };
 
-    ghost invariant = { λ c. MayTell c.is_heard N.opening N.guests c.scribe.read c.watching c.gallery };
+    ghost invariant = { λ c. TellsAll N.opening N.guests N.heard c.scribe.read c.watching c.gallery (Y.heard c.reporter) };
 }
 
-impl<N: GuestNaming, W: Sink + Drop, E: Outlet + Drop> Crier<N, W, E> {
-    /// Nothing was read yet. Nobody may watch where the entrance isn't open and nobody does.
+impl<N: GuestNaming, W: Sink + Drop, E: Outlet + Drop, Y: Reporter + Drop> Crier<N, W, E, Y> {
+    /// Nothing was read yet. The reporter hears that the life begins.
     pub(crate) fn new<C: Chooser, H: Wait + Drop>(
         alloc: Global,
         node: &Node<N, C, H>,
         writer: W,
         gallery: Gallery<E>,
-        is_open: bool,
-    ) -> Crier<N, W, E>
+        reporter: Y,
+    ) -> Crier<N, W, E, Y>
         requires page { W.written writer ≡ N.page }
         requires guests { gallery ≡ N.guests }
+        requires heard { Y.heard reporter ≡ N.heard }
     {
+        let mut reporter = reporter;
+        reporter.begins(node.opening());
         let watching = Watching::new(node.opening());
-        let is_heard = may_watch(&gallery, is_open);
         let scribe = Scribe::new(alloc, node, writer);
         Crier {
             scribe,
             watching,
             gallery,
-            is_heard,
+            reporter,
+            read: 0,
+            lost: 0,
         }
     }
 
@@ -64,13 +80,15 @@ impl<N: GuestNaming, W: Sink + Drop, E: Outlet + Drop> Crier<N, W, E> {
         &mut self,
         rt: &R,
         node: &Node<N, C, H>,
+        meters: &Meters,
     ) -> bool
         ensures sent { self.new.scribe.whole ≡ true → W.held self.new.scribe.writer ≡ 0 }
     {
-        if !self.is_heard {
-            return self.write_on(rt, node);
-        }
+        let losing = self.gallery.losing();
         let is_more = self.read_on(rt, node);
+        let more = self.gallery.losing().saturating_sub(losing);
+        self.lost = self.lost.saturating_add(more as u64);
+        self.rest(rt, meters);
         self.hand_on();
         is_more
     }
@@ -80,11 +98,12 @@ impl<N: GuestNaming, W: Sink + Drop, E: Outlet + Drop> Crier<N, W, E> {
         &mut self,
         rt: &R,
         node: &Node<N, C, H>,
+        meters: &Meters,
     )
         ensures sent { self.new.scribe.whole ≡ true → W.held self.new.scribe.writer ≡ 0 }
     {
         for _step in rt.forever() {
-            if !self.step(rt, node) {
+            if !self.step(rt, node, meters) {
                 return;
             }
         }
@@ -93,9 +112,6 @@ impl<N: GuestNaming, W: Sink + Drop, E: Outlet + Drop> Crier<N, W, E> {
 
     /// Takes in who has come to watch, and sends to each what it takes now. It waits for nobody.
     pub(crate) fn serve<I: Entrance<E>>(&mut self, alloc: Global, entrance: &mut I) {
-        if !self.is_heard {
-            return;
-        }
         for _newcomer in 0..MOST_WATCHERS {
             if !self.let_in(alloc, entrance) {
                 break;
@@ -104,35 +120,20 @@ impl<N: GuestNaming, W: Sink + Drop, E: Outlet + Drop> Crier<N, W, E> {
         self.send();
     }
 
-    /// Whether there is nothing left to do: the scribe's sink has failed, and nobody may watch.
-    pub(crate) fn is_done(&self) -> bool {
-        !self.is_heard && !self.scribe.is_whole()
-    }
-
-    /// The scribe, and those who watch, who were told what it read.
-    pub(crate) fn into_parts(self) -> (Scribe<N, W>, Gallery<E>)
+    /// The scribe, those who watch, who were told what it read, and the reporter, who heard of it.
+    pub(crate) fn into_parts(self) -> (Scribe<N, W>, Gallery<E>, Y)
         ensures scribe { result.0 ≡ self.scribe }
-        ensures told { (is_heard : Bool) × ((w : Known) × MayTell is_heard N.opening N.guests result.0.read w result.1) }
+        ensures told { (w : Known) × TellsAll N.opening N.guests N.heard result.0.read w result.1 (Y.heard result.2) }
     {
         let Crier {
             scribe,
             watching: _,
             gallery,
-            is_heard: _,
+            reporter,
+            read: _,
+            lost: _,
         } = self;
-        (scribe, gallery)
-    }
-
-    /// Has the scribe write, where nobody may watch.
-    fn write_on<C: Chooser, H: Wait + Drop, R: Wait>(
-        &mut self,
-        rt: &R,
-        node: &Node<N, C, H>,
-    ) -> bool
-        requires { self.old.is_heard ≡ false }
-        ensures { self.new.scribe.whole ≡ true → W.held self.new.scribe.writer ≡ 0 }
-    {
-        self.scribe.step(rt, node)
+        (scribe, gallery, reporter)
     }
 
     /// Hands on what was written.
@@ -143,10 +144,11 @@ impl<N: GuestNaming, W: Sink + Drop, E: Outlet + Drop> Crier<N, W, E> {
     }
 
     /// Reads at most 1,024 calls, and answers whether more may stand in the journal.
-    fn read_on<C: Chooser, H: Wait + Drop, R: Wait>(&mut self, rt: &R, node: &Node<N, C, H>) -> bool
-        requires { self.old.is_heard ≡ true }
-        ensures { self.new.is_heard ≡ true }
-    {
+    fn read_on<C: Chooser, H: Wait + Drop, R: Wait>(
+        &mut self,
+        rt: &R,
+        node: &Node<N, C, H>,
+    ) -> bool {
         for _call in 0..STEP_CALLS {
             if !self.read_next(rt, node) {
                 return false;
@@ -160,28 +162,37 @@ impl<N: GuestNaming, W: Sink + Drop, E: Outlet + Drop> Crier<N, W, E> {
         &mut self,
         rt: &R,
         node: &Node<N, C, H>,
-    ) -> bool
-        requires { self.old.is_heard ≡ true }
-        ensures { self.new.is_heard ≡ true }
-    {
+    ) -> bool {
         let Some(next) = self.scribe.next(rt, node) else {
             return false;
         };
         let kept = &next.kept;
-        let _change = tell_next(
+        let change = tell_next(
             &mut self.watching,
             &mut self.gallery,
             &kept.call,
             &kept.reply,
         );
+        self.reporter.hear(rt, &next, &change);
+        self.read = self.read.saturating_add(1);
         true
     }
 
-    /// Takes in the next who has come: whether there was one.
-    fn let_in<I: Entrance<E>>(&mut self, alloc: Global, entrance: &mut I) -> bool
-        requires { self.old.is_heard ≡ true }
-        ensures { self.new.is_heard ≡ true }
+    /// Tells the reporter how the life stands.
+    fn rest<R: Wait>(&mut self, rt: &R, meters: &Meters)
+        ensures { self.new.scribe ≡ self.old.scribe }
     {
+        let standing = Standing {
+            read: self.read,
+            metered: meters.read(),
+            watchers: self.gallery.len() as u64,
+            lost: self.lost,
+        };
+        self.reporter.rest(rt, standing);
+    }
+
+    /// Takes in the next who has come: whether there was one.
+    fn let_in<I: Entrance<E>>(&mut self, alloc: Global, entrance: &mut I) -> bool {
         if self.gallery.is_full() {
             return false;
         }
@@ -196,11 +207,4 @@ impl<N: GuestNaming, W: Sink + Drop, E: Outlet + Drop> Crier<N, W, E> {
     fn send(&mut self) {
         self.gallery.send();
     }
-}
-
-/// Whether anybody may watch.
-fn may_watch<E: Outlet + Drop>(gallery: &Gallery<E>, is_open: bool) -> bool
-    ensures { result ≡ false → gallery.now ≡ [] }
-{
-    is_open || gallery.len() > 0
 }

@@ -2,14 +2,15 @@
 
 ghost use Rattle.std.specs.Prelude.{◌≡◌, ◌++◌};
 ghost use Rattle.swim_wire.specs.Streams.{Puts, failures_if};
-ghost use Rattle.swim_life.specs.Endings.{past_text, ended_text, life_text, cut_text};
+ghost use Rattle.swim_life.specs.Endings.{TellsLife, TellsText, cut_text, ended_text, life_text, past_text, stopped_text};
 
+use crate::counts::Why;
 use crate::lives::Past;
 use itoa::Buffer;
 use swim_wire::{Piece, Sink, put_pieces};
 
 /// The line of a life that was stopped at once.
-pub const STOPPED: &[u8] = b"ended stopped entries 0 judged 0 unsent 0 wire 0 refused 0\n";
+const STOPPED: &[u8] = b"ended stopped entries 0 judged 0 unsent 0 wire 0 refused 0\n";
 
 /// The line of the last life: why it ended, and its counts. Answers whether the sink took it.
 pub fn put_ended<W: Sink>(writer: &mut W, past: &Past) -> bool
@@ -58,4 +59,25 @@ fn cut_text(is_cut: bool) -> &'static [u8]
     ensures { result.now ≡ cut_text is_cut }
 {
     if is_cut { b" journal cut" } else { b"" }
+}
+
+/// Writes how a life ended. That it can't be written changes nothing.
+pub(crate) fn tell<W: Sink>(writer: &mut W, number: u64, past: &Past)
+    ensures { TellsLife number past.now (W.written writer.old, W.failures writer.old)
+        (W.written writer.new, W.failures writer.new) }
+{
+    let _is_put = match past.why {
+        Why::JournalFull => put_life(writer, number, past),
+        Why::NoMemory | Why::Socket | Why::Stopped => put_ended(writer, past),
+    };
+    let _is_sent = writer.flush();
+}
+
+/// Writes that the daemon ended as if a life had been stopped at once. That it can't be written changes nothing.
+pub(crate) fn tell_stopped<W: Sink>(writer: &mut W)
+    ensures { TellsText stopped_text (W.written writer.old, W.failures writer.old)
+        (W.written writer.new, W.failures writer.new) }
+{
+    let _is_put = writer.put(STOPPED);
+    let _is_sent = writer.flush();
 }

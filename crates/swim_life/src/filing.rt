@@ -1,15 +1,19 @@
 //! Lives with files: each life's journal in a file of its own, where a shelf opens one.
 
 ghost use Rattle.std.specs.Prelude.{◌≡◌, IfOk, MatchResult, true};
+ghost use Rattle.swim_targets.specs.Draws.{of_seed};
 ghost use Rattle.swim_life.specs.Lives.{IsDrawnLife};
 ghost use Rattle.swim_life.specs.Notices.{Notices};
+ghost use Rattle.swim_life.specs.Reports.{HearsOf};
 ghost use Rattle.swim_life.specs.Watched.{AreToldLife};
 ghost use Rattle.swim_life.specs.Written.{IsFile};
 
 use crate::gates::{Door, Line, Pace, Post, Shelf};
 use crate::halls::Hall;
-use crate::lives::{Lived, Past, Terms, chooser_of, live_recorded};
+use crate::lives::{Lived, Past, Terms, live_recorded};
 use crate::nowhere::Nowhere;
+use crate::rejoining::Returning;
+use crate::reporters::{Reporter, Speaker};
 use std::alloc::Global;
 use std::sync::Wait;
 use std::thread::Threads;
@@ -18,6 +22,7 @@ use swim_history::Opening;
 use swim_journal::laws::a_header_tells_its_opening;
 use swim_journal::put_header;
 use swim_node::OpenFault;
+use swim_targets::Seeded;
 use swim_wire::Sink;
 
 /// The life of this number: with a file for its journal, where the shelf opens one.
@@ -33,7 +38,9 @@ pub(crate) fn live_next<
     Q: Pace + Send,
     F: Sink,
     E: Outlet + Drop + Send,
+    Y: Reporter + Drop + Send,
     I: Entrance<E> + Send,
+    K: Speaker,
 >(
     rt: &R,
     alloc: Global,
@@ -42,28 +49,36 @@ pub(crate) fn live_next<
     number: u64,
     line: &mut L,
     post: &O,
+    returning: &mut Returning,
     pace: &mut P,
     hall: &mut Hall<D>,
     shelf: &mut S,
     pause: &mut Q,
     notices: &mut F,
     gallery: &mut Gallery<E>,
+    reporter: &mut Y,
+    speaker: &K,
     entrance: &mut I,
 ) -> Result<Past, OpenFault>
     ensures life { IfOk result (IsDrawnLife opening terms.limit terms.seed number) }
     ensures watched { MatchResult result
         (λ past. AreToldLife number opening gallery.old past.journal.past gallery.new)
         (λ fault. gallery.new ≡ gallery.old) }
+    ensures reported { MatchResult result
+        (λ past. HearsOf past.is_read opening past.journal.past (Y.heard reporter.old) (Y.heard reporter.new))
+        (λ fault. Y.heard reporter.new ≡ Y.heard reporter.old) }
     ensures notices { Notices (F.written notices.old, F.failures notices.old)
         (F.written notices.new, F.failures notices.new) }
 {
     let Some(writer) = shelf.open(number, notices) else {
         return live_unfiled(
-            rt, alloc, opening, terms, number, line, post, pace, hall, pause, gallery, entrance,
+            rt, alloc, opening, terms, number, line, post, returning, pace, hall, pause, gallery,
+            reporter, speaker, entrance,
         );
     };
     match live_filed(
-        rt, alloc, opening, terms, number, line, post, pace, hall, writer, pause, gallery, entrance,
+        rt, alloc, opening, terms, number, line, post, returning, pace, hall, writer, pause,
+        gallery, reporter, speaker, entrance,
     ) {
         Ok(lived) => Ok(put_back(shelf, terms, number, lived, notices)),
         Err(fault) => Err(fault),
@@ -80,7 +95,9 @@ fn live_unfiled<
     D: Door + Drop,
     Q: Pace + Send,
     E: Outlet + Drop + Send,
+    Y: Reporter + Drop + Send,
     I: Entrance<E> + Send,
+    K: Speaker,
 >(
     rt: &R,
     alloc: Global,
@@ -89,16 +106,22 @@ fn live_unfiled<
     number: u64,
     line: &mut L,
     post: &O,
+    returning: &mut Returning,
     pace: &mut P,
     hall: &mut Hall<D>,
     pause: &mut Q,
     gallery: &mut Gallery<E>,
+    reporter: &mut Y,
+    speaker: &K,
     entrance: &mut I,
 ) -> Result<Past, OpenFault>
     ensures life { IfOk result (IsDrawnLife opening terms.limit terms.seed number) }
     ensures watched { MatchResult result
         (λ past. AreToldLife number opening gallery.old past.journal.past gallery.new)
         (λ fault. gallery.new ≡ gallery.old) }
+    ensures reported { MatchResult result
+        (λ past. HearsOf past.is_read opening past.journal.past (Y.heard reporter.old) (Y.heard reporter.new))
+        (λ fault. Y.heard reporter.new ≡ Y.heard reporter.old) }
 {
     let chooser = chooser_of(terms, number);
     let writer = Nowhere::new();
@@ -111,11 +134,14 @@ fn live_unfiled<
         number,
         line,
         post,
+        returning,
         pace,
         hall,
         writer,
         pause,
         gallery,
+        reporter,
+        speaker,
         entrance,
     ) {
         Ok(lived) => Ok(with_cut(lived.past, false)),
@@ -156,7 +182,9 @@ fn live_filed<
     V: Sink + Drop + Send,
     Q: Pace + Send,
     E: Outlet + Drop + Send,
+    Y: Reporter + Drop + Send,
     I: Entrance<E> + Send,
+    K: Speaker,
 >(
     rt: &R,
     alloc: Global,
@@ -165,11 +193,14 @@ fn live_filed<
     number: u64,
     line: &mut L,
     post: &O,
+    returning: &mut Returning,
     pace: &mut P,
     hall: &mut Hall<D>,
     writer: V,
     pause: &mut Q,
     gallery: &mut Gallery<E>,
+    reporter: &mut Y,
+    speaker: &K,
     entrance: &mut I,
 ) -> Result<Lived<V>, OpenFault>
     ensures life { IfOk result (λ lived. IsDrawnLife opening terms.limit terms.seed number lived.past) }
@@ -178,11 +209,15 @@ fn live_filed<
     ensures watched { MatchResult result
         (λ lived. AreToldLife number opening gallery.old lived.past.journal.past gallery.new)
         (λ fault. gallery.new ≡ gallery.old) }
+    ensures reported { MatchResult result
+        (λ lived. HearsOf lived.past.is_read opening lived.past.journal.past (Y.heard reporter.old) (Y.heard reporter.new))
+        (λ fault. Y.heard reporter.new ≡ Y.heard reporter.old) }
 {
     let mut writer = writer;
     if !put_header(&mut writer, &opening, terms.limit, &terms.seed, number) {
         return match live_unfiled(
-            rt, alloc, opening, terms, number, line, post, pace, hall, pause, gallery, entrance,
+            rt, alloc, opening, terms, number, line, post, returning, pace, hall, pause, gallery,
+            reporter, speaker, entrance,
         ) {
             Ok(past) => Ok(Lived {
                 past: with_cut(past, true),
@@ -202,16 +237,26 @@ fn live_filed<
         number,
         line,
         post,
+        returning,
         pace,
         hall,
         writer,
         pause,
         gallery,
+        reporter,
+        speaker,
         entrance,
     ) {
         Ok(lived) => Ok(lived),
         Err(fault) => Err(fault),
     }
+}
+
+/// The chooser of the life of that number: each draws from a stream of its own.
+fn chooser_of(terms: Terms, number: u64) -> Seeded
+    ensures { result ≡ record (of_seed terms.seed) { stream = number } }
+{
+    Seeded::life(terms.seed, number)
 }
 
 /// A life whose journal is told as cut, or isn't.

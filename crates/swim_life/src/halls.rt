@@ -1,5 +1,7 @@
 //! A door, and the connections that came in by it.
 
+ghost use Rattle.std.specs.Prelude.{◌≡◌};
+
 use crate::gates::Door;
 use std::alloc::Global;
 use swim_control::Connections;
@@ -18,5 +20,12 @@ impl<D: Door + Drop> Hall<D> {
             door,
             connections: Connections::new(alloc),
         }
+    }
+
+    /// The door, once nobody is served any more.
+    pub fn into_door(self) -> D
+        ensures { result ≡ self.door }
+    {
+        self.door
     }
 }

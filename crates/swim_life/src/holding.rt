@@ -5,7 +5,9 @@ ghost use Rattle.swim_life.specs.declared.counts.Why.TheVariants.{JournalFull};
 
 use crate::counts::Why;
 use crate::gates::Post;
+use crate::knocking::KnockNaming;
 use crate::senders::Sender;
+use crate::tickers::Ticker;
 use swim_node::{Naming, Seat};
 
 /// The four seats of a node, in order.
@@ -45,6 +47,15 @@ pub(crate) struct Ended<N: Naming, O: Post + Drop, const SEAT: u8> {
     pub(crate) why: Why,
     pub(crate) is_stopped: bool,
     pub(crate) ghost full: { why ≡ JournalFull → 0 < sender.seat.full },
+}
+
+/// What the ticker hands back: as the receiver, and beside it who knocks.
+#[derive(Drop)]
+pub(crate) struct Ticked<N: KnockNaming, O: Post + Drop> {
+    pub(crate) ticker: Ticker<N, O>,
+    pub(crate) why: Why,
+    pub(crate) is_stopped: bool,
+    pub(crate) ghost full: { why ≡ JournalFull → 0 < ticker.sender.seat.full },
 }
 
 /// What the controller hands back: its seat, why it ended, whether it was told to stop, and how many of its calls were refused

@@ -8,20 +8,26 @@ ghost use Rattle.swim_node.specs.Seats.{AreNew, AreTheSeats};
 ghost use Rattle.swim_node.specs.OneHistory.{IsOneHistory};
 ghost use Rattle.swim_journal.specs.Journals.{calls_text, AreReadBack};
 ghost use Rattle.swim_life.specs.Ends.{both, why_of};
+ghost use Rattle.swim_life.specs.Knocking.{HaveKnocked};
 ghost use Rattle.swim_life.specs.Posts.{HavePosted, IsFresh};
+ghost use Rattle.swim_life.specs.Reports.{HearsOf};
 ghost use Rattle.swim_life.specs.Watched.{AreToldOn};
 
 use crate::counts::Why;
+use crate::crews::{Workers, apart, held};
 use crate::criers::Crier;
 use crate::gates::{Door, Line, Pace, Post};
 use crate::halls::Hall;
 use crate::holding::{Held, Seats};
 use crate::lookouts::Lookout;
+use crate::meters::Meters;
 use crate::naming::GuestNaming;
 use crate::posts::Posts;
 use crate::recording::{Recorded, close_recorded};
-use crate::senders::Sender;
+use crate::rejoining::Returning;
+use crate::reporters::{Reporter, Speaker};
 use crate::threads::{Controlling, Hearing, Over, Recording, Ticking, work_at_once};
+use crate::tidings::Board;
 use std::alloc::Global;
 use std::sync::Wait;
 use std::sync::atomic::AtomicBool;
@@ -34,7 +40,13 @@ use swim_wire::Sink;
 
 /// What a life leaves behind.
 #[derive(Drop)]
-pub struct Life<N: GuestNaming, O: Post + Drop, W: Sink + Drop, E: Outlet + Drop> {
+pub struct Life<
+    N: GuestNaming,
+    O: Post + Drop,
+    W: Sink + Drop,
+    E: Outlet + Drop,
+    Y: Reporter + Drop,
+> {
     /// Why it ended: the gravest reason of its workers.
     pub why: Why,
     /// Whether a worker was told to stop, whatever else it ended for.
@@ -43,7 +55,7 @@ pub struct Life<N: GuestNaming, O: Post + Drop, W: Sink + Drop, E: Outlet + Drop
     pub journal: Journal,
     /// The node's four seats, in order.
     pub seats: Seats<N>,
-    /// What its receiver and its ticker sent by.
+    /// What its receiver and its ticker sent by, and what its knocks were sent by.
     pub posts: Posts<O>,
     /// Datagrams that couldn't be sent. The counts stop at 2^64-1.
     pub unsent: u64,
@@ -51,31 +63,43 @@ pub struct Life<N: GuestNaming, O: Post + Drop, W: Sink + Drop, E: Outlet + Drop
     pub wire: u64,
     /// Calls that were refused for want of memory.
     pub refused: u64,
+    /// Knocks at members that were judged. The count stops at 2^64-1.
+    pub knocks: u64,
     /// The sink of its journal.
     pub writer: W,
     /// Whether that took all of the journal's text, and handed it on.
     pub is_whole: bool,
+    /// Whether all of the journal was read.
+    pub is_read: bool,
     /// Those who watch.
     pub gallery: Gallery<E>,
+    /// Who heard of the calls.
+    pub reporter: Y,
 }
 
 /// Runs a node over its gates until a worker ends: the receiver with the first seat and the second viewer, the ticker with
-/// the second seat, and the controller with the third and the first viewer, all at the same time. The receiver shows the line
-/// who stands in the member table, before the first datagram and then at most once a tick. A worker ends, and the others with it,
-/// where it is told to, where the journal is full, and after 16 faults in a row of its line or door. Each sends the
-/// datagrams of its own replies after the node's lock was given back.
+/// the second seat and the third viewer, and the controller with the third and the first viewer, all at the same time. The
+/// receiver shows the line who stands in the member table, before the first datagram and then once a tick at most, and
+/// once more after a join of its own. A worker ends, and the others with it, where it is told to, where the journal is
+/// full, and after 16 faults in a row of its line or door. Each sends the datagrams of its own replies after the node's
+/// lock was given back.
+///
+/// At the starts of periods the ticker knocks at members that were judged, and whoever shows that it is there again the
+/// receiver joins, as what is remembered of members that come back says how often. What was remembered goes on from life
+/// to life.
 ///
 /// Beside them a writer writes the journal into a sink, at each tick of a pace of its own, and what is left once the
 /// others have ended. Where the sink fails nothing more is written, and the life goes on. It tells those who watch what
-/// the journal changes of the member table, takes in who comes by the entrance, and waits for none of them. The writer
-/// changes nothing of the node.
+/// the journal changes of the member table, takes in who comes by the entrance, and waits for none of them; and the
+/// reporter hears of each call. The writer changes nothing of the node.
 ///
 /// Whatever came, and in whatever order, the journal is one run of the detector that holds the calls of the four seats,
 /// with as many entries as it may have where it is what ended the life; and what was written is its text, or where the
 /// sink failed a front of it. What the posts were handed are the datagrams of the replies that stand in the journal,
-/// each once, in order, and those that a post didn't take are counted. Those who watched and had been told that the
+/// each once, in order, and those that a post didn't take are counted; the post of the knocks was handed the knocks at
+/// the starts of periods that stand in it, and these are counted. Those who watched and had been told that the
 /// life begins were told all its changes, and who came was told the table of a moment and all changes after it, as far
-/// as each kept up.
+/// as each kept up. The reporter heard of each call of the journal once, in order, with its reply and its change.
 pub fn run_life<
     N: GuestNaming + Send + Sync,
     O: Post + Drop + Send,
@@ -87,7 +111,9 @@ pub fn run_life<
     W: Sink + Drop + Send,
     Q: Pace + Send,
     E: Outlet + Drop + Send,
+    Y: Reporter + Drop + Send,
     I: Entrance<E> + Send,
+    K: Speaker,
 >(
     rt: &R,
     alloc: Global,
@@ -96,18 +122,24 @@ pub fn run_life<
     viewers: [Viewer<N>; 4],
     line: &mut L,
     posts: Posts<O>,
+    returning: &mut Returning,
     pace: &mut P,
     hall: &mut Hall<D>,
     writer: W,
     pause: &mut Q,
     gallery: Gallery<E>,
+    reporter: Y,
+    speaker: &K,
     entrance: &mut I,
-) -> Life<N, O, W, E>
+) -> Life<N, O, W, E, Y>
     requires seats { AreNew seats }
     requires hearing { IsFresh (O.posted (box_value posts.hearing)) }
     requires ticking { IsFresh (O.posted (box_value posts.ticking)) }
+    requires knocking { IsFresh (O.posted (box_value posts.knocking)) }
+    requires rejoin { returning.old.rejoin ≡ N.rejoin }
     requires page { W.written writer ≡ N.page }
     requires guests { gallery ≡ N.guests }
+    requires heard { Y.heard reporter ≡ N.heard }
     ensures opening { result.journal.opening ≡ N.opening }
     ensures within { length result.journal.past ≤ N.limit }
     ensures seats { let s = result.seats in AreTheSeats (s.first ∷ s.second ∷ s.third ∷ s.fourth ∷ []) }
@@ -122,58 +154,21 @@ pub fn run_life<
     ensures full { result.why ≡ Why.JournalFull → length result.journal.past ≡ N.limit }
     ensures posted { HavePosted N.opening result.journal.past (O.posted (box_value result.posts.hearing))
         (O.posted (box_value result.posts.ticking)) result.unsent }
+    ensures knocked { HaveKnocked N.opening N.rejoin result.journal.past (O.posted (box_value result.posts.knocking))
+        result.knocks }
     ensures watched { AreToldOn N.opening N.guests result.journal.past result.gallery }
+    ensures reported { HearsOf result.is_read N.opening result.journal.past N.heard (Y.heard result.reporter) }
+    ensures read { result.is_whole ≡ true → result.is_read ≡ true }
 {
-    let (viewers, _others) = apart(viewers);
-    let (workers, fourth) = held(seats, posts);
-    let crier = Crier::new(alloc, &node, writer, gallery, entrance.is_open());
+    let (viewers, _fourth) = apart(viewers);
+    let (workers, fourth) = held(returning.rejoin(), node.opening(), seats, viewers, posts);
+    let crier = Crier::new(alloc, &node, writer, gallery, reporter);
+    let meters = Meters::new();
     let ended = work(
-        rt, alloc, &node, line, pace, hall, workers, viewers, crier, pause, entrance,
+        rt, alloc, &node, line, returning, pace, hall, workers, speaker, &meters, crier, pause,
+        entrance,
     );
-    closed(rt, node, ended, fourth)
-}
-
-/// The three workers that call the node, each with its seat.
-#[derive(Drop)]
-struct Workers<N: Naming, O: Post + Drop> {
-    first: Sender<N, O, 0>,
-    second: Sender<N, O, 1>,
-    third: Held<N, 2>,
-}
-
-/// The workers with their seats, and the fourth seat.
-fn held<N: Naming, O: Post + Drop>(
-    seats: [Seat<N>; 4],
-    posts: Posts<O>,
-) -> (Workers<N, O>, Held<N, 3>)
-    requires seats { AreNew seats }
-    requires hearing { IsFresh (O.posted (box_value posts.hearing)) }
-    requires ticking { IsFresh (O.posted (box_value posts.ticking)) }
-{
-    let [first, second, third, fourth] = seats;
-    let workers = Workers {
-        first: Sender::new(Held { seat: first }, posts.hearing),
-        second: Sender::new(Held { seat: second }, posts.ticking),
-        third: Held { seat: third },
-    };
-    (workers, Held { seat: fourth })
-}
-
-/// The viewers of the workers that look at the member table.
-#[derive(Drop)]
-struct Viewers<N: Naming> {
-    controlling: Viewer<N>,
-    hearing: Viewer<N>,
-}
-
-/// The workers' viewers, and the others.
-fn apart<N: Naming>(viewers: [Viewer<N>; 4]) -> (Viewers<N>, [Viewer<N>; 2]) {
-    let [controlling, hearing, third, fourth] = viewers;
-    let ours = Viewers {
-        controlling,
-        hearing,
-    };
-    (ours, [third, fourth])
+    closed(rt, node, &meters, ended, fourth)
 }
 
 /// Runs the workers of a node.
@@ -188,49 +183,58 @@ fn work<
     W: Sink + Drop + Send,
     Q: Pace + Send,
     E: Outlet + Drop + Send,
+    Y: Reporter + Drop + Send,
     I: Entrance<E> + Send,
+    K: Speaker,
 >(
     rt: &R,
     alloc: Global,
     node: &Node<N, Seeded, H>,
     line: &mut L,
+    returning: &mut Returning,
     pace: &mut P,
     hall: &mut Hall<D>,
     workers: Workers<N, O>,
-    viewers: Viewers<N>,
-    crier: Crier<N, W, E>,
+    speaker: &K,
+    meters: &Meters,
+    crier: Crier<N, W, E, Y>,
     pause: &mut Q,
     entrance: &mut I,
-) -> Over<N, O, W, E> {
+) -> Over<N, O, W, E, Y> {
     let over = AtomicBool::new(false);
-    // It's time to look before the first datagram.
-    let looking = AtomicBool::new(true);
+    let board = Board::new(node.opening().last());
     let hearing = Hearing {
         node,
         over: &over,
         sender: workers.first,
+        returning,
         line,
-        lookout: Lookout::new(viewers.hearing, &looking),
+        lookout: Lookout::new(workers.hearing, &board),
+        meter: &meters.hearing,
     };
     let ticking = Ticking {
         node,
         over: &over,
-        sender: workers.second,
+        ticker: workers.second,
         pace,
-        looking: &looking,
+        board: &board,
+        meter: &meters.ticking,
     };
     let controlling = Controlling {
         alloc,
         node,
         over: &over,
         held: workers.third,
-        viewer: viewers.controlling,
+        viewer: workers.controlling,
+        speaker,
         hall,
+        meter: &meters.controlling,
     };
     let recording = Recording {
         alloc,
         node,
         over: &over,
+        meters,
         crier,
         pause,
         entrance,
@@ -252,7 +256,7 @@ fn given_back<N: Naming>(
 }
 
 /// Closes the node after its workers have ended.
-#[tactic(auto, using(crate::proofs::Sent::closed_posted))]
+#[tactic(auto, using(crate::proofs::Sent::closed_posted, crate::proofs::Knocked::closed_knocked))]
 fn closed<
     N: GuestNaming,
     O: Post + Drop,
@@ -260,7 +264,14 @@ fn closed<
     R: Wait,
     W: Sink + Drop,
     E: Outlet + Drop,
->(rt: &R, node: Node<N, Seeded, H>, ended: Over<N, O, W, E>, fourth: Held<N, 3>) -> Life<N, O, W, E>
+    Y: Reporter + Drop,
+>(
+    rt: &R,
+    node: Node<N, Seeded, H>,
+    meters: &Meters,
+    ended: Over<N, O, W, E, Y>,
+    fourth: Held<N, 3>,
+) -> Life<N, O, W, E, Y>
     ensures opening { result.journal.opening ≡ N.opening }
     ensures within { length result.journal.past ≤ N.limit }
     ensures seats { let s = result.seats in AreTheSeats (s.first ∷ s.second ∷ s.third ∷ s.fourth ∷ []) }
@@ -274,13 +285,19 @@ fn closed<
     ensures sent { result.is_whole ≡ true → W.held result.writer ≡ 0 }
     ensures posted { HavePosted N.opening result.journal.past (O.posted (box_value result.posts.hearing))
         (O.posted (box_value result.posts.ticking)) result.unsent }
+    ensures knocked { HaveKnocked N.opening N.rejoin result.journal.past (O.posted (box_value result.posts.knocking))
+        result.knocks }
     ensures full { result.why ≡ Why.JournalFull → length result.journal.past ≡ N.limit }
     ensures watched { AreToldOn N.opening N.guests result.journal.past result.gallery }
+    ensures reported { HearsOf result.is_read N.opening result.journal.past N.heard (Y.heard result.reporter) }
+    ensures read { result.is_whole ≡ true → result.is_read ≡ true }
     ensures why { result.why ≡ why_of ended.first.why ended.second.why ended.third.why ended.all_began }
-    ensures stopped { result.is_stopped ≡ (ended.first.is_stopped || ended.second.is_stopped || ended.third.is_stopped) }
-    ensures unsent { result.unsent ≡ both ended.first.sender.counts.unsent ended.second.sender.counts.unsent }
-    ensures wire { result.wire ≡ both ended.first.sender.counts.wire ended.second.sender.counts.wire }
-    ensures refused { result.refused ≡ both (both ended.first.sender.counts.refused ended.second.sender.counts.refused)
+    ensures stopped { result.is_stopped
+        ≡ (ended.first.is_stopped || ended.second.is_stopped || ended.third.is_stopped) }
+    ensures unsent { result.unsent ≡ both ended.first.sender.counts.unsent ended.second.ticker.sender.counts.unsent }
+    ensures wire { result.wire ≡ both ended.first.sender.counts.wire ended.second.ticker.sender.counts.wire }
+    ensures refused { result.refused
+        ≡ both (both ended.first.sender.counts.refused ended.second.ticker.sender.counts.refused)
         ended.third.refused }
 {
     let Over {
@@ -298,7 +315,9 @@ fn closed<
     let why = first.why.or(second.why).or(third.why).or(began);
     let is_stopped = first.is_stopped | second.is_stopped | third.is_stopped;
     let (hearer, hearing, heard) = first.sender.leave();
-    let (giver, ticking, ticked) = second.sender.leave();
+    let (sender, knocking) = second.ticker.leave();
+    let (giver, ticking, ticked) = sender.leave();
+    let (knocking, knocks) = knocking.leave();
     let counts = heard.and(ticked);
     let seats = given_back(hearer, giver, third.held, fourth);
     let Recorded {
@@ -306,19 +325,28 @@ fn closed<
         seats,
         writer,
         is_whole,
+        is_read,
         gallery,
-    } = close_recorded(rt, node, seats, crier);
+        reporter,
+    } = close_recorded(rt, node, seats, meters, crier);
     Life {
         why,
         is_stopped,
         journal,
         seats,
-        posts: Posts { hearing, ticking },
+        posts: Posts {
+            hearing,
+            ticking,
+            knocking,
+        },
         unsent: counts.unsent,
         wire: counts.wire,
         refused: counts.refused.saturating_add(third.refused),
+        knocks,
         writer,
         is_whole,
+        is_read,
         gallery,
+        reporter,
     }
 }

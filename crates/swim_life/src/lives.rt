@@ -1,27 +1,29 @@
 //! Lives: one node after another, each of which goes on from the journal of the one before.
 
-ghost use Rattle.std.specs.Prelude.{◌≡◌, IfOk, MatchResult, false, map};
-ghost use Rattle.swim_targets.specs.Draws.{DrawsOrder, DrawsPlace, of_seed};
+ghost use Rattle.std.specs.Prelude.{◌≡◌, IfOk, MatchResult, false, true, map};
+ghost use Rattle.swim_targets.specs.Draws.{DrawsOrder, DrawsPlace};
 ghost use Rattle.swim_node.specs.Draws.{DrawsAll};
 ghost use Rattle.swim_events.specs.Guests.{put_text};
 ghost use Rattle.swim_events.specs.Texts.{life_text};
 ghost use Rattle.swim_life.specs.Draws.{WasDrawn};
-ghost use Rattle.swim_life.specs.Endings.{TellsLife, TellsText, stopped_text};
 ghost use Rattle.swim_life.specs.Lives.{AreLived, IsLife, end_after, end_without};
 ghost use Rattle.swim_life.specs.Notices.{Notices};
+ghost use Rattle.swim_life.specs.Reports.{HearsOf};
 ghost use Rattle.swim_life.specs.Watched.{AreToldLife};
 ghost use Rattle.swim_life.specs.Watching.{AreWatched};
 ghost use Rattle.swim_life.specs.Written.{IsWritten};
 
 use crate::counts::Why;
-use crate::endings::{STOPPED, put_ended, put_life};
+use crate::endings::{tell, tell_stopped};
 use crate::filing::{live_next, with_cut};
 use crate::gates::{Door, Herald, Line, Pace, Post, Shelf};
 use crate::halls::Hall;
 use crate::life::run_life;
 use crate::naming::GuestNaming;
-use crate::nowhere::{Never, NoEntrance, NoOutlet, Nowhere};
+use crate::nowhere::{Never, NoEntrance, NoOutlet, NoReporter, Nowhere};
 use crate::posts::Posts;
+use crate::rejoining::Returning;
+use crate::reporters::{Reporter, Speaker};
 use std::alloc::Global;
 use std::marker::Brand;
 use std::mem;
@@ -50,6 +52,8 @@ pub struct Past {
     pub refused: u64,
     /// Whether its journal was to be written and wasn't, or not all of it.
     pub is_cut: bool,
+    /// Whether all of its journal was read, by those who watch and the reporter.
+    pub is_read: bool,
 }
 
 /// What a life leaves behind whose journal was written: the sink that was to take it, too.
@@ -93,7 +97,8 @@ pub enum LivesEnd {
 /// cut. Nothing of a file changes what a node answers.
 ///
 /// Those who watch are told that each life begins, and its changes of the member table. They come by the entrance, and
-/// stay from life to life. Of the end they are told nothing yet: whoever has the gallery tells them.
+/// stay from life to life. Of the end they are told nothing yet: whoever has the gallery tells them. The reporter hears
+/// that each life begins, and of each of its calls.
 pub fn run_lives<
     R: Threads + Wait + Sync,
     O: Post + Drop + Send,
@@ -107,7 +112,9 @@ pub fn run_lives<
     H: Herald,
     F: Sink,
     E: Outlet + Drop + Send,
+    Y: Reporter + Drop + Send,
     I: Entrance<E> + Send,
+    K: Speaker,
 >(
     rt: &R,
     alloc: Global,
@@ -115,6 +122,7 @@ pub fn run_lives<
     terms: Terms,
     line: &mut L,
     post: &O,
+    returning: &mut Returning,
     pace: &mut P,
     hall: &mut Hall<D>,
     shelf: &mut S,
@@ -123,6 +131,8 @@ pub fn run_lives<
     herald: &mut H,
     notices: &mut F,
     gallery: &mut Gallery<E>,
+    reporter: &mut Y,
+    speaker: &K,
     entrance: &mut I,
 ) -> LivesEnd
     requires { H.begun herald.old ≡ 0 }
@@ -131,15 +141,16 @@ pub fn run_lives<
     ensures notices { Notices (F.written notices.old, F.failures notices.old)
         (F.written notices.new, F.failures notices.new) }
     ensures watched { AreWatched opening terms.limit terms.seed (W.written writer.old, W.failures writer.old)
-        (W.written writer.new, W.failures writer.new) result gallery.old gallery.new }
+        (W.written writer.new, W.failures writer.new) result gallery.old gallery.new (Y.heard reporter.old)
+        (Y.heard reporter.new) }
 {
     let mut opening = opening;
     let mut number: u64 = 0;
     for _life in rt.forever() {
         herald.begins(number, notices);
-        let past = match live_next::<R, O, L, P, D, V, S, Q, F, E, I>(
-            rt, alloc, opening, terms, number, line, post, pace, hall, shelf, pause, notices,
-            gallery, entrance,
+        let past = match live_next::<R, O, L, P, D, V, S, Q, F, E, Y, I, K>(
+            rt, alloc, opening, terms, number, line, post, returning, pace, hall, shelf, pause,
+            notices, gallery, reporter, speaker, entrance,
         ) {
             Ok(past) => past,
             Err(fault) => return end_without(fault),
@@ -156,34 +167,6 @@ pub fn run_lives<
         number = number.saturating_add(1);
     }
     unreachable!()
-}
-
-/// The chooser of the life of that number: each draws from a stream of its own.
-pub(crate) fn chooser_of(terms: Terms, number: u64) -> Seeded
-    ensures { result ≡ record (of_seed terms.seed) { stream = number } }
-{
-    Seeded::life(terms.seed, number)
-}
-
-/// Writes how a life ended. That it can't be written changes nothing.
-fn tell<W: Sink>(writer: &mut W, number: u64, past: &Past)
-    ensures { TellsLife number past.now (W.written writer.old, W.failures writer.old)
-        (W.written writer.new, W.failures writer.new) }
-{
-    let _is_put = match past.why {
-        Why::JournalFull => put_life(writer, number, past),
-        Why::NoMemory | Why::Socket | Why::Stopped => put_ended(writer, past),
-    };
-    let _is_sent = writer.flush();
-}
-
-/// Writes that the daemon ended as if a life had been stopped at once. That it can't be written changes nothing.
-fn tell_stopped<W: Sink>(writer: &mut W)
-    ensures { TellsText stopped_text (W.written writer.old, W.failures writer.old)
-        (W.written writer.new, W.failures writer.new) }
-{
-    let _is_put = writer.put(STOPPED);
-    let _is_sent = writer.flush();
 }
 
 /// Why no other life follows, where none does.
@@ -234,8 +217,10 @@ pub fn live<
     ensures cut { IfOk result (λ past. past.is_cut ≡ false) }
 {
     let writer = Nowhere::new();
+    let mut returning = Returning::new(0, opening.me());
     let mut pause = Never {};
     let mut gallery = Gallery::<NoOutlet>::new(alloc);
+    let mut reporter = NoReporter {};
     let mut entrance = NoEntrance {};
     match live_recorded(
         rt,
@@ -246,11 +231,14 @@ pub fn live<
         0,
         line,
         post,
+        &mut returning,
         pace,
         hall,
         writer,
         &mut pause,
         &mut gallery,
+        &mut reporter,
+        &NoReporter {},
         &mut entrance,
     ) {
         Ok(lived) => Ok(with_cut(lived.past, false)),
@@ -261,8 +249,8 @@ pub fn live<
 /// As `live`; and a writer writes the journal into a sink while the life goes on, at each tick of a pace of its own,
 /// and what is left once the life is over. Where the sink fails the life goes on, and is told as cut: what was written
 /// is then a front of the text of the journal's calls. Those who watch are told that the life of this number begins,
-/// and then its changes; who comes by the entrance is told the table first. Where there is no life they are told
-/// nothing.
+/// and then its changes; who comes by the entrance is told the table first. The reporter hears that it begins, and of its
+/// calls. Where there is no life they are told nothing.
 pub fn live_recorded<
     R: Threads + Wait + Sync,
     O: Post + Drop + Send,
@@ -272,7 +260,9 @@ pub fn live_recorded<
     W: Sink + Drop + Send,
     Q: Pace + Send,
     E: Outlet + Drop + Send,
+    Y: Reporter + Drop + Send,
     I: Entrance<E> + Send,
+    K: Speaker,
 >(
     rt: &R,
     alloc: Global,
@@ -282,11 +272,14 @@ pub fn live_recorded<
     number: u64,
     line: &mut L,
     post: &O,
+    returning: &mut Returning,
     pace: &mut P,
     hall: &mut Hall<D>,
     writer: W,
     pause: &mut Q,
     gallery: &mut Gallery<E>,
+    reporter: &mut Y,
+    speaker: &K,
     entrance: &mut I,
 ) -> Result<Lived<W>, OpenFault>
     ensures life { IfOk result (λ lived. IsLife opening limit lived.past) }
@@ -296,13 +289,17 @@ pub fn live_recorded<
     ensures watched { MatchResult result
         (λ lived. AreToldLife number opening gallery.old lived.past.journal.past gallery.new)
         (λ fault. gallery.new ≡ gallery.old) }
+    ensures reported { MatchResult result
+        (λ lived. HearsOf lived.past.is_read opening lived.past.journal.past (Y.heard reporter.old) (Y.heard reporter.new))
+        (λ fault. Y.heard reporter.new ≡ Y.heard reporter.old) }
+    ensures read { IfOk result (λ lived. lived.past.is_cut ≡ false → lived.past.is_read ≡ true) }
 {
     let Ok(parts) = Parts::make(alloc, limit) else {
         return Err(OpenFault::NoMemory);
     };
-    live_so::<Brand, R, O, L, P, D, W, Q, E, I>(
-        rt, alloc, parts, opening, chooser, limit, number, line, post, pace, hall, writer, pause,
-        gallery, entrance,
+    live_so::<Brand, R, O, L, P, D, W, Q, E, Y, I, K>(
+        rt, alloc, parts, opening, chooser, limit, number, line, post, returning, pace, hall,
+        writer, pause, gallery, reporter, speaker, entrance,
     )
 }
 
@@ -318,7 +315,9 @@ fn live_so<
     W: Sink + Drop + Send,
     Q: Pace + Send,
     E: Outlet + Drop + Send,
+    Y: Reporter + Drop + Send,
     I: Entrance<E> + Send,
+    K: Speaker,
 >(
     rt: &R,
     alloc: Global,
@@ -329,11 +328,14 @@ fn live_so<
     number: u64,
     line: &mut L,
     post: &O,
+    returning: &mut Returning,
     pace: &mut P,
     hall: &mut Hall<D>,
     writer: W,
     pause: &mut Q,
     gallery: &mut Gallery<E>,
+    reporter: &mut Y,
+    speaker: &K,
     entrance: &mut I,
 ) -> Result<Lived<W>, OpenFault>
     requires parts { parts ≡ record { limit = N.limit; ledgers = N.ledgers; log = N.log; cells = N.cells } }
@@ -342,6 +344,8 @@ fn live_so<
     requires drawn { DrawsAll DrawsOrder DrawsPlace N.opening chooser N.drawn }
     requires page { W.written writer ≡ N.page }
     requires guests { N.guests ≡ map (put_text (life_text number)) gallery.old }
+    requires heard { N.heard ≡ Y.heard reporter.old }
+    requires rejoin { returning.old.rejoin ≡ N.rejoin }
     ensures life { IfOk result (λ lived. IsLife opening limit lived.past) }
     ensures drawn { IfOk result (λ lived. N.drawn lived.past.journal.past) }
     ensures written { IfOk result (λ lived. IsWritten N.page (W.written lived.writer) lived.past) }
@@ -349,6 +353,10 @@ fn live_so<
     ensures watched { MatchResult result
         (λ lived. AreToldLife number opening gallery.old lived.past.journal.past gallery.new)
         (λ fault. gallery.new ≡ gallery.old) }
+    ensures reported { MatchResult result
+        (λ lived. HearsOf lived.past.is_read opening lived.past.journal.past (Y.heard reporter.old) (Y.heard reporter.new))
+        (λ fault. Y.heard reporter.new ≡ Y.heard reporter.old) }
+    ensures read { IfOk result (λ lived. lived.past.is_cut ≡ false → lived.past.is_read ≡ true) }
 {
     let Ok(posts) = Posts::of(alloc, post) else {
         return Err(OpenFault::NoMemory);
@@ -358,11 +366,15 @@ fn live_so<
             let (node, seats, viewers) = opened;
             gallery.tell(&Event::Life(number));
             let guests = mem::replace(gallery, Gallery::new(alloc));
+            let stand_in = reporter.fresh();
+            let own = mem::replace(reporter, stand_in);
             let life = run_life(
-                rt, alloc, node, seats, viewers, line, posts, pace, hall, writer, pause, guests,
-                entrance,
+                rt, alloc, node, seats, viewers, line, posts, returning, pace, hall, writer, pause,
+                guests, own, speaker, entrance,
             );
             *gallery = life.gallery;
+            *reporter = life.reporter;
+            returning.add_knocks(life.knocks);
             let past = Past {
                 why: life.why,
                 is_stopped: life.is_stopped,
@@ -371,6 +383,7 @@ fn live_so<
                 wire: life.wire,
                 refused: life.refused,
                 is_cut: !life.is_whole,
+                is_read: life.is_read,
             };
             Ok(Lived {
                 past,

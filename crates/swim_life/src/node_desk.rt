@@ -3,17 +3,20 @@
 ghost use Rattle.std.specs.Prelude.{◌≡◌};
 ghost use Rattle.swim_history.specs.declared.calls.Call.TheVariants as calls;
 ghost use Rattle.swim_control.specs.declared.desks.Command.{Command as Asked};
-ghost use Rattle.swim_control.specs.Desks.{Shows, Measures, Answers};
+ghost use Rattle.swim_control.specs.Desks.{Shows, Measures, Answers, Counts as Counted};
 ghost use Rattle.swim_node.specs.Answered.{MayRefuse};
 ghost use Rattle.swim_node.specs.News.{IsLongerOf};
 ghost use Rattle.swim_node.specs.Seats.{Seated};
 ghost use Rattle.swim_life.specs.Desk.{Asks, Calls, IsTold, Tells, TellsRefusal};
 
+use crate::counts::Counts;
 use crate::holding::Held;
+use crate::meters::Meter;
+use crate::reporters::Speaker;
 use std::alloc::Global;
 use std::marker::Model;
 use std::sync::Wait;
-use swim_control::{Answer, Desk};
+use swim_control::{Answer, Desk, StatsText};
 use swim_history::{Gap, Reply, Table};
 use swim_node::{CallFault, Naming, Node, Receipt, Viewer};
 use swim_targets::{Chooser, Seeded};
@@ -117,14 +120,16 @@ impl<N: Naming, const SEAT: u8> Caller<N, SEAT> {
 }
 
 /// A desk over a node, with a seat and a viewer for itself: what is joined or removed is a call of the seat, and the
-/// viewer learns of it, so that a list that follows shows it.
+/// viewer learns of it, so that a list that follows shows it. Its speaker tells what was counted.
 #[derive(Drop)]
-pub struct NodeDesk<'n, N: Naming, H: Wait + Drop, const SEAT: u8> {
+pub struct NodeDesk<'n, 'k, N: Naming, H: Wait + Drop, K, const SEAT: u8> {
     node: &'n Node<N, Seeded, H>,
     caller: Caller<N, SEAT>,
+    speaker: &'k K,
 }
 
-impl<'n, N: Naming, H: Wait + Drop, const SEAT: u8> Model for NodeDesk<'n, N, H, SEAT> {
+impl<'n, 'k, N: Naming, H: Wait + Drop, K, const SEAT: u8> Model
+    for NodeDesk<'n, 'k, N, H, K, SEAT> {
     ghost use Rattle.swim_life.specs.Desk.{AtDesk};
 
     ghost Value = { AtDesk };
@@ -132,12 +137,13 @@ impl<'n, N: Naming, H: Wait + Drop, const SEAT: u8> Model for NodeDesk<'n, N, H,
     ghost view = { λ d. d.caller };
 }
 
-impl<'n, N: Naming, H: Wait + Drop, const SEAT: u8> NodeDesk<'n, N, H, SEAT> {
+impl<'n, 'k, N: Naming, H: Wait + Drop, K, const SEAT: u8> NodeDesk<'n, 'k, N, H, K, SEAT> {
     pub(crate) fn new(
         node: &'n Node<N, Seeded, H>,
         held: Held<N, SEAT>,
         viewer: Viewer<N>,
-    ) -> NodeDesk<'n, N, H, SEAT>
+        speaker: &'k K,
+    ) -> NodeDesk<'n, 'k, N, H, K, SEAT>
         ensures { result ≡ record { seat = held.seat; seen = viewer; refused = 0 } }
     {
         let caller = Caller {
@@ -145,7 +151,20 @@ impl<'n, N: Naming, H: Wait + Drop, const SEAT: u8> NodeDesk<'n, N, H, SEAT> {
             viewer,
             refused: 0,
         };
-        NodeDesk { node, caller }
+        NodeDesk {
+            node,
+            caller,
+            speaker,
+        }
+    }
+
+    /// Shows what it counted.
+    pub(crate) fn show(&self, meter: &Meter) {
+        let counts = Counts {
+            refused: self.caller.refused,
+            ..Counts::none()
+        };
+        meter.show(self.caller.held.seat.calls().len(), counts);
     }
 
     /// The seat, and how many calls were refused for want of memory.
@@ -157,7 +176,8 @@ impl<'n, N: Naming, H: Wait + Drop, const SEAT: u8> NodeDesk<'n, N, H, SEAT> {
     }
 }
 
-impl<'n, N: Naming, H: Wait + Drop, const SEAT: u8> Desk for NodeDesk<'n, N, H, SEAT> {
+impl<'n, 'k, N: Naming, H: Wait + Drop, K: Speaker, const SEAT: u8> Desk
+    for NodeDesk<'n, 'k, N, H, K, SEAT> {
     ghost asks = { λ old command told new. Asks N.opening N.limit old command told new };
 
     fn list<R: Wait>(&mut self, _rt: &R) -> Option<Table>
@@ -185,5 +205,11 @@ impl<'n, N: Naming, H: Wait + Drop, const SEAT: u8> Desk for NodeDesk<'n, N, H, 
     {
         let node = self.node;
         self.caller.gap(rt, node, id)
+    }
+
+    fn stats<R: Wait>(&mut self, rt: &R) -> StatsText
+        ensures { Asks N.opening N.limit self.old Asked.Stats (Counted result) self.new }
+    {
+        self.speaker.stats(rt)
     }
 }

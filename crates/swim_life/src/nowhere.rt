@@ -1,12 +1,17 @@
-//! Where the journals of lives are written that have no files, and where nobody comes in to watch.
+//! Where the journals of lives are written that have no files, where nobody comes in to watch, and a reporter who tells
+//! nothing.
 
 ghost use Rattle.std.specs.Prelude.{◌≡◌, None, false};
 ghost use Rattle.swim_wire.specs.Streams.{failures_if};
 
 use crate::gates::{Beat, Pace, Shelf};
 use crate::lives::{Past, Terms};
+use crate::reporters::{Reporter, Speaker, Standing};
 use std::sync::Wait;
+use swim_control::StatsText;
 use swim_events::{Entrance, Offer, Outlet};
+use swim_history::{Change, Opening};
+use swim_node::Followed;
 use swim_wire::Sink;
 
 /// A sink that takes nothing.
@@ -78,13 +83,35 @@ impl Outlet for NoOutlet {
 }
 
 impl Entrance<NoOutlet> for NoEntrance {
-    fn is_open(&self) -> bool {
-        false
-    }
-
     fn next(&mut self) -> Option<NoOutlet> {
         None
     }
+}
+
+/// A reporter who keeps nothing.
+#[derive(Drop)]
+pub struct NoReporter {}
+
+impl Speaker for NoReporter {
+    fn stats<R: Wait>(&self, _rt: &R) -> StatsText {
+        let mut text = StatsText::new();
+        let _is_added = text.try_extend_from_slice(b".\n");
+        text
+    }
+}
+
+impl Reporter for NoReporter {
+    ghost heard = { λ r. None };
+
+    fn fresh(&self) -> NoReporter {
+        NoReporter {}
+    }
+
+    fn begins(&mut self, _opening: &Opening) {}
+
+    fn hear<R: Wait>(&mut self, _rt: &R, _next: &Followed, _change: &Option<Change>) {}
+
+    fn rest<R: Wait>(&mut self, _rt: &R, _standing: Standing) {}
 }
 
 /// A shelf of lives that have no files.

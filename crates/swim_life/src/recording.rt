@@ -1,5 +1,5 @@
-//! The writer, the fourth of a life's workers: it writes the journal down while the life goes on, and tells those who
-//! watch.
+//! The writer, the fourth of a life's workers: it writes the journal down while the life goes on, tells those who watch,
+//! and has the reporter hear of each call.
 
 ghost use Rattle.std.specs.Prelude.{◌≡◌, ◌≤◌, ◌&&◌, ◌==◌, [], ◌∷◌, MatchBool, length, true};
 ghost use Rattle.swim_wire.specs.Streams.{Puts};
@@ -8,12 +8,15 @@ ghost use Rattle.swim_node.specs.Following.{filings_of};
 ghost use Rattle.swim_node.specs.OneHistory.{AreFullWhereMet, IsOneHistory};
 ghost use Rattle.swim_node.specs.Seats.{AreTheSeats};
 ghost use Rattle.swim_journal.specs.Journals.{calls_text, AreReadBack};
+ghost use Rattle.swim_life.specs.Reports.{HearsOf};
 ghost use Rattle.swim_life.specs.Watched.{AreToldOn};
 
 use crate::criers::Crier;
 use crate::gates::{Beat, Pace};
 use crate::holding::{Seats, seats_of};
+use crate::meters::Meters;
 use crate::naming::GuestNaming;
+use crate::reporters::Reporter;
 use std::alloc::Global;
 use std::sync::Wait;
 use std::sync::atomic::{AtomicBool, Ordering};
@@ -23,9 +26,9 @@ use swim_node::{Node, Seat};
 use swim_targets::Chooser;
 use swim_wire::Sink;
 
-/// The writer: at each tick of its pace it reads what was added to the journal, writes it, and tells those who watch;
-/// at each beat it takes in who has come, and sends. It ends with the life, where its pace tells it to, or where
-/// nothing is left for it to do, and ends no other worker.
+/// The writer: at each tick of its pace it reads what was added to the journal, writes it, and tells those who watch and
+/// the reporter; at each beat it takes in who has come, and sends. It ends with the life, or where its pace tells it to,
+/// and ends no other worker.
 pub(crate) fn write_along<
     N: GuestNaming,
     C: Chooser,
@@ -34,24 +37,26 @@ pub(crate) fn write_along<
     W: Sink + Drop,
     Q: Pace,
     E: Outlet + Drop,
+    Y: Reporter + Drop,
     I: Entrance<E>,
 >(
     rt: &R,
     alloc: Global,
     node: &Node<N, C, H>,
     over: &AtomicBool,
-    crier: Crier<N, W, E>,
+    meters: &Meters,
+    crier: Crier<N, W, E, Y>,
     pause: &mut Q,
     entrance: &mut I,
-) -> Crier<N, W, E> {
+) -> Crier<N, W, E, Y> {
     let mut crier = crier;
     let mut is_more = false;
     for _turn in rt.forever() {
-        if over.load(Ordering::SeqCst) || crier.is_done() {
+        if over.load(Ordering::SeqCst) {
             break;
         }
         is_more = match next_beat(rt, is_more, pause) {
-            Beat::Tick => crier.step(rt, node),
+            Beat::Tick => crier.step(rt, node, meters),
             Beat::Idle => false,
             Beat::Stop => break,
         };
@@ -66,14 +71,16 @@ fn next_beat<R: Wait, Q: Pace>(rt: &R, is_more: bool, pause: &mut Q) -> Beat {
 }
 
 /// What is left of a node that was closed: its journal, its seats, the sink of its journal, whether that took all of
-/// the journal's text and handed it on, and those who watch.
+/// the journal's text and handed it on, whether all of it was read, those who watch, and the reporter.
 #[derive(Drop)]
-pub(crate) struct Recorded<N: GuestNaming, W: Sink + Drop, E: Outlet + Drop> {
+pub(crate) struct Recorded<N: GuestNaming, W: Sink + Drop, E: Outlet + Drop, Y: Reporter + Drop> {
     pub(crate) journal: Journal,
     pub(crate) seats: Seats<N>,
     pub(crate) writer: W,
     pub(crate) is_whole: bool,
+    pub(crate) is_read: bool,
     pub(crate) gallery: Gallery<E>,
+    pub(crate) reporter: Y,
 }
 
 /// Writes and tells what is left of the journal of a node that nobody calls any more, and closes it.
@@ -85,7 +92,14 @@ pub(crate) fn close_recorded<
     R: Wait,
     W: Sink + Drop,
     E: Outlet + Drop,
->(rt: &R, node: Node<N, C, H>, seats: [Seat<N>; 4], crier: Crier<N, W, E>) -> Recorded<N, W, E>
+    Y: Reporter + Drop,
+>(
+    rt: &R,
+    node: Node<N, C, H>,
+    seats: [Seat<N>; 4],
+    meters: &Meters,
+    crier: Crier<N, W, E, Y>,
+) -> Recorded<N, W, E, Y>
     requires seats { AreTheSeats seats }
     ensures opening { result.journal.opening ≡ N.opening }
     ensures within { length result.journal.past ≤ N.limit }
@@ -100,39 +114,50 @@ pub(crate) fn close_recorded<
     ensures back { result.is_whole ≡ true → AreReadBack (filings_of result.journal.past) }
     ensures sent { result.is_whole ≡ true → W.held result.writer ≡ 0 }
     ensures watched { AreToldOn N.opening N.guests result.journal.past result.gallery }
+    ensures reported { HearsOf result.is_read N.opening result.journal.past N.heard (Y.heard result.reporter) }
+    ensures read { result.is_whole ≡ true → result.is_read ≡ true }
 {
     let mut crier = crier;
-    crier.finish(rt, &node);
-    let (scribe, gallery) = crier.into_parts();
+    crier.finish(rt, &node, meters);
+    let (scribe, gallery, reporter) = crier.into_parts();
     let (follower, writer, is_taken) = scribe.into_parts();
     let read = follower.len();
     let (journal, seats, _news) = node.close_followed(rt, seats, follower);
-    let is_whole = is_all(is_taken, read, journal.len());
-    let gallery = where_all(gallery, read, journal.len());
+    let is_read = is_all(read, journal.len());
+    let is_whole = are_both(is_taken, is_read);
+    let gallery = where_all(gallery, is_read);
     Recorded {
         journal,
         seats: seats_of(seats),
         writer,
         is_whole,
+        is_read,
         gallery,
+        reporter,
     }
 }
 
-/// Those who watch, where so many calls were read of a journal of so many entries: nobody, where not all were, as what
-/// wasn't read can't be told any more.
-fn where_all<E: Outlet + Drop>(gallery: Gallery<E>, read: usize, entries: u32) -> Gallery<E>
-    ensures { MatchBool (read == entries) (result ≡ gallery) (result ≡ []) }
+/// Those who watch, where all of the journal was read: nobody, where it wasn't, as what wasn't read can't be told any
+/// more.
+fn where_all<E: Outlet + Drop>(gallery: Gallery<E>, is_read: bool) -> Gallery<E>
+    ensures { MatchBool is_read (result ≡ gallery) (result ≡ []) }
 {
     let mut gallery = gallery;
-    if read != entries as usize {
+    if !is_read {
         gallery.clear();
     }
     gallery
 }
 
-/// Whether a sink that took the text of so many calls took that of a journal of so many entries.
-fn is_all(is_taken: bool, read: usize, entries: u32) -> bool
-    ensures { result ≡ (is_taken && (read == entries)) }
+fn are_both(one: bool, other: bool) -> bool
+    ensures { result ≡ (one && other) }
 {
-    is_taken && read == entries as usize
+    one && other
+}
+
+/// Whether so many calls are all of a journal of so many entries.
+fn is_all(read: usize, entries: u32) -> bool
+    ensures { result ≡ (read == entries) }
+{
+    read == entries as usize
 }

@@ -1,18 +1,24 @@
 //! The callers of the node that send the datagrams of its replies.
 
-ghost use Rattle.std.specs.Prelude.{◌≡◌, ◌<◌, [], Some, box_value};
+ghost use Rattle.std.specs.Prelude.{◌≡◌, ◌+◌, ◌<◌, [], Some, box_value};
+ghost use Rattle.std.specs.Int.{from_bool};
 ghost use Rattle.swim_life.specs.Calling.{Hears, Ticks};
+ghost use Rattle.swim_life.specs.Knocking.{starts_in};
 ghost use Rattle.swim_life.specs.Posts.{HasSent, IsFresh};
+ghost use Rattle.swim_life.specs.Rejoining.{IsMessage, Joins};
 
+use crate::answers::{has_joined, has_started, message_of};
 use crate::counts::{Counts, Why};
 use crate::gates::Post;
 use crate::holding::Held;
+use crate::meters::Meter;
 use crate::sending::finish;
 use std::marker::Model;
 use std::sync::Wait;
+use swim_history::Row;
 use swim_node::{Naming, Node};
 use swim_targets::Chooser;
-use swim_wire::Peer;
+use swim_wire::{Message, Peer};
 
 /// A caller of the node: its seat, its post, and what it counted. All that its post was handed are the datagrams of the
 /// replies to the seat's calls.
@@ -54,34 +60,64 @@ impl<N: Naming, O: Post + Drop, const SEAT: u8> Sender<N, O, SEAT> {
         }
     }
 
-    /// Hears a datagram, and sends the datagrams of the reply. Why the worker ends, if it does.
+    /// Hears a datagram, and sends the datagrams of the reply. Why the worker ends, if it does; and the message of the
+    /// datagram, where the node answered.
     pub(crate) fn hear<C: Chooser, H: Wait + Drop, R: Wait>(
         &mut self,
         rt: &R,
         node: &Node<N, C, H>,
         bytes: &[u8],
         source: Peer,
-    ) -> Option<Why>
-        ensures hears { Hears N.opening N.limit bytes.now source self.old result self.new }
-        ensures full { result ≡ Some Why.JournalFull → 0 < self.new.seat.full }
+    ) -> (Option<Why>, Option<Message>)
+        ensures hears { Hears N.opening N.limit bytes.now source self.old result.0 self.new }
+        ensures message { IsMessage bytes.now self.old result.0 self.new result.1 }
+        ensures full { result.0 ≡ Some Why.JournalFull → 0 < self.new.seat.full }
     {
         let answer = node.hear(rt, &mut self.held.seat, bytes, source);
+        let message = message_of(&answer);
         let opening = node.opening();
-        finish(rt, &mut *self.post, opening, answer, &mut self.counts)
+        let end = finish(rt, &mut *self.post, opening, answer, &mut self.counts);
+        (end, message)
     }
 
-    /// Gives a tick, and sends the datagrams of the reply. Why the worker ends, if it does.
+    /// Joins the member with this row at its address, and sends the datagrams of the reply, of which there are none. Why
+    /// the worker ends, if it does; and whether the member was joined.
+    pub(crate) fn join<C: Chooser, H: Wait + Drop, R: Wait>(
+        &mut self,
+        rt: &R,
+        node: &Node<N, C, H>,
+        row: &Row,
+    ) -> (Option<Why>, bool)
+        ensures joins { Joins N.opening N.limit row.now self.old result.0 self.new }
+        ensures full { result.0 ≡ Some Why.JournalFull → 0 < self.new.seat.full }
+    {
+        let answer = node.join(rt, &mut self.held.seat, row.id, row.peer);
+        let is_joined = has_joined(&answer);
+        let opening = node.opening();
+        let end = finish(rt, &mut *self.post, opening, answer, &mut self.counts);
+        (end, is_joined)
+    }
+
+    /// Gives a tick, and sends the datagrams of the reply. Why the worker ends, if it does; and whether a period started.
     pub(crate) fn tick<C: Chooser, H: Wait + Drop, R: Wait>(
         &mut self,
         rt: &R,
         node: &Node<N, C, H>,
-    ) -> Option<Why>
-        ensures ticks { Ticks N.opening N.limit self.old result self.new }
-        ensures full { result ≡ Some Why.JournalFull → 0 < self.new.seat.full }
+    ) -> (Option<Why>, bool)
+        ensures ticks { Ticks N.opening N.limit self.old result.0 self.new }
+        ensures started { starts_in self.new.seat.calls ≡ starts_in self.old.seat.calls + from_bool result.1 }
+        ensures full { result.0 ≡ Some Why.JournalFull → 0 < self.new.seat.full }
     {
         let answer = node.tick(rt, &mut self.held.seat);
+        let is_started = has_started(&answer);
         let opening = node.opening();
-        finish(rt, &mut *self.post, opening, answer, &mut self.counts)
+        let end = finish(rt, &mut *self.post, opening, answer, &mut self.counts);
+        (end, is_started)
+    }
+
+    /// Shows what it counted.
+    pub(crate) fn show(&self, meter: &Meter) {
+        meter.show(self.held.seat.calls().len(), self.counts);
     }
 
     /// The seat, the post, and the counts.

@@ -7,11 +7,17 @@ use crate::controlling::control;
 use crate::criers::Crier;
 use crate::gates::{Door, Line, Pace, Post};
 use crate::halls::Hall;
-use crate::holding::{Ended, Held, Left};
+use crate::holding::{Ended, Held, Left, Ticked};
+use crate::knocking::KnockNaming;
 use crate::lookouts::Lookout;
+use crate::meters::{Meter, Meters};
 use crate::naming::GuestNaming;
 use crate::recording::write_along;
+use crate::rejoining::Returning;
+use crate::reporters::{Reporter, Speaker};
 use crate::senders::Sender;
+use crate::tickers::Ticker;
+use crate::tidings::Board;
 use crate::workers::{receive, tick};
 use std::alloc::Global;
 use std::sync::Wait;
@@ -25,33 +31,59 @@ use swim_wire::Sink;
 
 /// What the receiver takes into its thread.
 #[derive(Drop)]
-pub(crate) struct Hearing<'n, 'o, 'l, N: Naming, O: Post + Drop, C: Chooser, H: Wait + Drop, L> {
+pub(crate) struct Hearing<
+    'n,
+    'o,
+    'm,
+    'r,
+    'l,
+    N: Naming,
+    O: Post + Drop,
+    C: Chooser,
+    H: Wait + Drop,
+    L,
+> {
     pub(crate) node: &'n Node<N, C, H>,
     pub(crate) over: &'o AtomicBool,
     pub(crate) sender: Sender<N, O, 0>,
+    pub(crate) returning: &'r mut Returning,
     pub(crate) line: &'l mut L,
     pub(crate) lookout: Lookout<'o, N>,
+    pub(crate) meter: &'m Meter,
 }
 
 /// What the ticker takes into its thread.
 #[derive(Drop)]
-pub(crate) struct Ticking<'n, 'o, 'p, N: Naming, O: Post + Drop, C: Chooser, H: Wait + Drop, P> {
+pub(crate) struct Ticking<
+    'n,
+    'o,
+    'm,
+    'p,
+    N: KnockNaming,
+    O: Post + Drop,
+    C: Chooser,
+    H: Wait + Drop,
+    P,
+> {
     pub(crate) node: &'n Node<N, C, H>,
     pub(crate) over: &'o AtomicBool,
-    pub(crate) sender: Sender<N, O, 1>,
+    pub(crate) ticker: Ticker<N, O>,
     pub(crate) pace: &'p mut P,
-    pub(crate) looking: &'o AtomicBool,
+    pub(crate) board: &'o Board,
+    pub(crate) meter: &'m Meter,
 }
 
 /// What the controller takes.
 #[derive(Drop)]
-pub(crate) struct Controlling<'n, 'o, 'd, N: Naming, H: Wait + Drop, D: Door + Drop> {
+pub(crate) struct Controlling<'n, 'o, 'm, 'd, 'k, N: Naming, H: Wait + Drop, D: Door + Drop, K> {
     pub(crate) alloc: Global,
     pub(crate) node: &'n Node<N, Seeded, H>,
     pub(crate) over: &'o AtomicBool,
     pub(crate) held: Held<N, 2>,
     pub(crate) viewer: Viewer<N>,
+    pub(crate) speaker: &'k K,
     pub(crate) hall: &'d mut Hall<D>,
+    pub(crate) meter: &'m Meter,
 }
 
 /// What the writer takes into its thread.
@@ -59,6 +91,7 @@ pub(crate) struct Controlling<'n, 'o, 'd, N: Naming, H: Wait + Drop, D: Door + D
 pub(crate) struct Recording<
     'n,
     'o,
+    'm,
     'q,
     'i,
     N: GuestNaming,
@@ -67,72 +100,111 @@ pub(crate) struct Recording<
     W: Sink + Drop,
     Q,
     E: Outlet + Drop,
+    Y: Reporter + Drop,
     I,
 > {
     pub(crate) alloc: Global,
     pub(crate) node: &'n Node<N, C, H>,
     pub(crate) over: &'o AtomicBool,
-    pub(crate) crier: Crier<N, W, E>,
+    pub(crate) meters: &'m Meters,
+    pub(crate) crier: Crier<N, W, E, Y>,
     pub(crate) pause: &'q mut Q,
     pub(crate) entrance: &'i mut I,
 }
 
 /// What the workers hand back, and whether each of those that call the node was started.
 #[derive(Drop)]
-pub(crate) struct Over<N: GuestNaming, O: Post + Drop, W: Sink + Drop, E: Outlet + Drop> {
+pub(crate) struct Over<
+    N: GuestNaming,
+    O: Post + Drop,
+    W: Sink + Drop,
+    E: Outlet + Drop,
+    Y: Reporter + Drop,
+> {
     pub(crate) first: Ended<N, O, 0>,
-    pub(crate) second: Ended<N, O, 1>,
+    pub(crate) second: Ticked<N, O>,
     pub(crate) third: Left<N, 2>,
     pub(crate) all_began: bool,
-    pub(crate) crier: Crier<N, W, E>,
+    pub(crate) crier: Crier<N, W, E, Y>,
 }
 
-fn run_hearing<'n, 'o, 'l, N: Naming, O: Post + Drop, C: Chooser, H: Wait + Drop, L: Line, R: Wait>(
-    rt: &R,
-    it: Hearing<'n, 'o, 'l, N, O, C, H, L>,
-) -> Ended<N, O, 0> {
+fn run_hearing<
+    'n,
+    'o,
+    'm,
+    'r,
+    'l,
+    N: Naming,
+    O: Post + Drop,
+    C: Chooser,
+    H: Wait + Drop,
+    L: Line,
+    R: Wait,
+>(rt: &R, it: Hearing<'n, 'o, 'm, 'r, 'l, N, O, C, H, L>) -> Ended<N, O, 0> {
     let Hearing {
         node,
         over,
         sender,
+        returning,
         line,
         lookout,
+        meter,
     } = it;
-    receive(rt, node, over, sender, line, lookout)
+    receive(rt, node, over, sender, returning, line, lookout, meter)
 }
 
-fn run_ticking<'n, 'o, 'p, N: Naming, O: Post + Drop, C: Chooser, H: Wait + Drop, P: Pace, R: Wait>(
-    rt: &R,
-    it: Ticking<'n, 'o, 'p, N, O, C, H, P>,
-) -> Ended<N, O, 1> {
+fn run_ticking<
+    'n,
+    'o,
+    'm,
+    'p,
+    N: KnockNaming,
+    O: Post + Drop,
+    C: Chooser,
+    H: Wait + Drop,
+    P: Pace,
+    R: Wait,
+>(rt: &R, it: Ticking<'n, 'o, 'm, 'p, N, O, C, H, P>) -> Ticked<N, O> {
     let Ticking {
         node,
         over,
-        sender,
+        ticker,
         pace,
-        looking,
+        board,
+        meter,
     } = it;
-    tick(rt, node, over, sender, pace, looking)
+    tick(rt, node, over, ticker, pace, board, meter)
 }
 
-fn run_controlling<'n, 'o, 'd, N: Naming, H: Wait + Drop, D: Door + Drop, R: Wait>(
-    rt: &R,
-    it: Controlling<'n, 'o, 'd, N, H, D>,
-) -> Left<N, 2> {
+fn run_controlling<
+    'n,
+    'o,
+    'm,
+    'd,
+    'k,
+    N: Naming,
+    H: Wait + Drop,
+    D: Door + Drop,
+    K: Speaker,
+    R: Wait,
+>(rt: &R, it: Controlling<'n, 'o, 'm, 'd, 'k, N, H, D, K>) -> Left<N, 2> {
     let Controlling {
         alloc,
         node,
         over,
         held,
         viewer,
+        speaker,
         hall,
+        meter,
     } = it;
-    control(rt, alloc, node, over, held, viewer, hall)
+    control(rt, alloc, node, over, held, viewer, speaker, hall, meter)
 }
 
 fn run_recording<
     'n,
     'o,
+    'm,
     'q,
     'i,
     N: GuestNaming,
@@ -141,18 +213,20 @@ fn run_recording<
     W: Sink + Drop,
     Q: Pace,
     E: Outlet + Drop,
+    Y: Reporter + Drop,
     I: Entrance<E>,
     R: Wait,
->(rt: &R, it: Recording<'n, 'o, 'q, 'i, N, C, H, W, Q, E, I>) -> Crier<N, W, E> {
+>(rt: &R, it: Recording<'n, 'o, 'm, 'q, 'i, N, C, H, W, Q, E, Y, I>) -> Crier<N, W, E, Y> {
     let Recording {
         alloc,
         node,
         over,
+        meters,
         crier,
         pause,
         entrance,
     } = it;
-    write_along(rt, alloc, node, over, crier, pause, entrance)
+    write_along(rt, alloc, node, over, meters, crier, pause, entrance)
 }
 
 /// Tells the workers that run to end, where one could not be started.
@@ -176,21 +250,23 @@ pub(crate) fn work_at_once<
     W: Sink + Drop + Send,
     Q: Pace + Send,
     E: Outlet + Drop + Send,
+    Y: Reporter + Drop + Send,
     I: Entrance<E> + Send,
+    K: Speaker,
 >(
     rt: &R,
     over: &AtomicBool,
     hearing: Hearing<N, O, Seeded, H, L>,
     ticking: Ticking<N, O, Seeded, H, P>,
-    controlling: Controlling<N, H, D>,
-    recording: Recording<N, Seeded, H, W, Q, E, I>,
-) -> Over<N, O, W, E> {
+    controlling: Controlling<N, H, D, K>,
+    recording: Recording<N, Seeded, H, W, Q, E, Y, I>,
+) -> Over<N, O, W, E, Y> {
     thread::scope(
         thread::scope_env(),
         rt,
-        move |scope| -> Over<N, O, W, E>
+        move |scope| -> Over<N, O, W, E, Y>
             requires { IsSync R.row × IsSend L.row × IsSend O.row × IsSend P.row × IsSend N.row × IsSync N.row
-                × IsSend H.row × IsSend W.row × IsSend Q.row × IsSend E.row × IsSend I.row }
+                × IsSend H.row × IsSend W.row × IsSend Q.row × IsSend E.row × IsSend Y.row × IsSend I.row }
         {
             let first = scope.spawn(move || run_hearing(rt, hearing));
             tell(over, first.is_err());

@@ -69,10 +69,6 @@ impl UnixEntrance {
 }
 
 impl Entrance<StreamOutlet> for UnixEntrance {
-    fn is_open(&self) -> bool {
-        self.listener.is_some()
-    }
-
     fn next(&mut self) -> Option<StreamOutlet> {
         let listener = self.listener.as_ref()?;
         let (stream, _address) = listener.accept().ok()?;

@@ -8,6 +8,8 @@ mod operators;
 mod posts;
 mod readers;
 mod refusals;
+mod reporters;
+mod returning;
 mod sending;
 mod showing;
 mod two;
@@ -21,7 +23,7 @@ use std::sync::Wait;
 use std::test::*;
 use std::thread::Threads;
 use swim_history::{Journal, Opening, Probe, Reply};
-use swim_life::{Hall, Line, Pace, Past, Post, Why, live};
+use swim_life::{Hall, Line, Pace, Past, Post, Returning, Why, live};
 use swim_targets::Seeded;
 use swim_wire::{Id, Peer, Version};
 
@@ -45,6 +47,13 @@ fn opening() -> Result<Opening, Fail> {
 
 fn chooser() -> Seeded {
     Seeded::new([0; 32])
+}
+
+// Nobody is knocked at, and nobody joined again.
+fn nobody_returns() -> Returning
+    ensures { result.rejoin ≡ 0 }
+{
+    Returning::new(0, id(1))
 }
 
 // A life to whose door nobody comes.

@@ -4,17 +4,20 @@ use Rattle.std.specs.List.{starts_with}
 use Rattle.std.specs.Str.{bytes_eq}
 use Rattle.swim_wire.specs.Words.{words_by}
 
--- a row of a table begins with a digit
+-- a row of a table begins with a digit, and one of counts with the program's name
+abbrev pub begins_with_digit : List ℕ → Bool
+begins_with_digit [] = false
+begins_with_digit (first ∷ rest) = nat_le 48 first && nat_le first 57
+
 abbrev pub is_row : List ℕ → Bool
-is_row [] = false
-is_row (first ∷ rest) = nat_le 48 first && nat_le first 57
+is_row line = begins_with_digit line || starts_with (λ a b. a == b) line (codes "swimd_")
 
 -- nothing follows the line feed
 abbrev pub is_over : List (List ℕ) → Bool
 is_over ([] ∷ []) = true
 is_over lines = false
 
--- rows of a table, and then one other line, the last
+-- rows, and then one other line, the last
 abbrev pub is_rows_and_line : List (List ℕ) → Bool
 is_rows_and_line [] = false
 is_rows_and_line (line ∷ rest) = if is_row line then is_rows_and_line rest else is_over rest

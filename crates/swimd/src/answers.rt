@@ -1,7 +1,7 @@
 //! What a daemon answers to a control line, as far as whoever asks has to know.
 
 ghost use Rattle.std.specs.Prelude.{◌≡◌};
-ghost use Rattle.swimd.specs.Answers.{is_answer, is_over, is_refusal, is_row, is_stopping};
+ghost use Rattle.swimd.specs.Answers.{begins_with_digit, is_answer, is_over, is_refusal, is_row, is_stopping};
 
 use arrayvec::ArrayVec;
 use swim_wire::Words;
@@ -12,7 +12,8 @@ const ANSWER_BYTES: usize = 16_384;
 /// An answer, or a front of one.
 pub type Answer = ArrayVec<u8, ANSWER_BYTES>;
 
-/// Whether a text is a whole answer: rows of a table, which begin with a digit, and then one other line.
+/// Whether a text is a whole answer: rows of a table, which begin with a digit, or of counts, which begin with the
+/// program's name, and then one other line.
 pub fn is_answer(text: &[u8]) -> bool
     ensures { result ≡ is_answer text.now }
 {
@@ -36,9 +37,15 @@ fn is_over(lines: &mut Words<'_>) -> bool
     }
 }
 
-/// Whether a line is a row of a table.
+/// Whether a line is a row of a table or of counts.
 fn is_row(line: &[u8]) -> bool
     ensures { result ≡ is_row line.now }
+{
+    begins_with_digit(line) || line.starts_with(b"swimd_")
+}
+
+fn begins_with_digit(line: &[u8]) -> bool
+    ensures { result ≡ begins_with_digit line.now }
 {
     match line.first() {
         Some(first) => first.is_ascii_digit(),

@@ -6,15 +6,20 @@ ghost use Rattle.swimd.specs.Daemon.{IsConfiguration, IsNoConfiguration, IsNoDoo
 ghost use Rattle.swimd.specs.Details.{Explains};
 
 use crate::checking::warn;
+use crate::chroniclers::Chronicler;
+use crate::counters::Counters;
 use crate::details::{Details, words_of};
 use crate::entrances::{end_watching, open_entrance, pause_ms, tell_socket};
 use crate::folders::Folder;
+use crate::metrics_files::MetricsFile;
 use crate::notices::{Announcer, Notice, is_taken_at_once};
 use crate::outcomes::Outcome;
-use crate::strangers::{NotingLine, Strangers, TellingDoor};
+use crate::stacks::has_room;
+use crate::strangers::NotingLine;
+use crate::telling_doors::TellingDoor;
 use arrayvec::ArrayVec;
 use jiff::Timestamp;
-use std::alloc::Global;
+use std::alloc::{AllocError, Global};
 use std::fs;
 use std::fs::File;
 use std::io::ErrorKind;
@@ -27,8 +32,8 @@ use swim_events::Gallery;
 use swim_guard::{ClockTimepiece, FencedLine, SealedLine, SealedPost};
 use swim_keys::Keys;
 use swim_life::{
-    ClockSleeper, Hall, LivesEnd, Place, SleepingPace, Terms, UdpLine, UnixDoor, UnixEntrance,
-    run_lives,
+    ClockSleeper, Door, Hall, LivesEnd, Place, Returning, SleepingPace, Terms, UdpLine, UnixDoor,
+    UnixEntrance, run_lives,
 };
 use swim_wire::{Peer, ReadSource, Sink};
 
@@ -163,19 +168,78 @@ fn start<
 }
 
 /// Lives over this line and this door, and the other gates of a configuration.
+#[tactic(auto, using(swim_life::specs::Notices::no_notices))]
 fn live<
-    'r,
     R: Files<File = File> + Net + Clock + Threads + Wait + Sync,
     W: Sink,
     F: Sink,
     G: Sink + Drop,
+    D: Door + Drop,
 >(
-    rt: &'r R,
+    rt: &R,
     alloc: Global,
     config: Config,
     is_quiet: bool,
     line: &UdpLine,
-    door: UnixDoor<&'r R>,
+    door: D,
+    entrance: UnixEntrance,
+    writer: &mut W,
+    faults: &mut F,
+    log: G,
+) -> Outcome
+    ensures starts { Starts config (W.written writer.old, W.failures writer.old)
+        (W.written writer.new, W.failures writer.new) result }
+    ensures notices { Notices (F.written faults.old, F.failures faults.old)
+        (F.written faults.new, F.failures faults.new) }
+{
+    if !has_room(alloc) {
+        return Outcome::NoMemory;
+    }
+    let Ok(mut returning) = returning_of(alloc, &config) else {
+        return Outcome::NoMemory;
+    };
+    let keys = Keys::of(config.keys.as_slice());
+    let counters = Counters::new(&config);
+    let Ok(chronicler) = Chronicler::new(alloc, &counters, is_quiet) else {
+        return Outcome::NoMemory;
+    };
+    live_counted(
+        rt,
+        alloc,
+        config,
+        is_quiet,
+        line,
+        keys.as_ref(),
+        &counters,
+        chronicler,
+        &mut *returning,
+        door,
+        entrance,
+        writer,
+        faults,
+        log,
+    )
+}
+
+/// The same, with these keys, these counters, and what is remembered of members that come back.
+fn live_counted<
+    'g,
+    R: Files<File = File> + Net + Clock + Threads + Wait + Sync,
+    W: Sink,
+    F: Sink,
+    G: Sink + Drop,
+    D: Door + Drop,
+>(
+    rt: &'g R,
+    alloc: Global,
+    config: Config,
+    is_quiet: bool,
+    line: &'g UdpLine,
+    keys: Option<&'g Keys>,
+    counters: &'g Counters,
+    mut chronicler: Chronicler<'g>,
+    returning: &mut Returning,
+    door: D,
     mut entrance: UnixEntrance,
     writer: &mut W,
     faults: &mut F,
@@ -186,18 +250,17 @@ fn live<
     ensures notices { Notices (F.written faults.old, F.failures faults.old)
         (F.written faults.new, F.failures faults.new) }
 {
-    let keys = Keys::of(config.keys.as_slice());
-    let strangers = Strangers::new();
+    let terms = terms_of(&config);
     let fenced = FencedLine::new(line, ClockTimepiece::new(rt), config.fence);
-    let fenced = NotingLine::new(fenced, &strangers.fenced);
-    let sealed = SealedLine::new(fenced, keys.as_ref());
-    let mut hearing = NotingLine::new(sealed, &strangers.forged);
-    let sending = SealedPost::new(line, keys.as_ref());
-    let door = TellingDoor::new(rt, alloc, door, &strangers, log, is_quiet);
+    let fenced = NotingLine::new(fenced, &counters.strangers.fenced);
+    let sealed = SealedLine::new(fenced, keys);
+    let mut hearing = NotingLine::new(sealed, &counters.strangers.forged);
+    let sending = SealedPost::new(line, keys);
+    let file = MetricsFile::new(rt, config.metrics);
+    let door = TellingDoor::new(rt, alloc, door, counters, file, log, is_quiet);
     let mut hall = Hall::new(alloc, door);
     let mut pace = SleepingPace::new(ClockSleeper::new(rt), config.tick_ms);
     let mut herald = Announcer::new(rt, alloc, is_quiet);
-    let terms = terms_of(&config);
     let opening = config.opening;
     let mut shelf = Folder::new(rt, alloc, config.files, opening.me(), seconds(rt));
     let mut pause = SleepingPace::new(ClockSleeper::new(rt), pause_ms(&config.events));
@@ -209,6 +272,7 @@ fn live<
         terms,
         &mut hearing,
         &sending,
+        returning,
         &mut pace,
         &mut hall,
         &mut shelf,
@@ -217,9 +281,12 @@ fn live<
         &mut herald,
         faults,
         &mut gallery,
+        &mut chronicler,
+        counters,
         &mut entrance,
     );
     end_watching(&mut gallery);
+    hall.into_door().finish(rt);
     outcome_of(end)
 }
 
@@ -298,6 +365,18 @@ fn terms_of(config: &Config) -> Terms
         seed: config.seed,
         limit: config.journal,
     }
+}
+
+/// What is remembered of members that come back: of nobody yet. It is too large for a stack where memory is short.
+#[inline(never)]
+fn returning_of(alloc: Global, config: &Config) -> Result<Box<Returning>, AllocError> {
+    let returning = Returning::new(rejoin_of(config), config.opening.me());
+    Ok(Box::new(alloc, returning)?)
+}
+
+/// At every how manieth start of a period a daemon of this configuration knocks. The key has no higher number.
+fn rejoin_of(config: &Config) -> u16 {
+    u16::try_from(config.rejoin).unwrap_or(u16::MAX)
 }
 
 /// How a daemon ends whose lives ended so.

@@ -55,7 +55,7 @@ impl fmt::Write for Notice {
 
 impl Notice {
     /// A line that begins with the time, as RFC 3339 has it, if that is to be had.
-    fn begun<K: Clock>(clock: &K) -> Notice {
+    pub(crate) fn begun<K: Clock>(clock: &K) -> Notice {
         let mut notice = Notice {
             text: ArrayVec::new(),
         };
@@ -105,6 +105,14 @@ impl Notice {
         let mut notice = Notice::begun(clock);
         let words = words_of(fault);
         let _is_added = write!(notice, "journal {path}: {words}");
+        notice
+    }
+
+    /// That the metrics' file can't be written, and why.
+    pub fn unwritten_metrics<K: Clock>(clock: &K, path: &str, fault: ErrorKind) -> Notice {
+        let mut notice = Notice::begun(clock);
+        let words = words_of(fault);
+        let _is_added = write!(notice, "metrics {path}: {words}");
         notice
     }
 

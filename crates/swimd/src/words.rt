@@ -135,7 +135,11 @@ fn run_command<'a>(alloc: Global) -> Result<Command<'a>, AllocError>
     Command::new(alloc, "run")
         .about("Runs the daemon of a configuration until it is told to stop")
         .arg(needed(alloc, "config", "FILE", "The file of its configuration"))?
-        .arg(flag(alloc, "quiet", "Tells no starts on standard error"))
+        .arg(flag(
+            alloc,
+            "quiet",
+            "Tells neither starts nor changes on standard error",
+        ))
 }
 
 /// The command that asks a daemon.

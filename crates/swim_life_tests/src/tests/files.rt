@@ -10,7 +10,8 @@ use super::*;
 use std::sync::atomic::AtomicBool;
 use swim_events::Gallery;
 use swim_life::{
-    ClockSleeper, Hall, LivesEnd, NoEntrance, NoOutlet, Shelf, SleepingPace, Terms, run_lives,
+    ClockSleeper, Hall, LivesEnd, NoEntrance, NoOutlet, NoReporter, Shelf, SleepingPace, Terms,
+    run_lives,
 };
 use swim_script::{Session, run};
 use swim_wire::{Page, Sink, Text, Version};
@@ -146,6 +147,7 @@ fn live_twice<R: Threads + Wait + Clock + Send + Sync + Copy + Drop>(
         terms,
         &mut line,
         &TakingPost {},
+        &mut nobody_returns(),
         &mut pace,
         &mut hall,
         &mut shelf,
@@ -154,6 +156,8 @@ fn live_twice<R: Threads + Wait + Clock + Send + Sync + Copy + Drop>(
         &mut herald,
         &mut notices,
         &mut Gallery::<NoOutlet>::new(alloc),
+        &mut NoReporter {},
+        &NoReporter {},
         &mut NoEntrance {},
     );
     if end != LivesEnd::Stopped {

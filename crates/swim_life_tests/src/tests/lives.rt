@@ -4,11 +4,13 @@ ghost use Rattle.swim_life.specs.Gates.{FitsInto};
 use super::gates::{
     AckPost, Counter, NoDoor, OneDoor, PING, PingLine, Signals, StopPace, TURNS, is_set, pause, set,
 };
+use super::reporters::Listener;
 use super::*;
 use std::sync::atomic::{AtomicBool, Ordering};
 use swim_events::Gallery;
 use swim_life::{
-    Beat, Got, Hall, LivesEnd, Never, NoEntrance, NoOutlet, NoShelf, Post, Terms, run_lives,
+    Beat, Got, Hall, LivesEnd, Never, NoEntrance, NoOutlet, NoReporter, NoShelf, Post, Terms,
+    run_lives,
 };
 use swim_wire::{Page, Version};
 
@@ -146,6 +148,7 @@ fn two_lives(rt: HostRuntime) -> Result<(), Fail> {
         seed: [0; 32],
         limit: 2,
     };
+    let mut listener = Listener::new();
     let end = run_lives(
         &rt,
         rt.alloc(),
@@ -153,6 +156,7 @@ fn two_lives(rt: HostRuntime) -> Result<(), Fail> {
         terms,
         &mut line,
         &post,
+        &mut nobody_returns(),
         &mut pace,
         &mut hall,
         &mut NoShelf {},
@@ -161,10 +165,17 @@ fn two_lives(rt: HostRuntime) -> Result<(), Fail> {
         &mut herald,
         &mut notices,
         &mut Gallery::<NoOutlet>::new(rt.alloc()),
+        &mut listener,
+        &NoReporter {},
         &mut NoEntrance {},
     );
     assert_eq!(rt; end, LivesEnd::Stopped);
     assert_eq!(rt; herald.begun, 2);
+    // It heard of each entry of both lives, of which none changed the member table.
+    assert_eq!(rt;
+        (listener.lives, listener.calls, listener.changes),
+        (2, 4, 0)
+    );
     assert!(rt; page.text().starts_with(FIRST_LIFE));
     assert!(rt; page.text().ends_with(LAST_LIFE));
     assert_eq!(rt; page.text().len(), FIRST_LIFE.len() + LAST_LIFE.len());
@@ -321,6 +332,7 @@ fn a_stop_at_a_full_journal(rt: HostRuntime) -> Result<(), Fail> {
         terms,
         &mut line,
         &post,
+        &mut nobody_returns(),
         &mut pace,
         &mut hall,
         &mut NoShelf {},
@@ -329,6 +341,8 @@ fn a_stop_at_a_full_journal(rt: HostRuntime) -> Result<(), Fail> {
         &mut herald,
         &mut notices,
         &mut Gallery::<NoOutlet>::new(rt.alloc()),
+        &mut NoReporter {},
+        &NoReporter {},
         &mut NoEntrance {},
     );
     assert_eq!(rt; end, LivesEnd::Stopped);

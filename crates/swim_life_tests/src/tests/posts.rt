@@ -14,7 +14,7 @@ use std::marker::{Brand, Model};
 use std::sync::atomic::AtomicBool;
 use swim_events::Gallery;
 use swim_life::{
-    Door, Got, GuestNaming, Life, Never, NoEntrance, NoOutlet, Nowhere, Posts, run_life,
+    Door, Got, GuestNaming, Life, Never, NoEntrance, NoOutlet, NoReporter, Nowhere, Posts, run_life,
 };
 use swim_node::{Node, Parts, Seat, Viewer};
 
@@ -140,6 +140,8 @@ fn live_by<
     requires drawn { (h : List Entry) → N.drawn h }
     requires page { None ≡ N.page }
     requires guests { N.guests ≡ [] }
+    requires heard { None ≡ N.heard }
+    requires rejoin { N.rejoin ≡ 0 }
 {
     let Ok(opened) = Node::<N, Seeded, R>::open(alloc, rt, parts, opening, chooser(), 1000) else {
         return Err(Fail::new("a node"));
@@ -160,6 +162,8 @@ fn live_by<
     assert_eq!(rt; life.unsent, 1);
     assert_acked(&rt, life.posts.hearing.sheets.as_slice());
     assert_probed(&rt, life.posts.ticking.sheets.as_slice());
+    assert!(rt; life.posts.knocking.sheets.is_empty());
+    assert_eq!(rt; life.knocks, 0);
     Ok(())
 }
 
@@ -181,17 +185,21 @@ fn live_unwatched<
     posts: Posts<O>,
     pace: &mut P,
     hall: &mut Hall<D>,
-) -> Life<N, O, Nowhere, NoOutlet>
+) -> Life<N, O, Nowhere, NoOutlet, NoReporter>
     requires seats { AreNew seats }
     requires hearing { IsFresh (O.posted (box_value posts.hearing)) }
     requires ticking { IsFresh (O.posted (box_value posts.ticking)) }
+    requires knocking { IsFresh (O.posted (box_value posts.knocking)) }
     requires page { None ≡ N.page }
     requires guests { N.guests ≡ [] }
+    requires heard { None ≡ N.heard }
+    requires rejoin { N.rejoin ≡ 0 }
 {
     let writer = Nowhere::new();
     let mut pause = Never {};
     let gallery = Gallery::<NoOutlet>::new(alloc);
     let mut entrance = NoEntrance {};
+    let mut returning = nobody_returns();
     run_life(
         rt,
         alloc,
@@ -200,11 +208,14 @@ fn live_unwatched<
         viewers,
         line,
         posts,
+        &mut returning,
         pace,
         hall,
         writer,
         &mut pause,
         gallery,
+        NoReporter {},
+        &NoReporter {},
         &mut entrance,
     )
 }

@@ -172,10 +172,6 @@ impl<'s> Gate<'s> {
 }
 
 impl<'s> Entrance<Reader<'s>> for Gate<'s> {
-    fn is_open(&self) -> bool {
-        true
-    }
-
     fn next(&mut self) -> Option<Reader<'s>> {
         if !self.moment.is_here() {
             return None;

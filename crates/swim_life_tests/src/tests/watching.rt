@@ -10,7 +10,8 @@ use super::*;
 use std::sync::atomic::AtomicBool;
 use swim_events::{Event, Gallery, Watching};
 use swim_life::{
-    Beat, ClockSleeper, LivesEnd, NoShelf, Nowhere, SleepingPace, Terms, live_recorded, run_lives,
+    Beat, ClockSleeper, LivesEnd, NoReporter, NoShelf, Nowhere, SleepingPace, Terms, live_recorded,
+    run_lives,
 };
 use swim_wire::Page;
 
@@ -138,11 +139,14 @@ fn live_watched<'s, R: Threads + Wait + Clock + Send + Sync + Copy + Drop>(
         7,
         &mut line,
         &post,
+        &mut nobody_returns(),
         &mut pace,
         &mut hall,
         Nowhere::new(),
         &mut pause,
         &mut gallery,
+        &mut NoReporter {},
+        &NoReporter {},
         &mut entrance,
     )
     .ok()?;
@@ -198,6 +202,7 @@ fn who_watches_stays_from_life_to_life(rt: HostRuntime) -> Result<(), Fail> {
         terms,
         &mut line(rt, &signals, 0),
         &post(&signals),
+        &mut nobody_returns(),
         &mut pace(rt, &is_told, 5),
         &mut Hall::new(rt.alloc(), NoDoor { clock: rt }),
         &mut NoShelf {},
@@ -206,6 +211,8 @@ fn who_watches_stays_from_life_to_life(rt: HostRuntime) -> Result<(), Fail> {
         &mut Counter { begun: 0 },
         &mut Page::new(rt.alloc()),
         &mut gallery,
+        &mut NoReporter {},
+        &NoReporter {},
         &mut nobody,
     );
     assert_eq!(rt; end, LivesEnd::Stopped);

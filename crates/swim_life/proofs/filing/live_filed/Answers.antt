@@ -1,4 +1,4 @@
-use Rattle.swim_life.proofs.LifeFiles.{cut_file, drawn_life, told_with_cut, whole_file}
+use Rattle.swim_life.proofs.LifeFiles.{cut_file, drawn_life, heard_with_cut, told_with_cut, whole_file}
 use Rattle.swim_life.proofs.filing.live_filed.Goals as goal
 
 pub returns-in-Ok-clause-file : goal.returns-in-Ok-clause-file
@@ -17,3 +17,7 @@ returns-in-Ok-live_recorded-clause-file g c =
 pub returns-in-Ok-clause-watched : goal.returns-in-Ok-clause-watched
 returns-in-Ok-clause-watched g c =
     told_with_cut c.args.number c.args.opening c.args.gallery.now c.live_unfiled.new.gallery c.in-Ok.past c.with_cut.result _ c.with_cut.ensures.past c.in-Ok.ensures.watched
+
+pub returns-in-Ok-clause-reported : goal.returns-in-Ok-clause-reported
+returns-in-Ok-clause-reported g c =
+    heard_with_cut c.args.opening (g.Y.Reporter.heard c.args.reporter.now) (g.Y.Reporter.heard c.live_unfiled.new.reporter) c.in-Ok.past c.with_cut.result _ c.with_cut.ensures.past c.in-Ok.ensures.reported

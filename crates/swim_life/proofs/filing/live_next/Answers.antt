@@ -1,5 +1,5 @@
 use Rattle.swim_life.specs.Notices.{notices_both}
-use Rattle.swim_life.proofs.LifeFiles.{told_with_cut}
+use Rattle.swim_life.proofs.LifeFiles.{heard_with_cut, told_with_cut}
 use Rattle.swim_life.proofs.filing.live_next.Goals as goal
 
 pub returns-in-Ok-clause-notices : goal.returns-in-Ok-clause-notices
@@ -10,3 +10,7 @@ returns-in-Ok-clause-notices g c =
 pub returns-in-Ok-clause-watched : goal.returns-in-Ok-clause-watched
 returns-in-Ok-clause-watched g c =
     told_with_cut c.args.number c.args.opening c.args.gallery.now c.live_filed.new.gallery c.in-Ok.lived.past c.put_back.result _ c.put_back.ensures.past c.in-Ok.ensures.watched
+
+pub returns-in-Ok-clause-reported : goal.returns-in-Ok-clause-reported
+returns-in-Ok-clause-reported g c =
+    heard_with_cut c.args.opening (g.Y.Reporter.heard c.args.reporter.now) (g.Y.Reporter.heard c.live_filed.new.reporter) c.in-Ok.lived.past c.put_back.result _ c.put_back.ensures.past c.in-Ok.ensures.reported

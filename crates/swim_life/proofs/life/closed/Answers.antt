@@ -15,4 +15,4 @@ returns-clause-full g c =
     let journal = c.close_recorded-journal in
     life_full g.N.Naming.limit journal.result.journal.past c.given_back-seats.result c.leave-hearer.result.0.seat c.leave-giver.result.0.seat ended.third.held.seat c.args.fourth.seat ended.first.why ended.second.why ended.third.why ended.all_began c.or-why.result
     journal.ensures.full c.given_back-seats.ensures.values
-    (λ is. rw c.leave-hearer.ensures.seat (ended.first.full is)) (λ is. rw c.leave-giver.ensures.seat (ended.second.full is)) ended.third.full (returns-clause-why g c)
+    (λ is. rw c.leave-hearer.ensures.seat (ended.first.full is)) (λ is. rw (c.leave-giver.ensures.seat, c.leave-sender.ensures.sender) (ended.second.full is)) ended.third.full (returns-clause-why g c)

@@ -20,6 +20,13 @@ ghosts-live_so-N-Naming g a = record {
 abbrev pub ghosts-live_so-N-PageNaming : goal.ghosts-live_so-N-PageNaming
 ghosts-live_so-N-PageNaming g a = record { page = g.W.Sink.written a.writer }
 
--- who watches when it begins
+-- who watches when it begins, and what the reporter had heard
 abbrev pub ghosts-live_so-N-GuestNaming : goal.ghosts-live_so-N-GuestNaming
-ghosts-live_so-N-GuestNaming g a = record { guests = map (put_text (life_text a.number)) a.gallery.now }
+ghosts-live_so-N-GuestNaming g a = record {
+  guests = map (put_text (life_text a.number)) a.gallery.now;
+  heard = g.Y.Reporter.heard a.reporter.now;
+}
+
+-- how often it knocks
+abbrev pub ghosts-live_so-N-KnockNaming : goal.ghosts-live_so-N-KnockNaming
+ghosts-live_so-N-KnockNaming g a = record { rejoin = a.returning.now.rejoin }

@@ -9,6 +9,10 @@ ghosts-live_by-N-Naming g a = record { opening = a.opening; limit = a.parts.limi
 abbrev pub ghosts-live_by-N-PageNaming : goal.ghosts-live_by-N-PageNaming
 ghosts-live_by-N-PageNaming g a = record { page = None }
 
--- nobody watches it
+-- nobody watches it, and its reporter has heard of nothing
 abbrev pub ghosts-live_by-N-GuestNaming : goal.ghosts-live_by-N-GuestNaming
-ghosts-live_by-N-GuestNaming g a = record { guests = [] }
+ghosts-live_by-N-GuestNaming g a = record { guests = []; heard = None }
+
+-- it knocks at nobody
+abbrev pub ghosts-live_by-N-KnockNaming : goal.ghosts-live_by-N-KnockNaming
+ghosts-live_by-N-KnockNaming g a = record { rejoin = 0 }

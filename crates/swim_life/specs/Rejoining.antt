@@ -1,0 +1,74 @@
+-- Which members the receiver of a life joins again by itself.
+use Rattle.std.specs.Prelude.{◌≡◌, ◌⊎◌, ℕ, All, List, ◌∷◌, ◌++◌, Option, Some, None, option_and_then}
+use Rattle.swim_wire.specs.Address.{Address}
+use Rattle.swim_wire.specs.Layout.{IsTextOf}
+use Rattle.swim_wire.specs.Messages.{Message}
+use Rattle.swim_history.specs.declared.calls.Call.TheVariants.{Join}
+use Rattle.swim_history.specs.declared.rows.Change.{Change}
+use Rattle.swim_history.specs.declared.rows.Row.{Row}
+use Rattle.swim_history.specs.Changes.{table_after}
+use Rattle.swim_history.specs.Setting.{Setting}
+use Rattle.swim_node.specs.Answered.{MayRefuse}
+use Rattle.swim_rejoin.specs.Believing.{believed}
+use Rattle.swim_rejoin.specs.Histories.{Event, table_in}
+use Rattle.swim_rejoin.specs.Histories.Event.{Joined, Knocked, Looked}
+use Rattle.swim_rejoin.specs.Rejoiners.{Follows}
+use Rattle.swim_life.specs.declared.counts.Why.{Why}
+use Rattle.swim_life.specs.declared.rejoining.Returning.{Returning}
+use Rattle.swim_life.specs.Calling.{Calls, Hears}
+use Rattle.swim_life.specs.Posts.{AtSender}
+
+-- what the receiver learns between two datagrams: a table of the node, or a knock that the ticker told it of
+abbrev pub IsNews : Setting → Event → Type 0
+IsNews o (Looked rows) = (log : List Change) × (rows ≡ table_after o log)
+IsNews o (Knocked id number) = Unit {0}
+IsNews o (Joined id period) = ⊥
+
+-- it learnt some of that
+abbrev pub LearnsOn : Setting → List Event → List Event → Type 0
+LearnsOn o h now = (more : List Event) × (now ≡ more ++ h) × All (IsNews o) more
+
+-- what is remembered is what all that happened comes to, newest first, with the rows of the table that was last looked at
+abbrev pub IsReturning : Returning → List Event → Type 0
+IsReturning r h = Follows r.rejoiner h × (r.rows.items ≡ table_in h)
+
+abbrev pub Learns : Setting → Returning → Returning → Type 0
+Learns o old new = (h : List Event) → IsReturning old h → (now : List Event) × LearnsOn o h now × IsReturning new now
+
+-- for the same member, which knocks as often
+abbrev pub IsOfSame : Returning → Returning → Type 0
+IsOfSame old new =
+    (new.rejoin ≡ old.rejoin) × (new.rejoiner.rejoin ≡ old.rejoiner.rejoin) × (new.rejoiner.me ≡ old.rejoiner.me)
+
+-- the message of the datagram, where the node answered the call for it; there is none where it refused
+abbrev pub IsMessage : {O : Type 0} → List ℕ → AtSender O → Option Why → AtSender O → Option Message → Type 0
+IsMessage bytes old end new None = new.seat.calls ≡ old.seat.calls
+IsMessage bytes old end new (Some m) = IsTextOf bytes m × (end ≡ None)
+
+-- who is to be joined again after it, with the row that the table shows which was last looked at
+abbrev pub whom : ℕ → ℕ → List Event → Address → Option Message → Option Row
+whom rejoin me h source message = option_and_then (λ m. believed rejoin me h m source) message
+
+-- the node is told to list that member at its row's address
+abbrev pub Joins : {O : Type 0} → Setting → ℕ → Row → AtSender O → Option Why → AtSender O → Type 0
+Joins o limit row old end new = Calls o (λ call. call ≡ Join row.id row.peer) (MayRefuse o limit old.seat) old end new
+
+-- and that it was joined again is remembered, if it was
+abbrev pub IsJoinTold : Row → List Event → List Event → Type 0
+IsJoinTold row h told = (told ≡ h) ⊎ ((period : ℕ) × (told ≡ Joined row.id period ∷ h))
+
+-- what follows the call for a datagram: nothing where nobody is to be joined again, and else the call that joins it
+abbrev pub JoinsThen : {O : Type 0} → Setting → ℕ → Option Row → List Event → AtSender O → Option Why → Option Why → AtSender O →
+    List Event → Type 0
+JoinsThen o limit None h mid heard end new told = (new ≡ mid) × (end ≡ heard) × (told ≡ h)
+JoinsThen o limit (Some row) h mid heard end new told = Joins o limit row mid end new × IsJoinTold row h told
+
+-- a datagram was heard, and then whoever it shows to be there again was joined
+pub record HearsAndJoins {O : Type 0} (o : Setting) (limit rejoin me : ℕ) (h : List Event) (bytes : List ℕ) (source : Address)
+    (old : AtSender O) (end : Option Why) (new : AtSender O) (told : List Event) : Type 0 where
+  pub mid : AtSender O
+  pub heard : Option Why
+  pub hears : Hears o limit bytes source old heard mid
+  pub message : Option Message
+  pub is : IsMessage bytes old heard mid message
+  pub joins : JoinsThen o limit (whom rejoin me h source message) h mid heard end new told

@@ -1,0 +1,112 @@
+//! What the workers of a life count, as others can read it while they work.
+
+use crate::counts::Counts;
+use std::sync::atomic::{AtomicU64, Ordering};
+
+/// What was counted until now.
+#[derive(Clone, Copy, Debug, PartialEq, Eq)]
+pub struct Metered {
+    /// Calls that were accepted: entries of the journal.
+    pub calls: u64,
+    /// Datagrams that couldn't be sent.
+    pub unsent: u64,
+    /// Datagrams that came and were none of this protocol.
+    pub wire: u64,
+    /// Calls that were refused for want of memory.
+    pub refused: u64,
+    /// Knocks at members that were judged.
+    pub knocks: u64,
+}
+
+impl Metered {
+    /// Both together.
+    fn and(self, other: Metered) -> Metered {
+        Metered {
+            calls: self.calls.saturating_add(other.calls),
+            unsent: self.unsent.saturating_add(other.unsent),
+            wire: self.wire.saturating_add(other.wire),
+            refused: self.refused.saturating_add(other.refused),
+            knocks: self.knocks.saturating_add(other.knocks),
+        }
+    }
+}
+
+/// What a worker counted until now. The worker alone changes it.
+#[derive(Drop)]
+pub(crate) struct Meter {
+    calls: AtomicU64,
+    unsent: AtomicU64,
+    wire: AtomicU64,
+    refused: AtomicU64,
+    knocks: AtomicU64,
+}
+
+impl Meter {
+    /// Nothing was counted yet.
+    fn new() -> Meter {
+        Meter {
+            calls: AtomicU64::new(0),
+            unsent: AtomicU64::new(0),
+            wire: AtomicU64::new(0),
+            refused: AtomicU64::new(0),
+            knocks: AtomicU64::new(0),
+        }
+    }
+
+    /// Shows how many calls the worker made, and what it counted beside them.
+    pub(crate) fn show(&self, calls: usize, counts: Counts) {
+        show(&self.calls, calls as u64);
+        show(&self.unsent, counts.unsent);
+        show(&self.wire, counts.wire);
+        show(&self.refused, counts.refused);
+    }
+
+    /// Shows how often the worker knocked.
+    pub(crate) fn show_knocks(&self, knocks: u64) {
+        show(&self.knocks, knocks);
+    }
+
+    fn read(&self) -> Metered {
+        Metered {
+            calls: self.calls.load(Ordering::SeqCst),
+            unsent: self.unsent.load(Ordering::SeqCst),
+            wire: self.wire.load(Ordering::SeqCst),
+            refused: self.refused.load(Ordering::SeqCst),
+            knocks: self.knocks.load(Ordering::SeqCst),
+        }
+    }
+}
+
+/// Stores a count, where it is another one: most aren't, and a load is cheaper than a store.
+fn show(shown: &AtomicU64, count: u64) {
+    if shown.load(Ordering::SeqCst) != count {
+        shown.store(count, Ordering::SeqCst);
+    }
+}
+
+/// The meters of the three workers that call the node.
+#[derive(Drop)]
+pub(crate) struct Meters {
+    pub(crate) hearing: Meter,
+    pub(crate) ticking: Meter,
+    pub(crate) controlling: Meter,
+}
+
+impl Meters {
+    /// Nothing was counted yet.
+    pub(crate) fn new() -> Meters {
+        Meters {
+            hearing: Meter::new(),
+            ticking: Meter::new(),
+            controlling: Meter::new(),
+        }
+    }
+
+    /// What all of them counted until now.
+    pub(crate) fn read(&self) -> Metered {
+        self.hearing
+            .read()
+            .and(self.ticking.read())
+            .and(self.controlling.read())
+    }
+}

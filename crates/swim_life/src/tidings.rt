@@ -1,0 +1,91 @@
+//! What the ticker leaves for the receiver: that it's time to look at the member table, and its knocks.
+
+use arrayvec::ArrayVec;
+use std::sync::atomic::{AtomicBool, Ordering};
+use std::sync::{Mutex, Wait};
+use swim_rejoin::Knock;
+use swim_wire::{Id, PeriodNumber};
+
+/// How many knocks may wait for the receiver. It takes them over at least once a tick, and one comes in a period at most.
+const MOST_NOTES: usize = 64;
+
+/// A knock: at whom, and with which number.
+#[derive(Clone, Copy, Default)]
+pub(crate) struct Note {
+    pub(crate) id: Id,
+    pub(crate) number: PeriodNumber,
+}
+
+/// The number of the period that runs, and the knocks that the receiver doesn't know of yet, oldest first.
+#[derive(Drop)]
+pub(crate) struct Tidings {
+    pub(crate) period: u64,
+    pub(crate) notes: ArrayVec<Note, MOST_NOTES>,
+}
+
+impl Tidings {
+    fn none(period: u64) -> Tidings {
+        Tidings {
+            period,
+            notes: ArrayVec::new(),
+        }
+    }
+
+    /// A knock more. Where too many wait, it is forgotten: then its ack isn't believed.
+    fn add(&mut self, period: u64, knock: &Option<Knock>) {
+        self.period = period;
+        if let Some(knock) = knock {
+            let message = &knock.message;
+            let _is_told = self.notes.try_push(Note {
+                id: message.target,
+                number: message.number,
+            });
+        }
+    }
+}
+
+/// Where the ticker leaves tidings, and the receiver takes them. A flag says that it's time to look: before the first
+/// datagram, and after each tick.
+#[derive(Drop)]
+pub(crate) struct Board {
+    is_due: AtomicBool,
+    tidings: Mutex<Tidings>,
+}
+
+impl Board {
+    /// It's time to look. The period with that number runs.
+    pub(crate) fn new(period: u64) -> Board {
+        Board {
+            is_due: AtomicBool::new(true),
+            tidings: Mutex::new(Tidings::none(period)),
+        }
+    }
+
+    /// From now on it's time to look.
+    pub(crate) fn make_due(&self) {
+        self.is_due.store(true, Ordering::SeqCst);
+    }
+
+    /// Whether it's time to look. The look has to follow: from now on it isn't, until the next tick.
+    pub(crate) fn take_due(&self) -> bool {
+        if self.is_due.load(Ordering::SeqCst) {
+            // A tick that comes meanwhile is not lost.
+            self.is_due.store(false, Ordering::SeqCst);
+            return true;
+        }
+        false
+    }
+
+    /// Leaves word of the period that runs, and of the knock that is to be sent in it, if one is.
+    pub(crate) fn leave<R: Wait>(&self, rt: &R, period: u64, knock: &Option<Knock>) {
+        self.tidings.lock(rt).add(period, knock);
+    }
+
+    /// Takes what was left.
+    pub(crate) fn take<R: Wait>(&self, rt: &R) -> Tidings {
+        let mut tidings = self.tidings.lock(rt);
+        let left = &mut *tidings;
+        let period = left.period;
+        std::mem::replace(left, Tidings::none(period))
+    }
+}

@@ -1,0 +1,99 @@
+//! The file where metrics are told.
+
+use crate::notices::Notice;
+use arrayvec::ArrayString;
+use std::fs;
+use std::fs::{File, OpenOptions};
+use std::io::{ErrorKind, Write};
+use std::os::unix::fs::OpenOptionsExt;
+use std::rt::{Clock, Files};
+use std::time::{Duration, Instant};
+use swim_config::SocketPath;
+use swim_metrics::{Measures, Outside, put_exposition};
+use swim_wire::{Sink, WriteSink};
+
+/// How often the file is written, in seconds.
+const PAUSE_SECONDS: u64 = 10;
+
+/// How many bytes the path of the new file has at most.
+const PATH_BYTES: usize = 128;
+
+/// What a new file is called, behind the path of the old one, until it is whole.
+const NEW: &str = ".new";
+
+/// The file where metrics are told, if there is to be one. It is written anew each time, beside its path, and renamed to
+/// it, so that nobody reads half of it.
+#[derive(Drop)]
+pub struct MetricsFile<'r, R> {
+    rt: &'r R,
+    path: Option<SocketPath>,
+    written_at: Option<Instant>,
+}
+
+impl<'r, R: Files<File = File> + Clock> MetricsFile<'r, R> {
+    /// The file of this path. It wasn't written yet.
+    pub fn new(rt: &'r R, path: Option<SocketPath>) -> MetricsFile<'r, R> {
+        MetricsFile {
+            rt,
+            path,
+            written_at: None,
+        }
+    }
+
+    /// Whether it is time to write it.
+    pub fn is_due(&self) -> bool {
+        if self.path.is_none() {
+            return false;
+        }
+        match &self.written_at {
+            Some(written_at) => match written_at.elapsed(self.rt) {
+                Ok(time) => Duration::from_secs(PAUSE_SECONDS) <= time,
+                Err(_) => false,
+            },
+            None => true,
+        }
+    }
+
+    /// Writes it: the line that tells why it can't be written, if it can't.
+    pub fn write(&mut self, measures: &Measures, outside: &Outside<'_>) -> Option<Notice> {
+        self.written_at = Instant::now(self.rt).ok();
+        let path = self.path.as_ref()?;
+        let fault = put(self.rt, path.as_str(), measures, outside).err()?;
+        Some(Notice::unwritten_metrics(self.rt, path.as_str(), fault))
+    }
+}
+
+/// Writes a new file, and gives it that path.
+fn put<R: Files<File = File>>(
+    rt: &R,
+    path: &str,
+    measures: &Measures,
+    outside: &Outside<'_>,
+) -> Result<(), ErrorKind> {
+    let mut new = ArrayString::<PATH_BYTES>::new();
+    for part in [path, NEW] {
+        if new.try_push_str(part).is_err() {
+            return Err(ErrorKind::InvalidFilename);
+        }
+    }
+    let file = OpenOptions::new()
+        .write(true)
+        .create(true)
+        .truncate(true)
+        .mode(0o644)
+        .open(rt, new.as_str())
+        .map_err(|fault| fault.kind())?;
+    let mut sink = WriteSink::new(&file);
+    if !put_exposition(&mut sink, measures, outside) || !sink.flush() {
+        return Err(why_unwritten(&file));
+    }
+    fs::rename(rt, new.as_str(), path).map_err(|fault| fault.kind())
+}
+
+/// Why the system takes nothing of a file: by one byte more.
+fn why_unwritten(mut file: &File) -> ErrorKind {
+    match file.write_all(b"\n") {
+        Ok(()) => ErrorKind::Other,
+        Err(fault) => fault.kind(),
+    }
+}

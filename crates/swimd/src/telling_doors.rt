@@ -1,0 +1,224 @@
+//! A door that tells people what happens: changes of the member table, datagrams that are thrown away, and metrics. The
+//! worker at the door has the time for it, so that nobody else waits.
+
+ghost use Rattle.std.specs.Prelude.{◌≡◌, ◌∷◌, []};
+ghost use Rattle.swim_life.specs.Gates.{is_fault};
+ghost use Rattle.swim_life.specs.Posts.{Grows};
+
+use crate::counters::Counters;
+use crate::happenings::{Happening, unsaid};
+use crate::metrics_files::MetricsFile;
+use crate::notices::Notice;
+use crate::strangers::Tally;
+use std::alloc::Global;
+use std::fs::File;
+use std::marker::Model;
+use std::net::Net;
+use std::rt::{Clock, Files};
+use std::sync::Wait;
+use std::time::{Duration, Instant};
+use swim_life::{Door, Knock};
+use swim_wire::{Peer, Sink};
+
+/// How long no more datagrams of a kind are told that were thrown away, once some were, in seconds.
+const PAUSE_SECONDS: u64 = 60;
+
+/// How many of one kind people were told of, and when.
+#[derive(Drop)]
+struct Telling {
+    told: u64,
+    told_at: Option<Instant>,
+}
+
+impl Telling {
+    /// They were told of none.
+    fn new() -> Telling {
+        Telling {
+            told: 0,
+            told_at: None,
+        }
+    }
+
+    /// How many there are and where the newest came from, if that is to be told now. Then nothing more is for a minute.
+    fn due<K: Clock>(&mut self, clock: &K, tally: &Tally) -> Option<(u64, Peer)> {
+        let count = tally.count();
+        if count == self.told || self.is_pausing(clock) {
+            return None;
+        }
+        let newest = tally.newest()?;
+        self.told_at = Some(Instant::now(clock).ok()?);
+        self.told = count;
+        Some((count, newest))
+    }
+
+    /// Whether less than a minute passed since something was told.
+    fn is_pausing<K: Clock>(&self, clock: &K) -> bool {
+        match &self.told_at {
+            Some(told_at) => match told_at.elapsed(clock) {
+                Ok(time) => time < Duration::from_secs(PAUSE_SECONDS),
+                Err(_) => true,
+            },
+            None => false,
+        }
+    }
+}
+
+/// A door over another. Each time it is asked for the next connection it tells what there is to be told, and waits for
+/// nobody: each change of the member table, how many datagrams were thrown away and where the newest came from, of each
+/// kind at most once a minute, and every ten seconds the metrics. Where it is quiet it tells nothing in the log but that
+/// metrics can't be written.
+#[derive(Drop)]
+pub struct TellingDoor<'s, 'r, R, D: Door + Drop, G: Sink + Drop> {
+    rt: &'r R,
+    alloc: Global,
+    door: D,
+    counters: &'s Counters,
+    file: MetricsFile<'r, R>,
+    log: G,
+    is_quiet: bool,
+    fenced: Telling,
+    forged: Telling,
+}
+
+// A contract sees the door below.
+impl<'s, 'r, R, D: Door + Drop, G: Sink + Drop> Model for TellingDoor<'s, 'r, R, D, G> {
+    ghost Value = { D };
+
+    ghost view = { λ d. d.door };
+}
+
+impl<'s, 'r, R: Files<File = File> + Net + Clock, D: Door + Drop, G: Sink + Drop> TellingDoor<
+    's,
+    'r,
+    R,
+    D,
+    G,
+> {
+    /// A door over that one, which tells in the log and in the metrics' file.
+    pub fn new(
+        rt: &'r R,
+        alloc: Global,
+        door: D,
+        counters: &'s Counters,
+        file: MetricsFile<'r, R>,
+        log: G,
+        is_quiet: bool,
+    ) -> TellingDoor<'s, 'r, R, D, G>
+        ensures { result ≡ door }
+    {
+        TellingDoor {
+            rt,
+            alloc,
+            door,
+            counters,
+            file,
+            log,
+            is_quiet,
+            fenced: Telling::new(),
+            forged: Telling::new(),
+        }
+    }
+
+    /// Tells what there is to be told.
+    fn tell<W: Wait>(&mut self, rt: &W)
+        ensures { self.new ≡ self.old }
+    {
+        if !self.is_quiet {
+            self.tell_changes(rt);
+            self.tell_thrown();
+        }
+        if self.file.is_due() {
+            self.tell_metrics(rt);
+        }
+    }
+
+    /// Tells all that is left, at the end of all lives.
+    pub fn finish<W: Wait>(self, rt: &W) {
+        let mut door = self;
+        door.tell_changes(rt);
+        door.tell_metrics(rt);
+    }
+
+    /// Tells the changes of the member table that wait on the bulletin.
+    fn tell_changes<W: Wait>(&mut self, rt: &W)
+        ensures { self.new ≡ self.old }
+    {
+        let Some((waiting, more)) = self.counters.bulletin.take(rt) else {
+            return;
+        };
+        tell_each(self.rt, self.alloc, waiting.as_slice(), more, &mut self.log);
+    }
+
+    /// Tells of the datagrams that were thrown away, if they are to be told.
+    fn tell_thrown(&mut self)
+        ensures { self.new ≡ self.old }
+    {
+        let strangers = &self.counters.strangers;
+        if let Some((count, newest)) = self.fenced.due(self.rt, &strangers.fenced) {
+            let notice = Notice::fenced(self.rt, newest, count);
+            notice.tell(self.rt, self.alloc, &mut self.log);
+        }
+        if let Some((count, newest)) = self.forged.due(self.rt, &strangers.forged) {
+            let notice = Notice::forged(self.rt, newest, count);
+            notice.tell(self.rt, self.alloc, &mut self.log);
+        }
+    }
+
+    /// Writes the metrics' file, once something was counted. It tells once that it can't be written.
+    fn tell_metrics<W: Wait>(&mut self, rt: &W)
+        ensures { self.new ≡ self.old }
+    {
+        let Some((measures, outside)) = self.counters.read(rt) else {
+            return;
+        };
+        if let Some(notice) = self.file.write(&measures, &outside) {
+            if self.counters.bulletin.count_unwritten() == 0 {
+                notice.tell(self.rt, self.alloc, &mut self.log);
+            }
+        }
+    }
+}
+
+impl<'s, 'r, R: Files<File = File> + Net + Clock, D: Door + Drop, G: Sink + Drop> Door
+    for TellingDoor<'s, 'r, R, D, G> {
+    ghost faults = { λ d. D.faults d };
+
+    type Reader = D::Reader;
+
+    type Writer = D::Writer;
+
+    fn next<W: Wait>(&mut self, rt: &W) -> Knock<D::Reader, D::Writer>
+        ensures { Grows (D.faults self.old) (D.faults self.new) (is_fault result ∷ []) }
+    {
+        self.tell(rt);
+        self.door.next(rt)
+    }
+
+    fn wait<W: Wait>(&mut self, rt: &W)
+        ensures { D.faults self.new ≡ D.faults self.old }
+    {
+        self.door.wait(rt);
+    }
+
+    fn now(&mut self) -> u64
+        ensures { D.faults self.new ≡ D.faults self.old }
+    {
+        self.door.now()
+    }
+}
+
+/// Tells these changes, and how many more there were.
+fn tell_each<R: Net + Clock, G: Sink>(
+    rt: &R,
+    alloc: Global,
+    waiting: &[Happening],
+    more: u64,
+    log: &mut G,
+) {
+    for happening in waiting {
+        happening.notice(rt).tell(rt, alloc, log);
+    }
+    if 0 < more {
+        unsaid(rt, more).tell(rt, alloc, log);
+    }
+}
