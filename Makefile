@@ -60,6 +60,7 @@ bench:
 	@tests/bench/swimsim
 	@tests/bench/node
 	@tests/bench/swimd
+	@tests/bench/watchers
 	@tests/bench/journals
 
 install:

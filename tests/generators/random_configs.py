@@ -9,11 +9,11 @@ import random
 LARGEST_ID = 2**32 - 1
 MOST_BYTES = 65_536
 HEX = "0123456789abcdefABCDEF"
-PATHS = ["control", "events", "journal_dir"]
+PATHS = ["control", "events", "metrics", "journal_dir"]
 STRINGS = ["listen", "seed", "at", *PATHS]
 # Keys that may be left out, with values.
 OPTIONAL = {"last": "0", "wire": "2", "keys": f"['{'0fA9' * 16}']", "journal_dir": "'files'", "journal_keep": "3"}
-OPTIONAL.update(fence="7", events="'events'")
+OPTIONAL.update(fence="7", rejoin="3", events="'events'", metrics="'metrics'")
 # A brace that isn't closed in its line could be one of a newer TOML where the text around it is changed.
 PRINTABLE = "".join(map(chr, range(0x20, 0x7F))).replace("{", "")
 NUMBERS = [-(2**63), -1_000, -2, -1, -1, -1, 0, 1, 2, 3, 8, 9, 1000, 60_000, 60_001, 65_535, 65_536, 10**6, 10**6 + 1]
@@ -36,7 +36,9 @@ UNKNOWN = [
     "tick-ms",
     "wires",
     "fences",
+    "rejoins",
     "event",
+    "metric",
     "key",
     "keyz",
     "3",
@@ -113,6 +115,8 @@ class Config:
             values["journal_keep"] = r.choice([0, 1, 16, 10**6, LARGEST_ID])
         if r.random() < 0.6:
             values["fence"] = r.choice([0, 0, 1, 10, 1_000, 10**6, LARGEST_ID])
+        if r.random() < 0.4:
+            values["rejoin"] = r.choice([0, 0, 1, 10, 65_535])
         path = lambda: "".join(r.choice(PRINTABLE) for _ in range(r.choice([1, 5, 20, 99, 100])))
         texts = {
             "listen": f"127.0.0.{r.randint(0, 255)}:{r.randint(1, 65_535)}", "control": path(), "seed": seed_text(r)
@@ -121,6 +125,9 @@ class Config:
             texts["journal_dir"] = path()
         if r.random() < 0.3:
             texts["events"] = texts["control"] if r.random() < 0.2 else path()
+        if r.random() < 0.3:
+            others = [texts["control"], texts.get("events", texts["control"])]
+            texts["metrics"] = r.choice(others) if r.random() < 0.2 else path()
         self.r = r
         self.top = [[key, number(r, it)] for key, it in values.items()] + [
             [key, text(r, it)] for key, it in texts.items()

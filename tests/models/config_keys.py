@@ -22,6 +22,7 @@ TOP = [
     Key("listen", "peer", (), None, "where its datagrams come in"),
     Key("control", "path", (), None, "the path of the control socket"),
     Key("events", "path", (), "", "the path of the events' socket, not that of control"),
+    Key("metrics", "path", (), "", "the path of the metrics' file, not that of a socket"),
     Key("k", "integer", (0, LARGEST_ID), None, "how many relays are asked, at most 8"),
     Key("rtt", "integer", (0, LARGEST_ID), None, "ticks for which a direct ack is waited for, at least 1"),
     Key("period", "integer", (0, LARGEST_ID), None, "ticks of a period, from three times rtt to 65535"),
@@ -32,6 +33,7 @@ TOP = [
     Key("wire", "integer", (1, 2), 1, "the version of its own pings and ping-reqs"),
     Key("keys", "keys", (), (), "the keys of the group, of which the first signs"),
     Key("fence", "integer", (0, LARGEST_ID), 1000, "datagrams a second of an address, 0 for all"),
+    Key("rejoin", "integer", (0, 65_535), 0, "periods between knocks at failed members, 0 for none"),
     Key("journal_dir", "path", (), "", "the folder of the journal files"),
     Key("journal_keep", "integer", (0, LARGEST_ID), 16, "how many journal files stay, 0 for all"),
     Key("member", "members", (), [], "the other members, at most 128"),
@@ -66,7 +68,7 @@ def rows():
 def default_text(key):
     """What the table says of a key that is left out."""
     if key.default == "":
-        return "no socket" if key.name == "events" else "no files"
+        return {"events": "no socket", "metrics": "no file"}.get(key.name, "no files")
     if key.default == []:
         return "none of them"
     return {None: "none", (): "no keys"}.get(key.default, key.default)

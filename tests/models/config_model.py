@@ -99,7 +99,7 @@ def read_config(document):
     config = values(top, TOP, "")
     # Where keys are set, a last number that isn't given is the clock's, which nobody knows yet.
     config["last"] = None if config["keys"] and "last" not in top else config["last"]
-    config["is_fence_given"] = "fence" in top
+    config["is_fence_given"], config["is_rejoin_given"] = "fence" in top, "rejoin" in top
     if not isinstance(config["member"], list) or not all(isinstance(it, dict) for it in config["member"]):
         raise Fault("5 member")
     config["member"] = [member(it) for it in config["member"]]
@@ -154,6 +154,8 @@ def values(table, keys, before):
         found[key.name] = value(table, key, before + key.name)
         if key.name == "events" and found["events"] == found["control"]:
             raise Fault("6 events")
+        if key.name == "metrics" and found["metrics"] in (found["control"], found["events"]) and found["metrics"]:
+            raise Fault("6 metrics")
     return found
 
 
@@ -226,8 +228,9 @@ def summary(config):
     numbers += " wire 2" if config["wire"] == 2 else ""
     numbers += f" keys {len(config['keys'])}" if config["keys"] else ""
     numbers += f" fence {config['fence']}" if config["is_fence_given"] else ""
+    numbers += f" rejoin {config['rejoin']}" if config["is_rejoin_given"] else ""
     files = config["journal_dir"] != ""
-    paths = [key for key in ("events", "journal_dir") if config[key] != ""]
+    paths = [key for key in ("events", "metrics", "journal_dir") if config[key] != ""]
     lines = [f"{key} {config[key]}" for key in ("id", "listen", "control", *paths)]
     lines += [numbers, *[f"journal_keep {config['journal_keep']}"] * files, f"members {len(config['member'])}"]
     return "".join(f"{line}\n" for line in lines + [f"{id} {at}" for id, at in sorted(config["member"])])

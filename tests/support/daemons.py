@@ -26,7 +26,10 @@ ROW = re.compile(rb"(\d+) ([\d.]+:\d+) (up|failed \d+)")
 TIME = rb"\d{4}-\d\d-\d\dT\d\d:\d\d:\d\d\.\d{3}Z"
 WHY_THROWN = rb"have no tag by one of our keys, forged|come faster than the fence lets in, fenced"
 THROWN_AWAY = rb"datagrams from [\d.]+:\d+ (?:" + WHY_THROWN + rb") \d+"
-NOTICES = rb"swimd [\d.]+ listens [^\n]*|life \d+ begins|removed [^\n]*|journal [^\n]*: [^\n]*|" + THROWN_AWAY
+CHANGES = rb"judged \d+ in period \d+(?:, last heard in period \d+)?|joined \d+ at [\d.]+:\d+"
+CHANGES += rb"|joined \d+ again, after \d+ periods|\d+ changes more, too many at once to tell each"
+FILES = rb"(?:journal|metrics) [^\n]*: [^\n]*"
+NOTICES = rb"swimd [\d.]+ listens [^\n]*|life \d+ begins|removed [^\n]*|" + b"|".join([CHANGES, FILES, THROWN_AWAY])
 NOTICE = re.compile(rb"warning: [^\n]*\n|" + TIME + rb" (?:" + NOTICES + rb")\n")
 
 

@@ -41,6 +41,7 @@ def keys():
     near.update(
         fences="fence", fenc="fence", Fence="fence", fnece="fence", event="events", Events="events", evetns="events"
     )
+    near.update(rejoins="rejoin", rejion="rejoin", Rejoin="rejoin")
     for name, known in near.items():
         found = f"found: {name}; the nearest known key: {known}"
         yield caused(f"`{name}`", with_keys(f"{name} = 1"), "3", found, f"line 1: {name} = 1")
@@ -91,6 +92,10 @@ def values():
     yield caused(
         "a fence in quotes", with_keys('\nfence = "7" # a second'), "5 fence", fence, 'line 2: fence = "7" # a second'
     )
+    rejoin = "expected: an integer from 0 to 65535 (periods between knocks at failed members, 0 for none)"
+    yield caused("less than no knocks", with_keys("rejoin = -1"), "6 rejoin", rejoin, "line 1: rejoin = -1")
+    yield caused("too few knocks", with_keys("\nrejoin = 65_536"), "6 rejoin", rejoin, "line 2: rejoin = 65_536")
+    yield caused("knocks in quotes", with_keys('rejoin = "3"'), "5 rejoin", rejoin, 'line 1: rejoin = "3"')
     path = "expected: a string of 1 to 100 characters of ASCII that print"
     path += " (the path of the events' socket, not that of control)"
     yield caused("no path of events", with_keys('events = ""'), "6 events", path, 'line 1: events = ""')

@@ -263,37 +263,6 @@ def fences():
     yield bad("a fence of a member", FULL + "fence = 2\n", "3")
 
 
-def events():
-    """The path of the events' socket stands behind that of the control socket, which is another one."""
-    told = lambda path: with_summary("\nk 1 ", f"\nevents {path}\nk 1 ")
-    yield good("events", with_keys('events = "/run/swimd.events"'), told("/run/swimd.events"))
-    yield good("events beside control", with_keys('events = "/tmp/swimd.sock "'), told("/tmp/swimd.sock "))
-    yield good("the same file by another text", with_keys('events = "/tmp//swimd.sock"'), told("/tmp//swimd.sock"))
-    yield good("the longest path of events", with_keys(f'events = "{"~" * 100}"'), told("~" * 100))
-    yield good("the shortest path of events", with_keys("events = 'e'"), told("e"))
-    files = told("e").replace("\nk 1 ", "\njournal_dir files\nk 1 ").replace("\nmembers", "\njournal_keep 16\nmembers")
-    yield good("events, and a folder", with_keys('journal_dir = "files"\nevents = "e"'), files)
-    yield good(
-        "events in the folder's name", with_keys('journal_dir = "e"\nevents = "e"'), files.replace("dir files", "dir e")
-    )
-    for text in ("1", "true", "[]", "{}", "2020-01-01", '["e"]'):
-        yield bad(f"`events` is {text}", with_keys(f"events = {text}"), "5 events")
-    for text in ('""', f'"{"x" * 101}"', '"\\t"', '"\\u007f"', '"\u00e9"', '"a\\nb"', '"a\\u0000"'):
-        yield bad(f"`events` is {text[:20]!r}", with_keys(f"events = {text}"), "6 events")
-    yield bad("events on the control socket", with_keys('events = "/tmp/swimd.sock"'), "6 events")
-    yield bad("the same by an escape", with_keys('events = "\\u002ftmp/swimd.sock"'), "6 events")
-    yield bad("`events` is a table", FULL + "\n[events]\n", "5 events")
-    yield bad("`events` twice", with_keys('events = "a"\nevents = "b"'), "2")
-    yield bad("control before events", with_keys('events = ""', with_value("control", '""')), "6 control")
-    yield bad("events before k", with_keys('events = ""', with_value("k", "-1")), "6 events")
-    same = with_keys('events = "/tmp/swimd.sock"', with_value("k", "-1"))
-    yield bad("events on the control socket before k", same, "6 events")
-    yield bad("a listener before events", with_keys('events = ""', with_value("listen", '""')), "7 listen")
-    for name in ("event", "Events", "events_", "events-path", "evens", "watch"):
-        yield bad(f"`{name}`", with_keys(f'{name} = "e"'), "3")
-    yield bad("events of a member", FULL + 'events = "e"\n', "3")
-
-
 def texts():
     yield bad("a byte too many", FULL + "#" * (65_537 - len(FULL)), "1")
     yield bad("a byte too many, and no TOML", "=" * 65_537, "1")
@@ -379,5 +348,5 @@ def openings():
 
 
 def worked_configs():
-    for part in (accepted, files, versions, group_keys, fences, events, texts, keys, ranges, members, openings):
+    for part in (accepted, files, versions, group_keys, fences, texts, keys, ranges, members, openings):
         yield from part()

@@ -1,0 +1,335 @@
+"""What a daemon counts: the metrics' file and `stats` beside what its journal files say, and what becomes of the file
+where it can't be written."""
+
+import os
+import re
+import shutil
+import stat
+import subprocess
+import time
+from collections import Counter
+
+from tests.support.daemons import SECONDS, must, until
+from tests.support.datagrams import ACK, PING, datagram, fields
+from tests.support.journals import journals
+from tests.support.parts import leave_out
+from tests.support.watchers import Watcher
+from tests.swimd.daemon_groups import Answerer
+from tests.swimd.daemon_starting import must_say, refusal, told_lines
+
+MINUTE = 60_000
+# The file is written as soon as a life has begun, and then every ten seconds.
+AT_ONCE, PAUSE = 2, 10
+BOUNDS = [2**it for it in range(16)]
+REASONS = ["not_for_me", "borrowed", "about_me", "unlisted", "table_full", "stray", "no_request"]
+GAUGES = [
+    "build_info", "member_id", "members", "period_number", "period_seconds", "journal_entries", "journal_entries_limit",
+    "journal_entries_behind", "watchers",
+]
+COUNTERS = [
+    "ticks", "pings_sent", "pings_heard", "acks_heard", "asks_sent", "requests_served", "dropped", "verdicts", "joins",
+    "own_joins", "removals", "knocks", "lives", "unsent", "wire", "refused", "forged", "fenced", "lost_watchers", "metrics_unwritten",
+]
+NAMES = {
+    **{f"swimd_{it}": "gauge" for it in GAUGES},
+    **{f"swimd_{it}_total": "counter" for it in COUNTERS},
+    "swimd_ack_wait_ticks": "histogram",
+}
+SAMPLE = re.compile(r'([a-z_]+)(?:\{([a-z]+)="((?:[^"\\]|\\["\\n])*)"\})? ([0-9.]+)')
+ENTRY = re.compile(r"= \d+ (.*)")
+
+
+def parsed(text):
+    """The samples of a text in the exposition format, by name and label. Each family stands together, behind what it
+    tells and its type, and once."""
+    samples, family, seen, last_line = {}, None, {}, text[-1:]
+    must(last_line == "\n", f"the text ends with {last_line!r}")
+    for line in text.split("\n")[:-1]:
+        if line.startswith("# HELP "):
+            family = line.split(" ")[2]
+            must(family not in seen and len(line.split(" ")) > 3, f"of {family} it tells {line!r}")
+        elif line.startswith("# TYPE "):
+            words = line.split(" ")
+            must(words[2] == family and len(words) == 4, f"behind {family} stands {line!r}")
+            seen[family] = words[3]
+        else:
+            found = SAMPLE.fullmatch(line)
+            must(found and family in seen, f"no sample is {line!r}")
+            suffixes = ["_bucket", "_sum", "_count"] if seen[family] == "histogram" else [""]
+            must(found[1] in [family + it for it in suffixes], f"among those of {family} stands {line!r}")
+            must((found[1], found[3]) not in samples, f"twice stands {line!r}")
+            samples[found[1], found[3]] = float(found[4])
+    must(seen == NAMES, f"the families are {seen}")
+    return samples
+
+
+def stats_of(daemon):
+    """The samples of `stats`: a line each, and a dot. In a daemon's first moments nothing was counted yet."""
+    text = until(lambda: (it := daemon.ask(b"stats\n")) != b".\n" and it, "something is counted", AT_ONCE)
+    lines = text.decode().split("\n")
+    must(lines[-2:] == [".", ""], f"`stats` ends with {lines[-2:]}")
+    found = [SAMPLE.fullmatch(it) for it in lines[:-2]]
+    must(all(found), f"`stats` says {lines}")
+    return {(it[1], it[3]): float(it[4]) for it in found}
+
+
+def counted(machine, id=1, **values):
+    """A daemon that writes metrics, and where."""
+    path = f"{machine.folder}/{id}.prom"
+    return machine.started(id, metrics=path, **values), path
+
+
+def file_of(path):
+    with open(path, encoding="utf-8") as file:
+        return file.read()
+
+
+def written(path, seconds=AT_ONCE):
+    """The samples in the file, as soon as it is there."""
+    until(lambda: os.path.exists(path), f"{path} is written", seconds)
+    return parsed(file_of(path))
+
+
+class Journal:
+    """What the journal files of a daemon say of each count, read without any code of the daemon's."""
+
+    def __init__(self, daemon):
+        self.counts, self.waits, self.entries = Counter(), [], 0
+        self.files = journals(daemon.values["journal_dir"], daemon.id)
+        for file in self.files:
+            self.read_life(file.text.decode().split("\n"))
+
+    def read_life(self, lines):
+        self.counts["lives"] += 1
+        self.entries, self.waited, self.was_heard, call = 0, 0, False, ""
+        for line in lines:
+            entry = ENTRY.fullmatch(line)
+            if entry:
+                self.read_entry(call, entry[1])
+            elif line and line.split(" ")[0] in ("tick", "hear", "join", "remove"):
+                call = line
+
+    def read_entry(self, call, answer):
+        words, said = call.split(" "), answer.split(" ")
+        self.entries += 1
+        kind = bytes.fromhex(words[2])[3] if words[0] == "hear" else 0
+        if words[0] == "tick":
+            self.read_tick(said)
+        elif words[0] == "join" and said[0] == "joined":
+            self.counts["joins"] += 1
+        elif said[0] == "removed":
+            self.counts["removals"] += 1
+        elif kind == PING:
+            self.counts["pings_heard"] += 1
+        if said[0] == "dropped":
+            self.counts[REASONS[int(said[1]) - 1]] += 1
+        elif said[0] == "heard":
+            self.read_ack(*fields(bytes.fromhex(words[2]))[1:4])
+        elif said[0] == "sent" and kind not in (PING, ACK):
+            self.counts["requests_served"] += 1
+            self.counts["pings_sent"] += 1
+
+    def read_tick(self, said):
+        self.counts["ticks"] += said[0] != "refused"
+        self.waited += said[0] != "refused"
+        if said[0] == "started":
+            self.waited, self.was_heard = 0, False
+            self.counts["verdicts"] += said[2] != "-"
+            self.counts["pings_sent"] += said[4] != "-"
+        elif said[0] == "asked" and said[4] != "-":
+            self.counts["asks_sent"] += len(said[4].split(","))
+
+    def read_ack(self, sender, _, target):
+        self.counts["target" if sender == target else "relay"] += 1
+        if not self.was_heard:
+            self.waits.append(self.waited)
+        self.was_heard = True
+
+
+def must_be_counted(samples, daemon, **others):
+    """The counts are those of the daemon's journal files, and these others."""
+    journal = Journal(daemon)
+    wanted = {(f"swimd_{it}_total", None): journal.counts[it] for it in (
+        "ticks", "pings_sent", "pings_heard", "asks_sent", "requests_served", "verdicts", "joins", "removals", "lives"
+    )}
+    wanted |= {("swimd_dropped_total", it): journal.counts[it] for it in REASONS}
+    wanted |= {("swimd_acks_heard_total", it): journal.counts[it] for it in ("target", "relay")}
+    waits = journal.waits
+    wanted |= {("swimd_ack_wait_ticks_bucket", str(it)): sum(wait <= it for wait in waits) for it in BOUNDS}
+    wanted["swimd_ack_wait_ticks_bucket", "+Inf"] = wanted["swimd_ack_wait_ticks_count", None] = len(waits)
+    wanted["swimd_ack_wait_ticks_sum", None] = sum(waits)
+    wanted["swimd_journal_entries", None] = journal.entries
+    wanted |= {(f"swimd_{name}", None): value for name, value in others.items()}
+    found = {key: samples.get(key) for key in wanted}
+    differing = {key: (found[key], wanted[key]) for key in wanted if found[key] != wanted[key]}
+    must(not differing, f"found and wanted: {differing}")
+
+
+def metrics_of_a_group(machine):
+    """Of three daemons, one of which is killed: at the end the file says what the journal files say, and what the
+    configuration has."""
+    daemons = machine.members(3)
+    for it in daemons:
+        it.values["metrics"] = f"{machine.folder}/{it.id}.prom"
+        it.write()
+        it.start()
+    first, _, last = daemons
+    samples = written(first.values["metrics"])
+    must(samples["swimd_member_id", None] == 1 and samples["swimd_lives_total", None] == 1, f"it says {samples}")
+    until(lambda: all(state == "up" for state in first.states().values()), "all are up")
+    last.kill()
+    until(lambda: first.states()[3] == "failed", "the killed one is judged")
+    must(first.ask(b"join 9 10.0.0.9:7000\nremove 9\n").endswith(b"removed\n"), "a removal is refused")
+    for it in daemons[:2]:
+        closing = it.stop()
+        samples = written(it.values["metrics"])
+        must_be_counted(
+            samples, it, unsent_total=closing.unsent, wire_total=0, refused_total=0, forged_total=0, fenced_total=0,
+            period_seconds=0.24, journal_entries_limit=1_000_000, journal_entries_behind=0, watchers=0,
+        )
+        must(samples["swimd_build_info", "1.0"] == 1, f"it says {samples}")
+    must(samples["swimd_verdicts_total", None] == 1, f"the second one says {samples}")
+
+
+def a_histogram_of_waits(machine):
+    """Acks that come late, but in time, are counted by the ticks that they were waited for; those of relays apart."""
+    peer, late = machine.socket(), machine.socket()
+    Answerer(peer, 2, lambda *_: True)
+    slow = Answerer(late, 3, lambda *_: bool(time.sleep(0.1)) or True)
+    daemon, path = counted(machine, members=[(2, peer.getsockname()[1]), (3, slow.port)], period=20, tick_ms=20)
+    until(lambda: len(slow.pings) >= 4, "four pings")
+    must(daemon.stop().status == 0, "it ended otherwise")
+    samples = written(path)
+    must_be_counted(samples, daemon)
+    waits = Journal(daemon).waits
+    must(max(waits) >= 4 and samples["swimd_ack_wait_ticks_count", None] >= 4, f"the waits are {waits}")
+
+
+def stats_say_the_same(machine):
+    """`stats` has the names and values of the file, and nothing is lost between two lives."""
+    daemon, path = counted(machine, members=[(2, "10.0.0.2:7000")], k=0, rtt=1, period=3, tick_ms=5, journal=30)
+    until(lambda: daemon.lives_so_far() >= 5, "five lives")
+    first, then = stats_of(daemon), stats_of(daemon)
+    growing = [key for key in first if key[0].endswith("_total") and first[key] > then[key]]
+    must(not growing and first["swimd_lives_total", None] >= 5, f"it says {first}, and then {then}")
+    must(set(first) == set(written(path)), f"`stats` says {sorted(first, key=str)}")
+    ran = subprocess.run([machine.program, "ask", "--control", daemon.control, "stats"], capture_output=True, timeout=SECONDS)
+    must((ran.returncode, ran.stderr) == (0, b"") and ran.stdout.endswith(b"\n.\n"), f"`ask` says {ran!r}")
+    must(daemon.ask(b"stats 1\n") == b"fault 5\n", "`stats` takes a word")
+    must(daemon.stop().status == 0, "it ended otherwise")
+    must_be_counted(written(path), daemon)
+
+
+def what_nobody_sent_is_counted(machine):
+    """Datagrams that are none, pings of a stranger, and those that can't be sent."""
+    daemon, path = counted(machine, tick_ms=MINUTE, members=[(2, "10.0.0.2:7000")])
+    peer = machine.socket()
+    for number in range(1, 8):
+        peer.sendto(b"none", daemon.address)
+        peer.sendto(datagram(PING, 9, 9, 1, number), daemon.address)
+        must(fields(peer.recv(100))[0] == ACK, "a ping isn't answered")
+    peer.sendto(datagram(ACK, 2, 1, 2, 5), daemon.address)
+    until(lambda: stats_of(daemon)["swimd_dropped_total", "stray"] == 1, "the stray ack is counted", AT_ONCE)
+    closing = daemon.stop()
+    must(closing.wire == 7, f"it ended {closing}")
+    must_be_counted(written(path), daemon, wire_total=7, pings_heard_total=7)
+
+
+def watchers_are_counted(machine):
+    daemon, path = counted(machine, tick_ms=MINUTE, events=f"{machine.folder}/events")
+    watchers = [Watcher(daemon.values["events"]) for _ in range(3)]
+    until(lambda: stats_of(daemon)["swimd_watchers", None] == 3, "three are counted", AT_ONCE)
+    watchers.pop().close()
+    until(lambda: stats_of(daemon)["swimd_watchers", None] == 2, "two are left", AT_ONCE)
+    lines = b"".join(b"join 5 10.0.0.5:7000\nremove 5\n" for _ in range(1_000))
+    for _ in range(12):
+        daemon.ask(lines)
+    until(lambda: stats_of(daemon)["swimd_lost_watchers_total", None] == 2, "who never reads is lost", AT_ONCE)
+    must(daemon.stop().status == 0, "it ended otherwise")
+    must(written(path)["swimd_lost_watchers_total", None] == 2, "the file says otherwise")
+
+
+def the_file_is_never_half(machine):
+    """Whoever reads it sees all of it: another file takes its place each time, with the same rights, and beside it
+    nothing is left."""
+    daemon, path = counted(machine, members=[(2, "10.0.0.2:7000")])
+    written(path)
+    first = os.stat(path)
+    must(stat.S_IMODE(first.st_mode) == 0o644, f"its mode is {oct(first.st_mode)}")
+    end = time.monotonic() + PAUSE + AT_ONCE
+    while os.stat(path).st_ino == first.st_ino:
+        parsed(file_of(path))
+        must(time.monotonic() < end, f"within {PAUSE + AT_ONCE} seconds it isn't written again")
+    must(daemon.stop().status == 0, "it ended otherwise")
+    must([it for it in os.listdir(machine.folder) if ".prom" in it] == ["1.prom"], f"{os.listdir(machine.folder)}")
+
+
+def a_folder_that_is_gone(machine):
+    """The daemon goes on, says so once, and goes on to count."""
+    path = f"{machine.folder}/gone/1.prom"
+    daemon = machine.started(members=[(2, "10.0.0.2:7000")], metrics=path)
+    until(lambda: b"metrics " in daemon.told_so_far(), "it is told", AT_ONCE)
+    until(lambda: daemon.states()[2] == "failed", "member 2 is judged")
+    time.sleep(PAUSE + 1)
+    stats = stats_of(daemon)
+    must(stats["swimd_verdicts_total", None] == 1 and stats["swimd_metrics_unwritten_total", None] == 2, f"it says {stats}")
+    os.mkdir(os.path.dirname(path))
+    must(daemon.stop().status == 0, "it ended otherwise")
+    told = [it for it in told_lines(daemon, daemon.told) if it.startswith("metrics ")]
+    must(told == [f"metrics {path}: no such file or folder"], f"it tells {told}")
+    must(written(path)["swimd_verdicts_total", None] == 1, "once the folder is there, the file isn't written")
+
+
+def a_disk_that_is_full(machine):
+    """Where the system takes nothing, what stood there before stays whole."""
+    path = f"{machine.folder}/1.prom"
+    os.symlink("/dev/full", f"{path}.new")
+    daemon = machine.started(tick_ms=MINUTE, metrics=path)
+    until(lambda: b"metrics " in daemon.told_so_far(), "it is told", AT_ONCE)
+    must(daemon.stop().status == 0 and not os.path.exists(path), "half a file is there")
+    told = [it for it in told_lines(daemon, daemon.told) if it.startswith("metrics ")]
+    must(told == [f"metrics {path}: no space is left"], f"it tells {told}")
+
+
+def a_path_that_is_a_folder(machine):
+    path = f"{machine.folder}/1.prom"
+    os.mkdir(path)
+    daemon = machine.started(tick_ms=MINUTE, metrics=path)
+    until(lambda: b"metrics " in daemon.told_so_far(), "it is told", AT_ONCE)
+    must(daemon.stop().status == 0 and os.path.isdir(path), "it ended otherwise")
+
+
+def a_path_of_a_socket(machine):
+    """A file would take the socket's place."""
+    for other in ("control", "events"):
+        daemon = machine.daemon(1, events=f"{machine.folder}/1.events")
+        daemon.values["metrics"] = daemon.values[other]
+        daemon.write()
+        must_say(refusal(daemon).split(b"\n")[0] + b"\n", "configuration 6 metrics")
+
+
+def promtool_agrees(machine):
+    """`promtool check metrics` has nothing to say of the file."""
+    promtool = shutil.which("promtool")
+    if not promtool:
+        return leave_out("promtool isn't installed, so that says nothing of the metrics")
+    daemon, path = counted(machine, members=[(2, "10.0.0.2:7000")])
+    written(path)
+    ran = subprocess.run([promtool, "check", "metrics"], input=file_of(path).encode(), capture_output=True)
+    must((ran.returncode, ran.stderr) == (0, b""), f"promtool says {ran!r}")
+    return None
+
+
+METRICS = [
+    a_folder_that_is_gone,
+    the_file_is_never_half,
+    metrics_of_a_group,
+    a_histogram_of_waits,
+    stats_say_the_same,
+    what_nobody_sent_is_counted,
+    watchers_are_counted,
+    a_disk_that_is_full,
+    a_path_that_is_a_folder,
+    a_path_of_a_socket,
+    promtool_agrees,
+]
