@@ -28,7 +28,8 @@ help:
 	@echo '                control lines beside models of both, and compares what they write'
 	@echo 'make fuzz       gives both programs mutations of valid scripts, datagrams, configurations and control lines, for ten'
 	@echo '                minutes, and compares what they write with what models and the reference say'
-	@echo 'make bench      measures swimsim and the node beside tests/reference, and swimd beside that and the least responder'
+	@echo 'make bench      measures swimsim and the node beside tests/reference, and swimd beside that and the least responder;'
+	@echo '                and counts instructions, where valgrind is on PATH'
 	@echo 'make install    puts programs, man pages, examples and the service of systemd below PREFIX (/usr/local, or'
 	@echo '                make install PREFIX=..)'
 	@echo 'make uninstall  removes them again'
@@ -60,6 +61,7 @@ bench:
 	@tests/bench/swimsim
 	@tests/bench/node
 	@tests/bench/swimd
+	@tests/bench/instructions
 	@tests/bench/watchers
 	@tests/bench/journals
 
