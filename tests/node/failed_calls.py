@@ -7,11 +7,10 @@ import re
 import subprocess
 import time
 
-from tests.support.daemons import LIVES_AND_CLOSING, PORTS_TRIED, DaemonFault, Machine, PortTaken
-from tests.support.daemons import first_line_of, must, talk
-from tests.support.daemons import until
+from tests.support.daemons import PORTS_TRIED, DaemonFault, Machine, PortTaken, must, talk, until
 from tests.support.datagrams import PING, datagram, fields
 from tests.support.journals import front, journals, must_play, told
+from tests.support.sayings import LIVES_AND_CLOSING, first_line_of
 from tests.swimsim.worked_scripts import ASKED, JUDGED_2, STARTED, TWO
 
 AS_EVER, READ, WRITE = "as ever", "a read that fails", "a write that fails"

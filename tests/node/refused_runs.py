@@ -6,9 +6,10 @@ import re
 import subprocess
 
 from tests.generators.cut_scripts import answers
-from tests.support.daemons import PORTS_TRIED, DaemonFault, Machine, PortTaken, first_line_of, must, until
+from tests.support.daemons import PORTS_TRIED, DaemonFault, Machine, PortTaken, must, until
 from tests.support.datagrams import PING, datagram, fields
 from tests.support.journals import front, journals, must_play, told
+from tests.support.sayings import first_line_of
 from tests.generators.growing_scripts import joined
 from tests.node.refusing import REFUSED, Ran
 from tests.swimd.worked_configs import BELOW, is_as

@@ -10,8 +10,9 @@ import time
 from tests.generators.forgeries import forgeries
 from tests.models.datagram_model import fault_of
 from tests.support.configurations import configuration
-from tests.support.daemons import SECONDS, but_for_notices, first_line_of, must, until
+from tests.support.daemons import SECONDS, must, until
 from tests.support.datagrams import ACK, PING, REQUEST, datagram, fields, version_of
+from tests.support.sayings import but_for_notices, first_line_of
 
 MINUTE = 60_000
 MEGABYTE = 2**20

@@ -1,18 +1,16 @@
 """Journal files that can't be made or written: it is told, and nothing else of the daemon changes."""
 
-import itertools
 import os
 import re
 import resource
-import select
 import signal
 import socket
 import subprocess
 import time
 
-from tests.support.daemons import SECONDS, TIME, must, until
-from tests.support.datagrams import ACK, PING, REQUEST, datagram, fields
+from tests.support.daemons import SECONDS, must, until
 from tests.support.journals import front, in_one_folder, journals, must_play, told
+from tests.support.sayings import TIME
 from tests.swimd.daemon_journals import ROWS, filled, must_be_told, pinged
 from tests.swimd.daemon_starting import NOBODY
 
@@ -21,7 +19,6 @@ SECONDS_AHEAD = 4
 TRIES = 5
 # A user of whom nothing else runs.
 STRANGER = 54_321
-SEED = "00112233445566778899aabbccddeeff" * 2
 # A file that may have so many bytes holds the header, and then some calls.
 FEW_BYTES = 1_000
 UNTOLD = re.compile(TIME + rb" journal ([^\n]*): ([^\n:]+)\n")
@@ -259,93 +256,6 @@ def full_and_empty(machine):
     must_play(machine.simulator, files[1].text, files[1].path)
 
 
-class Talk:
-    """A conversation with a daemon whose lives are short and whose first tick is a minute away: what it is answered is
-    the same whenever it is held. It ends each part by a ping; where that or what came before met a full journal, by
-    another."""
-
-    def __init__(self, machine, id, how, **values):
-        self.peer, self.numbers, self.heard, self.lives = machine.socket(), itertools.count(1_000), [], 0
-        self.at = f"127.0.0.1:{self.peer.getsockname()[1]}"
-        members = [(5, self.at), (6, self.at)]
-        self.daemon = machine.daemon(id, members=members, tick_ms=MINUTE, journal=9, seed=SEED, **values)
-        self.daemon.may_be_cut = True
-        self.daemon.start(**how)
-
-    def send(self, *texts):
-        for it in texts:
-            self.peer.sendto(it, self.daemon.address)
-        self.end_of_part()
-
-    def end_of_part(self):
-        """Hears what comes up to the ack of a ping. What a life was answered before its end comes before that of the
-        next one."""
-        while True:
-            number, me = next(self.numbers), self.daemon.id
-            self.peer.sendto(datagram(PING, 5, 5, me, number), self.daemon.address)
-            until(lambda: self.is_heard(number) or self.daemon.lives_so_far() > self.lives,
-                  f"ping {number} is answered")
-            if self.daemon.lives_so_far() == self.lives:
-                return
-            self.lives = self.daemon.lives_so_far()
-
-    def is_heard(self, number):
-        """Hears one datagram, if it is there: whether it is that ack. The daemon's own id is another one in each
-        conversation."""
-        if not select.select([self.peer], [], [], 0.02)[0]:
-            return False
-        kind, _, initiator, _, found = fields(self.peer.recv(100))
-        self.heard += [] if found >= 1_000 else [(kind, initiator, found)]
-        return found == number
-
-    def ask(self, line):
-        """Where the journal was full the line is lost, and its answer says so."""
-        self.heard.append(self.daemon.ask(line).replace(self.at.encode(), b"AT"))
-        self.end_of_part()
-
-
-def talked(machine, id, how=None, **values):
-    """All that a daemon answers and sends, and what its lives tell."""
-    it = Talk(machine, id, how or {}, **values)
-    for number in range(1, 13):
-        it.send(datagram(PING, 5, 5, id, number), datagram(REQUEST, 5, 5, 6, number))
-        it.send(datagram(ACK, 6, 5, 6, number), b"none")
-        at = it.at.encode()
-        it.ask(b"join %d %s\n" % (number + 100, at) if number % 3 else b"remove 6\njoin 6 %s\n" % at)
-        it.ask(b"gap 5\nlist\n")
-    return it.heard, it.daemon.lives_so_far(), it.daemon.stop(), it.daemon.lives
-
-
-def probed(machine, id, how=None, **values):
-    """Whom a daemon probes in some lives, with which numbers: nobody answers, so each is judged in its turn."""
-    peer = machine.socket()
-    at = f"127.0.0.1:{peer.getsockname()[1]}"
-    members, times = [(it, at) for it in range(20, 32)], {"k": 2, "rtt": 1, "period": 3, "tick_ms": 10}
-    daemon = machine.daemon(id, members=members, journal=14, seed=SEED, **times, **values)
-    daemon.may_be_cut = True
-    daemon.start(**(how or {}))
-    sent = [fields(peer.recv(100)) for _ in range(30)]
-    until(lambda: all(it == "failed" for it in daemon.states().values()), "all are judged")
-    table = {it: row.state for it, row in daemon.table().items()}
-    must(daemon.stop().status == 0, "it ended otherwise")
-    return [(kind, target, number) for kind, _, _, target, number in sent], table
-
-
-def the_same_whatever_fails(machine):
-    """What a daemon without files answers, sends and judges, one with files does, and one whose files can't be made or
-    written."""
-    file, few = f"{machine.folder}/file", {"preexec_fn": lambda: limited(FEW_BYTES // 2)}
-    with open(file, "w"):
-        pass
-    kinds = [{"journal_dir": None}, {}, {"journal_dir": f"{machine.folder}/none"}, {"journal_dir": file}, {"how": few}]
-    for play in (talked, probed):
-        # The ids differ, so that files of the same second have other names.
-        found = [play(machine, id, **it) for id, it in enumerate(kinds, 11 if play is talked else 41)]
-        for it, kind in zip(found[1:], kinds[1:]):
-            must(it == found[0], f"with {kind} {play.__name__} is {it}, and without files {found[0]}")
-        must(len(found[0][0]) >= 30, f"there is little to compare: {found[0]}")
-
-
 def two_in_one_folder(machine):
     """Daemons of two ids, of whom each has files of its own, and leaves those of the other."""
     peer, both = machine.socket(), [machine.started(id, tick_ms=MINUTE, journal=3, journal_keep=2) for id in (1, 11)]
@@ -393,7 +303,6 @@ JOURNAL_FAULTS = [
         a_folder_that_goes,
         a_file_that_takes_no_more,
         a_disk_that_is_full,
-        the_same_whatever_fails,
         two_in_one_folder,
         twice_in_one_second,
     )

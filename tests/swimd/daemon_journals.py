@@ -11,11 +11,12 @@ import sys
 import threading
 import time
 
-from tests.support.daemons import ONE_ARENA, SECONDS, TIME, memory_of, must, until
+from tests.support.daemons import ONE_ARENA, SECONDS, memory_of, must, until
 from tests.support.datagrams import ACK, PING, datagram, fields
 from tests.support.documents import code_in
 from tests.support.journals import front, in_one_folder, journals, must_play
 from tests.support.journals import must_verify, must_verify_each, told, written
+from tests.support.sayings import TIME
 from tests.swimd.daemon_groups import MOST_GROWTH, Answerer
 
 MINUTE = 60_000

@@ -9,7 +9,8 @@ import socket
 import stat
 import time
 
-from tests.support.daemons import SECONDS, TIME, but_for_notices, must, until
+from tests.support.daemons import SECONDS, must, until
+from tests.support.sayings import TIME, but_for_notices
 
 MINUTE = 60_000
 NOBODY = 65_534
