@@ -15,7 +15,8 @@ use Rattle.swim_script.specs.Headers.{nothing_told}
 use Rattle.swim_script.specs.Script.{Turn, lines_of, at_line, RunsKnown}
 use Rattle.swim_script.specs.Ends.{LeavesKnown}
 use Rattle.swim_script.specs.Holds.{Played, Holds, Turned, ending, CourseKnown}
-use Rattle.swim_script.proofs.Courses.{at_start, form_next, next, ends_in_line, ends_long, ends_oversize, ends_unread, ends_unsent, ends_well, ends_badly, ends_there}
+use Rattle.swim_script.proofs.CourseEnds.{ends_in_line, ends_long, ends_oversize, ends_unread, ends_unsent, ends_well, ends_badly, ends_there}
+use Rattle.swim_script.proofs.Courses.{at_start, form_next, next}
 
 pub start_known : (left written : Option (List ℕ)) → CourseKnown left left written written Script 16777216 (record { lines = 0; header = nothing_told; recorded = None })
 start_known None written = tt
