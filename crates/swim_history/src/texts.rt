@@ -1,13 +1,12 @@
 //! The texts of a member table and of a gap, written to a sink. Each function answers whether the sink took its text.
 
-ghost use Rattle.std.specs.Prelude.{◌≡◌, ◌++◌, codes, decimal};
-ghost use Rattle.swim_wire.specs.Address.{address_text};
+ghost use Rattle.std.specs.Prelude.{◌≡◌};
 ghost use Rattle.swim_wire.specs.Streams.{Puts, failures_if};
-ghost use Rattle.swim_history.specs.Texts.{feed, state_text, row_text, rows_text, table_text, gap_text};
+ghost use Rattle.swim_history.specs.Texts.{row_text, rows_text, table_text, gap_text};
 
 use crate::gaps::Gap;
 use crate::rows::{Row, RowState};
-use swim_wire::{Peer, Sink, put_address, put_number, put_numbered};
+use swim_wire::{Piece, Sink, put_pieces};
 
 /// A line for each row, and a dot.
 pub fn put_table<W: Sink>(writer: &mut W, rows: &[Row]) -> bool
@@ -39,42 +38,22 @@ fn put_row<W: Sink>(writer: &mut W, row: &Row) -> bool
     ensures bytes { Puts (W.written writer.old) (W.written writer.new) (row_text row.now) result }
     ensures failures { W.failures writer.new ≡ failures_if (W.failures writer.old) result }
 {
-    if !put_number(writer, u64::from(row.id.get())) {
-        return false;
-    }
-    put_standing(writer, &row.peer, row.state)
-}
-
-/// The address and the state of a member, and the end of the line.
-fn put_standing<W: Sink>(writer: &mut W, peer: &Peer, state: RowState) -> bool
-    ensures bytes { Puts (W.written writer.old) (W.written writer.new)
-        (codes " " ++ (address_text peer.now ++ (state_text state ++ feed))) result }
-    ensures failures { W.failures writer.new ≡ failures_if (W.failures writer.old) result }
-{
-    if !put_address(writer, b" ", peer) {
-        return false;
-    }
-    put_state_line(writer, state)
-}
-
-/// The state of a member, and the end of the line.
-fn put_state_line<W: Sink>(writer: &mut W, state: RowState) -> bool
-    ensures bytes { Puts (W.written writer.old) (W.written writer.new) (state_text state ++ feed) result }
-    ensures failures { W.failures writer.new ≡ failures_if (W.failures writer.old) result }
-{
-    if !put_state(writer, state) {
-        return false;
-    }
-    writer.put(b"\n")
-}
-
-fn put_state<W: Sink>(writer: &mut W, state: RowState) -> bool
-    ensures bytes { Puts (W.written writer.old) (W.written writer.new) (state_text state) result }
-    ensures failures { W.failures writer.new ≡ failures_if (W.failures writer.old) result }
-{
-    match state {
-        RowState::Up => writer.put(b" up"),
-        RowState::Failed(number) => put_numbered(writer, b" failed ", number),
+    let id = Piece::Number(u64::from(row.id.get()));
+    let space = Piece::Text(b" ");
+    let peer = Piece::Address(row.peer);
+    match row.state {
+        RowState::Up => put_pieces(writer, &[id, space, peer, Piece::Text(b" up\n")]),
+        RowState::Failed(number) => {
+            let pieces = [
+                id,
+                space,
+                peer,
+                Piece::Text(b" failed "),
+                Piece::Number(number),
+                Piece::Text(b"\n"),
+            ];
+            put_pieces(writer, &pieces)
+        }
     }
 }
 
@@ -83,41 +62,17 @@ pub fn put_gap<W: Sink>(writer: &mut W, gap: Option<Gap>) -> bool
     ensures bytes { Puts (W.written writer.old) (W.written writer.new) (gap_text gap) result }
     ensures failures { W.failures writer.new ≡ failures_if (W.failures writer.old) result }
 {
-    match gap {
-        None => writer.put(b"gap none\n"),
-        Some(gap) => put_numbers(writer, gap.a, gap.b, gap.n),
-    }
-}
-
-fn put_numbers<W: Sink>(writer: &mut W, a: u64, b: u64, n: u64) -> bool
-    ensures bytes { Puts (W.written writer.old) (W.written writer.new)
-        (codes "gap " ++ (decimal a ++ (codes " " ++ (decimal b ++ (codes " " ++ (decimal n ++ feed)))))) result }
-    ensures failures { W.failures writer.new ≡ failures_if (W.failures writer.old) result }
-{
-    if !put_numbered(writer, b"gap ", a) {
-        return false;
-    }
-    put_last_two(writer, b, n)
-}
-
-fn put_last_two<W: Sink>(writer: &mut W, b: u64, n: u64) -> bool
-    ensures bytes { Puts (W.written writer.old) (W.written writer.new)
-        (codes " " ++ (decimal b ++ (codes " " ++ (decimal n ++ feed)))) result }
-    ensures failures { W.failures writer.new ≡ failures_if (W.failures writer.old) result }
-{
-    if !put_numbered(writer, b" ", b) {
-        return false;
-    }
-    put_last(writer, n)
-}
-
-fn put_last<W: Sink>(writer: &mut W, n: u64) -> bool
-    ensures bytes { Puts (W.written writer.old) (W.written writer.new)
-        (codes " " ++ (decimal n ++ feed)) result }
-    ensures failures { W.failures writer.new ≡ failures_if (W.failures writer.old) result }
-{
-    if !put_numbered(writer, b" ", n) {
-        return false;
-    }
-    writer.put(b"\n")
+    let Some(gap) = gap else {
+        return writer.put(b"gap none\n");
+    };
+    let pieces = [
+        Piece::Text(b"gap "),
+        Piece::Number(gap.a),
+        Piece::Text(b" "),
+        Piece::Number(gap.b),
+        Piece::Text(b" "),
+        Piece::Number(gap.n),
+        Piece::Text(b"\n"),
+    ];
+    put_pieces(writer, &pieces)
 }
