@@ -6,7 +6,6 @@ pub mod KeptRows
 pub mod Known
 pub mod LineTurns
 pub mod OrderParts
-pub mod SentLines
 pub mod StandingLines
 pub mod States
 pub mod Turns

@@ -60,20 +60,12 @@ newest_text (e ∷ before) = Some (placed_text (length before) e.reply)
 abbrev pub datagram_text : Message → List ℕ
 datagram_text message = codes " " ++ (encode_lower (text_of message) ++ feed)
 
-abbrev pub line_text : Address → List ℕ → List ℕ
-line_text peer datagram = codes "> " ++ (address_text peer ++ datagram)
-
 abbrev pub send_text : Address × Message → List ℕ
-send_text sent = line_text sent.0 (datagram_text sent.1)
+send_text sent = codes "> " ++ (address_text sent.0 ++ datagram_text sent.1)
 
 abbrev pub sends_text : List (Address × Message) → List ℕ
 sends_text [] = []
 sends_text (sent ∷ others) = send_text sent ++ sends_text others
-
--- the lines of the same datagram to each of them
-abbrev pub lines_text : List Relay → List ℕ → List ℕ
-lines_text [] datagram = []
-lines_text (relay ∷ relays) datagram = line_text relay.peer datagram ++ lines_text relays datagram
 
 -- the lines of a reply: its text, and a line for each message that it sends
 abbrev pub answer_text : Setting → Reply → List ℕ

@@ -1,17 +1,14 @@
-//! The texts of answers, written to a sink. Each function answers whether the sink took its text.
+//! The texts of answers, written to a sink. Each function that writes answers whether the sink took its text.
 
-ghost use Rattle.std.specs.Prelude.{◌≡◌, ◌++◌, codes, decimal, map};
-ghost use Rattle.swim_wire.specs.Address.{address_text};
+ghost use Rattle.std.specs.Prelude.{◌≡◌, ◌++◌, codes, decimal};
+ghost use Rattle.swim_wire.specs.Pieces.{piece_text};
 ghost use Rattle.swim_wire.specs.Streams.{Puts, failures_if};
-ghost use Rattle.swim_history.specs.Sends.{sends_of, to_each};
-ghost use Rattle.swim_history.specs.Texts.{feed};
 ghost use Rattle.swim_script.specs.Texts.{placed_text, answer_text, reply_text, id_text, probe_text, relays_text};
-ghost use Rattle.swim_script.specs.Texts.{more_relays_text};
-ghost use Rattle.swim_script.specs.Texts.{line_text, lines_text, sends_text, wire_text};
+ghost use Rattle.swim_script.specs.Texts.{more_relays_text, send_text, sends_text, wire_text};
 
 use crate::datagrams::datagram_line;
-use swim_history::{Opening, Probe, Relay, Reply, own_message};
-use swim_wire::{Id, Kind, Peer, Sink, WireFault, put_address, put_number, put_numbered};
+use swim_history::{Opening, Probe, Relay, Reply, sends};
+use swim_wire::{Id, Message, Peer, Piece, Sink, WireFault, put_number, put_numbered, put_pieces};
 
 /// The lines of a reply: its text, and a line for each message that it sends.
 pub fn put_answer<W: Sink>(writer: &mut W, reply: &Reply, opening: &Opening) -> bool
@@ -21,7 +18,10 @@ pub fn put_answer<W: Sink>(writer: &mut W, reply: &Reply, opening: &Opening) -> 
     if !put_reply(writer, reply) {
         return false;
     }
-    put_end_and_sends(writer, reply, opening)
+    if !writer.put(b"\n") {
+        return false;
+    }
+    put_sends(writer, sends(reply, opening).as_slice())
 }
 
 /// What is told of an entry: its place, and the text of what was answered, without a line feed.
@@ -29,32 +29,11 @@ pub fn put_placed<W: Sink>(writer: &mut W, place: u32, reply: &Reply) -> bool
     ensures bytes { Puts (W.written writer.old) (W.written writer.new) (placed_text place reply.now) result }
     ensures failures { W.failures writer.new ≡ failures_if (W.failures writer.old) result }
 {
-    if !put_number(writer, u64::from(place)) {
-        return false;
-    }
-    put_spaced_reply(writer, reply)
-}
-
-fn put_spaced_reply<W: Sink>(writer: &mut W, reply: &Reply) -> bool
-    ensures bytes { Puts (W.written writer.old) (W.written writer.new) (codes " " ++ reply_text reply.now) result }
-    ensures failures { W.failures writer.new ≡ failures_if (W.failures writer.old) result }
-{
-    if !writer.put(b" ") {
+    let pieces = [Piece::Number(u64::from(place)), Piece::Text(b" ")];
+    if !put_pieces(writer, &pieces) {
         return false;
     }
     put_reply(writer, reply)
-}
-
-/// The end of a reply's line, and a line for each message that it sends.
-fn put_end_and_sends<W: Sink>(writer: &mut W, reply: &Reply, opening: &Opening) -> bool
-    ensures bytes { Puts (W.written writer.old) (W.written writer.new)
-        (feed ++ sends_text (sends_of reply.now opening.now)) result }
-    ensures failures { W.failures writer.new ≡ failures_if (W.failures writer.old) result }
-{
-    if !writer.put(b"\n") {
-        return false;
-    }
-    put_sends(writer, reply, opening)
 }
 
 /// The line of a datagram that is none.
@@ -62,10 +41,12 @@ pub fn put_wire_fault<W: Sink>(writer: &mut W, fault: WireFault) -> bool
     ensures bytes { Puts (W.written writer.old) (W.written writer.new) (wire_text fault) result }
     ensures failures { W.failures writer.new ≡ failures_if (W.failures writer.old) result }
 {
-    if !put_numbered(writer, b"wire ", u64::from(fault.number())) {
-        return false;
-    }
-    writer.put(b"\n")
+    let pieces = [
+        Piece::Text(b"wire "),
+        Piece::Number(u64::from(fault.number())),
+        Piece::Text(b"\n"),
+    ];
+    put_pieces(writer, &pieces)
 }
 
 fn put_reply<W: Sink>(writer: &mut W, reply: &Reply) -> bool
@@ -95,64 +76,32 @@ fn put_started<W: Sink>(writer: &mut W, judged: Option<Id>, probe: Option<Probe>
         (codes "started judged " ++ (id_text judged ++ (codes " probe " ++ probe_text probe))) result }
     ensures failures { W.failures writer.new ≡ failures_if (W.failures writer.old) result }
 {
-    if !put_judged(writer, judged) {
-        return false;
+    let told = Piece::Text(b"started judged ");
+    let judged = id_piece(judged);
+    match probe {
+        None => put_pieces(writer, &[told, judged, Piece::Text(b" probe -")]),
+        Some(probe) => {
+            let pieces = [
+                told,
+                judged,
+                Piece::Text(b" probe "),
+                Piece::Number(u64::from(probe.target.get())),
+                Piece::Text(b" "),
+                Piece::Number(probe.number),
+            ];
+            put_pieces(writer, &pieces)
+        }
     }
-    put_probed(writer, probe)
 }
 
-fn put_judged<W: Sink>(writer: &mut W, judged: Option<Id>) -> bool
-    ensures bytes { Puts (W.written writer.old) (W.written writer.new)
-        (codes "started judged " ++ id_text judged) result }
-    ensures failures { W.failures writer.new ≡ failures_if (W.failures writer.old) result }
-{
-    if !writer.put(b"started judged ") {
-        return false;
-    }
-    put_id(writer, judged)
-}
-
-fn put_probed<W: Sink>(writer: &mut W, probe: Option<Probe>) -> bool
-    ensures bytes { Puts (W.written writer.old) (W.written writer.new)
-        (codes " probe " ++ probe_text probe) result }
-    ensures failures { W.failures writer.new ≡ failures_if (W.failures writer.old) result }
-{
-    if !writer.put(b" probe ") {
-        return false;
-    }
-    put_probe(writer, probe)
-}
-
-fn put_id<W: Sink>(writer: &mut W, id: Option<Id>) -> bool
-    ensures bytes { Puts (W.written writer.old) (W.written writer.new) (id_text id) result }
-    ensures failures { W.failures writer.new ≡ failures_if (W.failures writer.old) result }
+/// An id, or `-` for none.
+fn id_piece(id: Option<Id>) -> Piece<'static>
+    ensures { piece_text result ≡ id_text id }
 {
     match id {
-        None => writer.put(b"-"),
-        Some(id) => put_number(writer, u64::from(id.get())),
+        None => Piece::Text(b"-"),
+        Some(id) => Piece::Number(u64::from(id.get())),
     }
-}
-
-fn put_probe<W: Sink>(writer: &mut W, probe: Option<Probe>) -> bool
-    ensures bytes { Puts (W.written writer.old) (W.written writer.new) (probe_text probe) result }
-    ensures failures { W.failures writer.new ≡ failures_if (W.failures writer.old) result }
-{
-    match probe {
-        None => writer.put(b"-"),
-        Some(probe) => put_pair(writer, probe.target, probe.number),
-    }
-}
-
-/// An id and a number, with a space between.
-fn put_pair<W: Sink>(writer: &mut W, id: Id, number: u64) -> bool
-    ensures bytes { Puts (W.written writer.old) (W.written writer.new)
-        (decimal id ++ (codes " " ++ decimal number)) result }
-    ensures failures { W.failures writer.new ≡ failures_if (W.failures writer.old) result }
-{
-    if !put_number(writer, u64::from(id.get())) {
-        return false;
-    }
-    put_numbered(writer, b" ", number)
 }
 
 fn put_asked<W: Sink>(writer: &mut W, target: Id, number: u64, relays: &[Relay]) -> bool
@@ -161,55 +110,34 @@ fn put_asked<W: Sink>(writer: &mut W, target: Id, number: u64, relays: &[Relay])
         ++ (decimal target ++ (codes " " ++ (decimal number ++ (codes " by " ++ relays_text relays.now))))) result }
     ensures failures { W.failures writer.new ≡ failures_if (W.failures writer.old) result }
 {
-    if !put_numbered(writer, b"asked ", u64::from(target.get())) {
-        return false;
-    }
-    put_asked_in(writer, number, relays)
-}
-
-fn put_asked_in<W: Sink>(writer: &mut W, number: u64, relays: &[Relay]) -> bool
-    ensures bytes { Puts (W.written writer.old) (W.written writer.new)
-        (codes " " ++ (decimal number ++ (codes " by " ++ relays_text relays.now))) result }
-    ensures failures { W.failures writer.new ≡ failures_if (W.failures writer.old) result }
-{
-    if !put_numbered(writer, b" ", number) {
-        return false;
-    }
-    put_asked_by(writer, relays)
-}
-
-fn put_asked_by<W: Sink>(writer: &mut W, relays: &[Relay]) -> bool
-    ensures bytes { Puts (W.written writer.old) (W.written writer.new)
-        (codes " by " ++ relays_text relays.now) result }
-    ensures failures { W.failures writer.new ≡ failures_if (W.failures writer.old) result }
-{
-    if !writer.put(b" by ") {
+    let pieces = [
+        Piece::Text(b"asked "),
+        Piece::Number(u64::from(target.get())),
+        Piece::Text(b" "),
+        Piece::Number(number),
+        Piece::Text(b" by "),
+    ];
+    if !put_pieces(writer, &pieces) {
         return false;
     }
     put_relays(writer, relays)
 }
 
+/// The ids of relays with commas between, or `-` for none.
 fn put_relays<W: Sink>(writer: &mut W, relays: &[Relay]) -> bool
     ensures bytes { Puts (W.written writer.old) (W.written writer.new) (relays_text relays.now) result }
     ensures failures { W.failures writer.new ≡ failures_if (W.failures writer.old) result }
 {
-    match relays {
-        [] => writer.put(b"-"),
-        [first, others @ ..] => put_first_relay(writer, first.id, others),
-    }
-}
-
-fn put_first_relay<W: Sink>(writer: &mut W, first: Id, others: &[Relay]) -> bool
-    ensures bytes { Puts (W.written writer.old) (W.written writer.new)
-        (decimal first ++ more_relays_text others.now) result }
-    ensures failures { W.failures writer.new ≡ failures_if (W.failures writer.old) result }
-{
-    if !put_number(writer, u64::from(first.get())) {
+    let [first, others @ ..] = relays else {
+        return writer.put(b"-");
+    };
+    if !put_number(writer, u64::from(first.id.get())) {
         return false;
     }
     put_more_relays(writer, others)
 }
 
+/// The ids of relays, with a comma before each.
 fn put_more_relays<W: Sink>(writer: &mut W, relays: &[Relay]) -> bool
     ensures bytes { Puts (W.written writer.old) (W.written writer.new)
         (more_relays_text relays.now) result }
@@ -224,82 +152,30 @@ fn put_more_relays<W: Sink>(writer: &mut W, relays: &[Relay]) -> bool
     put_more_relays(writer, others)
 }
 
-/// A line for each message that a reply sends.
-fn put_sends<W: Sink>(writer: &mut W, reply: &Reply, opening: &Opening) -> bool
-    ensures bytes { Puts (W.written writer.old) (W.written writer.new)
-        (sends_text (sends_of reply.now opening.now)) result }
+/// A line for each message that is sent.
+fn put_sends<W: Sink>(writer: &mut W, sent: &[(Peer, Message)]) -> bool
+    ensures bytes { Puts (W.written writer.old) (W.written writer.new) (sends_text sent.now) result }
     ensures failures { W.failures writer.new ≡ failures_if (W.failures writer.old) result }
 {
-    match reply {
-        Reply::Started {
-            probe: Some(probe),
-            ..
-        } => {
-            let to = Relay {
-                id: probe.target,
-                peer: probe.peer,
-            };
-            put_own(writer, opening, Kind::Ping, probe, &[to])
-        }
-        Reply::Asked {
-            target,
-            peer,
-            number,
-            relays,
-        } => {
-            let probe = Probe {
-                target: *target,
-                peer: *peer,
-                number: *number,
-            };
-            put_own(writer, opening, Kind::PingReq, &probe, relays.as_slice())
-        }
-        Reply::Send { peer, message } => put_line(writer, peer, datagram_line(message).as_slice()),
-        _ => true,
-    }
-}
-
-/// The lines of the same message of this member's own probe to each of them.
-fn put_own<W: Sink>(
-    writer: &mut W,
-    opening: &Opening,
-    kind: Kind,
-    probe: &Probe,
-    to: &[Relay],
-) -> bool
-    ensures bytes { Puts (W.written writer.old) (W.written writer.new)
-        (sends_text (to_each opening.now kind probe.now (map (λ relay. relay.peer) to.now))) result }
-    ensures failures { W.failures writer.new ≡ failures_if (W.failures writer.old) result }
-{
-    match own_message(opening, kind, probe) {
-        Some(message) => put_lines(writer, to, datagram_line(&message).as_slice()),
-        None => true,
-    }
-}
-
-/// A line with the same datagram to each of them.
-fn put_lines<W: Sink>(writer: &mut W, to: &[Relay], datagram: &[u8]) -> bool
-    ensures bytes { Puts (W.written writer.old) (W.written writer.new)
-        (lines_text to.now datagram.now) result }
-    ensures failures { W.failures writer.new ≡ failures_if (W.failures writer.old) result }
-{
-    let [first, others @ ..] = to else {
+    let [first, others @ ..] = sent else {
         return true;
     };
-    if !put_line(writer, &first.peer, datagram) {
+    if !put_send(writer, first.0, &first.1) {
         return false;
     }
-    put_lines(writer, others, datagram)
+    put_sends(writer, others)
 }
 
 /// The line of a message: its address and its datagram.
-fn put_line<W: Sink>(writer: &mut W, peer: &Peer, datagram: &[u8]) -> bool
-    ensures bytes { Puts (W.written writer.old) (W.written writer.new)
-        (line_text peer.now datagram.now) result }
+fn put_send<W: Sink>(writer: &mut W, peer: Peer, message: &Message) -> bool
+    ensures bytes { Puts (W.written writer.old) (W.written writer.new) (send_text (peer, message.now)) result }
     ensures failures { W.failures writer.new ≡ failures_if (W.failures writer.old) result }
 {
-    if !put_address(writer, b"> ", peer) {
-        return false;
-    }
-    writer.put(datagram)
+    let datagram = datagram_line(message);
+    let pieces = [
+        Piece::Text(b"> "),
+        Piece::Address(peer),
+        Piece::Text(datagram.as_slice()),
+    ];
+    put_pieces(writer, &pieces)
 }

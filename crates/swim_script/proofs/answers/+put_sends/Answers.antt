@@ -1,0 +1,14 @@
+use Rattle.std.proofs.Common.{sym, ap}
+use Rattle.swim_script.specs.Texts.{send_text, sends_text}
+use Rattle.swim_wire.specs.TwoPuts.{first_failed, both_put, first_and_others, others_of}
+use Rattle.swim_script.proofs.answers.+put_sends.Goals as goal
+
+pub returns-then-not-put_send-clause-bytes : goal.returns-then-not-put_send-clause-bytes
+returns-then-not-put_send-clause-bytes g t c =
+    first_failed (g.W.Sink.written c.args.writer.now) (g.W.Sink.written c.put_send.new.writer) (send_text c.first-item.result) (sends_text (others_of c.args.sent.now)) (sends_text c.args.sent.now)
+    (ap sends_text (sym (first_and_others c.args.sent.now c.first-item.result c.in-len1-up.len_at_least c.first-item.is))) c.if-not-put_send.ensures.bytes
+
+pub returns-clause-bytes : goal.returns-clause-bytes
+returns-clause-bytes g t c =
+    both_put (g.W.Sink.written c.args.writer.now) (g.W.Sink.written c.put_send.new.writer) (g.W.Sink.written c.put_sends.new.writer) (send_text c.first-item.result) (sends_text (others_of c.args.sent.now)) (sends_text c.args.sent.now) c.put_sends.result
+    (ap sends_text (sym (first_and_others c.args.sent.now c.first-item.result c.in-len1-up.len_at_least c.first-item.is))) c.if-not-put_send.ensures.bytes c.put_sends.ensures.bytes

@@ -1,9 +1,0 @@
-use Rattle.std.proofs.Common.{refl, ◌++◌, decimal, codes}
-use Rattle.swim_wire.specs.TwoPuts.{first_failed, both_put}
-use Rattle.swim_script.proofs.answers.put_pair.Goals as goal
-
-pub returns-then-not-put_number-clause-bytes : goal.returns-then-not-put_number-clause-bytes
-returns-then-not-put_number-clause-bytes g c = first_failed (g.W.Sink.written c.args.writer.now) (g.W.Sink.written c.put_number.new.writer) (decimal c.from.result) (codes " " ++ decimal c.args.number) (decimal c.args.id ++ (codes " " ++ decimal c.args.number)) (rw (c.from.ensures, c.get.ensures.value) refl) c.if-not-put_number.ensures.bytes
-
-pub returns-clause-bytes : goal.returns-clause-bytes
-returns-clause-bytes g c = both_put (g.W.Sink.written c.args.writer.now) (g.W.Sink.written c.put_number.new.writer) (g.W.Sink.written c.put_numbered.new.writer) (decimal c.from.result) (codes " " ++ decimal c.args.number) (decimal c.args.id ++ (codes " " ++ decimal c.args.number)) c.put_numbered.result (rw (c.from.ensures, c.get.ensures.value) refl) c.if-not-put_number.ensures.bytes c.put_numbered.ensures.bytes
