@@ -15,6 +15,12 @@ use swim_history::RowState;
 use swim_targets::Order;
 use swim_wire::{Id, Message, Version, WireFault, Words, read_number, take_id};
 
+/// The length of a seed, in bytes. Twice as many digits spell it.
+pub const SEED_BYTES: usize = 32;
+
+/// The greatest number of a version.
+const NEWEST_VERSION: u64 = 2;
+
 /// The arguments of an `open` line. Each number is one that the format allows; that they make an opening is looked for
 /// later.
 #[derive(Clone, Copy, Debug, PartialEq, Eq)]
@@ -134,7 +140,7 @@ pub fn take_datagram(words: &mut Words<'_>) -> Result<Result<Message, WireFault>
 
 /// Takes the next word, which is to be 64 hexadecimal digits of either case, a seed; else the fault is
 /// `LineFault::Hex`.
-pub fn take_seed(words: &mut Words<'_>) -> Result<[u8; 32], LineFault>
+pub fn take_seed(words: &mut Words<'_>) -> Result<[u8; SEED_BYTES], LineFault>
     ensures { TakesFrom result words.new (take_seed words.old) }
 {
     let word = words.next().ok_or(LineFault::Hex)?;
@@ -153,7 +159,7 @@ pub fn take_version(words: &mut Words<'_>) -> Result<Version, LineFault>
 fn read_version(text: &[u8]) -> Option<Version>
     ensures { result ≡ option_and_then version_of (number_of 2 text.now) }
 {
-    match read_number(text, 2)? {
+    match read_number(text, NEWEST_VERSION)? {
         1 => Some(Version::One),
         2 => Some(Version::Two),
         _ => None,
@@ -200,10 +206,10 @@ fn take_failed(word: &[u8], words: &mut Words<'_>) -> Result<RowState, LineFault
 }
 
 /// The seed that 64 digits spell, of either case.
-fn read_seed(text: &[u8]) -> Option<[u8; 32]>
+fn read_seed(text: &[u8]) -> Option<[u8; SEED_BYTES]>
     ensures { result ≡ seed_of text.now }
 {
-    let mut seed = [0; 32];
+    let mut seed = [0; SEED_BYTES];
     match hex::decode_to_slice(text, &mut seed) {
         Ok(()) => Some(seed),
         Err(_) => None,

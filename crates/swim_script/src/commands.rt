@@ -5,8 +5,8 @@ ghost use Rattle.swim_script.specs.Commands.{fault_name, LineStandsAt, word_of, 
 ghost use Rattle.swim_script.specs.Commands.{line_read, is_skipped, behind_sign, answer_in, answer_read, words_read, said_by};
 
 use crate::arguments::{
-    AnswerText, OpenArguments, OrderText, take_datagram, take_life, take_number, take_open,
-    take_order, take_seed, take_state, take_version,
+    AnswerText, OpenArguments, OrderText, SEED_BYTES, take_datagram, take_life, take_number,
+    take_open, take_order, take_seed, take_state, take_version,
 };
 use crate::forms::Form;
 use swim_history::Row;
@@ -104,7 +104,7 @@ pub enum Command<'a> {
     /// The next place to be followed.
     Place(u32),
     /// Orders and places are drawn from this seed, by the detector of that life.
-    Seed([u8; 32], u64),
+    Seed([u8; SEED_BYTES], u64),
     /// The detector's own pings and ping-reqs have this version.
     Wire(Version),
     /// One tick.

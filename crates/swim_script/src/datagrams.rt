@@ -55,7 +55,7 @@ fn decode_into(text: &[u8], bytes: &mut [u8]) -> Option<Result<Message, WireFaul
 /// What an even number of digits spell that are more than any datagram has.
 fn of_too_many(text: &[u8]) -> Option<Result<Message, WireFault>>
     requires even { length text.now % 2 ≡ 0 }
-    requires many { 60 < length text.now }
+    requires many { 2 * LONGEST_DATAGRAM_BYTES < length text.now }
     ensures { result ≡ datagram_of text.now }
 {
     if are_digits(text) {

@@ -4,10 +4,10 @@ ghost use Rattle.std.specs.Prelude.{◌≡◌, ◌≤◌};
 ghost use Rattle.swim_script.specs.Forms.{is_mark, form_after, most_bytes};
 
 /// The most bytes of a script that is no journal file.
-const SCRIPT_BYTES: u32 = 16_777_216;
+pub const SCRIPT_BYTES: u32 = 16_777_216;
 
 /// The most bytes of a journal file.
-const JOURNAL_BYTES: u32 = 1_073_741_824;
+pub const JOURNAL_BYTES: u32 = 1_073_741_824;
 
 /// The form of a script, which its first line tells.
 #[derive(Clone, Copy, Debug, PartialEq, Eq)]
@@ -25,7 +25,7 @@ impl Form {
     pub fn after(self, before: u32, line: &[u8]) -> Form
         ensures form { result ≡ form_after before line.now self }
         ensures grows { most_bytes self ≤ most_bytes result }
-        ensures most { most_bytes result ≤ 1073741824 }
+        ensures most { most_bytes result ≤ JOURNAL_BYTES }
     {
         if is_mark(before, line) {
             Form::Journal

@@ -8,7 +8,7 @@ ghost use Rattle.swim_script.specs.Headers.{limit_in, chooser_in, version_with};
 ghost use Rattle.swim_script.specs.Script.{fault_of_header};
 ghost use Rattle.swim_script.specs.Holds.{first_rows, kept};
 
-use crate::arguments::{OpenArguments, Opened};
+use crate::arguments::{OpenArguments, Opened, SEED_BYTES};
 use crate::choosers::Drawer;
 use crate::commands::{Draws, LineFault, Stage};
 use crate::faults::{FaultKind, ScriptFault};
@@ -21,16 +21,16 @@ use swim_targets::{Order, Scripted, Seeded};
 use swim_wire::Version;
 
 /// How many rows are kept: one more than an opening may have, so that its check can tell.
-const KEPT_ROWS: usize = KNOWN_MEMBERS + 1;
+pub(crate) const KEPT_ROWS: usize = KNOWN_MEMBERS + 1;
 
 /// What header lines told so far. Of the rows the first are kept.
 #[derive(Drop)]
 pub struct Header {
     opened: Option<Opened>,
-    rows: ArrayVec<Row, 129>,
+    rows: ArrayVec<Row, KEPT_ROWS>,
     orders: Vec<Order>,
     places: Vec<u32>,
-    seed: Option<([u8; 32], u64)>,
+    seed: Option<([u8; SEED_BYTES], u64)>,
     wire: Option<Version>,
 }
 
@@ -97,7 +97,7 @@ impl Header {
     }
 
     /// A `seed` line, with the life that draws from it.
-    pub fn set_seed(&mut self, key: [u8; 32], life: u64)
+    pub fn set_seed(&mut self, key: [u8; SEED_BYTES], life: u64)
         ensures { self.new ≡ record self.old { seed = Some (key, life) } }
     {
         self.seed = Some((key, life));
@@ -178,7 +178,7 @@ impl Header {
 }
 
 /// Puts a row last, unless as many are kept as tell that there are too many.
-fn keep_row(rows: &mut ArrayVec<Row, 129>, row: Row)
+fn keep_row(rows: &mut ArrayVec<Row, KEPT_ROWS>, row: Row)
     ensures { rows.new.items ≡ first_rows (rows.old.items ++ row ∷ []) }
 {
     if rows.len() < KEPT_ROWS {

@@ -17,12 +17,12 @@ mod simulator;
 
 pub use answers::put_placed;
 pub use arguments::{
-    OpenArguments, OrderText, take_datagram, take_life, take_long_number, take_number, take_order,
-    take_seed, take_version,
+    OpenArguments, OrderText, SEED_BYTES, take_datagram, take_life, take_long_number, take_number,
+    take_order, take_seed, take_version,
 };
 pub use commands::{Command, LINE_BYTES, LineFault, Word, first_word, read_command};
 pub use datagrams::{LONGEST_DATAGRAM_LINE, datagram_line};
 pub use faults::{FaultKind, ScriptFault};
-pub use forms::Form;
+pub use forms::{Form, JOURNAL_BYTES, SCRIPT_BYTES};
 pub use session::Session;
 pub use simulator::run;

@@ -9,6 +9,7 @@ ghost use Rattle.swim_script.specs.Script.{are_past, fault_of_setting, kind_of_s
 
 use crate::arguments::{OpenArguments, Opened};
 use crate::faults::{FaultKind, ScriptFault};
+use crate::headers::KEPT_ROWS;
 use arrayvec::ArrayVec;
 use swim_history::{Opening, Row, RowState};
 use swim_wire::{Id, Peer, Version};
@@ -19,7 +20,7 @@ pub(crate) fn checked(
     rows: &[Row],
     version: Version,
 ) -> Result<Opening, ScriptFault>
-    requires { length rows.now ≤ 129 }
+    requires { length rows.now ≤ KEPT_ROWS }
     ensures { let o = setting_with (Some opened.now) rows.now version in MatchResult result
         (λ opening. (fault_of_setting (Some opened.now) o ≡ None) × (opening ≡ o))
         (λ fault. fault_of_setting (Some opened.now) o ≡ Some fault) }
@@ -35,7 +36,7 @@ pub(crate) fn checked(
 
 /// The opening of these arguments and rows, or what is wrong with it.
 fn opening_of(a: OpenArguments, rows: &[Row], version: Version) -> Result<Opening, FaultKind>
-    requires { length rows.now ≤ 129 }
+    requires { length rows.now ≤ KEPT_ROWS }
     ensures { let o = setting_by a rows.now version in MatchResult result
         (λ opening. (kind_of_setting o ≡ None) × (opening ≡ o))
         (λ kind. kind_of_setting o ≡ Some kind) }
@@ -59,8 +60,8 @@ fn opening_of(a: OpenArguments, rows: &[Row], version: Version) -> Result<Openin
 }
 
 /// The members of rows, and their addresses.
-fn members_of(rows: &[Row]) -> ArrayVec<(Id, Peer), 129>
-    requires { length rows.now ≤ 129 }
+fn members_of(rows: &[Row]) -> ArrayVec<(Id, Peer), KEPT_ROWS>
+    requires { length rows.now ≤ KEPT_ROWS }
     ensures { result.items ≡ members_of rows.now }
 {
     let mut members = ArrayVec::new();

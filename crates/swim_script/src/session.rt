@@ -12,11 +12,11 @@ ghost use Rattle.swim_script.specs.Headers.{nothing_told, told_then};
 ghost use Rattle.swim_script.specs.Script.{Turn, lines_of, is_write, result_kind};
 ghost use Rattle.swim_script.specs.Holds.{Done, Holds, Turned, kept, ending, stage_in};
 
-use crate::arguments::{OpenArguments, OrderText};
+use crate::arguments::{OpenArguments, OrderText, SEED_BYTES};
 use crate::choosers::Drawer;
 use crate::commands::{Command, Stage, read_line};
 use crate::faults::{FaultKind, ScriptFault};
-use crate::forms::{Form, is_mark};
+use crate::forms::{Form, JOURNAL_BYTES, is_mark};
 use crate::headers::Header;
 use std::alloc::Global;
 use std::marker::Model;
@@ -69,7 +69,7 @@ impl Session {
     pub(crate) fn form_with(&self, form: Form, line: &[u8]) -> Form
         ensures form { result ≡ form_after self.now.lines line.now form }
         ensures grows { most_bytes form ≤ most_bytes result }
-        ensures most { most_bytes result ≤ 1073741824 }
+        ensures most { most_bytes result ≤ JOURNAL_BYTES }
     {
         form.after(self.lines, line)
     }
@@ -243,7 +243,7 @@ impl Session {
         }
     }
 
-    fn set_seed(&mut self, key: [u8; 32], life: u64)
+    fn set_seed(&mut self, key: [u8; SEED_BYTES], life: u64)
         requires { self.old.lines < u32.MAX }
         ensures { self.new ≡
             record {

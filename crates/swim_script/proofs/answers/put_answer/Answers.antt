@@ -1,4 +1,4 @@
-use Rattle.std.proofs.Common.{false, refl, ap, ◌++◌, ◌∙◌}
+use Rattle.std.proofs.Common.{false, refl, ◌++◌, ◌∙◌}
 use Rattle.swim_history.specs.Sends.{sends_of}
 use Rattle.swim_history.specs.Texts.{feed}
 use Rattle.swim_script.specs.Texts.{reply_text, answer_text, sends_text}
