@@ -3,7 +3,8 @@
 use crate::causes::{Cause, cause_for, cause_in, cause_in_spelling};
 use crate::differences::first_difference;
 use crate::expectations::Expected;
-use crate::grammar::Argument;
+use crate::grammar::{Argument, index_in_open};
+use crate::limits::LONGEST_TIMEOUT;
 use crate::marks::{Mark, first_refused, part_at, word_at};
 use crate::notes::{Notes, Told};
 use crate::showing::Shown;
@@ -13,9 +14,6 @@ use swim_script::{
     Command, FaultKind, Form, LineFault, OpenArguments, ScriptFault, Word, first_word, read_command,
 };
 use swim_wire::{Id, Words};
-
-/// The longest timeout of which three fit a period.
-const MOST_TIMEOUT: u32 = 21_845;
 
 /// A line with the word that is at fault.
 #[derive(Clone, Copy, Debug)]
@@ -273,18 +271,27 @@ fn of_opening<'a>(kind: OpeningFault, told: &'a Told) -> Explanation<'a> {
     let line = open.as_slice();
     let rows = told.rows.as_slice();
     let opened = arguments_in(line);
-    let told_by_name = Some(Cause::Opening(kind));
     let (index, expected, cause) = match kind {
-        OpeningFault::Relays => (2, Expected::Argument(Argument::Relays), told_by_name),
-        OpeningFault::Timing if has_bad_timeout(opened) => {
-            (3, Expected::Argument(Argument::Timeout), told_by_name)
-        }
-        OpeningFault::Timing => (4, Expected::Argument(Argument::Period), told_by_name),
+        OpeningFault::Relays => refused_for(kind, Argument::Relays),
+        OpeningFault::Timing if has_bad_timeout(opened) => refused_for(kind, Argument::Timeout),
+        OpeningFault::Timing => refused_for(kind, Argument::Period),
         OpeningFault::TooManyRows => (0, Expected::FewRows, last_row(rows)),
-        OpeningFault::Myself => (1, Expected::OtherRows, row_of_me(opened, rows)),
+        OpeningFault::Myself => {
+            let index = index_in_open(Argument::Me);
+            (index, Expected::OtherRows, row_of_me(opened, rows))
+        }
         OpeningFault::Twice => (0, Expected::DifferentRows, rows_twice(rows)),
     };
     at(line, word_at(line, index), expected, cause)
+}
+
+/// An argument that an opening is refused for: the index of its word, what was expected there, and the cause.
+fn refused_for(kind: OpeningFault, argument: Argument) -> (usize, Expected, Option<Cause>) {
+    (
+        index_in_open(argument),
+        Expected::Argument(argument),
+        Some(Cause::Opening(kind)),
+    )
 }
 
 /// An opening with a row that failed in a period that wasn't used, at the last number of its `open` line.
@@ -294,7 +301,8 @@ fn of_unused<'a>(told: &'a Told) -> Explanation<'a> {
     };
     let line = open.as_slice();
     let cause = row_unused(arguments_in(line), told.rows.as_slice());
-    at(line, word_at(line, 5), Expected::UsedPeriods, cause)
+    let mark = word_at(line, index_in_open(Argument::Last));
+    at(line, mark, Expected::UsedPeriods, cause)
 }
 
 /// What an `open` line tells.
@@ -309,7 +317,7 @@ fn arguments_in(line: &[u8]) -> Option<OpenArguments> {
 
 fn has_bad_timeout(opened: Option<OpenArguments>) -> bool {
     match opened {
-        Some(arguments) => arguments.rtt == 0 || arguments.rtt > MOST_TIMEOUT,
+        Some(arguments) => arguments.rtt == 0 || arguments.rtt > LONGEST_TIMEOUT,
         None => false,
     }
 }

@@ -1,6 +1,11 @@
 //! What the words of a line have to be, for a person.
 
+use crate::limits::{
+    LAST_LIFE, LAST_PERIOD, LAST_PLACE, LONGEST_TIMEOUT, MOST_ENTRIES, MOST_ID, MOST_OCTET,
+    MOST_PORT, SEED_DIGITS,
+};
 use std::fmt;
+use swim_history::{KNOWN_MEMBERS, LONGEST_PERIOD, MOST_RELAYS};
 use swim_script::{
     Form, LineFault, Word, take_datagram, take_life, take_long_number, take_number, take_order,
     take_seed, take_version,
@@ -81,6 +86,14 @@ pub fn arguments_of(form: Form, word: Word) -> &'static [Argument] {
     }
 }
 
+/// The index of the word that is this argument of an `open` line; 0, that of its first word, where none is.
+pub fn index_in_open(argument: Argument) -> usize {
+    match OF_OPEN.iter().position(|it| *it == argument) {
+        Some(place) => place.saturating_add(1),
+        None => 0,
+    }
+}
+
 /// Takes words as an argument, and answers whether they are one.
 pub fn take_argument(argument: Argument, words: &mut Words<'_>) -> bool {
     match argument {
@@ -106,27 +119,39 @@ pub fn take_argument(argument: Argument, words: &mut Words<'_>) -> bool {
 /// What an argument has to be, with its range.
 impl fmt::Display for Argument {
     fn fmt<W: fmt::Write>(&self, f: &mut fmt::Formatter<W>) -> fmt::Result {
-        f.write_str(match self {
-            Argument::Me => "ME, the ID of this member: 1 to 4294967295",
-            Argument::Relays => "K, how many relays are asked: 0 to 8",
-            Argument::Timeout => "RTT, the timeout in ticks: 1 to 21845",
-            Argument::Period => "PERIOD, in ticks: three times RTT to 65535",
-            Argument::Last => {
-                "LAST, the last period number used before: 0 to 18446744073709551615"
+        match self {
+            Argument::Me => write!(f, "ME, the ID of this member: 1 to {MOST_ID}"),
+            Argument::Relays => write!(f, "K, how many relays are asked: 0 to {MOST_RELAYS}"),
+            Argument::Timeout => write!(f, "RTT, the timeout in ticks: 1 to {LONGEST_TIMEOUT}"),
+            Argument::Period => write!(f, "PERIOD, in ticks: three times RTT to {LONGEST_PERIOD}"),
+            Argument::Last => write!(
+                f,
+                "LAST, the last period number used before: 0 to {LAST_PERIOD}"
+            ),
+            Argument::Limit => write!(
+                f,
+                "LIMIT, how many entries the journal may have: 0 to {MOST_ENTRIES}"
+            ),
+            Argument::Member => write!(f, "an ID: 1 to {MOST_ID}"),
+            Argument::Address => write!(
+                f,
+                "a PEER: a.b.c.d:port, four numbers from 0 to {MOST_OCTET} and a port from 1 to {MOST_PORT}"
+            ),
+            Argument::Failed => f.write_str("failed N, or the end of the line"),
+            Argument::FailedIn => {
+                f.write_str("N, the period at whose end the member was judged: 1 to LAST")
             }
-            Argument::Limit => "LIMIT, how many entries the journal may have: 0 to 4294967295",
-            Argument::Member => "an ID: 1 to 4294967295",
-            Argument::Address => {
-                "a PEER: a.b.c.d:port, four numbers from 0 to 255 and a port from 1 to 65535"
+            Argument::Ids => write!(
+                f,
+                "1 to {KNOWN_MEMBERS} IDs with commas between, each 1 to {MOST_ID}"
+            ),
+            Argument::Place => write!(f, "a place: 0 to {LAST_PLACE}"),
+            Argument::Seed => write!(f, "a seed: {SEED_DIGITS} hexadecimal digits"),
+            Argument::Life => write!(f, "LIFE, the stream of the seed: 0 to {LAST_LIFE}"),
+            Argument::Version => {
+                f.write_str("V, the version of its own pings and ping-reqs: 1 or 2")
             }
-            Argument::Failed => "failed N, or the end of the line",
-            Argument::FailedIn => "N, the period at whose end the member was judged: 1 to LAST",
-            Argument::Ids => "1 to 128 IDs with commas between, each 1 to 4294967295",
-            Argument::Place => "a place: 0 to 4294967295",
-            Argument::Seed => "a seed: 64 hexadecimal digits",
-            Argument::Life => "LIFE, the stream of the seed: 0 to 18446744073709551615",
-            Argument::Version => "V, the version of its own pings and ping-reqs: 1 or 2",
-            Argument::Datagram => "HEX: hexadecimal digits, an even number of them",
-        })
+            Argument::Datagram => f.write_str("HEX: hexadecimal digits, an even number of them"),
+        }
     }
 }

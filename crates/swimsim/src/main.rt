@@ -14,6 +14,7 @@ mod explanations;
 mod files;
 mod grammar;
 mod hearing;
+mod limits;
 mod marks;
 mod meanings;
 mod naming;

@@ -4,13 +4,13 @@ use crate::overhearing::Listener;
 use arrayvec::ArrayVec;
 use std::alloc::{AllocError, Global};
 use std::cell::RefCell;
-use swim_history::Row;
+use swim_history::{KNOWN_MEMBERS, Row};
 use swim_script::{Command, Form, LINE_BYTES, first_word, read_command};
 use swim_targets::Order;
 use swim_wire::Words;
 
-/// More rows than an opening may have.
-const NOTED_ROWS: usize = 129;
+/// How many rows are noted: one more than an opening may have, so that the first that is too many can be told.
+const NOTED_ROWS: usize = KNOWN_MEMBERS + 1;
 
 /// What the lines of a script told that were carried out. In want of memory orders and places are left out, and `kept`
 /// says so.
