@@ -3,12 +3,12 @@ use Rattle.std.proofs.Common.{◌≡◌, ℕ, false, List, Result, Ok, Err, refl
 use Rattle.serde_json.specs.Written.{has_float}
 use Rattle.swim_history.specs.declared.rows.Change.TheVariants as changes
 use Rattle.swim_events.specs.declared.events.Event.TheVariants as events
-use Rattle.swim_watch.specs.declared.lines.NoEvent.{NoEvent}
-use Rattle.swim_watch.specs.declared.lines.Said.{Said}
-use Rattle.swim_watch.specs.declared.lines.Said.TheVariants.{Event, TableEnds, Again}
+use Rattle.swim_watch.specs.declared.feed_events.NoEvent.{NoEvent}
+use Rattle.swim_watch.specs.declared.feed_events.FeedEvent.{FeedEvent}
+use Rattle.swim_watch.specs.declared.feed_events.FeedEvent.TheVariants.{Event, TableEnds, Again}
 use Rattle.swim_watch.specs.Objects.{shown_data}
 
-pub no_float : (said : Result Said NoEvent) (time : List ℕ) → has_float (shown_data said time) ≡ false
+pub no_float : (said : Result FeedEvent NoEvent) (time : List ℕ) → has_float (shown_data said time) ≡ false
 no_float (Ok (Event (events.Changed (changes.Up id peer)))) time = refl
 no_float (Ok (Event (events.Changed (changes.Failed id number)))) time = refl
 no_float (Ok (Event (events.Changed (changes.Gone id)))) time = refl

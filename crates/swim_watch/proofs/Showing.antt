@@ -4,7 +4,7 @@ use Rattle.std.proofs.lemmas.Grind.{flat_map-append}
 use Rattle.std.proofs.lemmas.List.{map-append}
 use Rattle.swim_wire.specs.Streams.{appends_both, appends_none, keeps_self}
 use Rattle.swim_watch.specs.Watching.{Grows, Passes, Shown, Shows, Watched, Watches}
-use Rattle.swim_watch.specs.declared.watching.Ended.TheVariants as ends
+use Rattle.swim_watch.specs.declared.watching.WatchEnd.TheVariants as ends
 use Rattle.swim_watch.specs.declared.watching.Passed.TheVariants as passed
 
 grows_none : (o : Option (List (Option (List ℕ)))) → Grows o o []

@@ -7,14 +7,14 @@ use Rattle.swim_wire.specs.Numbers.{id_of, number_of}
 use Rattle.swim_wire.specs.Words.{words_of}
 use Rattle.swim_history.specs.declared.rows.Change.TheVariants as changes
 use Rattle.swim_events.specs.declared.events.Event.TheVariants as events
-use Rattle.swim_watch.specs.declared.lines.NoEvent.{NoEvent}
-use Rattle.swim_watch.specs.declared.lines.Said.{Said}
-use Rattle.swim_watch.specs.declared.lines.Said.TheVariants.{Event, TableEnds, Again}
-use Rattle.swim_watch.specs.declared.lines.Word.{Word}
-use Rattle.swim_watch.specs.declared.lines.Word.TheVariants as words
+use Rattle.swim_watch.specs.declared.feed_events.NoEvent.{NoEvent}
+use Rattle.swim_watch.specs.declared.feed_events.FeedEvent.{FeedEvent}
+use Rattle.swim_watch.specs.declared.feed_events.FeedEvent.TheVariants.{Event, TableEnds, Again}
+use Rattle.swim_watch.specs.declared.feed_events.EventWord.{EventWord}
+use Rattle.swim_watch.specs.declared.feed_events.EventWord.TheVariants as words
 
 -- the first word of a line, if it is known
-abbrev pub word_of : List ℕ → Option Word
+abbrev pub word_of : List ℕ → Option EventWord
 word_of text =
     if bytes_eq text (codes "up") then Some words.Up
     else (if bytes_eq text (codes "failed") then Some words.Failed
@@ -40,11 +40,11 @@ abbrev pub take_number : List (List ℕ) → Result (ℕ × List (List ℕ)) NoE
 take_number = argument nothing (number_of (2 ^ 64 - 1))
 
 -- what a line says, where no words are left over
-abbrev pub alone : Said → List (List ℕ) → Result Said NoEvent
+abbrev pub alone : FeedEvent → List (List ℕ) → Result FeedEvent NoEvent
 alone said after = nothing_left nothing after >>= λ done. Ok said
 
 -- what the words after the first say
-unfoldable pub said_after : Word → List (List ℕ) → Result Said NoEvent
+unfoldable pub said_after : EventWord → List (List ℕ) → Result FeedEvent NoEvent
 said_after words.Up given = do
   id ← take_id given
   peer ← take_peer id.1
@@ -65,14 +65,14 @@ said_after words.Dot given = alone TableEnds given
 said_after words.Again given = alone Again given
 
 -- what the words after the first say, if that is known
-abbrev pub known_said : Option Word → List (List ℕ) → Result Said NoEvent
+abbrev pub known_said : Option EventWord → List (List ℕ) → Result FeedEvent NoEvent
 known_said None after = Err nothing
 known_said (Some word) after = said_after word after
 
-abbrev pub words_said : List (List ℕ) → Result Said NoEvent
+abbrev pub words_said : List (List ℕ) → Result FeedEvent NoEvent
 words_said [] = Err nothing
 words_said (word ∷ after) = known_said (word_of word) after
 
 -- what a line says, which stands here without its line feed
-abbrev pub said_of : List ℕ → Result Said NoEvent
+abbrev pub said_of : List ℕ → Result FeedEvent NoEvent
 said_of line = words_said (words_of line)

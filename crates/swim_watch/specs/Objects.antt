@@ -6,9 +6,9 @@ use Rattle.swim_history.specs.declared.rows.Change.{Change}
 use Rattle.swim_history.specs.declared.rows.Change.TheVariants as changes
 use Rattle.swim_events.specs.declared.events.Event.{Event as Happened}
 use Rattle.swim_events.specs.declared.events.Event.TheVariants as events
-use Rattle.swim_watch.specs.declared.lines.NoEvent.{NoEvent}
-use Rattle.swim_watch.specs.declared.lines.Said.{Said}
-use Rattle.swim_watch.specs.declared.lines.Said.TheVariants.{Event, TableEnds, Again}
+use Rattle.swim_watch.specs.declared.feed_events.NoEvent.{NoEvent}
+use Rattle.swim_watch.specs.declared.feed_events.FeedEvent.{FeedEvent}
+use Rattle.swim_watch.specs.declared.feed_events.FeedEvent.TheVariants.{Event, TableEnds, Again}
 
 -- the time, which stands last
 abbrev pub at_time : List ℕ → Members
@@ -41,12 +41,12 @@ event_data (events.Life life) time = number_data life time
 event_data events.Lost time = word_data (codes "lost") time
 event_data events.Ended time = word_data (codes "ended") time
 
-abbrev pub data_of : Said → List ℕ → Data
+abbrev pub data_of : FeedEvent → List ℕ → Data
 data_of (Event event) time = event_data event time
 data_of TableEnds time = word_data (codes "table_ends") time
 data_of Again time = word_data (codes "again") time
 
 -- what a line said, or that it is unknown what
-abbrev pub shown_data : Result Said NoEvent → List ℕ → Data
+abbrev pub shown_data : Result FeedEvent NoEvent → List ℕ → Data
 shown_data (Ok said) time = data_of said time
 shown_data (Err nothing) time = word_data (codes "other") time

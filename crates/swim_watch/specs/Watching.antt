@@ -6,8 +6,8 @@ use Rattle.serde_json.specs.Written.{compact_text}
 use Rattle.swim_wire.specs.Streams.{PutsFront}
 use Rattle.swim_watch.specs.Lines.{said_of}
 use Rattle.swim_watch.specs.Objects.{shown_data}
-use Rattle.swim_watch.specs.declared.watching.Ended.{Ended}
-use Rattle.swim_watch.specs.declared.watching.Ended.TheVariants as ends
+use Rattle.swim_watch.specs.declared.watching.WatchEnd.{WatchEnd}
+use Rattle.swim_watch.specs.declared.watching.WatchEnd.TheVariants as ends
 use Rattle.swim_watch.specs.declared.watching.Passed.{Passed}
 use Rattle.swim_watch.specs.declared.watching.Passed.TheVariants as passed
 
@@ -60,7 +60,7 @@ pub record Misses (old new : Watched) : Type 0 where
   pub kept : Keeps old.written new.written
 
 -- what watching does, as it ends
-abbrev pub Watches : Bool → Watched → Watched → Ended → Type 0
+abbrev pub Watches : Bool → Watched → Watched → WatchEnd → Type 0
 Watches is_json old new ends.Over = (mid : Watched) × Shows is_json old mid × IsOver mid new
 Watches is_json old new ends.Unwritten = (mid : Watched) × Shows is_json old mid × Loses is_json mid new
 Watches is_json old new ends.NoMemory = (mid : Watched) × Shows is_json old mid × Misses mid new

@@ -7,7 +7,7 @@ ghost use Rattle.swim_history.specs.declared.rows.Change.TheVariants as changes;
 ghost use Rattle.swim_watch.specs.Lines.{said_of};
 ghost use Rattle.swim_watch.specs.Objects.{change_data, data_of, event_data, number_data, shown_data, word_data};
 
-use crate::lines::{NoEvent, Said, read_said};
+use crate::feed_events::{FeedEvent, NoEvent, read_said};
 use serde_json::{Value, json};
 use std::alloc::{AllocError, Global};
 use swim_events::Event;
@@ -24,7 +24,11 @@ pub fn show(alloc: Global, line: &[u8], time: &str) -> Result<String, AllocError
 }
 
 /// What was said, or that it is unknown what.
-fn value_of(alloc: Global, said: Result<Said, NoEvent>, time: &str) -> Result<Value, AllocError>
+fn value_of(
+    alloc: Global,
+    said: Result<FeedEvent, NoEvent>,
+    time: &str,
+) -> Result<Value, AllocError>
     ensures { IfOk result (λ value. view value ≡ shown_data said time.now) }
 {
     match said {
@@ -33,13 +37,13 @@ fn value_of(alloc: Global, said: Result<Said, NoEvent>, time: &str) -> Result<Va
     }
 }
 
-fn value_said(alloc: Global, said: &Said, time: &str) -> Result<Value, AllocError>
+fn value_said(alloc: Global, said: &FeedEvent, time: &str) -> Result<Value, AllocError>
     ensures { IfOk result (λ value. view value ≡ data_of said.now time.now) }
 {
     match said {
-        Said::Event(event) => event_value(alloc, event, time),
-        Said::TableEnds => word_value(alloc, "table_ends", time),
-        Said::Again => word_value(alloc, "again", time),
+        FeedEvent::Event(event) => event_value(alloc, event, time),
+        FeedEvent::TableEnds => word_value(alloc, "table_ends", time),
+        FeedEvent::Again => word_value(alloc, "again", time),
     }
 }
 

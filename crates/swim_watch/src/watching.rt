@@ -13,7 +13,7 @@ use swim_wire::{Piece, Sink, put_pieces};
 
 /// How watching ended.
 #[derive(Clone, Copy, Debug, PartialEq, Eq)]
-pub enum Ended {
+pub enum WatchEnd {
     /// No more lines will come.
     Over,
     /// A line can't be written.
@@ -42,19 +42,19 @@ pub fn watch<R: Clock + Wait, F: Feed, W: Sink>(
     feed: &mut F,
     is_json: bool,
     writer: &mut W,
-) -> Ended
+) -> WatchEnd
     ensures { Watches is_json (record { heard = F.heard feed.old; written = W.written writer.old })
         (record { heard = F.heard feed.new; written = W.written writer.new }) result }
 {
     let mut line = EventLine::new();
     for _line in rt.forever() {
         if !feed.hear(&mut line) {
-            return Ended::Over;
+            return WatchEnd::Over;
         }
         match pass(alloc, rt, line.as_slice(), is_json, writer) {
             Passed::Whole => {}
-            Passed::Unwritten => return Ended::Unwritten,
-            Passed::NoMemory => return Ended::NoMemory,
+            Passed::Unwritten => return WatchEnd::Unwritten,
+            Passed::NoMemory => return WatchEnd::NoMemory,
         }
     }
     unreachable!()

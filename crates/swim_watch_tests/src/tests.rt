@@ -3,7 +3,7 @@ ghost use Rattle.std.specs.Prelude.{None};
 use std::test::Fail;
 use swim_events::Event;
 use swim_history::Change;
-use swim_watch::{Ended, EventLine, Feed, NoEvent, Said, read_said, show, watch};
+use swim_watch::{EventLine, Feed, FeedEvent, NoEvent, WatchEnd, read_said, show, watch};
 use swim_wire::{Id, Page, Peer};
 
 /// Gives these lines, and then none.
@@ -39,24 +39,24 @@ fn reads_each_line(rt: HostRuntime) -> Result<(), Fail> {
     for (line, said) in [
         (
             "up 4 10.0.0.4:7000",
-            Said::Event(Event::Changed(Change::Up(id(4)?, peer))),
+            FeedEvent::Event(Event::Changed(Change::Up(id(4)?, peer))),
         ),
         (
             "failed 3 17",
-            Said::Event(Event::Changed(Change::Failed(id(3)?, 17))),
+            FeedEvent::Event(Event::Changed(Change::Failed(id(3)?, 17))),
         ),
         (
             "gone 4294967295",
-            Said::Event(Event::Changed(Change::Gone(id(4_294_967_295)?))),
+            FeedEvent::Event(Event::Changed(Change::Gone(id(4_294_967_295)?))),
         ),
         (
             "life 18446744073709551615",
-            Said::Event(Event::Life(u64::MAX)),
+            FeedEvent::Event(Event::Life(u64::MAX)),
         ),
-        ("lost", Said::Event(Event::Lost)),
-        ("ended", Said::Event(Event::Ended)),
-        (".", Said::TableEnds),
-        ("again", Said::Again),
+        ("lost", FeedEvent::Event(Event::Lost)),
+        ("ended", FeedEvent::Event(Event::Ended)),
+        (".", FeedEvent::TableEnds),
+        ("again", FeedEvent::Again),
     ] {
         assert_eq!(rt; read_said(line.as_bytes()), Ok(said), "at {line}");
     }
@@ -123,7 +123,7 @@ fn writes_lines_up_to_the_last(rt: HostRuntime) {
     };
     let mut page = Page::new(rt.alloc());
     let ended = watch(&rt, rt.alloc(), &mut feed, false, &mut page);
-    assert_eq!(rt; ended, Ended::Over);
+    assert_eq!(rt; ended, WatchEnd::Over);
     assert_eq!(rt;
         page.text(),
         b"up 4 10.0.0.4:7000\n.\nwhat\nagain\n".as_slice()
@@ -137,7 +137,7 @@ fn writes_objects_up_to_the_last(rt: HostRuntime) {
     };
     let mut page = Page::new(rt.alloc());
     let ended = watch(&rt, rt.alloc(), &mut feed, true, &mut page);
-    assert_eq!(rt; ended, Ended::Over);
+    assert_eq!(rt; ended, WatchEnd::Over);
     let front = b"{\"event\":\"gone\",\"id\":4,\"time\":\"2".as_slice();
     assert!(rt; page.text().starts_with(front));
     assert!(rt; page.text().ends_with(b"Z\"}\n".as_slice()));
@@ -150,6 +150,6 @@ fn ends_where_a_line_cant_be_written(rt: HostRuntime) {
     };
     let mut page = Page::failing_after(rt.alloc(), None, Some(1));
     let ended = watch(&rt, rt.alloc(), &mut feed, false, &mut page);
-    assert_eq!(rt; ended, Ended::Unwritten);
+    assert_eq!(rt; ended, WatchEnd::Unwritten);
     assert_eq!(rt; feed.left.len(), 1);
 }

@@ -2,13 +2,13 @@
 use Rattle.std.specs.Prelude.{◌≡◌, ◌⊎◌, ℕ, Bool, List, Option, None}
 use Rattle.swim_config.specs.declared.config_fault.ConfigFault.TheVariants.{NoMemory}
 use Rattle.swim_watch.specs.Watching.{Watched, Watches}
-use Rattle.swim_watch.specs.declared.watching.Ended.{Ended}
-use Rattle.swim_watch.specs.declared.watching.Ended.TheVariants as ends
+use Rattle.swim_watch.specs.declared.watching.WatchEnd.{WatchEnd}
+use Rattle.swim_watch.specs.declared.watching.WatchEnd.TheVariants as ends
 use Rattle.swimd.specs.declared.outcomes.Outcome.{Outcome}
 use Rattle.swimd.specs.declared.outcomes.Outcome.TheVariants.{Refused, NoTeller, WatchUnwritten}
 
 -- how watching ends whose lines ended so
-abbrev pub watched_so : Ended → Outcome
+abbrev pub watched_so : WatchEnd → Outcome
 watched_so ends.Over = NoTeller
 watched_so ends.Unwritten = WatchUnwritten
 watched_so ends.NoMemory = Refused NoMemory
@@ -21,4 +21,4 @@ unheard written = record { heard = None; written = written }
 abbrev pub WatchesDaemon : Bool → Option (List ℕ) → Option (List ℕ) → Outcome → Type 0
 WatchesDaemon is_json old new outcome =
     ((outcome ≡ NoTeller) × (new ≡ old))
-    ⊎ ((ended : Ended) × Watches is_json (unheard old) (unheard new) ended × (outcome ≡ watched_so ended))
+    ⊎ ((ended : WatchEnd) × Watches is_json (unheard old) (unheard new) ended × (outcome ≡ watched_so ended))

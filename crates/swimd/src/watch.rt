@@ -12,7 +12,7 @@ use std::net::Net;
 use std::rt::Clock;
 use std::sync::Wait;
 use swim_config::ConfigFault;
-use swim_watch::{Ended, watch};
+use swim_watch::{WatchEnd, watch};
 use swim_wire::Sink;
 
 /// Writes what the daemon tells at the socket of that path, and what those tell that come after it there, as it comes or as
@@ -39,12 +39,12 @@ pub fn watch_daemon<R: Net + Clock + Wait, W: Sink>(
 }
 
 /// How watching ends whose lines ended so.
-fn outcome_of(ended: Ended) -> Outcome
+fn outcome_of(ended: WatchEnd) -> Outcome
     ensures { result ≡ watched_so ended }
 {
     match ended {
-        Ended::Over => Outcome::NoTeller,
-        Ended::Unwritten => Outcome::WatchUnwritten,
-        Ended::NoMemory => Outcome::Refused(ConfigFault::NoMemory),
+        WatchEnd::Over => Outcome::NoTeller,
+        WatchEnd::Unwritten => Outcome::WatchUnwritten,
+        WatchEnd::NoMemory => Outcome::Refused(ConfigFault::NoMemory),
     }
 }

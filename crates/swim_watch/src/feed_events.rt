@@ -10,7 +10,7 @@ use swim_wire::{Words, nothing_left, read_number, take_id, take_peer};
 
 /// What a line says to those who watch.
 #[derive(Clone, Copy, Debug, PartialEq, Eq)]
-pub enum Said {
+pub enum FeedEvent {
     /// What happened, or how a member stands in the table that comes first.
     Event(Event),
     /// That the table which comes first is whole.
@@ -25,7 +25,7 @@ pub struct NoEvent;
 
 /// The first word of a line.
 #[derive(Clone, Copy, Debug, PartialEq, Eq)]
-pub enum Word {
+pub enum EventWord {
     Up,
     Failed,
     Gone,
@@ -37,7 +37,7 @@ pub enum Word {
 }
 
 /// What a line says, which stands here without its line feed.
-pub fn read_said(line: &[u8]) -> Result<Said, NoEvent>
+pub fn read_said(line: &[u8]) -> Result<FeedEvent, NoEvent>
     ensures { result ≡ said_of line.now }
 {
     let mut words = Words::new(line);
@@ -47,25 +47,25 @@ pub fn read_said(line: &[u8]) -> Result<Said, NoEvent>
 }
 
 /// The first word of a line, if it is known.
-fn first_word(text: &[u8]) -> Option<Word>
+fn first_word(text: &[u8]) -> Option<EventWord>
     ensures { result ≡ word_of text.now }
 {
     if text == b"up".as_slice() {
-        Some(Word::Up)
+        Some(EventWord::Up)
     } else if text == b"failed".as_slice() {
-        Some(Word::Failed)
+        Some(EventWord::Failed)
     } else if text == b"gone".as_slice() {
-        Some(Word::Gone)
+        Some(EventWord::Gone)
     } else if text == b"life".as_slice() {
-        Some(Word::Life)
+        Some(EventWord::Life)
     } else if text == b"lost".as_slice() {
-        Some(Word::Lost)
+        Some(EventWord::Lost)
     } else if text == b"ended".as_slice() {
-        Some(Word::Ended)
+        Some(EventWord::Ended)
     } else if text == b".".as_slice() {
-        Some(Word::Dot)
+        Some(EventWord::Dot)
     } else if text == b"again".as_slice() {
-        Some(Word::Again)
+        Some(EventWord::Again)
     } else {
         None
     }
@@ -73,47 +73,47 @@ fn first_word(text: &[u8]) -> Option<Word>
 
 /// What the words after the first say.
 #[tactic(auto, unfolding(crate::specs::Lines::said_after))]
-fn read_event(word: Word, words: &mut Words<'_>) -> Result<Said, NoEvent>
+fn read_event(word: EventWord, words: &mut Words<'_>) -> Result<FeedEvent, NoEvent>
     ensures { result ≡ said_after word words.old }
 {
     match word {
-        Word::Up => {
+        EventWord::Up => {
             let id = take_id(words, NoEvent)?;
             let peer = take_peer(words, NoEvent)?;
             nothing_left(words, NoEvent)?;
-            Ok(Said::Event(Event::Changed(Change::Up(id, peer))))
+            Ok(FeedEvent::Event(Event::Changed(Change::Up(id, peer))))
         }
-        Word::Failed => {
+        EventWord::Failed => {
             let id = take_id(words, NoEvent)?;
             let number = take_number(words)?;
             nothing_left(words, NoEvent)?;
-            Ok(Said::Event(Event::Changed(Change::Failed(id, number))))
+            Ok(FeedEvent::Event(Event::Changed(Change::Failed(id, number))))
         }
-        Word::Gone => {
+        EventWord::Gone => {
             let id = take_id(words, NoEvent)?;
             nothing_left(words, NoEvent)?;
-            Ok(Said::Event(Event::Changed(Change::Gone(id))))
+            Ok(FeedEvent::Event(Event::Changed(Change::Gone(id))))
         }
-        Word::Life => {
+        EventWord::Life => {
             let number = take_number(words)?;
             nothing_left(words, NoEvent)?;
-            Ok(Said::Event(Event::Life(number)))
+            Ok(FeedEvent::Event(Event::Life(number)))
         }
-        Word::Lost => {
+        EventWord::Lost => {
             nothing_left(words, NoEvent)?;
-            Ok(Said::Event(Event::Lost))
+            Ok(FeedEvent::Event(Event::Lost))
         }
-        Word::Ended => {
+        EventWord::Ended => {
             nothing_left(words, NoEvent)?;
-            Ok(Said::Event(Event::Ended))
+            Ok(FeedEvent::Event(Event::Ended))
         }
-        Word::Dot => {
+        EventWord::Dot => {
             nothing_left(words, NoEvent)?;
-            Ok(Said::TableEnds)
+            Ok(FeedEvent::TableEnds)
         }
-        Word::Again => {
+        EventWord::Again => {
             nothing_left(words, NoEvent)?;
-            Ok(Said::Again)
+            Ok(FeedEvent::Again)
         }
     }
 }
