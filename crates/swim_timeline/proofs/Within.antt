@@ -13,8 +13,8 @@ use Rattle.swim_history.specs.Clock.{ticks, number_at, period_number}
 use Rattle.swim_history.specs.Run.{IsRun, greatest_number}
 use Rattle.swim_history.specs.Laws.UntilProbed.{length-filter-le}
 use Rattle.swim_history.specs.Laws.DrawnRuns.{number_bound}
-use Rattle.swim_timeline.specs.declared.beginnings.Beginning.{Beginning}
-use Rattle.swim_timeline.specs.declared.shown.Shown.{Shown}
+use Rattle.swim_timeline.specs.declared.earlier_runs.EarlierRun.{EarlierRun}
+use Rattle.swim_timeline.specs.declared.pictures.Picture.{Picture}
 use Rattle.swim_timeline.specs.Marks.{marks, marks_by}
 use Rattle.swim_timeline.specs.Lanes.{Lanes, lanes_from, lanes_then, with_rows}
 use Rattle.swim_timeline.specs.Shown.{Draws, from_tick, within}
@@ -76,7 +76,7 @@ lanes_hidden first lanes [] few = refl
 lanes_hidden first lanes (e ∷ before) few = rw (lt-ltb (ticks (e ∷ before)) first few) refl
 
 -- what is drawn of one entry more that is shown
-pub draws_more : (o : Setting) (h : List Entry) (e : Entry) (first until : ℕ) (old new : Shown) (ended : ℕ) → Draws o h first until old →
+pub draws_more : (o : Setting) (h : List Entry) (e : Entry) (first until : ℕ) (old new : Picture) (ended : ℕ) → Draws o h first until old →
     new.ticks ≡ ticks (e ∷ h) → new.ticks ≤ until → first ≤ new.ticks → new.before ≡ old.before → new.entries ≡ old.entries + 1 →
     ended ≡ number_at o.last o.period old.ticks → new.marks.items ≡ old.marks.items ++ marks_by new.ticks ended e.call e.reply →
     new.lanes.entries ≡ lanes_then old.lanes.entries e.call e.reply → Draws o (e ∷ h) first until new
@@ -98,11 +98,11 @@ draws_more o h e first until old new ended draws now fits from before one_more l
       ticks = now;
       entries = rw whole (omega (arith, one_more, count));
       marks = rw (whole, marks_of_more o h e first, shown) (rw (marked, drawn, now, last, draws.ticks) refl);
-      lanes = rw whole (laned_from ∙ ap (λ (b : Beginning). lanes_from first (with_rows [] b.rows.items) (e ∷ h)) (sym before));
+      lanes = rw whole (laned_from ∙ ap (λ (b : EarlierRun). lanes_from first (with_rows [] b.rows.items) (e ∷ h)) (sym before));
     }
 
 -- of one more that lies before what is shown
-pub draws_before : (o : Setting) (h : List Entry) (e : Entry) (first until : ℕ) (old new : Shown) → Draws o h first until old →
+pub draws_before : (o : Setting) (h : List Entry) (e : Entry) (first until : ℕ) (old new : Picture) → Draws o h first until old →
     new.ticks ≡ ticks (e ∷ h) → new.ticks ≤ until → new.ticks < first → new.before ≡ old.before → new.entries ≡ old.entries + 1 →
     new.marks.items ≡ old.marks.items → new.lanes.entries ≡ old.lanes.entries → Draws o (e ∷ h) first until new
 draws_before o h e first until old new draws now fits less before one_more marked laned =
@@ -125,7 +125,7 @@ draws_before o h e first until old new draws now fits less before one_more marke
     }
 
 -- of one more that lies behind it
-pub draws_behind : (o : Setting) (h : List Entry) (e : Entry) (first until : ℕ) (old new : Shown) → Draws o h first until old →
+pub draws_behind : (o : Setting) (h : List Entry) (e : Entry) (first until : ℕ) (old new : Picture) → Draws o h first until old →
     new.ticks ≡ ticks (e ∷ h) → until < new.ticks → new.before ≡ old.before → new.entries ≡ old.entries →
     new.marks.items ≡ old.marks.items → new.lanes.entries ≡ old.lanes.entries → Draws o (e ∷ h) first until new
 draws_behind o h e first until old new draws now past before entries marked laned =
@@ -149,12 +149,12 @@ pub ticks_fit : (h : List Entry) (i : ℕ) → ticks (oldest i h) ≤ i
 ticks_fit h i = omega (arith, length-filter-le is_tick (oldest i h), oldest_length h i)
 
 -- what is drawn of the first entries of a run
-pub record Fits (o : Setting) (i : ℕ) (shown : Shown) : Type 0 where
+pub record Fits (o : Setting) (i : ℕ) (shown : Picture) : Type 0 where
   pub ticks : shown.ticks ≤ i
   pub entries : shown.entries ≤ i
   pub number : number_at o.last o.period shown.ticks < 2 ^ 64
 
-pub shown_fits : (o : Setting) (h : List Entry) (i first until : ℕ) (shown : Shown) → IsSetting o → IsRun o h →
+pub shown_fits : (o : Setting) (h : List Entry) (i first until : ℕ) (shown : Picture) → IsSetting o → IsRun o h →
     Draws o (oldest i h) first until shown → Fits o i shown
 shown_fits o h i first until shown setting run draws =
     record {

@@ -2,6 +2,6 @@
 
 pub(crate) mod gaps;
 pub(crate) mod head;
-pub(crate) mod lines;
-pub(crate) mod marks;
+pub(crate) mod lane_lines;
+pub(crate) mod mark_shapes;
 pub(crate) mod ruler;

@@ -6,12 +6,12 @@ ghost use Rattle.swim_history.specs.Clock.{ticks};
 ghost use Rattle.swim_timeline.specs.Shown.{Shows, before_tick, within};
 
 use crate::drawing::gaps::draw_gaps;
-use crate::drawing::head::{Cut, Left, draw_head, head_height};
-use crate::drawing::lines::{draw_lanes, draw_lines};
-use crate::drawing::marks::draw_marks;
+use crate::drawing::head::{Cut, LeftOut, draw_head, head_height};
+use crate::drawing::lane_lines::{draw_lanes, draw_lines};
+use crate::drawing::mark_shapes::draw_marks;
 use crate::drawing::ruler::draw_ruler;
+use crate::pictures::{Picture, show};
 use crate::scale::{LEFT, Scale};
-use crate::shown::{Shown, show};
 use crate::spans::Span;
 use std::alloc::{AllocError, Global};
 use swim_history::Journal;
@@ -60,7 +60,7 @@ fn timeline(alloc: Global, journal: &Journal, span: Span) -> Result<String, Allo
 }
 
 /// What a picture of these ticks leaves out.
-fn cut_of(journal: &Journal, shown: &Shown, span: Span) -> Cut
+fn cut_of(journal: &Journal, shown: &Picture, span: Span) -> Cut
     requires { Shows journal.now.opening journal.now.past span.first span.until shown.now }
     ensures ticks_before { result.before.ticks ≡ min (ticks journal.now.past) (span.first - 1) }
     ensures entries_before { result.before.entries ≡ length (before_tick span.first journal.now.past) }
@@ -69,11 +69,11 @@ fn cut_of(journal: &Journal, shown: &Shown, span: Span) -> Cut
 {
     let ticks = u64::from(shown.ticks).saturating_sub(span.until);
     Cut {
-        before: Left {
+        before: LeftOut {
             ticks: shown.ticks.min(span.first.saturating_sub(1)),
             entries: shown.before.entries,
         },
-        behind: Left {
+        behind: LeftOut {
             ticks: ticks as u32,
             entries: journal.len().saturating_sub(shown.entries),
         },
@@ -84,7 +84,7 @@ fn draw_body(
     alloc: Global,
     text: &mut String,
     journal: &Journal,
-    shown: &Shown,
+    shown: &Picture,
     members: &[Id],
     scale: &Scale,
 ) -> Result<(), AllocError> {

@@ -4,7 +4,7 @@ use std::test::Fail;
 use swim_detector::Recorder;
 use swim_history::{Call, Journal, Opening, Row, RowState};
 use swim_targets::Scripted;
-use swim_timeline::{Mark, MarkKind, Span, View, put_timeline, show};
+use swim_timeline::{MarkKind, PictureMark, Span, View, put_timeline, show};
 use swim_wire::{Id, Kind, Message, Page, Peer, PeriodNumber, Version};
 
 fn id(value: u32) -> Result<Id, Fail> {
@@ -111,14 +111,14 @@ fn each_kind_has_its_mark(rt: HostRuntime) -> Result<(), Fail> {
 }
 
 // The ticks and members of these marks.
-fn assert_places<R: Abort>(rt: &R, marks: &[Mark], wanted: &[(u32, u32)]) {
+fn assert_places<R: Abort>(rt: &R, marks: &[PictureMark], wanted: &[(u32, u32)]) {
     assert_eq!(rt; marks.len(), wanted.len());
     for (mark, place) in marks.iter().zip(wanted) {
         assert_eq!(rt; (mark.tick, mark.member.get()), *place);
     }
 }
 
-fn kind_at(marks: &[Mark], place: usize) -> Option<&MarkKind> {
+fn kind_at(marks: &[PictureMark], place: usize) -> Option<&MarkKind> {
     match marks.get(place) {
         Some(mark) => Some(&mark.kind),
         None => None,

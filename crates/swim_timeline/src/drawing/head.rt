@@ -2,9 +2,9 @@
 
 ghost use Rattle.std.specs.Prelude.{◌<◌, ◌^◌};
 
-use crate::marks::{Mark, MarkKind};
+use crate::picture_marks::{MarkKind, PictureMark};
+use crate::pictures::Picture;
 use crate::scale::{NAMES, Scale};
-use crate::shown::Shown;
 use crate::style::STYLE;
 use std::alloc::AllocError;
 use swim_history::{Journal, Opening};
@@ -40,8 +40,8 @@ const LEGEND: [(&str, &str); 10] = [
 /// What of a run a picture leaves out.
 #[derive(Clone, Copy)]
 pub(crate) struct Cut {
-    pub before: Left,
-    pub behind: Left,
+    pub before: LeftOut,
+    pub behind: LeftOut,
 }
 
 impl Cut {
@@ -53,12 +53,12 @@ impl Cut {
 
 /// What is left out on one side of a picture.
 #[derive(Clone, Copy)]
-pub(crate) struct Left {
+pub(crate) struct LeftOut {
     pub ticks: u32,
     pub entries: u32,
 }
 
-impl Left {
+impl LeftOut {
     /// Whether nothing is left out.
     pub(crate) fn is_none(&self) -> bool {
         self.entries == 0
@@ -74,7 +74,7 @@ pub(crate) fn head_height(cut: &Cut) -> u16 {
 pub(crate) fn draw_head(
     text: &mut String,
     journal: &Journal,
-    shown: &Shown,
+    shown: &Picture,
     cut: &Cut,
     scale: &Scale,
 ) -> Result<(), AllocError> {
@@ -109,7 +109,7 @@ fn open(text: &mut String, scale: &Scale) -> Result<(), AllocError> {
     text.push_str(" aria-labelledby=\"title\" aria-describedby=\"desc\">\n")
 }
 
-fn describe(text: &mut String, marks: &[Mark]) -> Result<(), AllocError> {
+fn describe(text: &mut String, marks: &[PictureMark]) -> Result<(), AllocError> {
     text.push_str("Ticks run from left to right; each member has a lane. ")?;
     let probes = count(marks, |kind| matches!(kind, MarkKind::Probed(_)));
     let acks = count(marks, |kind| matches!(kind, MarkKind::Heard(_)));
@@ -128,13 +128,13 @@ fn describe(text: &mut String, marks: &[Mark]) -> Result<(), AllocError> {
 }
 
 /// How many of the marks are of such a kind.
-fn count<F: Fn(&MarkKind) -> bool>(marks: &[Mark], is_counted: F) -> usize
+fn count<F: Fn(&MarkKind) -> bool>(marks: &[PictureMark], is_counted: F) -> usize
     requires { F.IsAlwaysCallable is_counted }
 {
     marks.iter().filter(|mark| is_counted(&mark.kind)).count()
 }
 
-fn put_heading(text: &mut String, journal: &Journal, shown: &Shown) -> Result<(), AllocError> {
+fn put_heading(text: &mut String, journal: &Journal, shown: &Picture) -> Result<(), AllocError> {
     let me = journal.opening().me().get();
     let ticks = shown.ticks;
     let entries = journal.len();
@@ -189,7 +189,7 @@ fn write_cut(text: &mut String, cut: &Cut) -> Result<(), AllocError> {
 }
 
 /// What is left out on one side, where something is.
-fn write_left(text: &mut String, side: &str, left: &Left) -> Result<(), AllocError> {
+fn write_left(text: &mut String, side: &str, left: &LeftOut) -> Result<(), AllocError> {
     if left.is_none() {
         return Ok(());
     }

@@ -1,7 +1,7 @@
 //! The lanes of a picture: who they are of, and from when to when the member was listed or failed.
 
 use crate::lanes::Lanes;
-use crate::marks::{Mark, MarkKind};
+use crate::picture_marks::{MarkKind, PictureMark};
 use crate::rows::place_of;
 use crate::scale::{LANE, LEFT, NAMES, Scale};
 use std::alloc::{AllocError, Global};
@@ -16,7 +16,7 @@ const NAME_FALL: u64 = 11;
 
 /// How a member stands in the member table, and since where in the picture.
 #[derive(Clone, Copy)]
-enum Standing {
+enum LineStanding {
     Unknown,
     Listed(u64),
     Failed(u64),
@@ -86,7 +86,7 @@ pub(crate) fn draw_lines(
     alloc: Global,
     text: &mut String,
     rows: &[Row],
-    marks: &[Mark],
+    marks: &[PictureMark],
     members: &[Id],
     scale: &Scale,
 ) -> Result<(), AllocError> {
@@ -99,7 +99,7 @@ fn standings_at_start(
     alloc: Global,
     rows: &[Row],
     members: &[Id],
-) -> Result<Vec<Standing>, AllocError> {
+) -> Result<Vec<LineStanding>, AllocError> {
     let mut standings = Vec::new(alloc);
     for member in members {
         standings.push(standing_at_start(rows, *member))?;
@@ -107,12 +107,12 @@ fn standings_at_start(
     Ok(standings)
 }
 
-fn standing_at_start(rows: &[Row], member: Id) -> Standing {
+fn standing_at_start(rows: &[Row], member: Id) -> LineStanding {
     match rows.iter().find(|row| row.id == member) {
-        None => Standing::Unknown,
+        None => LineStanding::Unknown,
         Some(row) => match row.state {
-            RowState::Up => Standing::Listed(LEFT),
-            RowState::Failed(_) => Standing::Failed(LEFT),
+            RowState::Up => LineStanding::Listed(LEFT),
+            RowState::Failed(_) => LineStanding::Failed(LEFT),
         },
     }
 }
@@ -120,8 +120,8 @@ fn standing_at_start(rows: &[Row], member: Id) -> Standing {
 /// The lines that a mark ends.
 fn draw_ended(
     text: &mut String,
-    standings: &mut Vec<Standing>,
-    marks: &[Mark],
+    standings: &mut Vec<LineStanding>,
+    marks: &[PictureMark],
     members: &[Id],
     scale: &Scale,
 ) -> Result<(), AllocError> {
@@ -138,17 +138,17 @@ fn draw_ended(
 }
 
 /// Where a mark changes how its member stands, and how it stands from then on.
-fn change_by(mark: &Mark, scale: &Scale) -> Option<(u64, Standing)> {
+fn change_by(mark: &PictureMark, scale: &Scale) -> Option<(u64, LineStanding)> {
     match mark.kind {
         MarkKind::Judged(_) => {
             let x = scale.at(mark.tick);
-            Some((x, Standing::Failed(x)))
+            Some((x, LineStanding::Failed(x)))
         }
         MarkKind::Joined => {
             let x = scale.joined_at(mark.tick);
-            Some((x, Standing::Listed(x)))
+            Some((x, LineStanding::Listed(x)))
         }
-        MarkKind::Removed => Some((scale.removed_at(mark.tick), Standing::Unknown)),
+        MarkKind::Removed => Some((scale.removed_at(mark.tick), LineStanding::Unknown)),
         _ => None,
     }
 }
@@ -156,7 +156,7 @@ fn change_by(mark: &Mark, scale: &Scale) -> Option<(u64, Standing)> {
 /// The lines that last to the end.
 fn draw_lasting(
     text: &mut String,
-    standings: &[Standing],
+    standings: &[LineStanding],
     scale: &Scale,
 ) -> Result<(), AllocError> {
     for (lane, standing) in standings.iter().enumerate() {
@@ -165,10 +165,19 @@ fn draw_lasting(
     Ok(())
 }
 
-fn draw_line(text: &mut String, standing: Standing, end: u64, y: u64) -> Result<(), AllocError> {
+fn draw_line(
+    text: &mut String,
+    standing: LineStanding,
+    end: u64,
+    y: u64,
+) -> Result<(), AllocError> {
     match standing {
-        Standing::Unknown => Ok(()),
-        Standing::Listed(x) => { write!(text, "<path class=\"listed\" d=\"M{x} {y}H{end}\"/>\n") }
-        Standing::Failed(x) => { write!(text, "<path class=\"failed\" d=\"M{x} {y}H{end}\"/>\n") }
+        LineStanding::Unknown => Ok(()),
+        LineStanding::Listed(x) => {
+            write!(text, "<path class=\"listed\" d=\"M{x} {y}H{end}\"/>\n")
+        }
+        LineStanding::Failed(x) => {
+            write!(text, "<path class=\"failed\" d=\"M{x} {y}H{end}\"/>\n")
+        }
     }
 }

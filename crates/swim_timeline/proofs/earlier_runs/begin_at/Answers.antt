@@ -6,8 +6,8 @@ use Rattle.swim_history.specs.Run.{IsRun}
 use Rattle.swim_timeline.proofs.Oldest.{oldest, oldest_length, oldest_more, oldest_run, none_left}
 use Rattle.swim_timeline.proofs.Within.{number_fits, ticks_fit, ticks_more}
 use Rattle.swim_timeline.proofs.Starting.{begins_ascending, begins_few, begins_fits, begins_more, begins_still}
-use Rattle.swim_timeline.proofs.beginnings.begin_at.Goals as goal
-use Rattle.swim_timeline.proofs.beginnings.begin_at.Goals.{in-Some+then-ticks-first, in-Some+else-ticks-first, in_default}
+use Rattle.swim_timeline.proofs.earlier_runs.begin_at.Goals as goal
+use Rattle.swim_timeline.proofs.earlier_runs.begin_at.Goals.{in-Some+then-ticks-first, in-Some+else-ticks-first, in_default}
 
 pub number_at-ended-requires : goal.number_at-ended-requires
 number_at-ended-requires c =

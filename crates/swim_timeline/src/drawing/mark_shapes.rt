@@ -1,6 +1,6 @@
 //! The marks of a picture.
 
-use crate::marks::{Mark, MarkKind};
+use crate::picture_marks::{MarkKind, PictureMark};
 use crate::rows::place_of;
 use crate::scale::Scale;
 use std::alloc::AllocError;
@@ -13,7 +13,7 @@ const ACK_RISE: u64 = 12;
 /// All marks, oldest first.
 pub(crate) fn draw_marks(
     text: &mut String,
-    marks: &[Mark],
+    marks: &[PictureMark],
     members: &[Id],
     scale: &Scale,
 ) -> Result<(), AllocError> {
@@ -32,7 +32,7 @@ fn line_of(members: &[Id], member: Id, scale: &Scale) -> Option<u64> {
 
 fn draw_mark(
     text: &mut String,
-    mark: &Mark,
+    mark: &PictureMark,
     line: u64,
     members: &[Id],
     scale: &Scale,
@@ -54,7 +54,13 @@ fn draw_mark(
 }
 
 /// The shape of a mark, and what it says.
-fn draw(text: &mut String, shape: &str, x: u64, y: u64, mark: &Mark) -> Result<(), AllocError> {
+fn draw(
+    text: &mut String,
+    shape: &str,
+    x: u64,
+    y: u64,
+    mark: &PictureMark,
+) -> Result<(), AllocError> {
     write!(
         text,
         r##"<use class="{shape}" href="#{shape}" x="{x}" y="{y}" role="img"><title>"##
@@ -63,7 +69,7 @@ fn draw(text: &mut String, shape: &str, x: u64, y: u64, mark: &Mark) -> Result<(
     text.push_str("</title></use>\n")
 }
 
-fn write_words(text: &mut String, mark: &Mark) -> Result<(), AllocError> {
+fn write_words(text: &mut String, mark: &PictureMark) -> Result<(), AllocError> {
     let member = mark.member.get();
     let tick = mark.tick;
     match &mark.kind {
@@ -97,7 +103,7 @@ fn write_asked(text: &mut String, relays: &[Relay]) -> Result<(), AllocError> {
 /// The requests to relays: a line from the lane of the aim to each relay's, and the relay's mark.
 fn draw_requests(
     text: &mut String,
-    mark: &Mark,
+    mark: &PictureMark,
     relays: &[Relay],
     members: &[Id],
     scale: &Scale,
@@ -116,7 +122,7 @@ fn draw_requests(
 
 fn draw_request(
     text: &mut String,
-    mark: &Mark,
+    mark: &PictureMark,
     relay: Id,
     x: u64,
     from: u64,

@@ -5,38 +5,38 @@ ghost use Rattle.swim_history.specs.declared.entries.Entry.{Entry};
 ghost use Rattle.swim_history.specs.Clock.{number_at};
 ghost use Rattle.swim_timeline.specs.Shown.{Draws, Shows};
 
-use crate::beginnings::{Beginning, begin_at};
 use crate::clock::{number_at, ticks_with};
+use crate::earlier_runs::{EarlierRun, begin_at};
 use crate::lanes::{Lanes, add_lane, lanes_of};
-use crate::marks::{Mark, add_marks};
+use crate::picture_marks::{PictureMark, add_marks};
 use crate::spans::Span;
 use std::alloc::{AllocError, Global};
 use swim_history::{Entry, Journal, Opening};
 
 /// What a picture shows of a run: all that happened within some ticks.
 #[derive(Drop)]
-pub struct Shown {
+pub struct Picture {
     /// What lies before the first of these ticks.
-    pub before: Beginning,
+    pub before: EarlierRun,
     /// How many ticks the whole run has.
     pub ticks: u32,
     /// How many of its entries are shown or lie before those that are, the oldest ones.
     pub entries: u32,
     /// What happened in those that are shown, oldest first.
-    pub marks: Vec<Mark>,
+    pub marks: Vec<PictureMark>,
     /// Each member that stood in the member table as they begin, or joined in them, with the address that it had last.
     pub lanes: Lanes,
 }
 
 /// What a picture of these ticks shows of a journal: the entries from the first tick on, up to the tick behind the last. `Err`
 /// only where memory was refused.
-pub fn show(alloc: Global, journal: &Journal, span: Span) -> Result<Shown, AllocError>
+pub fn show(alloc: Global, journal: &Journal, span: Span) -> Result<Picture, AllocError>
     ensures { IfOk result (λ shown. Shows journal.now.opening journal.now.past span.first span.until shown) }
 {
     let opening = journal.opening();
     let before = begin_at(journal, span.first);
     let lanes = lanes_of(alloc, before.rows.as_slice())?;
-    let mut shown = Shown {
+    let mut shown = Picture {
         before,
         ticks: 0,
         entries: 0,
@@ -51,7 +51,7 @@ pub fn show(alloc: Global, journal: &Journal, span: Span) -> Result<Shown, Alloc
     Ok(shown)
 }
 
-impl Shown {
+impl Picture {
     /// Takes one more entry of the run.
     fn note(&mut self, opening: &Opening, span: Span, entry: &Entry) -> Result<(), AllocError>
         requires ticks { self.old.ticks < u32.MAX }

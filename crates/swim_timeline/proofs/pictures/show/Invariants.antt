@@ -1,6 +1,6 @@
 use Rattle.std.proofs.Common.{reverse, take}
 use Rattle.swim_timeline.specs.Shown.{Begins, Draws}
-use Rattle.swim_timeline.proofs.shown.show.Given as goal
+use Rattle.swim_timeline.proofs.pictures.show.Given as goal
 
 -- what is drawn of the entries so far
 abbrev pub invariant-loop-place : goal.invariant-loop-place

@@ -1,6 +1,6 @@
 use Rattle.std.proofs.Common.{refl, arith}
 use Rattle.swim_timeline.proofs.Within.{draws_before, draws_more}
-use Rattle.swim_timeline.proofs.shown.Shown.note.Goals as goal
+use Rattle.swim_timeline.proofs.pictures.Picture.note.Goals as goal
 
 pub returns-then-self-span-clause-drawn : goal.returns-then-self-span-clause-drawn
 returns-then-self-span-clause-drawn c = λ h draws.

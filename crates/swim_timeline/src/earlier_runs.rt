@@ -10,7 +10,7 @@ use swim_history::{Entry, Journal, KNOWN_MEMBERS, Table, change_by, change_table
 
 /// What a run came to before a tick.
 #[derive(Drop)]
-pub struct Beginning {
+pub struct EarlierRun {
     /// How many entries lie before that tick.
     pub entries: u32,
     /// The member table behind them.
@@ -18,12 +18,12 @@ pub struct Beginning {
 }
 
 /// What a journal tells of the time before a tick.
-pub(crate) fn begin_at(journal: &Journal, first: u32) -> Beginning
+pub(crate) fn begin_at(journal: &Journal, first: u32) -> EarlierRun
     ensures { Begins journal.now.opening journal.now.past first result }
 {
     let opening = journal.opening();
     let mut ticks = 0;
-    let mut beginning = Beginning {
+    let mut beginning = EarlierRun {
         entries: 0,
         rows: table_of(opening.rows()),
     };
@@ -39,7 +39,7 @@ pub(crate) fn begin_at(journal: &Journal, first: u32) -> Beginning
     beginning
 }
 
-impl Beginning {
+impl EarlierRun {
     /// Takes one more entry; `ended` is the last period number used before it.
     fn add(&mut self, ended: u64, entry: &Entry)
         requires entries { self.old.entries < u32.MAX }

@@ -27,7 +27,7 @@ pub enum MarkKind {
 
 /// A place in a picture: how many ticks there were by then, and a member.
 #[derive(Debug, PartialEq, Eq, Drop)]
-pub struct Mark {
+pub struct PictureMark {
     pub tick: u32,
     pub member: Id,
     pub kind: MarkKind,
@@ -36,7 +36,7 @@ pub struct Mark {
 /// Adds the marks of an entry: `tick` is how many ticks there were with it, and `ended` the last period number used
 /// before it. `Err` only where memory was refused.
 pub(crate) fn add_marks(
-    marks: &mut Vec<Mark>,
+    marks: &mut Vec<PictureMark>,
     tick: u32,
     ended: u64,
     entry: &Entry,
@@ -84,7 +84,7 @@ fn copied(relays: &[Relay]) -> ArrayVec<Relay, MOST_RELAYS>
 }
 
 fn add_judgement(
-    marks: &mut Vec<Mark>,
+    marks: &mut Vec<PictureMark>,
     tick: u32,
     ended: u64,
     judged: Option<Id>,
@@ -97,7 +97,11 @@ fn add_judgement(
     }
 }
 
-fn add_probe(marks: &mut Vec<Mark>, tick: u32, probe: Option<Probe>) -> Result<(), AllocError>
+fn add_probe(
+    marks: &mut Vec<PictureMark>,
+    tick: u32,
+    probe: Option<Probe>,
+) -> Result<(), AllocError>
     ensures { OnOk result (marks.new.items ≡ marks.old.items ++ marks_of_probe tick probe) }
 {
     match probe {
@@ -106,8 +110,13 @@ fn add_probe(marks: &mut Vec<Mark>, tick: u32, probe: Option<Probe>) -> Result<(
     }
 }
 
-fn add(marks: &mut Vec<Mark>, tick: u32, member: Id, kind: MarkKind) -> Result<(), AllocError>
+fn add(
+    marks: &mut Vec<PictureMark>,
+    tick: u32,
+    member: Id,
+    kind: MarkKind,
+) -> Result<(), AllocError>
     ensures { OnOk result (marks.new.items ≡ marks.old.items ++ mark_at tick member kind) }
 {
-    Ok(marks.push(Mark { tick, member, kind })?)
+    Ok(marks.push(PictureMark { tick, member, kind })?)
 }

@@ -1,8 +1,8 @@
 use Rattle.std.proofs.Common.{◌≡◌, ◌+◌, ◌≤◌, ◌∷◌, length, arith}
 use Rattle.swim_timeline.proofs.Oldest.{oldest, oldest_more, none_left}
 use Rattle.swim_timeline.proofs.Within.{shown_fits}
-use Rattle.swim_timeline.proofs.shown.show.Goals as goal
-use Rattle.swim_timeline.proofs.shown.show.Goals.{in-Some+in_ok-note, in_default}
+use Rattle.swim_timeline.proofs.pictures.show.Goals as goal
+use Rattle.swim_timeline.proofs.pictures.show.Goals.{in-Some+in_ok-note, in_default}
 
 pub note-requires-clause-ticks : goal.note-requires-clause-ticks
 note-requires-clause-ticks c =
