@@ -16,9 +16,9 @@ use Rattle.swim_history.specs.Run.{IsRun}
 use Rattle.swim_history.specs.Judgement.{EndsUnheard, judgement, judgements}
 use Rattle.swim_history.specs.Laws.Run.{IsRun-older, number_between}
 use Rattle.swim_history.specs.Laws.Judgement.{judges_by_rule, started_number}
-use Rattle.swim_evidence.specs.declared.found.Finding.{Finding}
-use Rattle.swim_evidence.specs.declared.found.Finding.TheVariants.{Late, Other}
-use Rattle.swim_evidence.specs.declared.found.Stray.{Stray}
+use Rattle.swim_evidence.specs.declared.findings.Finding.{Finding}
+use Rattle.swim_evidence.specs.declared.findings.Finding.TheVariants.{Late, Other}
+use Rattle.swim_evidence.specs.declared.findings.Stray.{Stray}
 use Rattle.swim_evidence.specs.declared.trails.Probing.{Probing}
 use Rattle.swim_evidence.specs.Evidence.{probing, strays, judged_by_starts, is_judged, stray_in, late, found_in, findings, told_in, judgements_told}
 

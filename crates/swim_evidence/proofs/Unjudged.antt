@@ -16,7 +16,7 @@ use Rattle.swim_history.specs.Clock.{period_number}
 use Rattle.swim_history.specs.Run.{IsRun}
 use Rattle.swim_history.specs.Judgement.{judgement, judgements}
 use Rattle.swim_history.specs.Laws.Run.{number_then}
-use Rattle.swim_evidence.specs.declared.found.Stray.{Stray}
+use Rattle.swim_evidence.specs.declared.findings.Stray.{Stray}
 use Rattle.swim_evidence.specs.Evidence.{judged_by_starts, is_judged, stray_in, late, found_in, findings}
 
 -- each period that began raised the number by one

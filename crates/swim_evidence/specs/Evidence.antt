@@ -12,10 +12,10 @@ use Rattle.swim_history.specs.declared.entries.Entry.{Entry}
 use Rattle.swim_history.specs.Setting.{Setting}
 use Rattle.swim_history.specs.Events.{is_start, probe_in, judged_in}
 use Rattle.swim_history.specs.declared.journals.Judged.{Judged}
-use Rattle.swim_evidence.specs.declared.found.Ask.{Ask}
-use Rattle.swim_evidence.specs.declared.found.Stray.{Stray}
-use Rattle.swim_evidence.specs.declared.found.Finding.{Finding}
-use Rattle.swim_evidence.specs.declared.found.Finding.TheVariants.{Judged as AsJudged, Other, Late}
+use Rattle.swim_evidence.specs.declared.findings.Ask.{Ask}
+use Rattle.swim_evidence.specs.declared.findings.Stray.{Stray}
+use Rattle.swim_evidence.specs.declared.findings.Finding.{Finding}
+use Rattle.swim_evidence.specs.declared.findings.Finding.TheVariants.{Judged as AsJudged, Other, Late}
 use Rattle.swim_evidence.specs.declared.trails.Probing.{Probing}
 
 -- a start at that place, where it probed

@@ -3,14 +3,14 @@
 #![tactic(auto)]
 
 mod confirming;
+mod findings;
 mod following;
-mod found;
 mod trails;
 mod verdicts;
 mod walking;
 
 pub use confirming::{Confirmations, Missed};
+pub use findings::{Ask, Evidence, Finding, Findings, Stray};
 pub use following::{Break, Draw, Heading, first_break};
-pub use found::{Ask, Evidence, Finding, Found, Stray};
 pub use verdicts::{Verdict, verdict_on};
 pub use walking::findings_of;

@@ -6,7 +6,7 @@ ghost use Rattle.swim_history.specs.Setting.{Setting};
 ghost use Rattle.swim_evidence.specs.Evidence.{evidence, is_judged, is_probed, late, of_probed, probing_by, stray_in};
 ghost use Rattle.swim_evidence.specs.Trail.{Follows};
 
-use crate::found::{Ask, Evidence, Finding, Found, Stray};
+use crate::findings::{Ask, Evidence, Finding, Findings, Stray};
 use std::alloc::{AllocError, Global};
 use swim_history::{Call, DropReason, Entry, Opening, Probe, Reply};
 use swim_wire::Id;
@@ -62,11 +62,11 @@ impl Trail {
     }
 
     /// What was found.
-    pub fn into_found(self) -> Found
+    pub fn into_findings(self) -> Findings
         ensures findings { result.findings.items ≡ self.findings.items }
         ensures periods { result.periods ≡ length self.judged.items }
     {
-        Found {
+        Findings {
             periods: self.judged.len(),
             findings: self.findings,
         }

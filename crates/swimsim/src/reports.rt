@@ -2,7 +2,7 @@
 
 use std::collections::BTreeMap;
 use std::fmt;
-use swim_evidence::{Ask, Evidence, Finding, Found, Stray};
+use swim_evidence::{Ask, Evidence, Finding, Findings, Stray};
 
 /// What a journal file tells, as lines.
 #[derive(Drop)]
@@ -13,7 +13,7 @@ pub struct Report<'a> {
     /// How many of them are confirmed, from the first on.
     pub confirmed: u32,
     /// What these tell.
-    pub found: &'a Found,
+    pub found: &'a Findings,
     /// When periods began, by the places of their starts.
     pub times: &'a BTreeMap<u32, u64>,
     /// Whether the file ends in the midst.

@@ -13,7 +13,7 @@ use std::alloc::{AllocError, Global};
 use std::cell::RefCell;
 use std::process::ExitCode;
 use std::{fmt, io};
-use swim_evidence::{Break, Found, Heading, Verdict, findings_of, first_break, verdict_on};
+use swim_evidence::{Break, Findings, Heading, Verdict, findings_of, first_break, verdict_on};
 use swim_history::{Journal, Opening};
 use swim_script::{FaultKind, ScriptFault, Session};
 
@@ -179,17 +179,17 @@ impl<'a> Played<'a> {
     }
 
     /// What its confirmed entries tell.
-    fn found(&self, alloc: Global) -> Result<Found, AllocError> {
+    fn found(&self, alloc: Global) -> Result<Findings, AllocError> {
         match &self.journal {
             Some(journal) => findings_of(alloc, journal, self.witness.confirmations.confirmed),
-            None => Ok(Found {
+            None => Ok(Findings {
                 periods: 0,
                 findings: Vec::new(alloc),
             }),
         }
     }
 
-    fn report<'b>(&'b self, found: &'b Found, is_cut: bool) -> Report<'b> {
+    fn report<'b>(&'b self, found: &'b Findings, is_cut: bool) -> Report<'b> {
         Report {
             path: self.path,
             entries: self.journal.as_ref().map_or(0, |journal| journal.len()),

@@ -1,5 +1,5 @@
 use Rattle.std.proofs.Common.{◌≡◌, ◌++◌, map, take}
-use Rattle.swim_evidence.specs.declared.found.Finding.TheVariants.{Other}
+use Rattle.swim_evidence.specs.declared.findings.Finding.TheVariants.{Other}
 use Rattle.swim_evidence.proofs.trails.add_others.Given as goal
 
 -- the strays so far stand last

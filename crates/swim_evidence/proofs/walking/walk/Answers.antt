@@ -39,7 +39,7 @@ returns-clause-judgements c =
     rw (length-reverse c.args.journal.now.past) (omega (arith, c.loop-place-test.false, c.loop-place.auto.place-end, c.min-place-end.ensures, c.len.ensures.value)) in
     let all : take c.loop-place.place entries ≡ take c.args.confirmed entries =
     ap (λ i. take i entries) place ∙ grind (arith, common_steps) in
-    let found : c.into_found.result.findings.items ≡ findings o first =
-    c.into_found.ensures.findings ∙ (c.loop-place.invariant.findings ∙ ap (λ (h : List Entry). findings o (reverse h)) all) in
+    let found : c.into_findings.result.findings.items ≡ findings o first =
+    c.into_findings.ensures.findings ∙ (c.loop-place.invariant.findings ∙ ap (λ (h : List Entry). findings o (reverse h)) all) in
     let run : IsRun o first = run_so_far o entries c.args.confirmed (subst (λ (h : List Entry). IsRun o h) (sym (reverse-reverse c.args.journal.now.past)) c.len.ensures.run) in
     ap judgements_told found ∙ judgements_are_told o first c.len.ensures.limits run

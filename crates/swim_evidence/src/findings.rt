@@ -51,7 +51,7 @@ pub enum Finding {
 
 /// What the confirmed entries of a journal tell.
 #[derive(Debug, Drop)]
-pub struct Found {
+pub struct Findings {
     /// How many periods began.
     pub periods: usize,
     /// What was found, in order.
