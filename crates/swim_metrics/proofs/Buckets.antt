@@ -7,13 +7,13 @@ use Rattle.std.proofs.Math.Dec.{leb, ltb}
 use Rattle.swim_metrics.specs.Counting.{capped}
 use Rattle.swim_metrics.specs.Following.{AreOf, bucket_of, bucket_then}
 use Rattle.swim_metrics.specs.Waiting.{bounds}
-use Rattle.swim_metrics.specs.declared.waits.Bucket.{Bucket}
-use Rattle.swim_metrics.specs.declared.waits.Waits.{Waits}
+use Rattle.swim_metrics.specs.declared.wait_histograms.HistogramBucket.{HistogramBucket}
+use Rattle.swim_metrics.specs.declared.wait_histograms.Waits.{Waits}
 use Rattle.swim_metrics.proofs.Counted.{counted_if}
 
 -- a list whose elements are those of another, each changed
-pub map_from_each : (f : Bucket → Bucket) (new old : List Bucket) → length new ≡ length old →
-    ((k : ℕ) (d : Bucket) → k < length old → get_or new k d ≡ f (get_or old k d)) → new ≡ map f old
+pub map_from_each : (f : HistogramBucket → HistogramBucket) (new old : List HistogramBucket) → length new ≡ length old →
+    ((k : ℕ) (d : HistogramBucket) → k < length old → get_or new k d ≡ f (get_or old k d)) → new ≡ map f old
 map_from_each f [] [] same each = refl
 map_from_each f [] (y ∷ old) same each = absurd (omega (arith, same))
 map_from_each f (x ∷ new) [] same each = absurd (omega (arith, same))

@@ -27,7 +27,7 @@ use Rattle.swim_history.specs.Laws.Table.{table_bound, table_shows}
 use Rattle.swim_history.specs.Rows.{failed, is_up, row_of, row_then, up}
 use Rattle.swim_history.specs.Run.{Answers, Hears, IsRun}
 use Rattle.swim_history.specs.Setting.{IsSetting, Setting, ids_of}
-use Rattle.swim_metrics.specs.declared.hearings.Hearing.{Hearing}
+use Rattle.swim_metrics.specs.declared.hearings.LastHearing.{LastHearing}
 use Rattle.swim_metrics.specs.LastHeard.{AreDifferent, Tell, forgotten, heard_at, heard_then, last_heard, members, noted, rows_then}
 use Rattle.swim_metrics.proofs.Noting.{forgotten_shows, has_hearing, noted_shows, once_forgotten, once_with}
 
@@ -81,7 +81,7 @@ some_forgotten false old is = is
 in_table : (o : Setting) (h : List Entry) (m : ℕ) → is_some (row_of o h m) ≡ true → has (ids_of (table o h)) m ≡ true
 in_table o h m known = has_row (table o h) m ∙ ap is_some (table_shows o h m) ∙ known
 
-are_known : (o : Setting) (h : List Entry) (id : ℕ) (rows : List Hearing) → IsSetting o → IsRun o h → aim h ≡ Some id → Tell rows o h →
+are_known : (o : Setting) (h : List Entry) (id : ℕ) (rows : List LastHearing) → IsSetting o → IsRun o h → aim h ≡ Some id → Tell rows o h →
     (m : ℕ) → has (id ∷ members (forgotten id rows)) m ≡ true → has (ids_of (table o h)) m ≡ true
 are_known o h id rows s run aimed tell m is = in_table o h m (by (nat_eq m id) refl is) where
   by : (b : Bool) → nat_eq m id ≡ b → (b || has (members (forgotten id rows)) m) ≡ true → is_some (row_of o h m) ≡ true
@@ -90,13 +90,13 @@ are_known o h id rows s run aimed tell m is = in_table o h m (by (nat_eq m id) r
       let shown : is_some (cond (id == m) None (heard_at rows m)) ≡ true = sym (has_hearing (forgotten id rows) m ∙ ap is_some (forgotten_shows id m rows)) ∙ is in
       heard_known o h m s run (sym (ap is_some (tell m)) ∙ some_forgotten (id == m) (heard_at rows m) shown)
 
-room_for : (o : Setting) (h : List Entry) (id : ℕ) (rows : List Hearing) → IsSetting o → IsRun o h → aim h ≡ Some id → Tell rows o h → AreDifferent rows →
+room_for : (o : Setting) (h : List Entry) (id : ℕ) (rows : List LastHearing) → IsSetting o → IsRun o h → aim h ≡ Some id → Tell rows o h → AreDifferent rows →
     length (forgotten id rows) < 128
 room_for o h id rows s run aimed tell once =
     omega (
       arith,
       no_longer (id ∷ members (forgotten id rows)) (ids_of (table o h)) (once_with id rows once) (are_known o h id rows s run aimed tell),
-      length-map (forgotten id rows) (λ (row : Hearing). row.member),
+      length-map (forgotten id rows) (λ (row : LastHearing). row.member),
       length-map (table o h) (λ (row : Row). row.id),
       table_bound o h s run,
     )
@@ -110,14 +110,14 @@ heard_ack o h ack source Ping fits = absurd fits
 heard_ack o h ack source PingReq fits = absurd fits
 heard_ack o h ack source Ack fits = (fits.1, fits.2)
 
-hearing_then : (o : Setting) (h : List Entry) (id number : ℕ) (rows : List Hearing) → IsSetting o → IsRun o h → aim h ≡ Some id → number ≡ period_number o h →
+hearing_then : (o : Setting) (h : List Entry) (id number : ℕ) (rows : List LastHearing) → IsSetting o → IsRun o h → aim h ≡ Some id → number ≡ period_number o h →
     AreDifferent rows → Tell rows o h → (m : ℕ) →
     heard_at (noted id number rows) m ≡ cond (is_member m (aim h)) (Some (period_number o h)) (last_heard o h m)
 hearing_then o h id number rows s run aimed runs once tell m =
     rw (lt-ltb (length (forgotten id rows)) 128 (room_for o h id rows s run aimed tell once), aimed)
     (noted_shows id number m rows ∙ rw (runs, tell m) refl)
 
-tells_then : (o : Setting) (h : List Entry) (call : Call) (reply : Reply) (choice : Choice) (rows : List Hearing) → IsSetting o → IsRun o h →
+tells_then : (o : Setting) (h : List Entry) (call : Call) (reply : Reply) (choice : Choice) (rows : List LastHearing) → IsSetting o → IsRun o h →
     Answers o h call reply choice → AreDifferent rows → Tell rows o h → (m : ℕ) →
     heard_at (rows_then call reply rows) m ≡ heard_then call reply (aim h) (period_number o h) m (last_heard o h m)
 tells_then o h (Hear source ack) Heard Nothing rows s run fits once tell m =
@@ -126,19 +126,19 @@ tells_then o h (Hear source ack) Heard choice rows s run fits once tell m = absu
 tells_then o h (Remove id) Removed choice rows s run fits once tell m = forgotten_shows id m rows ∙ ap (λ n. cond (id == m) None n) (tell m)
 tells_then o h call reply choice rows s run fits once tell m = tell m
 
-pub tell_then : (o : Setting) (h : List Entry) (e : Entry) (call : Call) (reply : Reply) (rows new : List Hearing) → IsSetting o → IsRun o (e ∷ h) →
+pub tell_then : (o : Setting) (h : List Entry) (e : Entry) (call : Call) (reply : Reply) (rows new : List LastHearing) → IsSetting o → IsRun o (e ∷ h) →
     e.call ≡ call → e.reply ≡ reply → AreDifferent rows → Tell rows o h → new ≡ rows_then call reply rows → Tell new o (e ∷ h)
 tell_then o h e call reply rows new s run calls replies once tell is m =
     let same : heard_at new m ≡ heard_at (rows_then e.call e.reply rows) m = rw (is, calls, replies) refl in
     same ∙ tells_then o h e.call e.reply e.choice rows s run.1 run.0.answer once tell m
 
-noted_once : (b : Bool) (id number : ℕ) (rows : List Hearing) → AreDifferent rows →
+noted_once : (b : Bool) (id number : ℕ) (rows : List LastHearing) → AreDifferent rows →
     AreDifferent (cond b (record { member = id; number = number } ∷ forgotten id rows) (forgotten id rows))
 noted_once true id number rows once = once_with id rows once
 noted_once false id number rows once = once_forgotten id rows once
 
 -- they stay of different members
-pub once_then : (call : Call) (reply : Reply) (rows : List Hearing) → AreDifferent rows → AreDifferent (rows_then call reply rows)
+pub once_then : (call : Call) (reply : Reply) (rows : List LastHearing) → AreDifferent rows → AreDifferent (rows_then call reply rows)
 once_then (Hear source ack) Heard rows once = noted_once (nat_lt (length (forgotten ack.target rows)) 128) ack.target ack.number rows once
 once_then (Remove id) Removed rows once = once_forgotten id rows once
 once_then call reply rows once = once

@@ -2,17 +2,17 @@
 use Rattle.std.proofs.Common.{◌≡◌, ℕ, ◌≤◌, List, [], ◌∷◌, ◌++◌, append_assoc, append-nil, codes, decimal, get_or, length, map, refl, sym, ap, ◌∙◌, arith}
 use Rattle.swim_wire.specs.TwoPuts.{first_and_others, others_of}
 use Rattle.swim_history.specs.Texts.{feed}
-use Rattle.swim_metrics.specs.declared.families.Kind.{Kind}
+use Rattle.swim_metrics.specs.declared.families.MetricKind.{MetricKind}
 use Rattle.swim_metrics.specs.declared.families.Metric.{Metric}
 use Rattle.swim_metrics.specs.declared.outside.Outside.{Outside}
-use Rattle.swim_metrics.specs.declared.waits.Bucket.{Bucket}
-use Rattle.swim_metrics.specs.declared.waits.Waits.{Waits}
+use Rattle.swim_metrics.specs.declared.wait_histograms.HistogramBucket.{HistogramBucket}
+use Rattle.swim_metrics.specs.declared.wait_histograms.Waits.{Waits}
 use Rattle.swim_metrics.specs.Families.{Family, Sample, bucket_sample, escaped, escaped_one, family_of, total_samples, version_sample, wait_samples}
 use Rattle.swim_metrics.specs.declared.measures.Measures.{Measures}
 use Rattle.swim_metrics.specs.Texts.{families_lines, families_text, family_lines, family_text, head_text, sample_text, samples_text}
 
 -- the line of a bucket
-pub bucket_line : (bytes name : List ℕ) (b : Bucket) → bytes ≡ name →
+pub bucket_line : (bytes name : List ℕ) (b : HistogramBucket) → bytes ≡ name →
     bytes ++ (codes "_bucket{le=\"" ++ (decimal b.bound ++ (codes "\"} " ++ (decimal b.count ++ (codes "\n" ++ [])))))
     ≡ sample_text name (bucket_sample b)
 bucket_line bytes name b is =
@@ -67,6 +67,6 @@ first_lines m out told d some = ap (families_lines m out) (sym (first_and_others
 pub lines_of : (name : List ℕ) (samples : List Sample) (f : Family) → name ≡ f.name → samples ≡ f.samples → samples_text name samples ≡ family_lines f
 lines_of name samples f names are = rw (names, are) refl
 
-pub text_of : (name help : List ℕ) (kind : Kind) (samples : List Sample) (f : Family) → name ≡ f.name → help ≡ f.help → kind ≡ f.kind → samples ≡ f.samples →
+pub text_of : (name help : List ℕ) (kind : MetricKind) (samples : List Sample) (f : Family) → name ≡ f.name → help ≡ f.help → kind ≡ f.kind → samples ≡ f.samples →
     head_text name help kind ++ samples_text name samples ≡ family_text f
 text_of name help kind samples f names helps kinds are = rw (names, helps, kinds, are) refl

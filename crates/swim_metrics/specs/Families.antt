@@ -1,12 +1,12 @@
 -- The metrics, as one table: of each its name, what it tells, its type and its samples.
 use Rattle.std.specs.Prelude.{ℕ, ◌==◌, if◌then◌else◌, ◌*◌, ◌/◌, ◌%◌, List, [], ◌∷◌, ◌++◌, map, codes, decimal}
-use Rattle.swim_metrics.specs.declared.counts.Counts.{Counts}
+use Rattle.swim_metrics.specs.declared.entry_counts.EntryCounts.{EntryCounts}
 use Rattle.swim_metrics.specs.declared.dropped.Dropped.{Dropped}
-use Rattle.swim_metrics.specs.declared.waits.Bucket.{Bucket}
-use Rattle.swim_metrics.specs.declared.waits.Waits.{Waits}
+use Rattle.swim_metrics.specs.declared.wait_histograms.HistogramBucket.{HistogramBucket}
+use Rattle.swim_metrics.specs.declared.wait_histograms.Waits.{Waits}
 use Rattle.swim_metrics.specs.declared.outside.Outside.{Outside}
-use Rattle.swim_metrics.specs.declared.families.Kind.{Kind}
-use Rattle.swim_metrics.specs.declared.families.Kind.TheVariants.{Counter, Gauge, Histogram}
+use Rattle.swim_metrics.specs.declared.families.MetricKind.{MetricKind}
+use Rattle.swim_metrics.specs.declared.families.MetricKind.TheVariants.{Counter, Gauge, Histogram}
 use Rattle.swim_metrics.specs.declared.families.Metric.{Metric}
 use Rattle.swim_metrics.specs.declared.families.Metric.TheVariants as metrics
 use Rattle.swim_metrics.specs.declared.measures.Measures.{Measures}
@@ -19,7 +19,7 @@ pub record Sample : Type 0 where
 pub record Family : Type 0 where
   pub name : List ℕ
   pub help : List ℕ
-  pub kind : Kind
+  pub kind : MetricKind
   pub samples : List Sample
 
 -- ---- samples
@@ -71,7 +71,7 @@ dropped_samples d =
     ∷ []
 
 -- of a histogram's bucket
-abbrev pub bucket_sample : Bucket → Sample
+abbrev pub bucket_sample : HistogramBucket → Sample
 bucket_sample bucket =
     labelled (codes "_bucket{le=\"" ++ (decimal bucket.bound ++ codes "\"}")) bucket.count
 
@@ -88,7 +88,7 @@ wait_samples w = map bucket_sample w.buckets ++ total_samples w
 
 -- ---- the table
 
-abbrev pub family : Kind → List ℕ → List ℕ → List Sample → Family
+abbrev pub family : MetricKind → List ℕ → List ℕ → List Sample → Family
 family kind name help samples = record { name = name; help = help; kind = kind; samples = samples }
 
 abbrev pub family_of : Measures → Outside → Metric → Family

@@ -10,11 +10,11 @@ use Rattle.swim_history.specs.Changes.{change_by}
 use Rattle.swim_history.specs.Events.{is_tick, joins}
 use Rattle.swim_events.specs.Watched.{Lived}
 use Rattle.swim_events.specs.Watching.{Known, rows_then, number_then}
-use Rattle.swim_metrics.specs.declared.counts.Counts.{Counts}
+use Rattle.swim_metrics.specs.declared.entry_counts.EntryCounts.{EntryCounts}
 use Rattle.swim_metrics.specs.declared.dropped.Dropped.{Dropped}
 use Rattle.swim_metrics.specs.declared.measures.Measures.{Measures}
-use Rattle.swim_metrics.specs.declared.waits.Bucket.{Bucket}
-use Rattle.swim_metrics.specs.declared.waits.Waits.{Waits}
+use Rattle.swim_metrics.specs.declared.wait_histograms.HistogramBucket.{HistogramBucket}
+use Rattle.swim_metrics.specs.declared.wait_histograms.Waits.{Waits}
 use Rattle.swim_metrics.specs.Counting.{capped, entries, this_life, sent, sends_ping, sends_ask, pinged, heard_directly}
 use Rattle.swim_metrics.specs.Counting.{heard_by_relay, serves, dropped_as, failed_in, judges, leaves, up_in}
 use Rattle.swim_metrics.specs.Waiting.{bounds, waited, waits, was_heard}
@@ -30,11 +30,11 @@ dropped_for reasons.Stray d = d.stray
 dropped_for reasons.NoRequest d = d.no_request
 
 -- a bucket of a histogram counts all waits up to its bound
-abbrev pub bucket_of : List ℕ → ℕ → Bucket
+abbrev pub bucket_of : List ℕ → ℕ → HistogramBucket
 bucket_of waits bound = record { bound = bound; count = capped (count_by (λ wait. nat_le wait bound) waits) }
 
 -- a bucket after one more wait
-abbrev pub bucket_then : ℕ → Bucket → Bucket
+abbrev pub bucket_then : ℕ → HistogramBucket → HistogramBucket
 bucket_then wait bucket =
     record { bound = bucket.bound; count = capped (bucket.count + (if nat_le wait bucket.bound then 1 else 0)) }
 
@@ -45,7 +45,7 @@ pub record AreOf (w : Waits) (waits : List ℕ) : Type 0 where
   pub number : w.count ≡ capped (length waits)
 
 -- the counts are those of all a node's lives
-pub record Count (c : Counts) (node : List Lived) : Type 0 where
+pub record Count (c : EntryCounts) (node : List Lived) : Type 0 where
   pub ticks : c.ticks ≡ capped (count_by is_tick (entries node))
   pub pings_sent : c.pings_sent ≡ capped (count_by sends_ping (sent node))
   pub pings_heard : c.pings_heard ≡ capped (count_by pinged (entries node))
@@ -68,7 +68,7 @@ pub record Runs (ticks : ℕ) (is_heard : Bool) (h : List Entry) : Type 0 where
 
 -- the counts, how many ticks old the period that runs is, whether its aim was heard, and what is known of the members
 pub record Measured : Type 0 where
-  pub counts : Counts
+  pub counts : EntryCounts
   pub waited : ℕ
   pub heard : Bool
   pub known : Known

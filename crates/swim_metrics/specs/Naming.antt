@@ -2,8 +2,8 @@
 use Rattle.std.specs.Prelude.{ℕ, Bool, false, not, ◌&&◌, ◌||◌, ◌==◌, List, [], ◌∷◌, map, codes}
 use Rattle.std.specs.List.{ends_with, list_all, list_any, starts_with}
 use Rattle.std.specs.Str.{bytes_eq}
-use Rattle.swim_metrics.specs.declared.families.Kind.{Kind}
-use Rattle.swim_metrics.specs.declared.families.Kind.TheVariants.{Counter, Gauge, Histogram}
+use Rattle.swim_metrics.specs.declared.families.MetricKind.{MetricKind}
+use Rattle.swim_metrics.specs.declared.families.MetricKind.TheVariants.{Counter, Gauge, Histogram}
 use Rattle.swim_metrics.specs.declared.outside.Outside.{Outside}
 use Rattle.swim_metrics.specs.Families.{Family, all, family_of}
 use Rattle.swim_metrics.specs.declared.measures.Measures.{Measures}
@@ -24,7 +24,7 @@ names m out = map (λ f. f.name) (families m out)
 abbrev pub is_total : List ℕ → Bool
 is_total name = ends_with (λ a b. a == b) name (codes "_total")
 
-abbrev pub is_ended : Kind → List ℕ → Bool
+abbrev pub is_ended : MetricKind → List ℕ → Bool
 is_ended Counter name = is_total name
 is_ended Gauge name = not (is_total name)
 is_ended Histogram name = not (is_total name)

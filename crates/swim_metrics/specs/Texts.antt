@@ -1,20 +1,20 @@
 -- The texts that tell the metrics: Prometheus's exposition format, and the lines of `stats`.
 use Rattle.std.specs.Prelude.{ℕ, List, [], ◌∷◌, ◌++◌, codes}
 use Rattle.swim_history.specs.Texts.{feed}
-use Rattle.swim_metrics.specs.declared.families.Kind.{Kind}
-use Rattle.swim_metrics.specs.declared.families.Kind.TheVariants.{Counter, Gauge, Histogram}
+use Rattle.swim_metrics.specs.declared.families.MetricKind.{MetricKind}
+use Rattle.swim_metrics.specs.declared.families.MetricKind.TheVariants.{Counter, Gauge, Histogram}
 use Rattle.swim_metrics.specs.declared.families.Metric.{Metric}
 use Rattle.swim_metrics.specs.declared.outside.Outside.{Outside}
 use Rattle.swim_metrics.specs.Families.{Family, Sample, all, family_of}
 use Rattle.swim_metrics.specs.declared.measures.Measures.{Measures}
 
-abbrev pub kind_text : Kind → List ℕ
+abbrev pub kind_text : MetricKind → List ℕ
 kind_text Counter = codes "counter"
 kind_text Gauge = codes "gauge"
 kind_text Histogram = codes "histogram"
 
 -- what a metric tells, and its type
-abbrev pub head_text : List ℕ → List ℕ → Kind → List ℕ
+abbrev pub head_text : List ℕ → List ℕ → MetricKind → List ℕ
 head_text name help kind =
     codes "# HELP " ++ (name ++ (codes " " ++ (help ++
     (codes "\n# TYPE " ++ (name ++ (codes " " ++ (kind_text kind ++ feed)))))))

@@ -7,7 +7,7 @@ ghost use Rattle.swim_metrics.specs.Told.{samples_of};
 use crate::dropped::Dropped;
 use crate::measures::Measures;
 use crate::outside::Outside;
-use crate::waits::Waits;
+use crate::wait_histograms::Waits;
 
 /// A metric: what is told of a daemon.
 #[derive(Clone, Copy, Debug, PartialEq, Eq)]
@@ -76,7 +76,7 @@ pub enum Metric {
 
 /// How a metric is to be read.
 #[derive(Clone, Copy, Debug, PartialEq, Eq)]
-pub enum Kind {
+pub enum MetricKind {
     /// It only grows.
     Counter,
     /// It grows and falls.
@@ -104,7 +104,7 @@ pub(crate) struct Family<'a> {
     pub(crate) name: &'static str,
     /// What it tells.
     pub(crate) help: &'static str,
-    pub(crate) kind: Kind,
+    pub(crate) kind: MetricKind,
     pub(crate) samples: Samples<'a>,
 }
 
@@ -322,13 +322,13 @@ fn length_of(ticks: u32, tick_ms: u32) -> u64
 fn counter<'a>(name: &'static str, help: &'static str, samples: Samples<'a>) -> Family<'a>
     ensures name { result.name.now ≡ name.now }
     ensures help { result.help.now ≡ help.now }
-    ensures kind { result.kind ≡ Kind.Counter }
+    ensures kind { result.kind ≡ MetricKind.Counter }
     ensures samples { result.samples ≡ samples.entry }
 {
     Family {
         name,
         help,
-        kind: Kind::Counter,
+        kind: MetricKind::Counter,
         samples,
     }
 }
@@ -336,13 +336,13 @@ fn counter<'a>(name: &'static str, help: &'static str, samples: Samples<'a>) -> 
 fn gauge<'a>(name: &'static str, help: &'static str, samples: Samples<'a>) -> Family<'a>
     ensures name { result.name.now ≡ name.now }
     ensures help { result.help.now ≡ help.now }
-    ensures kind { result.kind ≡ Kind.Gauge }
+    ensures kind { result.kind ≡ MetricKind.Gauge }
     ensures samples { result.samples ≡ samples.entry }
 {
     Family {
         name,
         help,
-        kind: Kind::Gauge,
+        kind: MetricKind::Gauge,
         samples,
     }
 }
@@ -350,13 +350,13 @@ fn gauge<'a>(name: &'static str, help: &'static str, samples: Samples<'a>) -> Fa
 fn histogram<'a>(name: &'static str, help: &'static str, samples: Samples<'a>) -> Family<'a>
     ensures name { result.name.now ≡ name.now }
     ensures help { result.help.now ≡ help.now }
-    ensures kind { result.kind ≡ Kind.Histogram }
+    ensures kind { result.kind ≡ MetricKind.Histogram }
     ensures samples { result.samples ≡ samples.entry }
 {
     Family {
         name,
         help,
-        kind: Kind::Histogram,
+        kind: MetricKind::Histogram,
         samples,
     }
 }

@@ -13,13 +13,13 @@ use swim_wire::Id;
 
 /// The number of the period in which a member was last heard.
 #[derive(Clone, Copy, Debug, Default, PartialEq, Eq)]
-pub struct Hearing {
+pub struct LastHearing {
     pub member: Id,
     pub number: u64,
 }
 
 /// The last hearings, the newest first.
-type HearingRows = ArrayVec<Hearing, KNOWN_MEMBERS>;
+type HearingRows = ArrayVec<LastHearing, KNOWN_MEMBERS>;
 
 /// When each member was last heard in a life, as far as it was and wasn't removed since, by the entries of that life,
 /// read one by one. A contract sees the last hearings, the newest first.
@@ -30,10 +30,10 @@ pub struct Hearings {
 
 impl Model for Hearings {
     ghost use Rattle.std.specs.Prelude.{List};
-    ghost use Rattle.swim_metrics.specs.declared.hearings.Hearing.{Hearing};
+    ghost use Rattle.swim_metrics.specs.declared.hearings.LastHearing.{LastHearing};
     ghost use Rattle.swim_metrics.specs.LastHeard.{AreDifferent};
 
-    ghost Value = { List Hearing };
+    ghost Value = { List LastHearing };
 
     ghost view = { λ h. h.rows.items };
 
@@ -85,7 +85,7 @@ fn note(rows: &mut HearingRows, member: Id, number: u64)
 {
     forget(rows, member);
     if !rows.is_full() {
-        rows.insert(0, Hearing { member, number });
+        rows.insert(0, LastHearing { member, number });
     }
 }
 
@@ -97,7 +97,7 @@ fn forget(rows: &mut HearingRows, member: Id)
 }
 
 /// The number of the period in which a member was last heard.
-fn last_of(rows: &[Hearing], member: Id) -> Option<u64>
+fn last_of(rows: &[LastHearing], member: Id) -> Option<u64>
     ensures { result ≡ heard_at rows.now member }
 {
     rows.iter()

@@ -2,26 +2,26 @@
 #![tactic(auto)]
 
 mod counting;
-mod counts;
 mod dropped;
+mod entry_counts;
 mod families;
 mod hearings;
 pub mod laws;
 mod measures;
+mod metric_texts;
 mod metrics;
 mod outside;
 mod periods;
 mod samples;
 mod tests_of_entries;
-mod texts;
-mod waits;
+mod wait_histograms;
 
-pub use counts::Counts;
 pub use dropped::Dropped;
-pub use families::{ALL_METRICS, Kind, Metric};
-pub use hearings::{Hearing, Hearings};
+pub use entry_counts::EntryCounts;
+pub use families::{ALL_METRICS, Metric, MetricKind};
+pub use hearings::{Hearings, LastHearing};
 pub use measures::Measures;
+pub use metric_texts::{put_exposition, put_stats};
 pub use metrics::Metrics;
 pub use outside::Outside;
-pub use texts::{put_exposition, put_stats};
-pub use waits::{Bucket, Waits};
+pub use wait_histograms::{HistogramBucket, Waits};

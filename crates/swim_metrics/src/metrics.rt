@@ -10,7 +10,7 @@ ghost use Rattle.swim_metrics.specs.Counting.{failed_in, up_in};
 ghost use Rattle.swim_metrics.specs.Following.{Follows, begun, known_then, measures_of};
 ghost use Rattle.swim_metrics.specs.FailedFor.{failed_for, periods_since, state_in};
 
-use crate::counts::Counts;
+use crate::entry_counts::EntryCounts;
 use crate::measures::Measures;
 use crate::periods::Period;
 use std::marker::Model;
@@ -22,7 +22,7 @@ use swim_wire::Id;
 /// contract sees both, how many ticks old the period that runs is, and whether its aim was heard.
 #[derive(Drop)]
 pub struct Metrics {
-    counts: Counts,
+    counts: EntryCounts,
     period: Period,
     watching: Watching,
 }
@@ -46,7 +46,7 @@ impl Metrics {
         ensures follows { (number : ℕ) → Follows result (begun number opening.now []) }
         ensures known { result.known ≡ known opening.now [] }
     {
-        let mut counts = Counts::new();
+        let mut counts = EntryCounts::new();
         counts.begin();
         Metrics {
             counts,

@@ -9,7 +9,7 @@ ghost use Rattle.swim_metrics.specs.Told.{labelled_of, samples_of};
 
 use crate::dropped::Dropped;
 use crate::families::Samples;
-use crate::waits::{Bucket, Waits};
+use crate::wait_histograms::{HistogramBucket, Waits};
 use swim_wire::{Piece, Sink, put_pieces};
 
 /// A value, and what stands between the metric's name and it.
@@ -128,7 +128,7 @@ fn put_waits<W: Sink>(writer: &mut W, name: &str, waits: &Waits) -> bool
     put_each(writer, name, &totals)
 }
 
-fn put_buckets<W: Sink>(writer: &mut W, name: &str, buckets: &[Bucket]) -> bool
+fn put_buckets<W: Sink>(writer: &mut W, name: &str, buckets: &[HistogramBucket]) -> bool
     ensures bytes { Puts (W.written writer.old) (W.written writer.new)
         (samples_text name.now (map bucket_sample buckets.now)) result }
     ensures failures { W.failures writer.new ≡ failures_if (W.failures writer.old) result }
@@ -142,7 +142,7 @@ fn put_buckets<W: Sink>(writer: &mut W, name: &str, buckets: &[Bucket]) -> bool
     put_buckets(writer, name, others)
 }
 
-fn put_bucket<W: Sink>(writer: &mut W, name: &str, bucket: &Bucket) -> bool
+fn put_bucket<W: Sink>(writer: &mut W, name: &str, bucket: &HistogramBucket) -> bool
     ensures bytes { Puts (W.written writer.old) (W.written writer.new)
         (sample_text name.now (bucket_sample bucket.now)) result }
     ensures failures { W.failures writer.new ≡ failures_if (W.failures writer.old) result }

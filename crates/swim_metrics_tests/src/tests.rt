@@ -9,7 +9,7 @@ use crate::tests::expected::{exposition, stats};
 use std::process::Abort;
 use std::test::Fail;
 use swim_history::{Call, DropReason, Refusal, Reply};
-use swim_metrics::{Bucket, Hearings, Metrics, put_exposition, put_stats};
+use swim_metrics::{Hearings, HistogramBucket, Metrics, put_exposition, put_stats};
 use swim_wire::{Kind, Page};
 
 // Reads an entry. It says nothing of what it does, so that the proofs of long tests stay short.
@@ -140,7 +140,10 @@ fn counts_are_there_to_be_read(rt: HostRuntime) -> Result<(), Fail> {
     let counts = &measures.counts;
     assert_eq!(rt; counts.ticks, 11);
     assert_eq!(rt; counts.dropped.stray, 1);
-    assert_eq!(rt; counts.waits.buckets[1], Bucket { bound: 2, count: 2 });
+    assert_eq!(rt;
+        counts.waits.buckets[1],
+        HistogramBucket { bound: 2, count: 2 }
+    );
     assert_eq!(rt; (measures.up, measures.failed, measures.number), (3, 1, 12));
     Ok(())
 }

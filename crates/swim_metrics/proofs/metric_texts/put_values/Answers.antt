@@ -3,7 +3,7 @@ use Rattle.swim_wire.specs.Streams.{Puts}
 use Rattle.swim_metrics.specs.Families.{family_of}
 use Rattle.swim_metrics.specs.Told.{samples_of}
 use Rattle.swim_metrics.proofs.Lines.{lines_of}
-use Rattle.swim_metrics.proofs.texts.put_values.Goals as goal
+use Rattle.swim_metrics.proofs.metric_texts.put_values.Goals as goal
 
 pub returns-clause-bytes : goal.returns-clause-bytes
 returns-clause-bytes g c =

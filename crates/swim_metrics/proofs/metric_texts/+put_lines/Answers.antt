@@ -1,7 +1,7 @@
 use Rattle.swim_wire.specs.TwoPuts.{first_failed, both_put, others_of}
 use Rattle.swim_metrics.specs.Texts.{families_lines}
 use Rattle.swim_metrics.proofs.Lines.{first_lines}
-use Rattle.swim_metrics.proofs.texts.+put_lines.Goals as goal
+use Rattle.swim_metrics.proofs.metric_texts.+put_lines.Goals as goal
 
 pub returns-then-not-put_values-clause-bytes : goal.returns-then-not-put_values-clause-bytes
 returns-then-not-put_values-clause-bytes g t c =

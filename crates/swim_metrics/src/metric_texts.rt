@@ -6,7 +6,7 @@ ghost use Rattle.swim_metrics.specs.Families.{family_of};
 ghost use Rattle.swim_metrics.specs.Texts.{exposition_text, families_lines, families_text, family_lines, family_text};
 ghost use Rattle.swim_metrics.specs.Texts.{head_text, kind_text, samples_text, stats_text};
 
-use crate::families::{ALL_METRICS, Kind, Metric};
+use crate::families::{ALL_METRICS, Metric, MetricKind};
 use crate::measures::Measures;
 use crate::outside::Outside;
 use crate::samples::put_samples;
@@ -106,7 +106,7 @@ fn put_values<W: Sink>(
 }
 
 /// What a metric tells, and its type.
-fn put_head<'a, W: Sink>(writer: &mut W, name: &'a str, help: &'a str, kind: Kind) -> bool
+fn put_head<'a, W: Sink>(writer: &mut W, name: &'a str, help: &'a str, kind: MetricKind) -> bool
     ensures bytes { Puts (W.written writer.old) (W.written writer.new) (head_text name.now help.now kind) result }
     ensures failures { W.failures writer.new ≡ failures_if (W.failures writer.old) result }
 {
@@ -124,12 +124,12 @@ fn put_head<'a, W: Sink>(writer: &mut W, name: &'a str, help: &'a str, kind: Kin
     put_pieces(writer, &pieces)
 }
 
-fn kind_name(kind: Kind) -> &'static [u8]
+fn kind_name(kind: MetricKind) -> &'static [u8]
     ensures { result.now ≡ kind_text kind }
 {
     match kind {
-        Kind::Counter => b"counter",
-        Kind::Gauge => b"gauge",
-        Kind::Histogram => b"histogram",
+        MetricKind::Counter => b"counter",
+        MetricKind::Gauge => b"gauge",
+        MetricKind::Histogram => b"histogram",
     }
 }

@@ -15,12 +15,12 @@ use crate::tests_of_entries::{
     asks_in, is_heard_by_relay, is_heard_directly, is_join, is_pinged, is_removal, is_served,
     is_tick, is_verdict, pings_in,
 };
-use crate::waits::Waits;
+use crate::wait_histograms::Waits;
 use swim_history::{Call, Reply};
 
 /// What was counted of a node's entries, over all its lives. Each count stops at 2^64-1.
 #[derive(Clone, Copy, Debug, PartialEq, Eq)]
-pub struct Counts {
+pub struct EntryCounts {
     /// Ticks that were accepted.
     pub ticks: u64,
     /// Pings that were sent, those for other members among them.
@@ -51,12 +51,12 @@ pub struct Counts {
     pub waits: Waits,
 }
 
-impl Counts {
+impl EntryCounts {
     /// Nothing was counted yet.
-    pub(crate) fn new() -> Counts
+    pub(crate) fn new() -> EntryCounts
         ensures { Count result [] }
     {
-        Counts {
+        EntryCounts {
             ticks: 0,
             pings_sent: 0,
             pings_heard: 0,
@@ -84,12 +84,12 @@ impl Counts {
     }
 
     /// The counts after an entry that ended that wait, if it ended one.
-    pub(crate) fn after(&self, call: &Call, reply: &Reply, wait: Option<u64>) -> Counts
+    pub(crate) fn after(&self, call: &Call, reply: &Reply, wait: Option<u64>) -> EntryCounts
         ensures { (life : Lived) (older : List Lived) (e : Entry) → e.call ≡ call.now → e.reply ≡ reply.now →
             option_to_list wait ≡ map capped (wait_ended e life.past) →
             Count self.now (life ∷ older) → Count result (lived_on life e ∷ older) }
     {
-        Counts {
+        EntryCounts {
             ticks: more_if(self.ticks, is_tick(call, reply)),
             pings_sent: more(self.pings_sent, pings_in(reply)),
             pings_heard: more_if(self.pings_heard, is_pinged(call)),

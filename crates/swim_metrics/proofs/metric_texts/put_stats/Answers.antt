@@ -2,7 +2,7 @@ use Rattle.std.proofs.Common.{codes}
 use Rattle.swim_wire.specs.Streams.{puts_less, puts_then}
 use Rattle.swim_metrics.specs.Families.{all}
 use Rattle.swim_metrics.specs.Texts.{families_lines}
-use Rattle.swim_metrics.proofs.texts.put_stats.Goals as goal
+use Rattle.swim_metrics.proofs.metric_texts.put_stats.Goals as goal
 
 pub returns-then-not-put_lines-clause-bytes : goal.returns-then-not-put_lines-clause-bytes
 returns-then-not-put_lines-clause-bytes g c =

@@ -12,7 +12,7 @@ use Rattle.swim_metrics.specs.Following.{AreOf}
 use Rattle.swim_metrics.specs.Waiting.{wait_ended, waits, waits_in}
 use Rattle.swim_metrics.proofs.Buckets.{one_more_then}
 use Rattle.swim_metrics.proofs.Counted.{counted_if, counted_of}
-use Rattle.swim_metrics.proofs.counts.Counts.after.Goals as goal
+use Rattle.swim_metrics.proofs.entry_counts.EntryCounts.after.Goals as goal
 
 pub returns : goal.returns
 returns c = λ life older e calls replies ended held.

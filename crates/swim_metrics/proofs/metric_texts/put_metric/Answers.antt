@@ -3,7 +3,7 @@ use Rattle.swim_metrics.specs.Families.{family_of}
 use Rattle.swim_metrics.specs.Texts.{family_text, head_text, samples_text}
 use Rattle.swim_metrics.specs.Told.{samples_of}
 use Rattle.swim_metrics.proofs.Lines.{text_of}
-use Rattle.swim_metrics.proofs.texts.put_metric.Goals as goal
+use Rattle.swim_metrics.proofs.metric_texts.put_metric.Goals as goal
 
 pub returns-then-not-put_head-clause-bytes : goal.returns-then-not-put_head-clause-bytes
 returns-then-not-put_head-clause-bytes g c =

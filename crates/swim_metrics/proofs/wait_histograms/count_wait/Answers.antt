@@ -1,7 +1,7 @@
 use Rattle.std.proofs.Common.{arith}
 use Rattle.swim_metrics.specs.Following.{bucket_then}
 use Rattle.swim_metrics.proofs.Buckets.{map_from_each}
-use Rattle.swim_metrics.proofs.waits.count_wait.Goals as goal
+use Rattle.swim_metrics.proofs.wait_histograms.count_wait.Goals as goal
 
 pub returns : goal.returns
 returns c =

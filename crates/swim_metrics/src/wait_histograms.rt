@@ -10,7 +10,7 @@ use crate::counting::{more, more_if};
 
 /// How many waits were at most so long.
 #[derive(Clone, Copy, Debug, PartialEq, Eq)]
-pub struct Bucket {
+pub struct HistogramBucket {
     /// In ticks.
     pub bound: u64,
     pub count: u64,
@@ -20,7 +20,7 @@ pub struct Bucket {
 #[derive(Clone, Copy, Debug, PartialEq, Eq)]
 pub struct Waits {
     /// Each counts the waits of those before it, too.
-    pub buckets: [Bucket; 16],
+    pub buckets: [HistogramBucket; 16],
     /// All waits together.
     pub sum: u64,
     /// How many there were.
@@ -66,31 +66,31 @@ impl Waits {
 }
 
 /// The buckets of no wait. A period has at most 65535 ticks.
-fn no_buckets() -> [Bucket; 16]
+fn no_buckets() -> [HistogramBucket; 16]
     ensures { result ≡ map (bucket_of []) bounds }
 {
     [
-        Bucket::new(1),
-        Bucket::new(2),
-        Bucket::new(4),
-        Bucket::new(8),
-        Bucket::new(16),
-        Bucket::new(32),
-        Bucket::new(64),
-        Bucket::new(128),
-        Bucket::new(256),
-        Bucket::new(512),
-        Bucket::new(1024),
-        Bucket::new(2048),
-        Bucket::new(4096),
-        Bucket::new(8192),
-        Bucket::new(16384),
-        Bucket::new(32768),
+        HistogramBucket::new(1),
+        HistogramBucket::new(2),
+        HistogramBucket::new(4),
+        HistogramBucket::new(8),
+        HistogramBucket::new(16),
+        HistogramBucket::new(32),
+        HistogramBucket::new(64),
+        HistogramBucket::new(128),
+        HistogramBucket::new(256),
+        HistogramBucket::new(512),
+        HistogramBucket::new(1024),
+        HistogramBucket::new(2048),
+        HistogramBucket::new(4096),
+        HistogramBucket::new(8192),
+        HistogramBucket::new(16384),
+        HistogramBucket::new(32768),
     ]
 }
 
 /// Counts a wait in each bucket.
-fn count_wait(buckets: &mut [Bucket], wait: u64)
+fn count_wait(buckets: &mut [HistogramBucket], wait: u64)
     ensures { buckets.new ≡ map (bucket_then wait) buckets.old }
 {
     for bucket in buckets.iter_mut() {
@@ -98,19 +98,19 @@ fn count_wait(buckets: &mut [Bucket], wait: u64)
     }
 }
 
-impl Bucket {
+impl HistogramBucket {
     /// The bucket of no wait.
-    fn new(bound: u64) -> Bucket
+    fn new(bound: u64) -> HistogramBucket
         ensures { result ≡ bucket_of [] bound }
     {
-        Bucket { bound, count: 0 }
+        HistogramBucket { bound, count: 0 }
     }
 
     /// After a wait.
-    fn after(self, wait: u64) -> Bucket
+    fn after(self, wait: u64) -> HistogramBucket
         ensures { result ≡ bucket_then wait self }
     {
-        Bucket {
+        HistogramBucket {
             bound: self.bound,
             count: more_if(self.count, wait <= self.bound),
         }

@@ -1,7 +1,7 @@
 use Rattle.std.proofs.Common.{ap, sym, ◌∙◌}
 use Rattle.std.specs.Option.{option_to_list}
 use Rattle.swim_metrics.proofs.Buckets.{after_none, after_one}
-use Rattle.swim_metrics.proofs.waits.Waits.after.Goals as goal
+use Rattle.swim_metrics.proofs.wait_histograms.Waits.after.Goals as goal
 
 pub returns-in-Some : goal.returns-in-Some
 returns-in-Some c = λ ended waits is held.

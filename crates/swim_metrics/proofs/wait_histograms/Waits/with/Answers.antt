@@ -1,7 +1,7 @@
 use Rattle.std.proofs.Common.{ap, length, map, ◌∙◌}
 use Rattle.swim_metrics.specs.Following.{bucket_then}
 use Rattle.swim_metrics.proofs.Buckets.{all_buckets_then, one_more_then, total_then}
-use Rattle.swim_metrics.proofs.waits.Waits.with.Goals as goal
+use Rattle.swim_metrics.proofs.wait_histograms.Waits.with.Goals as goal
 
 pub returns : goal.returns
 returns c = λ ended waits is held. record {

@@ -1,7 +1,7 @@
 use Rattle.swim_wire.specs.TwoPuts.{first_failed, both_put, others_of}
 use Rattle.swim_metrics.specs.Texts.{families_text}
 use Rattle.swim_metrics.proofs.Lines.{first_family}
-use Rattle.swim_metrics.proofs.texts.+put_families.Goals as goal
+use Rattle.swim_metrics.proofs.metric_texts.+put_families.Goals as goal
 
 pub returns-then-not-put_metric-clause-bytes : goal.returns-then-not-put_metric-clause-bytes
 returns-then-not-put_metric-clause-bytes g t c =
