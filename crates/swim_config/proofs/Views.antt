@@ -11,10 +11,10 @@ use Rattle.toml.specs.declared.value.Value.{Value}
 use Rattle.swim_wire.specs.Address.{Address}
 use Rattle.swim_wire.specs.Arguments.{◌>>=◌}
 use Rattle.swim_config.specs.declared.config_fault.ConfigFault.{ConfigFault}
-use Rattle.swim_config.specs.declared.keys.Key.{Key}
+use Rattle.swim_config.specs.declared.keys.ConfigKey.{ConfigKey}
 use Rattle.swim_config.specs.Configuration.{is_name, has_only, are_tables, member_of, members_of}
 
-pub has_only_view : (known : List Key) (es : List Entry) →
+pub has_only_view : (known : List ConfigKey) (es : List Entry) →
     has_only known (members_view es) ≡ list_all (λ name. is_name known (string_bytes name)) (keys_of es)
 has_only_view known [] = refl
 has_only_view known (e ∷ es) = ap (λ b. is_name known (string_bytes e.0) && b) (has_only_view known es)

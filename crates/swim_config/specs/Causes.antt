@@ -7,10 +7,10 @@ use Rattle.swim_history.specs.declared.openings.OpeningFault.{OpeningFault}
 use Rattle.swim_history.specs.declared.openings.OpeningFault.TheVariants.{Relays, Timing, TooManyRows, Myself, Twice}
 use Rattle.swim_config.specs.declared.config_fault.ConfigFault.{ConfigFault}
 use Rattle.swim_config.specs.declared.config_fault.ConfigFault.TheVariants as faults
-use Rattle.swim_config.specs.declared.keys.Form.{Form}
-use Rattle.swim_config.specs.declared.keys.Form.TheVariants.{Number, Peer, Path, Seed, Keys, Members}
-use Rattle.swim_config.specs.declared.keys.Key.{Key}
-use Rattle.swim_config.specs.declared.keys.Key.TheVariants as keys
+use Rattle.swim_config.specs.declared.keys.ValueForm.{ValueForm}
+use Rattle.swim_config.specs.declared.keys.ValueForm.TheVariants.{Number, Peer, Path, Seed, Keys, Members}
+use Rattle.swim_config.specs.declared.keys.ConfigKey.{ConfigKey}
+use Rattle.swim_config.specs.declared.keys.ConfigKey.TheVariants as keys
 use Rattle.swim_config.specs.Configuration.{is_printing}
 use Rattle.swim_config.specs.Keys.{form_of, about_of}
 
@@ -43,7 +43,7 @@ pub record PutsLines (old new : Option (List ℕ)) (done : Bool) : Type 0 where
 -- ---- what was expected
 
 -- what the value of a key has to be, and what follows
-abbrev pub form_then : Form → List ℕ → List ℕ
+abbrev pub form_then : ValueForm → List ℕ → List ℕ
 form_then (Number least most) rest =
     codes "an integer from " ++ (decimal least ++ (codes " to " ++ (decimal most ++ rest)))
 form_then Peer rest = codes "a string IP:PORT, as 10.0.0.1:7000" ++ rest
@@ -56,10 +56,10 @@ form_then Members rest = codes "an array of tables, each with id and at" ++ rest
 abbrev pub purpose_text : List ℕ → List ℕ
 purpose_text about = codes " (" ++ (about ++ codes ")\n")
 
-abbrev pub expected_as : Form → List ℕ → List ℕ
+abbrev pub expected_as : ValueForm → List ℕ → List ℕ
 expected_as form about = codes "  expected: " ++ form_then form (purpose_text about)
 
-abbrev pub expected_of : Key → List ℕ
+abbrev pub expected_of : ConfigKey → List ℕ
 expected_of key = expected_as (form_of key) (about_of key)
 
 -- the rule that an opening broke

@@ -20,14 +20,14 @@ use Rattle.swim_history.specs.declared.openings.OpeningFault.{OpeningFault}
 use Rattle.swim_config.specs.declared.config.Config.{Config}
 use Rattle.swim_config.specs.declared.config_fault.ConfigFault.{ConfigFault}
 use Rattle.swim_config.specs.declared.config_fault.ConfigFault.TheVariants as faults
-use Rattle.swim_config.specs.declared.keys.Form.{Form}
-use Rattle.swim_config.specs.declared.keys.Form.TheVariants.{Number}
-use Rattle.swim_config.specs.declared.keys.Key.{Key}
-use Rattle.swim_config.specs.declared.keys.Key.TheVariants as keys
-use Rattle.swim_config.specs.declared.config.Place.{Place}
+use Rattle.swim_config.specs.declared.keys.ValueForm.{ValueForm}
+use Rattle.swim_config.specs.declared.keys.ValueForm.TheVariants.{Number}
+use Rattle.swim_config.specs.declared.keys.ConfigKey.{ConfigKey}
+use Rattle.swim_config.specs.declared.keys.ConfigKey.TheVariants as keys
+use Rattle.swim_config.specs.declared.config.OwnPlace.{OwnPlace}
 use Rattle.swim_config.specs.declared.config.Times.{Times}
-use Rattle.swim_config.specs.declared.config.Kept.{Kept}
-use Rattle.swim_config.specs.declared.config.Fence.{Fence}
+use Rattle.swim_config.specs.declared.config.JournalSettings.{JournalSettings}
+use Rattle.swim_config.specs.declared.config.FenceSettings.{FenceSettings}
 use Rattle.swim_config.specs.declared.config.Rejoin.{Rejoin}
 use Rattle.swim_config.specs.declared.config.JournalFiles.{JournalFiles}
 use Rattle.swim_config.specs.declared.config.Settings.{Settings}
@@ -37,21 +37,21 @@ use Rattle.swim_config.specs.Keys.{name_of, form_of, default_of, top_keys, membe
 -- ---- keys
 
 -- it is the name of one of the keys
-abbrev pub is_name : List Key → List ℕ → Bool
+abbrev pub is_name : List ConfigKey → List ℕ → Bool
 is_name known name = list_any (λ key. bytes_eq (name_of key) name) known
 
 -- each key of the table is one of these
-abbrev pub has_only : List Key → Members → Bool
+abbrev pub has_only : List ConfigKey → Members → Bool
 has_only known no_members = true
 has_only known (member name value others) = is_name known name && has_only known others
 
-abbrev pub only_keys : List Key → Members → Result (Unit {0}) ConfigFault
+abbrev pub only_keys : List ConfigKey → Members → Result (Unit {0}) ConfigFault
 only_keys known table = if has_only known table then Ok tt else Err faults.UnknownKey
 
 -- ---- values
 
 -- the value of a key that has to stand in the table
-abbrev pub value_at : Key → Members → Result Data ConfigFault
+abbrev pub value_at : ConfigKey → Members → Result Data ConfigFault
 value_at key table = ok_or (get_member (name_of key) table) (faults.Missing key)
 
 -- the number that an integer is, within these limits
@@ -60,31 +60,31 @@ within least most (pos n) = if nat_le least n && nat_le n most then Some n else 
 within least most (negsuc n) = None
 
 -- a value as a number of this form
-abbrev pub number_as : Form → Key → Data → Result ℕ ConfigFault
+abbrev pub number_as : ValueForm → ConfigKey → Data → Result ℕ ConfigFault
 number_as (Number least most) key value = do
   integer ← ok_or (as_integer value) (faults.Kind key)
   ok_or (within least most integer) (faults.Range key)
 number_as form key value = Err (faults.Kind key)
 
 -- the number of a key, its default where it is left out
-abbrev pub number_in : Key → Option Data → Result ℕ ConfigFault
+abbrev pub number_in : ConfigKey → Option Data → Result ℕ ConfigFault
 number_in key None = ok_or (default_of key) (faults.Missing key)
 number_in key (Some value) = number_as (form_of key) key value
 
 -- the key stands in the table
-abbrev pub is_given : Key → Members → Bool
+abbrev pub is_given : ConfigKey → Members → Bool
 is_given key table = is_some (get_member (name_of key) table)
 
-abbrev pub number_at : Key → Members → Result ℕ ConfigFault
+abbrev pub number_at : ConfigKey → Members → Result ℕ ConfigFault
 number_at key table = number_in key (get_member (name_of key) table)
 
 -- the value of a key as a text, and what the text says
-abbrev pub text_at : Key → Members → Result (List ℕ) ConfigFault
+abbrev pub text_at : ConfigKey → Members → Result (List ℕ) ConfigFault
 text_at key table = do
   value ← value_at key table
   ok_or (as_str value) (faults.Kind key)
 
-abbrev pub peer_at : Key → Members → Result Address ConfigFault
+abbrev pub peer_at : ConfigKey → Members → Result Address ConfigFault
 peer_at key table = do
   text ← text_at key table
   ok_or (address_of text) (faults.Peer key)
@@ -106,27 +106,27 @@ path_at table = do
   ok_or (path_of text) (faults.Range keys.Control)
 
 -- the path of a key that may be left out
-abbrev pub path_as : Key → Data → Result (List ℕ) ConfigFault
+abbrev pub path_as : ConfigKey → Data → Result (List ℕ) ConfigFault
 path_as key value = do
   text ← ok_or (as_str value) (faults.Kind key)
   ok_or (path_of text) (faults.Range key)
 
-abbrev pub path_in : Key → Option Data → Result (Option (List ℕ)) ConfigFault
+abbrev pub path_in : ConfigKey → Option Data → Result (Option (List ℕ)) ConfigFault
 path_in key None = Ok None
 path_in key (Some value) = do
   path ← path_as key value
   Ok (Some path)
 
-abbrev pub path_if : Key → Members → Result (Option (List ℕ)) ConfigFault
+abbrev pub path_if : ConfigKey → Members → Result (Option (List ℕ)) ConfigFault
 path_if key table = path_in key (get_member (name_of key) table)
 
 -- the path of this key, which isn't the other one
-abbrev pub another_than : Key → List ℕ → Option (List ℕ) → Result (Option (List ℕ)) ConfigFault
+abbrev pub another_than : ConfigKey → List ℕ → Option (List ℕ) → Result (Option (List ℕ)) ConfigFault
 another_than key other None = Ok None
 another_than key other (Some path) = if bytes_eq path other then Err (faults.Range key) else Ok (Some path)
 
 -- the same where the other one may be left out
-abbrev pub another_than_any : Key → Option (List ℕ) → Option (List ℕ) → Result (Option (List ℕ)) ConfigFault
+abbrev pub another_than_any : ConfigKey → Option (List ℕ) → Option (List ℕ) → Result (Option (List ℕ)) ConfigFault
 another_than_any key None path = Ok path
 another_than_any key (Some other) path = another_than key other path
 
@@ -191,7 +191,7 @@ members_at table = members_in (get_member (name_of keys.Member) table)
 -- ---- the whole
 
 -- where it listens
-unfoldable pub place_in : Members → Result Place ConfigFault
+unfoldable pub place_in : Members → Result OwnPlace ConfigFault
 place_in table = do
   id ← number_at keys.Id table
   listen ← peer_at keys.Listen table
@@ -210,8 +210,8 @@ times_in table = do
   Ok (record { k = k; rtt = rtt; period = period; tick_ms = tick_ms })
 
 -- what it draws from and writes down
-unfoldable pub kept_in : Members → Result Kept ConfigFault
-kept_in table = do
+unfoldable pub journal_settings_in : Members → Result JournalSettings ConfigFault
+journal_settings_in table = do
   seed ← seed_at table
   journal ← number_at keys.Journal table
   last ← number_at keys.Last table
@@ -231,7 +231,7 @@ files_in table = do
   Ok (record { dir = dir; keep = keep })
 
 -- how many datagrams a second of an address are handed on
-unfoldable pub fence_in : Members → Result Fence ConfigFault
+unfoldable pub fence_in : Members → Result FenceSettings ConfigFault
 fence_in table = do
   rate ← number_at keys.Fence table
   Ok (record { rate = rate; is_given = is_given keys.Fence table })
@@ -247,7 +247,7 @@ unfoldable pub settings_in : Members → Result Settings ConfigFault
 settings_in table = do
   place ← place_in table
   times ← times_in table
-  kept ← kept_in table
+  journal_settings ← journal_settings_in table
   version ← version_in table
   group ← keys_at table
   fence ← fence_in table
@@ -256,7 +256,7 @@ settings_in table = do
   Ok (record {
     place = place;
     times = times;
-    kept = kept;
+    journal_settings = journal_settings;
     version = version;
     keys = group;
     fence = fence;
@@ -267,11 +267,11 @@ settings_in table = do
 -- what the detector starts from
 abbrev pub setting_with : Settings → List (ℕ × Address) → Setting
 setting_with s members =
-    setting_of s.place.id s.times.k s.times.rtt s.times.period members s.kept.last s.version
+    setting_of s.place.id s.times.k s.times.rtt s.times.period members s.journal_settings.last s.version
 
 -- there are keys, and no last number that the daemon begins behind: then the clock tells it
 abbrev pub begins_by_clock : Settings → Bool
-begins_by_clock s = nat_lt 0 (length s.keys.items) && not s.kept.is_last_given
+begins_by_clock s = nat_lt 0 (length s.keys.items) && not s.journal_settings.is_last_given
 
 -- the configuration of these settings and this opening, if the opening has no fault
 abbrev pub config_unless : Option OpeningFault → Settings → Setting → Result Config ConfigFault
@@ -283,8 +283,8 @@ config_unless None s opening =
       events = s.place.events;
       metrics = s.place.metrics;
       tick_ms = s.times.tick_ms;
-      seed = s.kept.seed;
-      journal = s.kept.journal;
+      seed = s.journal_settings.seed;
+      journal = s.journal_settings.journal;
       keys = s.keys;
       begins_by_clock = begins_by_clock s;
       fence = s.fence.rate;
@@ -332,7 +332,7 @@ abbrev pub told_rejoin : Config → Option ℕ
 told_rejoin config = if config.is_rejoin_given then Some config.rejoin else None
 
 -- the number that a summary tells of a key; none where it tells none, as of a key that is left out
-abbrev pub number_of : Key → Config → Option ℕ
+abbrev pub number_of : ConfigKey → Config → Option ℕ
 number_of keys.K config = Some config.opening.k
 number_of keys.Rtt config = Some config.opening.rtt
 number_of keys.Period config = Some config.opening.period

@@ -11,7 +11,7 @@ use Rattle.swim_wire.specs.Arguments.{◌>>=◌}
 use Rattle.swim_keys.specs.KeyTexts.{key_of}
 use Rattle.swim_config.specs.declared.config_fault.ConfigFault.{ConfigFault}
 use Rattle.swim_config.specs.declared.config_fault.ConfigFault.TheVariants.{Kind, Range}
-use Rattle.swim_config.specs.declared.keys.Key.TheVariants.{Keys}
+use Rattle.swim_config.specs.declared.keys.ConfigKey.TheVariants.{Keys}
 use Rattle.swim_config.specs.Keys.{name_of}
 
 -- the key that a value spells

@@ -17,10 +17,10 @@ use Rattle.swim_config.specs.Configuration.{is_printing}
 use Rattle.swim_config.specs.Keys.{form_of, about_of}
 use Rattle.swim_config.specs.declared.config_fault.ConfigFault.{ConfigFault}
 use Rattle.swim_config.specs.declared.config_fault.ConfigFault.TheVariants as faults
-use Rattle.swim_config.specs.declared.keys.Form.{Form}
-use Rattle.swim_config.specs.declared.keys.Form.TheVariants.{Number, Peer, Path, Seed, Keys, Members}
-use Rattle.swim_config.specs.declared.keys.Key.{Key}
-use Rattle.swim_config.specs.declared.keys.Key.TheVariants as keys
+use Rattle.swim_config.specs.declared.keys.ValueForm.{ValueForm}
+use Rattle.swim_config.specs.declared.keys.ValueForm.TheVariants.{Number, Peer, Path, Seed, Keys, Members}
+use Rattle.swim_config.specs.declared.keys.ConfigKey.{ConfigKey}
+use Rattle.swim_config.specs.declared.keys.ConfigKey.TheVariants as keys
 
 pub none_indented : AreIndented []
 none_indented = record { lines = []; printing = refl; is = refl }
@@ -108,17 +108,17 @@ number_expected least most about l m prints =
     (part_then (decimal most) (purpose_text about) (number_prints most m) (purpose_ends about prints))))))
 
 -- what the table says of a key prints, and its numbers fit 64 bits
-about_prints : (key : Key) → list_all is_printing (about_of key) ≡ true
+about_prints : (key : ConfigKey) → list_all is_printing (about_of key) ≡ true
 about_prints key = grind arith
 
-abbrev Fits : Form → Type 0
+abbrev Fits : ValueForm → Type 0
 Fits (Number least most) = (least < 2 ^ 64) × (most < 2 ^ 64)
 Fits form = Unit {0}
 
-form_fits : (key : Key) → Fits (form_of key)
+form_fits : (key : ConfigKey) → Fits (form_of key)
 form_fits key = grind arith
 
-form_indented : (form : Form) (about : List ℕ) → Fits form → list_all is_printing about ≡ true → AreIndented (expected_as form about)
+form_indented : (form : ValueForm) (about : List ℕ) → Fits form → list_all is_printing about ≡ true → AreIndented (expected_as form about)
 form_indented (Number least most) about fits prints = number_expected least most about fits.0 fits.1 prints
 form_indented Peer about fits prints = words_expected (codes "a string IP:PORT, as 10.0.0.1:7000") about refl prints
 form_indented Path about fits prints =
@@ -129,7 +129,7 @@ form_indented Keys about fits prints =
 form_indented Members about fits prints =
     words_expected (codes "an array of tables, each with id and at") about refl prints
 
-key_indented : (key : Key) → AreIndented (expected_of key)
+key_indented : (key : ConfigKey) → AreIndented (expected_of key)
 key_indented key = form_indented (form_of key) (about_of key) (form_fits key) (about_prints key)
 
 rule_indented : (fault : OpeningFault) → AreIndented (rule_text fault)

@@ -1,26 +1,26 @@
 -- The keys of a configuration, as one table.
 use Rattle.std.specs.Prelude.{ℕ, Bool, true, false, List, [], ◌∷◌, Option, Some, None, codes}
-use Rattle.swim_config.specs.declared.keys.Form.{Form}
-use Rattle.swim_config.specs.declared.keys.Form.TheVariants.{Number, Peer, Path, Seed, Keys, Members}
-use Rattle.swim_config.specs.declared.keys.Key.{Key}
-use Rattle.swim_config.specs.declared.keys.Key.TheVariants as keys
+use Rattle.swim_config.specs.declared.keys.ValueForm.{ValueForm}
+use Rattle.swim_config.specs.declared.keys.ValueForm.TheVariants.{Number, Peer, Path, Seed, Keys, Members}
+use Rattle.swim_config.specs.declared.keys.ConfigKey.{ConfigKey}
+use Rattle.swim_config.specs.declared.keys.ConfigKey.TheVariants as keys
 
 -- what the table says of a key: its name where it stands, what its value has to be, the number that it has where it is left
 -- out, what it is for, and whether its number begins a line of the summary
 pub record KeyEntry : Type 0 where
   pub name : List ℕ
-  pub form : Form
+  pub form : ValueForm
   pub default : Option ℕ
   pub about : List ℕ
   pub begins_line : Bool
 
 -- an entry without a default, whose number begins no line
-abbrev pub required : List ℕ → Form → List ℕ → KeyEntry
+abbrev pub required : List ℕ → ValueForm → List ℕ → KeyEntry
 required name form about =
     record { name = name; form = form; default = None; about = about; begins_line = false }
 
 -- the table
-abbrev pub entry_of : Key → KeyEntry
+abbrev pub entry_of : ConfigKey → KeyEntry
 entry_of keys.Id = required (codes "id") (Number 1 4294967295) (codes "this member")
 entry_of keys.Listen = required (codes "listen") Peer (codes "where its datagrams come in")
 entry_of keys.Control = required (codes "control") Path (codes "the path of the control socket")
@@ -88,40 +88,40 @@ entry_of keys.MemberId = required (codes "id") (Number 1 4294967295) (codes "ano
 entry_of keys.MemberAt = required (codes "at") Peer (codes "where another member listens")
 
 -- the keys of a configuration, and those of a member, in the order in which their faults are told
-abbrev pub top_keys : List Key
+abbrev pub top_keys : List ConfigKey
 top_keys =
     keys.Id ∷ keys.Listen ∷ keys.Control ∷ keys.Events ∷ keys.Metrics ∷ keys.K ∷ keys.Rtt ∷ keys.Period ∷ keys.TickMs ∷
     keys.Seed ∷ keys.Journal ∷ keys.Last ∷ keys.Wire ∷ keys.Keys ∷ keys.Fence ∷ keys.Rejoin ∷ keys.JournalDir ∷
     keys.JournalKeep ∷ keys.Member ∷ []
 
-abbrev pub member_keys : List Key
+abbrev pub member_keys : List ConfigKey
 member_keys = keys.MemberId ∷ keys.MemberAt ∷ []
 
 -- those whose numbers a summary tells behind its first three lines, in this order
-abbrev pub number_keys : List Key
+abbrev pub number_keys : List ConfigKey
 number_keys =
     keys.K ∷ keys.Rtt ∷ keys.Period ∷ keys.TickMs ∷ keys.Last ∷ keys.Journal ∷ keys.Wire ∷ keys.Keys ∷ keys.Fence ∷
     keys.Rejoin ∷ keys.JournalKeep ∷ []
 
 -- ---- what follows of a key
 
-abbrev pub name_of : Key → List ℕ
+abbrev pub name_of : ConfigKey → List ℕ
 name_of key = (entry_of key).name
 
-abbrev pub form_of : Key → Form
+abbrev pub form_of : ConfigKey → ValueForm
 form_of key = (entry_of key).form
 
-abbrev pub default_of : Key → Option ℕ
+abbrev pub default_of : ConfigKey → Option ℕ
 default_of key = (entry_of key).default
 
-abbrev pub about_of : Key → List ℕ
+abbrev pub about_of : ConfigKey → List ℕ
 about_of key = (entry_of key).about
 
-abbrev pub begins_line : Key → Bool
+abbrev pub begins_line : ConfigKey → Bool
 begins_line key = (entry_of key).begins_line
 
 -- a key, as faults name it
-abbrev pub key_text : Key → List ℕ
+abbrev pub key_text : ConfigKey → List ℕ
 key_text keys.MemberId = codes "member.id"
 key_text keys.MemberAt = codes "member.at"
 key_text key = name_of key

@@ -7,8 +7,8 @@ use Rattle.toml.specs.View.{table_view}
 use Rattle.toml.specs.declared.value.Value.{Value}
 use Rattle.swim_config.specs.declared.config_fault.ConfigFault.{ConfigFault}
 use Rattle.swim_config.specs.declared.config_fault.ConfigFault.TheVariants.{NoMemory}
-use Rattle.swim_config.specs.declared.keys.Form.{Form}
-use Rattle.swim_config.specs.declared.keys.Form.TheVariants.{Number}
+use Rattle.swim_config.specs.declared.keys.ValueForm.{ValueForm}
+use Rattle.swim_config.specs.declared.keys.ValueForm.TheVariants.{Number}
 
 -- it is what the format says, or memory was refused
 abbrev pub OrNoMemory : {A : Type 0} → Result A ConfigFault → Result A ConfigFault → Type 0
@@ -28,11 +28,11 @@ table_read (Ok table) = Ok (table_view table)
 table_read (Err fault) = Err fault
 
 -- a number of that form
-abbrev pub IsWithin : Form → ℕ → Type 0
+abbrev pub IsWithin : ValueForm → ℕ → Type 0
 IsWithin (Number least most) number = (least ≤ number) × (number ≤ most)
 IsWithin form number = Unit {0}
 
 -- its numbers fit 32 bits
-abbrev pub IsSmall : Form → Type 0
+abbrev pub IsSmall : ValueForm → Type 0
 IsSmall (Number least most) = most < 2 ^ 32
 IsSmall form = Unit {0}

@@ -4,25 +4,25 @@ use Rattle.swim_wire.specs.Address.{address_text}
 use Rattle.swim_history.specs.Changes.{ascending}
 use Rattle.swim_history.specs.declared.rows.Row.{Row}
 use Rattle.swim_config.specs.declared.config.Config.{Config}
-use Rattle.swim_config.specs.declared.keys.Key.{Key}
+use Rattle.swim_config.specs.declared.keys.ConfigKey.{ConfigKey}
 use Rattle.swim_config.specs.Configuration.{number_of}
 use Rattle.swim_config.specs.Keys.{begins_line, name_of, number_keys}
 
 -- ---- numbers
 
 -- what stands before a key: it begins a line, or goes on with the one before
-abbrev pub mark_of : Key → List ℕ
+abbrev pub mark_of : ConfigKey → List ℕ
 mark_of key = if begins_line key then codes "\n" else codes " "
 
 -- a key and its number, if it has one
-abbrev pub number_text : Key → Option ℕ → List ℕ
+abbrev pub number_text : ConfigKey → Option ℕ → List ℕ
 number_text key None = []
 number_text key (Some number) = mark_of key ++ (name_of key ++ (codes " " ++ decimal number))
 
-abbrev pub told_text : Config → Key → List ℕ
+abbrev pub told_text : Config → ConfigKey → List ℕ
 told_text config key = number_text key (number_of key config)
 
-abbrev pub numbers_text : Config → List Key → List ℕ
+abbrev pub numbers_text : Config → List ConfigKey → List ℕ
 numbers_text config [] = []
 numbers_text config (key ∷ others) = told_text config key ++ numbers_text config others
 

@@ -4,13 +4,13 @@ ghost use Rattle.std.specs.Prelude.{◌≡◌};
 ghost use Rattle.toml.specs.View.{table_view};
 ghost use Rattle.swim_wire.specs.Layout.{version_of};
 ghost use Rattle.swim_config.specs.Configuration.{config_with, fence_in, files_in};
-ghost use Rattle.swim_config.specs.Configuration.{kept_in, number_of, place_in, rejoin_in, settings_in, times_in};
+ghost use Rattle.swim_config.specs.Configuration.{journal_settings_in, number_of, place_in, rejoin_in, settings_in, times_in};
 ghost use Rattle.swim_config.specs.Configuration.{told_count, told_fence, told_keep, told_last, told_rejoin, told_version};
 ghost use Rattle.swim_config.specs.Configuration.{version_in};
 
 use crate::config_fault::ConfigFault;
 use crate::group_keys::{GroupKeys, take_keys};
-use crate::keys::Key;
+use crate::keys::ConfigKey;
 use crate::paths::{take_events, take_metrics};
 use crate::socket_path::SocketPath;
 use crate::values::{
@@ -58,7 +58,7 @@ pub struct Config {
 
 /// Who this member is, and where it listens.
 #[derive(Debug, Drop)]
-pub struct Place {
+pub struct OwnPlace {
     pub id: Id,
     pub listen: Peer,
     pub control: SocketPath,
@@ -77,7 +77,7 @@ pub struct Times {
 
 /// What is drawn from and written down.
 #[derive(Clone, Copy, Debug, PartialEq, Eq)]
-pub struct Kept {
+pub struct JournalSettings {
     pub seed: [u8; 32],
     pub journal: u32,
     pub last: u64,
@@ -87,7 +87,7 @@ pub struct Kept {
 
 /// What is thrown away before it is looked at.
 #[derive(Clone, Copy, Debug, PartialEq, Eq)]
-pub struct Fence {
+pub struct FenceSettings {
     /// How many datagrams a second of an address are handed on; 0 for all.
     pub rate: u32,
     /// Whether it stands in the document.
@@ -115,35 +115,35 @@ pub struct JournalFiles {
 /// All of it, but for the members.
 #[derive(Debug, Drop)]
 pub struct Settings {
-    pub place: Place,
+    pub place: OwnPlace,
     pub times: Times,
-    pub kept: Kept,
+    pub journal_settings: JournalSettings,
     /// The version of its own pings and ping-reqs.
     pub version: Version,
     pub keys: GroupKeys,
-    pub fence: Fence,
+    pub fence: FenceSettings,
     pub rejoin: Rejoin,
     pub files: JournalFiles,
 }
 
 impl Config {
     /// The number that a summary tells of a key. `None` where it tells none, as of a key that is left out.
-    pub fn number(&self, key: Key) -> Option<u64>
+    pub fn number(&self, key: ConfigKey) -> Option<u64>
         ensures { result ≡ number_of key self.now }
     {
         let opening = &self.opening;
         match key {
-            Key::K => Some(u64::from(opening.k())),
-            Key::Rtt => Some(u64::from(opening.rtt())),
-            Key::Period => Some(u64::from(opening.period())),
-            Key::TickMs => Some(u64::from(self.tick_ms)),
-            Key::Last => self.told_last(),
-            Key::Journal => Some(u64::from(self.journal)),
-            Key::Wire => told_version(opening.version()),
-            Key::Keys => told_count(self.keys.len()),
-            Key::Fence => self.told_fence(),
-            Key::Rejoin => self.told_rejoin(),
-            Key::JournalKeep => self.files.told_keep(),
+            ConfigKey::K => Some(u64::from(opening.k())),
+            ConfigKey::Rtt => Some(u64::from(opening.rtt())),
+            ConfigKey::Period => Some(u64::from(opening.period())),
+            ConfigKey::TickMs => Some(u64::from(self.tick_ms)),
+            ConfigKey::Last => self.told_last(),
+            ConfigKey::Journal => Some(u64::from(self.journal)),
+            ConfigKey::Wire => told_version(opening.version()),
+            ConfigKey::Keys => told_count(self.keys.len()),
+            ConfigKey::Fence => self.told_fence(),
+            ConfigKey::Rejoin => self.told_rejoin(),
+            ConfigKey::JournalKeep => self.files.told_keep(),
             _ => None,
         }
     }
@@ -219,7 +219,7 @@ pub fn take_settings(table: &Table) -> Result<Settings, ConfigFault>
 {
     let place = take_place(table)?;
     let times = take_times(table)?;
-    let kept = take_kept(table)?;
+    let journal_settings = take_journal_settings(table)?;
     let version = take_version(table)?;
     let keys = take_keys(table)?;
     let fence = take_fence(table)?;
@@ -228,7 +228,7 @@ pub fn take_settings(table: &Table) -> Result<Settings, ConfigFault>
     Ok(Settings {
         place,
         times,
-        kept,
+        journal_settings,
         version,
         keys,
         fence,
@@ -238,15 +238,15 @@ pub fn take_settings(table: &Table) -> Result<Settings, ConfigFault>
 }
 
 #[tactic(auto, unfolding(crate::specs::Configuration::place_in))]
-fn take_place(table: &Table) -> Result<Place, ConfigFault>
+fn take_place(table: &Table) -> Result<OwnPlace, ConfigFault>
     ensures { result ≡ place_in (table_view table.now) }
 {
-    let id = take_id(table, Key::Id)?;
-    let listen = take_peer(table, Key::Listen)?;
+    let id = take_id(table, ConfigKey::Id)?;
+    let listen = take_peer(table, ConfigKey::Listen)?;
     let control = take_path(table)?;
     let events = take_events(table, &control)?;
     let metrics = take_metrics(table, &control, &events)?;
-    Ok(Place {
+    Ok(OwnPlace {
         id,
         listen,
         control,
@@ -259,10 +259,10 @@ fn take_place(table: &Table) -> Result<Place, ConfigFault>
 fn take_times(table: &Table) -> Result<Times, ConfigFault>
     ensures { result ≡ times_in (table_view table.now) }
 {
-    let k = take_small(table, Key::K)?;
-    let rtt = take_small(table, Key::Rtt)?;
-    let period = take_small(table, Key::Period)?;
-    let tick_ms = take_small(table, Key::TickMs)?;
+    let k = take_small(table, ConfigKey::K)?;
+    let rtt = take_small(table, ConfigKey::Rtt)?;
+    let period = take_small(table, ConfigKey::Period)?;
+    let tick_ms = take_small(table, ConfigKey::TickMs)?;
     Ok(Times {
         k,
         rtt,
@@ -271,15 +271,15 @@ fn take_times(table: &Table) -> Result<Times, ConfigFault>
     })
 }
 
-#[tactic(auto, unfolding(crate::specs::Configuration::kept_in))]
-fn take_kept(table: &Table) -> Result<Kept, ConfigFault>
-    ensures { result ≡ kept_in (table_view table.now) }
+#[tactic(auto, unfolding(crate::specs::Configuration::journal_settings_in))]
+fn take_journal_settings(table: &Table) -> Result<JournalSettings, ConfigFault>
+    ensures { result ≡ journal_settings_in (table_view table.now) }
 {
     let seed = take_seed(table)?;
-    let journal = take_small(table, Key::Journal)?;
-    let last = take_number(table, Key::Last)?;
-    let is_last_given = find(table, Key::Last).is_some();
-    Ok(Kept {
+    let journal = take_small(table, ConfigKey::Journal)?;
+    let last = take_number(table, ConfigKey::Last)?;
+    let is_last_given = find(table, ConfigKey::Last).is_some();
+    Ok(JournalSettings {
         seed,
         journal,
         last,
@@ -291,7 +291,7 @@ fn take_kept(table: &Table) -> Result<Kept, ConfigFault>
 fn take_version(table: &Table) -> Result<Version, ConfigFault>
     ensures { result ≡ version_in (table_view table.now) }
 {
-    let wire = take_number(table, Key::Wire)?;
+    let wire = take_number(table, ConfigKey::Wire)?;
     Ok(version_of(wire))
 }
 
@@ -307,20 +307,20 @@ fn version_of(wire: u64) -> Version
 }
 
 #[tactic(auto, unfolding(crate::specs::Configuration::fence_in))]
-fn take_fence(table: &Table) -> Result<Fence, ConfigFault>
+fn take_fence(table: &Table) -> Result<FenceSettings, ConfigFault>
     ensures { result ≡ fence_in (table_view table.now) }
 {
-    let rate = take_small_or(table, Key::Fence, 1_000)?;
-    let is_given = find(table, Key::Fence).is_some();
-    Ok(Fence { rate, is_given })
+    let rate = take_small_or(table, ConfigKey::Fence, 1_000)?;
+    let is_given = find(table, ConfigKey::Fence).is_some();
+    Ok(FenceSettings { rate, is_given })
 }
 
 #[tactic(auto, unfolding(crate::specs::Configuration::rejoin_in))]
 fn take_rejoin(table: &Table) -> Result<Rejoin, ConfigFault>
     ensures { result ≡ rejoin_in (table_view table.now) }
 {
-    let periods = take_small_or(table, Key::Rejoin, 0)?;
-    let is_given = find(table, Key::Rejoin).is_some();
+    let periods = take_small_or(table, ConfigKey::Rejoin, 0)?;
+    let is_given = find(table, ConfigKey::Rejoin).is_some();
     Ok(Rejoin { periods, is_given })
 }
 
@@ -328,8 +328,8 @@ fn take_rejoin(table: &Table) -> Result<Rejoin, ConfigFault>
 fn take_files(table: &Table) -> Result<JournalFiles, ConfigFault>
     ensures { result ≡ files_in (table_view table.now) }
 {
-    let dir = take_path_if(table, Key::JournalDir)?;
-    let keep = take_number(table, Key::JournalKeep)?;
+    let dir = take_path_if(table, ConfigKey::JournalDir)?;
+    let keep = take_number(table, ConfigKey::JournalKeep)?;
     Ok(JournalFiles { dir, keep })
 }
 
@@ -340,22 +340,22 @@ pub fn config_with(settings: Settings, members: &[(Id, Peer)]) -> Result<Config,
     let Settings {
         place,
         times,
-        kept,
+        journal_settings,
         version,
         keys,
         fence,
         rejoin,
         files,
     } = settings;
-    let seed = kept.seed;
-    let begins_by_clock = !keys.is_empty() && !kept.is_last_given;
+    let seed = journal_settings.seed;
+    let begins_by_clock = !keys.is_empty() && !journal_settings.is_last_given;
     match Opening::check(
         place.id,
         times.k,
         times.rtt,
         times.period,
         members,
-        kept.last,
+        journal_settings.last,
         version,
     ) {
         Err(fault) => Err(ConfigFault::Opening(fault)),
@@ -366,7 +366,7 @@ pub fn config_with(settings: Settings, members: &[(Id, Peer)]) -> Result<Config,
             metrics: place.metrics,
             tick_ms: times.tick_ms,
             seed,
-            journal: kept.journal,
+            journal: journal_settings.journal,
             keys,
             begins_by_clock,
             fence: fence.rate,

@@ -1,6 +1,6 @@
 //! What is wrong with a configuration.
 
-use crate::keys::Key;
+use crate::keys::ConfigKey;
 use swim_history::OpeningFault;
 
 /// Why there is no configuration. The first that applies is told.
@@ -13,13 +13,13 @@ pub enum ConfigFault {
     /// A key that a configuration doesn't have.
     UnknownKey,
     /// A key is missing.
-    Missing(Key),
+    Missing(ConfigKey),
     /// A value of another kind.
-    Kind(Key),
+    Kind(ConfigKey),
     /// A number or a path that is out of range.
-    Range(Key),
+    Range(ConfigKey),
     /// A refused address.
-    Peer(Key),
+    Peer(ConfigKey),
     /// A refused seed.
     Seed,
     /// The detector can't start so.

@@ -5,7 +5,7 @@ ghost use Rattle.swim_wire.specs.Streams.{Puts, failures_if};
 ghost use Rattle.swim_config.specs.Causes.{expected_as, expected_of, expected_text, purpose_text, rule_text};
 
 use crate::config_fault::ConfigFault;
-use crate::keys::{Form, Key};
+use crate::keys::{ConfigKey, ValueForm};
 use swim_history::OpeningFault;
 use swim_wire::{Piece, Sink, put_pieces};
 
@@ -21,14 +21,14 @@ pub fn put_expected<W: Sink>(writer: &mut W, fault: ConfigFault) -> bool
         | ConfigFault::Kind(key)
         | ConfigFault::Range(key)
         | ConfigFault::Peer(key) => put_expected_of(writer, key),
-        ConfigFault::Seed => put_expected_of(writer, Key::Seed),
+        ConfigFault::Seed => put_expected_of(writer, ConfigKey::Seed),
         ConfigFault::Opening(fault) => put_rule(writer, fault),
         ConfigFault::UnknownKey | ConfigFault::NoMemory => writer.put(b""),
     }
 }
 
 /// What the value of a key has to be.
-fn put_expected_of<W: Sink>(writer: &mut W, key: Key) -> bool
+fn put_expected_of<W: Sink>(writer: &mut W, key: ConfigKey) -> bool
     ensures bytes { Puts (W.written writer.old) (W.written writer.new) (expected_of key) result }
     ensures failures { W.failures writer.new ≡ failures_if (W.failures writer.old) result }
 {
@@ -36,32 +36,32 @@ fn put_expected_of<W: Sink>(writer: &mut W, key: Key) -> bool
 }
 
 /// What a value has to be that is for this.
-fn put_form<W: Sink>(writer: &mut W, form: Form, about: &[u8]) -> bool
+fn put_form<W: Sink>(writer: &mut W, form: ValueForm, about: &[u8]) -> bool
     ensures bytes { Puts (W.written writer.old) (W.written writer.new) (expected_as form about.now) result }
     ensures failures { W.failures writer.new ≡ failures_if (W.failures writer.old) result }
 {
     match form {
-        Form::Number(least, most) => put_range(writer, least, most, about),
-        Form::Peer => put_text(writer, b"a string IP:PORT, as 10.0.0.1:7000", about),
-        Form::Path => put_text(
+        ValueForm::Number(least, most) => put_range(writer, least, most, about),
+        ValueForm::Peer => put_text(writer, b"a string IP:PORT, as 10.0.0.1:7000", about),
+        ValueForm::Path => put_text(
             writer,
             b"a string of 1 to 100 characters of ASCII that print",
             about,
         ),
-        Form::Seed => put_text(writer, b"a string of 64 hexadecimal digits", about),
-        Form::Keys => put_text(
+        ValueForm::Seed => put_text(writer, b"a string of 64 hexadecimal digits", about),
+        ValueForm::Keys => put_text(
             writer,
             b"an array of 1 to 4 strings of 64 hexadecimal digits",
             about,
         ),
-        Form::Members => put_text(writer, b"an array of tables, each with id and at", about),
+        ValueForm::Members => put_text(writer, b"an array of tables, each with id and at", about),
     }
 }
 
 /// That a number was expected.
 fn put_range<W: Sink>(writer: &mut W, least: u64, most: u64, about: &[u8]) -> bool
     ensures bytes { Puts (W.written writer.old) (W.written writer.new)
-        (expected_as (Form.Number least most) about.now) result }
+        (expected_as (ValueForm.Number least most) about.now) result }
     ensures failures { W.failures writer.new ≡ failures_if (W.failures writer.old) result }
 {
     let pieces = [

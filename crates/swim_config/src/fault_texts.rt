@@ -7,7 +7,7 @@ ghost use Rattle.swim_config.specs.FaultTexts.{fault_text};
 ghost use Rattle.swim_config.specs.Keys.{key_text};
 
 use crate::config_fault::ConfigFault;
-use crate::keys::Key;
+use crate::keys::ConfigKey;
 use swim_history::OpeningFault;
 use swim_wire::{Piece, Sink, put_pieces};
 
@@ -31,7 +31,7 @@ pub fn put_fault<W: Sink>(writer: &mut W, fault: ConfigFault) -> bool
 }
 
 /// The line of a fault that names its key.
-fn put_key_fault<W: Sink>(writer: &mut W, words: &[u8], key: Key) -> bool
+fn put_key_fault<W: Sink>(writer: &mut W, words: &[u8], key: ConfigKey) -> bool
     ensures bytes { Puts (W.written writer.old) (W.written writer.new) (words.now ++ (key_text key ++ feed)) result }
     ensures failures { W.failures writer.new ≡ failures_if (W.failures writer.old) result }
 {

@@ -5,11 +5,11 @@ ghost use Rattle.swim_wire.specs.Streams.{failures_if};
 ghost use Rattle.swim_config.specs.Causes.{PutsLines};
 
 use crate::config_fault::ConfigFault;
-use crate::details::DetailLine;
+use crate::detail_lines::DetailLine;
+use crate::fault_places::places_of;
 use crate::hiding::{add_without_keys, has_keys, names_key};
-use crate::keys::Key;
-use crate::places::places_of;
-use crate::statements::{Place, line_at, line_of};
+use crate::keys::ConfigKey;
+use crate::statements::{StatementPlace, line_at, line_of};
 use crate::unknown_keys::{first_unknown, nearest};
 use std::alloc::Global;
 use swim_wire::Sink;
@@ -133,7 +133,7 @@ fn put_both<W: Sink>(
     alloc: Global,
     writer: &mut W,
     document: Document<'_>,
-    places: [Option<Place<'static>>; 2],
+    places: [Option<StatementPlace<'static>>; 2],
 ) -> bool
     ensures lines { PutsLines (W.written writer.old) (W.written writer.new) result }
     ensures failures { W.failures writer.new ≡ failures_if (W.failures writer.old) result }
@@ -180,7 +180,7 @@ fn put_place<W: Sink>(
     alloc: Global,
     writer: &mut W,
     document: Document<'_>,
-    place: Option<Place<'_>>,
+    place: Option<StatementPlace<'_>>,
 ) -> bool
     ensures lines { PutsLines (W.written writer.old) (W.written writer.new) result }
     ensures failures { W.failures writer.new ≡ failures_if (W.failures writer.old) result }
@@ -195,11 +195,13 @@ fn put_place<W: Sink>(
 }
 
 /// The line of a statement; of a member that stands within a line, that of all members.
-fn nearest_line(alloc: Global, text: &str, place: Place<'_>) -> Option<usize> {
-    let all = Place::Top(Key::Member.name());
+fn nearest_line(alloc: Global, text: &str, place: StatementPlace<'_>) -> Option<usize> {
+    let all = StatementPlace::Top(ConfigKey::Member.name());
     match place {
-        Place::Top(_) => line_of(alloc, text, place),
-        Place::Member(_) | Place::InMember(_, _) => match line_of(alloc, text, place) {
+        StatementPlace::Top(_) => line_of(alloc, text, place),
+        StatementPlace::Member(_) | StatementPlace::InMember(_, _) => match line_of(
+            alloc, text, place,
+        ) {
             Some(number) => Some(number),
             None => line_of(alloc, text, all),
         },

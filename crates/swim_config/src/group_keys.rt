@@ -8,7 +8,7 @@ ghost use Rattle.toml.specs.View.{view, array_view, table_view};
 ghost use Rattle.swim_config.specs.GroupKeys.{group_key_of, group_keys_of, keys_at, strings_of};
 
 use crate::config_fault::ConfigFault;
-use crate::keys::Key;
+use crate::keys::ConfigKey;
 use crate::values::find;
 use arrayvec::ArrayVec;
 use swim_keys::{Key as GroupKey, MOST_KEYS};
@@ -22,7 +22,7 @@ pub type GroupKeys = ArrayVec<GroupKey, MOST_KEYS>;
 pub fn take_keys(table: &Table) -> Result<GroupKeys, ConfigFault>
     ensures { result ≡ keys_at (table_view table.now) }
 {
-    match find(table, Key::Keys) {
+    match find(table, ConfigKey::Keys) {
         None => Ok(GroupKeys::new()),
         Some(value) => read_keys(strings_of(value)?),
     }
@@ -35,12 +35,12 @@ fn strings_of(value: &Value) -> Result<&Array, ConfigFault>
         (λ fault. strings_of (view value.now) ≡ Err fault) }
     ensures room { MatchResult result (λ array. length array.now.items ≤ MOST_KEYS) (λ fault. Unit {0}) }
 {
-    let array = value.as_array().ok_or(ConfigFault::Kind(Key::Keys))?;
+    let array = value.as_array().ok_or(ConfigFault::Kind(ConfigKey::Keys))?;
     if !are_strings(array.as_slice()) {
-        return Err(ConfigFault::Kind(Key::Keys));
+        return Err(ConfigFault::Kind(ConfigKey::Keys));
     }
     if array.is_empty() || array.len() > MOST_KEYS {
-        return Err(ConfigFault::Range(Key::Keys));
+        return Err(ConfigFault::Range(ConfigKey::Keys));
     }
     Ok(array)
 }
@@ -69,7 +69,7 @@ fn read_keys(values: &Array) -> Result<GroupKeys, ConfigFault>
 fn read_key(value: &Value) -> Result<GroupKey, ConfigFault>
     ensures { result ≡ group_key_of (view value.now) }
 {
-    let text = value.as_str().ok_or(ConfigFault::Kind(Key::Keys))?;
+    let text = value.as_str().ok_or(ConfigFault::Kind(ConfigKey::Keys))?;
     let key = GroupKey::read(text.as_bytes()).ok();
-    key.ok_or(ConfigFault::Range(Key::Keys))
+    key.ok_or(ConfigFault::Range(ConfigKey::Keys))
 }

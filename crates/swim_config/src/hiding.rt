@@ -3,8 +3,8 @@
 ghost use Rattle.std.specs.Prelude.{◌≡◌};
 ghost use Rattle.swim_config.specs.GroupKeys.{may_be_key};
 
-use crate::details::DetailLine;
-use crate::keys::{Key, TOP_KEYS};
+use crate::detail_lines::DetailLine;
+use crate::keys::{ConfigKey, TOP_KEYS};
 use crate::unknown_keys::{Unknown, first_unknown, nearest};
 use crate::values::find;
 use std::alloc::Global;
@@ -15,7 +15,7 @@ const HIDDEN_DIGITS: usize = 32;
 
 /// Whether a table may have keys: it has the key `keys`, or an unknown one that was to be it.
 pub fn has_keys(alloc: Global, table: &Table) -> bool {
-    if find(table, Key::Keys).is_some() {
+    if find(table, ConfigKey::Keys).is_some() {
         return true;
     }
     match first_unknown(table) {
@@ -27,7 +27,7 @@ pub fn has_keys(alloc: Global, table: &Table) -> bool {
 /// Whether an unknown key is nearest to `keys`. It may be where memory is refused.
 fn is_like_keys(alloc: Global, unknown: Unknown<'_>) -> bool {
     match nearest(alloc, unknown.name, &TOP_KEYS) {
-        Some(key) => key == Key::Keys,
+        Some(key) => key == ConfigKey::Keys,
         None => true,
     }
 }

@@ -6,7 +6,7 @@ ghost use Rattle.swim_config.specs.Keys.{about_of, begins_line, default_of, entr
 
 /// A key of a configuration, or of one of its members.
 #[derive(Clone, Copy, Debug, PartialEq, Eq)]
-pub enum Key {
+pub enum ConfigKey {
     /// This member.
     Id,
     /// Where its datagrams come in.
@@ -53,7 +53,7 @@ pub enum Key {
 
 /// What the value of a key has to be.
 #[derive(Clone, Copy, Debug, PartialEq, Eq)]
-pub enum Form {
+pub enum ValueForm {
     /// An integer from the first number to the second.
     Number(u64, u64),
     /// A string that is an address.
@@ -70,11 +70,11 @@ pub enum Form {
 
 /// What the table of keys says of one.
 #[derive(Clone, Copy, Debug)]
-struct Entry {
+struct KeyEntry {
     /// Its name in the table where it stands.
     name: &'static str,
     /// What its value has to be.
-    form: Form,
+    form: ValueForm,
     /// The number that it has where it is left out. `None`: a number has to be given.
     default: Option<u64>,
     /// What it is for.
@@ -84,49 +84,49 @@ struct Entry {
 }
 
 /// The keys of a configuration, in the order in which their faults are told.
-pub const TOP_KEYS: [Key; 19] = [
-    Key::Id,
-    Key::Listen,
-    Key::Control,
-    Key::Events,
-    Key::Metrics,
-    Key::K,
-    Key::Rtt,
-    Key::Period,
-    Key::TickMs,
-    Key::Seed,
-    Key::Journal,
-    Key::Last,
-    Key::Wire,
-    Key::Keys,
-    Key::Fence,
-    Key::Rejoin,
-    Key::JournalDir,
-    Key::JournalKeep,
-    Key::Member,
+pub const TOP_KEYS: [ConfigKey; 19] = [
+    ConfigKey::Id,
+    ConfigKey::Listen,
+    ConfigKey::Control,
+    ConfigKey::Events,
+    ConfigKey::Metrics,
+    ConfigKey::K,
+    ConfigKey::Rtt,
+    ConfigKey::Period,
+    ConfigKey::TickMs,
+    ConfigKey::Seed,
+    ConfigKey::Journal,
+    ConfigKey::Last,
+    ConfigKey::Wire,
+    ConfigKey::Keys,
+    ConfigKey::Fence,
+    ConfigKey::Rejoin,
+    ConfigKey::JournalDir,
+    ConfigKey::JournalKeep,
+    ConfigKey::Member,
 ];
 
 /// The keys whose numbers a summary tells behind its first three lines, in this order.
-pub const NUMBER_KEYS: [Key; 11] = [
-    Key::K,
-    Key::Rtt,
-    Key::Period,
-    Key::TickMs,
-    Key::Last,
-    Key::Journal,
-    Key::Wire,
-    Key::Keys,
-    Key::Fence,
-    Key::Rejoin,
-    Key::JournalKeep,
+pub const NUMBER_KEYS: [ConfigKey; 11] = [
+    ConfigKey::K,
+    ConfigKey::Rtt,
+    ConfigKey::Period,
+    ConfigKey::TickMs,
+    ConfigKey::Last,
+    ConfigKey::Journal,
+    ConfigKey::Wire,
+    ConfigKey::Keys,
+    ConfigKey::Fence,
+    ConfigKey::Rejoin,
+    ConfigKey::JournalKeep,
 ];
 
 /// The keys of a member, in the order in which their faults are told.
-pub const MEMBER_KEYS: [Key; 2] = [Key::MemberId, Key::MemberAt];
+pub const MEMBER_KEYS: [ConfigKey; 2] = [ConfigKey::MemberId, ConfigKey::MemberAt];
 
-impl Key {
+impl ConfigKey {
     /// What the table says of it.
-    fn entry(self) -> Entry
+    fn entry(self) -> KeyEntry
         ensures name { result.name.now ≡ (entry_of self).name }
         ensures form { result.form ≡ (entry_of self).form }
         ensures default { result.default ≡ (entry_of self).default }
@@ -134,91 +134,111 @@ impl Key {
         ensures begins_line { result.begins_line ≡ (entry_of self).begins_line }
     {
         match self {
-            Key::Id => required("id", Form::Number(1, 4_294_967_295), "this member"),
-            Key::Listen => required("listen", Form::Peer, "where its datagrams come in"),
-            Key::Control => required("control", Form::Path, "the path of the control socket"),
-            Key::Events => required(
+            ConfigKey::Id => required("id", ValueForm::Number(1, 4_294_967_295), "this member"),
+            ConfigKey::Listen => required("listen", ValueForm::Peer, "where its datagrams come in"),
+            ConfigKey::Control => required(
+                "control",
+                ValueForm::Path,
+                "the path of the control socket",
+            ),
+            ConfigKey::Events => required(
                 "events",
-                Form::Path,
+                ValueForm::Path,
                 "the path of the events' socket, not that of control",
             ),
-            Key::Metrics => required(
+            ConfigKey::Metrics => required(
                 "metrics",
-                Form::Path,
+                ValueForm::Path,
                 "the path of the metrics' file, not that of a socket",
             ),
-            Key::K => Entry {
+            ConfigKey::K => KeyEntry {
                 name: "k",
-                form: Form::Number(0, 4_294_967_295),
+                form: ValueForm::Number(0, 4_294_967_295),
                 default: None,
                 about: "how many relays are asked, at most 8",
                 begins_line: true,
             },
-            Key::Rtt => required(
+            ConfigKey::Rtt => required(
                 "rtt",
-                Form::Number(0, 4_294_967_295),
+                ValueForm::Number(0, 4_294_967_295),
                 "ticks for which a direct ack is waited for, at least 1",
             ),
-            Key::Period => required(
+            ConfigKey::Period => required(
                 "period",
-                Form::Number(0, 4_294_967_295),
+                ValueForm::Number(0, 4_294_967_295),
                 "ticks of a period, from three times rtt to 65535",
             ),
-            Key::TickMs => required("tick_ms", Form::Number(1, 60_000), "milliseconds of a tick"),
-            Key::Seed => required("seed", Form::Seed, "what orders and places are drawn from"),
-            Key::Journal => required(
+            ConfigKey::TickMs => required(
+                "tick_ms",
+                ValueForm::Number(1, 60_000),
+                "milliseconds of a tick",
+            ),
+            ConfigKey::Seed => required(
+                "seed",
+                ValueForm::Seed,
+                "what orders and places are drawn from",
+            ),
+            ConfigKey::Journal => required(
                 "journal",
-                Form::Number(1, 1_000_000),
+                ValueForm::Number(1, 1_000_000),
                 "the most entries of the journal",
             ),
-            Key::Last => Entry {
+            ConfigKey::Last => KeyEntry {
                 name: "last",
-                form: Form::Number(0, 9_223_372_036_854_775_807),
+                form: ValueForm::Number(0, 9_223_372_036_854_775_807),
                 default: Some(0),
                 about: "the last period number that was used before",
                 begins_line: false,
             },
-            Key::Wire => Entry {
+            ConfigKey::Wire => KeyEntry {
                 name: "wire",
-                form: Form::Number(1, 2),
+                form: ValueForm::Number(1, 2),
                 default: Some(1),
                 about: "the version of its own pings and ping-reqs",
                 begins_line: false,
             },
-            Key::Keys => required(
+            ConfigKey::Keys => required(
                 "keys",
-                Form::Keys,
+                ValueForm::Keys,
                 "the keys of the group, of which the first signs",
             ),
-            Key::Fence => Entry {
+            ConfigKey::Fence => KeyEntry {
                 name: "fence",
-                form: Form::Number(0, 4_294_967_295),
+                form: ValueForm::Number(0, 4_294_967_295),
                 default: Some(1_000),
                 about: "datagrams a second of an address, 0 for all",
                 begins_line: false,
             },
-            Key::Rejoin => Entry {
+            ConfigKey::Rejoin => KeyEntry {
                 name: "rejoin",
-                form: Form::Number(0, 65_535),
+                form: ValueForm::Number(0, 65_535),
                 default: Some(0),
                 about: "periods between knocks at failed members, 0 for none",
                 begins_line: false,
             },
-            Key::JournalDir => required(
+            ConfigKey::JournalDir => required(
                 "journal_dir",
-                Form::Path,
+                ValueForm::Path,
                 "the folder of the journal files",
             ),
-            Key::JournalKeep => Entry {
+            ConfigKey::JournalKeep => KeyEntry {
                 name: "journal_keep",
-                form: Form::Number(0, 4_294_967_295),
+                form: ValueForm::Number(0, 4_294_967_295),
                 default: Some(16),
                 about: "how many journal files stay, 0 for all",
                 begins_line: true,
             },
-            Key::Member => required("member", Form::Members, "the other members, at most 128"),
-            Key::MemberId => required("id", Form::Number(1, 4_294_967_295), "another member"),
-            Key::MemberAt => required("at", Form::Peer, "where another member listens"),
+            ConfigKey::Member => required(
+                "member",
+                ValueForm::Members,
+                "the other members, at most 128",
+            ),
+            ConfigKey::MemberId => required(
+                "id",
+                ValueForm::Number(1, 4_294_967_295),
+                "another member",
+            ),
+            ConfigKey::MemberAt => required("at", ValueForm::Peer, "where another member listens"),
         }
     }
 
@@ -230,7 +250,7 @@ impl Key {
     }
 
     /// What its value has to be.
-    pub fn form(self) -> Form
+    pub fn form(self) -> ValueForm
         ensures { result ≡ form_of self }
     {
         self.entry().form
@@ -262,22 +282,22 @@ impl Key {
         ensures { result.now ≡ key_text self }
     {
         match self {
-            Key::MemberId => "member.id",
-            Key::MemberAt => "member.at",
+            ConfigKey::MemberId => "member.id",
+            ConfigKey::MemberAt => "member.at",
             key => key.name(),
         }
     }
 }
 
 /// An entry of the table without a default, whose number begins no line.
-fn required(name: &'static str, form: Form, about: &'static str) -> Entry
+fn required(name: &'static str, form: ValueForm, about: &'static str) -> KeyEntry
     ensures name { result.name.now ≡ name.now }
     ensures form { result.form ≡ form }
     ensures default { result.default ≡ None }
     ensures about { result.about.now ≡ about.now }
     ensures begins_line { result.begins_line ≡ false }
 {
-    Entry {
+    KeyEntry {
         name,
         form,
         default: None,

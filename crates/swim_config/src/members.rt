@@ -8,7 +8,7 @@ ghost use Rattle.swim_config.specs.Configuration.{member_of, members_of, members
 ghost use Rattle.swim_config.specs.Reading.{Reads};
 
 use crate::config_fault::ConfigFault;
-use crate::keys::{Key, MEMBER_KEYS};
+use crate::keys::{ConfigKey, MEMBER_KEYS};
 use crate::values::{find, only_keys, take_id, take_peer};
 use std::alloc::Global;
 use swim_wire::{Id, Peer};
@@ -19,7 +19,7 @@ use toml::{Table, Value};
 pub fn take_members(alloc: Global, table: &Table) -> Result<Vec<(Id, Peer)>, ConfigFault>
     ensures { Reads result (members_at (table_view table.now)) }
 {
-    match find(table, Key::Member) {
+    match find(table, ConfigKey::Member) {
         None => Ok(Vec::new(alloc)),
         Some(value) => read_members(alloc, array_of(value)?),
     }
@@ -31,11 +31,13 @@ fn array_of(value: &Value) -> Result<&Array, ConfigFault>
     ensures { MatchResult result (λ array. array_of (view value.now) ≡ Ok (array_view array.now))
         (λ fault. array_of (view value.now) ≡ Err fault) }
 {
-    let array = value.as_array().ok_or(ConfigFault::Kind(Key::Member))?;
+    let array = value
+        .as_array()
+        .ok_or(ConfigFault::Kind(ConfigKey::Member))?;
     if are_tables(array.as_slice()) {
         Ok(array)
     } else {
-        Err(ConfigFault::Kind(Key::Member))
+        Err(ConfigFault::Kind(ConfigKey::Member))
     }
 }
 
@@ -65,9 +67,11 @@ fn read_members(alloc: Global, values: &Array) -> Result<Vec<(Id, Peer)>, Config
 pub fn read_member(value: &Value) -> Result<(Id, Peer), ConfigFault>
     ensures { result ≡ member_of (view value.now) }
 {
-    let table = value.as_table().ok_or(ConfigFault::Kind(Key::Member))?;
+    let table = value
+        .as_table()
+        .ok_or(ConfigFault::Kind(ConfigKey::Member))?;
     only_keys(table, &MEMBER_KEYS)?;
-    let id = take_id(table, Key::MemberId)?;
-    let at = take_peer(table, Key::MemberAt)?;
+    let id = take_id(table, ConfigKey::MemberId)?;
+    let at = take_peer(table, ConfigKey::MemberAt)?;
     Ok((id, at))
 }

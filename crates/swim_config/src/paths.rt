@@ -5,7 +5,7 @@ ghost use Rattle.toml.specs.View.{table_view};
 ghost use Rattle.swim_config.specs.Configuration.{another_than, another_than_any, events_at, metrics_at};
 
 use crate::config_fault::ConfigFault;
-use crate::keys::Key;
+use crate::keys::ConfigKey;
 use crate::socket_path::SocketPath;
 use crate::values::take_path_if;
 use toml::Table;
@@ -17,8 +17,8 @@ pub(crate) fn take_events(
 ) -> Result<Option<SocketPath>, ConfigFault>
     ensures { result ≡ events_at control.now (table_view table.now) }
 {
-    let path = take_path_if(table, Key::Events)?;
-    another_than(Key::Events, control, path)
+    let path = take_path_if(table, ConfigKey::Events)?;
+    another_than(ConfigKey::Events, control, path)
 }
 
 /// The path of the metrics' file, if it is given.
@@ -29,14 +29,14 @@ pub(crate) fn take_metrics(
 ) -> Result<Option<SocketPath>, ConfigFault>
     ensures { result ≡ metrics_at control.now events.now (table_view table.now) }
 {
-    let path = take_path_if(table, Key::Metrics)?;
-    let path = another_than(Key::Metrics, control, path)?;
-    another_than_any(Key::Metrics, events, path)
+    let path = take_path_if(table, ConfigKey::Metrics)?;
+    let path = another_than(ConfigKey::Metrics, control, path)?;
+    another_than_any(ConfigKey::Metrics, events, path)
 }
 
 /// The path of this key, where it isn't the other one.
 fn another_than(
-    key: Key,
+    key: ConfigKey,
     other: &SocketPath,
     path: Option<SocketPath>,
 ) -> Result<Option<SocketPath>, ConfigFault>
@@ -54,7 +54,7 @@ fn another_than(
 
 /// The same where the other one may be left out.
 fn another_than_any(
-    key: Key,
+    key: ConfigKey,
     other: &Option<SocketPath>,
     path: Option<SocketPath>,
 ) -> Result<Option<SocketPath>, ConfigFault>

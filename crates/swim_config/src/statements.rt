@@ -6,7 +6,7 @@ use toml_parser::{dotted_key, quoted, starts_string};
 
 /// What is looked for in a document.
 #[derive(Clone, Copy, Debug)]
-pub enum Place<'a> {
+pub enum StatementPlace<'a> {
     /// A key of the document, or a table of that name.
     Top(&'a str),
     /// The header of the member of that number, from 0 on.
@@ -28,7 +28,7 @@ enum Scope {
 
 /// The beginning of a statement: a key, or the header of a table.
 #[derive(Debug, Drop)]
-struct Head {
+struct StatementHead {
     /// The first part of its key.
     name: String,
     /// Whether it begins a table.
@@ -38,7 +38,7 @@ struct Head {
 }
 
 /// The number, from 1 on, of the line where the statement begins. `None` where there is none, or memory is refused.
-pub fn line_of(alloc: Global, text: &str, place: Place<'_>) -> Option<usize> {
+pub fn line_of(alloc: Global, text: &str, place: StatementPlace<'_>) -> Option<usize> {
     let mut rest = skip_blank(text, true);
     let mut scope = Scope::Top;
     let mut members: usize = 0;
@@ -69,18 +69,19 @@ pub fn line_at(bytes: &[u8], index: usize) -> usize {
 }
 
 /// Whether a statement is what is looked for.
-fn begins(head: &Head, scope: Scope, place: Place<'_>) -> bool {
+fn begins(head: &StatementHead, scope: Scope, place: StatementPlace<'_>) -> bool {
     match place {
-        Place::Top(name) => (scope == Scope::Top || head.is_header) && head.name.as_str() == name,
-        Place::Member(member) => head.is_header && scope == Scope::Member(member),
-        Place::InMember(member, name) => {
+        StatementPlace::Top(name) => (scope == Scope::Top || head.is_header)
+            && head.name.as_str() == name,
+        StatementPlace::Member(member) => head.is_header && scope == Scope::Member(member),
+        StatementPlace::InMember(member, name) => {
             !head.is_header && scope == Scope::Member(member) && head.name.as_str() == name
         }
     }
 }
 
 /// The beginning of the statement at the front of a text, and what follows.
-fn read_head(alloc: Global, text: &str) -> Option<(Head, &str)> {
+fn read_head(alloc: Global, text: &str) -> Option<(StatementHead, &str)> {
     let is_header = first(text) == b'[';
     let is_item = is_header && byte_at(text, 1) == b'[';
     let named = if is_item {
@@ -92,7 +93,7 @@ fn read_head(alloc: Global, text: &str) -> Option<(Head, &str)> {
     };
     let (key, rest) = dotted_key(alloc, skip_ws(named)).ok()?;
     let name = key.path.into_iter().next().unwrap_or(key.last);
-    let head = Head {
+    let head = StatementHead {
         name,
         is_header,
         is_item,

@@ -1,7 +1,7 @@
 //! Keys that a configuration doesn't have.
 
-use crate::keys::{Key, MEMBER_KEYS, TOP_KEYS};
-use crate::statements::Place;
+use crate::keys::{ConfigKey, MEMBER_KEYS, TOP_KEYS};
+use crate::statements::StatementPlace;
 use std::alloc::Global;
 use strsim::osa_distance;
 use toml::{Table, Value};
@@ -10,8 +10,8 @@ use toml::{Table, Value};
 #[derive(Clone, Copy, Debug)]
 pub struct Unknown<'a> {
     pub name: &'a str,
-    pub place: Place<'a>,
-    pub known: &'static [Key],
+    pub place: StatementPlace<'a>,
+    pub known: &'static [ConfigKey],
 }
 
 /// The first unknown key of a table, or else of its first member that has one.
@@ -19,16 +19,16 @@ pub fn first_unknown(table: &Table) -> Option<Unknown<'_>> {
     if let Some(name) = unknown_in(table, &TOP_KEYS) {
         return Some(Unknown {
             name,
-            place: Place::Top(name),
+            place: StatementPlace::Top(name),
             known: &TOP_KEYS,
         });
     }
-    let members = table.get(Key::Member.name())?.as_array()?;
+    let members = table.get(ConfigKey::Member.name())?.as_array()?;
     for (member, value) in members.iter().enumerate() {
         if let Some(name) = unknown_of(value) {
             return Some(Unknown {
                 name,
-                place: Place::InMember(member, name),
+                place: StatementPlace::InMember(member, name),
                 known: &MEMBER_KEYS,
             });
         }
@@ -42,7 +42,7 @@ fn unknown_of(member: &Value) -> Option<&str> {
 }
 
 /// The first key of a table that is none of these.
-fn unknown_in<'a>(table: &'a Table, known: &[Key]) -> Option<&'a str> {
+fn unknown_in<'a>(table: &'a Table, known: &[ConfigKey]) -> Option<&'a str> {
     for name in table.keys() {
         if !known.iter().any(|key| key.name() == name.as_str()) {
             return Some(name.as_str());
@@ -52,8 +52,8 @@ fn unknown_in<'a>(table: &'a Table, known: &[Key]) -> Option<&'a str> {
 }
 
 /// The known key that the fewest edits make of a name; the first of them. `None` where memory is refused.
-pub fn nearest(alloc: Global, name: &str, known: &[Key]) -> Option<Key> {
-    let mut best: Option<(usize, Key)> = None;
+pub fn nearest(alloc: Global, name: &str, known: &[ConfigKey]) -> Option<ConfigKey> {
+    let mut best: Option<(usize, ConfigKey)> = None;
     for key in known {
         let distance = osa_distance(alloc, name, key.name()).ok()?;
         match best {

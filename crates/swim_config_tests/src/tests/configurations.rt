@@ -2,7 +2,9 @@
 
 use arrayvec::ArrayVec;
 use std::alloc::Global;
-use swim_config::{ConfigFault, INPUT_BYTES, Key, put_fault, read_config, read_input, summary};
+use swim_config::{
+    ConfigFault, ConfigKey, INPUT_BYTES, put_fault, read_config, read_input, summary,
+};
 use swim_wire::{Page, Sink, Text};
 
 /// A configuration with a member.
@@ -67,7 +69,7 @@ fn shows_a_configuration(rt: HostRuntime) {
 #[test]
 fn names_the_first_key_that_is_missing(rt: HostRuntime) {
     let end = end_of(rt.alloc(), b"id = 1\nlisten = \"10.0.0.1:7000\"\nk = 9\n");
-    let fault = ConfigFault::Missing(Key::Control);
+    let fault = ConfigFault::Missing(ConfigKey::Control);
     assert_eq!(rt; end, End::Refused(fault));
     let mut page = Page::new(rt.alloc());
     assert!(rt; put_fault(&mut page, fault));
@@ -105,7 +107,7 @@ fn tells_a_summary_that_is_not_handed_on(rt: HostRuntime) {
 fn refuses_65_537_bytes(rt: HostRuntime) {
     let bytes = [b'\n'; 65_537];
     let end = end_of(rt.alloc(), &bytes[..65_536]);
-    assert_eq!(rt; end, End::Refused(ConfigFault::Missing(Key::Id)));
+    assert_eq!(rt; end, End::Refused(ConfigFault::Missing(ConfigKey::Id)));
     let end = end_of(rt.alloc(), &bytes);
     assert_eq!(rt; end, End::Refused(ConfigFault::Size));
 }

@@ -4,7 +4,7 @@
 
 use std::process::Abort;
 use std::test::Fail;
-use swim_config::{Config, ConfigFault, Key, read_config};
+use swim_config::{Config, ConfigFault, ConfigKey, read_config};
 use swim_wire::{Id, Peer};
 
 // Its members aren't sorted by their ids.
@@ -97,6 +97,6 @@ fn a_fault_is_told_again(rt: HostRuntime) -> Result<(), Fail> {
     } else {
         answer
     };
-    assert!(rt; matches!(answer, Err(ConfigFault::Missing(Key::Rtt))));
+    assert!(rt; matches!(answer, Err(ConfigFault::Missing(ConfigKey::Rtt))));
     tell(&rt, refused)
 }

@@ -1,7 +1,7 @@
 use Rattle.std.proofs.Common.{sym, ap}
 use Rattle.swim_config.specs.Summary.{member_text, members_text}
 use Rattle.swim_wire.specs.TwoPuts.{first_failed, both_put, first_and_others, others_of}
-use Rattle.swim_config.proofs.summaries.+put_members.Goals as goal
+use Rattle.swim_config.proofs.config_summary.+put_members.Goals as goal
 
 pub returns-then-not-put_member-clause-bytes : goal.returns-then-not-put_member-clause-bytes
 returns-then-not-put_member-clause-bytes g t c =

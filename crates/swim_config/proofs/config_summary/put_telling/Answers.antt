@@ -1,7 +1,7 @@
 use Rattle.std.proofs.Common.{codes}
 use Rattle.swim_wire.specs.Streams.{puts_less, puts_then}
 use Rattle.swim_config.specs.Summary.{path_text}
-use Rattle.swim_config.proofs.summaries.put_telling.Goals as goal
+use Rattle.swim_config.proofs.config_summary.put_telling.Goals as goal
 
 pub returns-then-not-put_path-clause-bytes : goal.returns-then-not-put_path-clause-bytes
 returns-then-not-put_path-clause-bytes g c =

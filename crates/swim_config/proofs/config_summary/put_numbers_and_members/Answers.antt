@@ -1,7 +1,7 @@
 use Rattle.swim_wire.specs.Streams.{puts_less, puts_then}
 use Rattle.swim_config.specs.Keys.{number_keys}
 use Rattle.swim_config.specs.Summary.{all_members_text, numbers_text}
-use Rattle.swim_config.proofs.summaries.put_numbers_and_members.Goals as goal
+use Rattle.swim_config.proofs.config_summary.put_numbers_and_members.Goals as goal
 
 pub returns-then-not-put_numbers-clause-bytes : goal.returns-then-not-put_numbers-clause-bytes
 returns-then-not-put_numbers-clause-bytes g c =

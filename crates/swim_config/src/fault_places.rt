@@ -1,27 +1,39 @@
 //! Which statements of a document have a part in a fault.
 
 use crate::config_fault::ConfigFault;
-use crate::keys::Key;
+use crate::keys::ConfigKey;
 use crate::members::{read_member, take_members};
-use crate::statements::Place;
+use crate::statements::StatementPlace;
 use std::alloc::Global;
 use swim_history::OpeningFault;
 use swim_wire::{Id, Peer};
 use toml::Table;
 
 /// The statements that have a part in the fault of a table: two at the most.
-pub fn places_of(alloc: Global, table: &Table, fault: ConfigFault) -> [Option<Place<'static>>; 2] {
+pub fn places_of(
+    alloc: Global,
+    table: &Table,
+    fault: ConfigFault,
+) -> [Option<StatementPlace<'static>>; 2] {
     match fault {
-        ConfigFault::Missing(Key::MemberId | Key::MemberAt) => { [bad_member(table), None] }
+        ConfigFault::Missing(ConfigKey::MemberId | ConfigKey::MemberAt) => {
+            [bad_member(table), None]
+        }
         ConfigFault::Kind(key) | ConfigFault::Range(key) | ConfigFault::Peer(key) => {
             [place_of(table, key), None]
         }
-        ConfigFault::Seed => [Some(top(Key::Seed)), None],
-        ConfigFault::Opening(OpeningFault::Relays) => [Some(top(Key::K)), None],
-        ConfigFault::Opening(OpeningFault::Timing) => [Some(top(Key::Rtt)), Some(top(Key::Period))],
-        ConfigFault::Opening(OpeningFault::TooManyRows) => [Some(Place::Member(128)), None],
+        ConfigFault::Seed => [Some(top(ConfigKey::Seed)), None],
+        ConfigFault::Opening(OpeningFault::Relays) => [Some(top(ConfigKey::K)), None],
+        ConfigFault::Opening(OpeningFault::Timing) => [
+            Some(top(ConfigKey::Rtt)),
+            Some(top(ConfigKey::Period)),
+        ],
+        ConfigFault::Opening(OpeningFault::TooManyRows) => [
+            Some(StatementPlace::Member(128)),
+            None,
+        ],
         ConfigFault::Opening(OpeningFault::Myself) => [
-            Some(top(Key::Id)),
+            Some(top(ConfigKey::Id)),
             own_member(alloc, table),
         ],
         ConfigFault::Opening(OpeningFault::Twice) => twice(alloc, table),
@@ -29,39 +41,39 @@ pub fn places_of(alloc: Global, table: &Table, fault: ConfigFault) -> [Option<Pl
     }
 }
 
-fn top(key: Key) -> Place<'static> {
-    Place::Top(key.name())
+fn top(key: ConfigKey) -> StatementPlace<'static> {
+    StatementPlace::Top(key.name())
 }
 
 /// The statement of a key whose value is at fault.
-fn place_of(table: &Table, key: Key) -> Option<Place<'static>> {
+fn place_of(table: &Table, key: ConfigKey) -> Option<StatementPlace<'static>> {
     match key {
-        Key::MemberId | Key::MemberAt => {
+        ConfigKey::MemberId | ConfigKey::MemberAt => {
             let member = first_bad_member(table)?;
-            Some(Place::InMember(member, key.name()))
+            Some(StatementPlace::InMember(member, key.name()))
         }
         _ => Some(top(key)),
     }
 }
 
 /// The first member that has a fault.
-fn bad_member(table: &Table) -> Option<Place<'static>> {
+fn bad_member(table: &Table) -> Option<StatementPlace<'static>> {
     let member = first_bad_member(table)?;
-    Some(Place::Member(member))
+    Some(StatementPlace::Member(member))
 }
 
 /// The number of the first member that has a fault.
 fn first_bad_member(table: &Table) -> Option<usize> {
-    let members = table.get(Key::Member.name())?.as_array()?;
+    let members = table.get(ConfigKey::Member.name())?.as_array()?;
     members
         .iter()
         .position(|member| read_member(member).is_err())
 }
 
 /// The id of the first member that has this member's.
-fn own_member(alloc: Global, table: &Table) -> Option<Place<'static>> {
+fn own_member(alloc: Global, table: &Table) -> Option<StatementPlace<'static>> {
     let members = take_members(alloc, table).ok()?;
-    let me = table.get(Key::Id.name())?.as_integer()?;
+    let me = table.get(ConfigKey::Id.name())?.as_integer()?;
     let member = members
         .iter()
         .position(|member| i64::from(member.0.get()) == me)?;
@@ -69,7 +81,7 @@ fn own_member(alloc: Global, table: &Table) -> Option<Place<'static>> {
 }
 
 /// The ids of the first member that stands before, and of the other one.
-fn twice(alloc: Global, table: &Table) -> [Option<Place<'static>>; 2] {
+fn twice(alloc: Global, table: &Table) -> [Option<StatementPlace<'static>>; 2] {
     let Ok(members) = take_members(alloc, table) else {
         return [None, None];
     };
@@ -84,8 +96,8 @@ fn twice(alloc: Global, table: &Table) -> [Option<Place<'static>>; 2] {
 }
 
 /// The id of a member.
-fn id_of(member: usize) -> Place<'static> {
-    Place::InMember(member, Key::MemberId.name())
+fn id_of(member: usize) -> StatementPlace<'static> {
+    StatementPlace::InMember(member, ConfigKey::MemberId.name())
 }
 
 /// The number of the first member with that id.

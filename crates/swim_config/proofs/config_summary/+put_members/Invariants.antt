@@ -1,5 +1,5 @@
 use Rattle.std.proofs.Common.{length}
-use Rattle.swim_config.proofs.summaries.+put_members.Given as goal
+use Rattle.swim_config.proofs.config_summary.+put_members.Given as goal
 
 abbrev pub decreases-put_members : goal.decreases-put_members
 decreases-put_members g l = length l.members.now

@@ -1,6 +1,6 @@
 use Rattle.swim_wire.specs.Streams.{puts_less, puts_then}
 use Rattle.swim_config.specs.Summary.{own_text, paths_text}
-use Rattle.swim_config.proofs.summaries.put_place.Goals as goal
+use Rattle.swim_config.proofs.config_summary.put_place.Goals as goal
 
 pub returns-then-not-put_own-clause-bytes : goal.returns-then-not-put_own-clause-bytes
 returns-then-not-put_own-clause-bytes g c =

@@ -1,17 +1,17 @@
 use Rattle.std.proofs.Common.{◌≡◌, ◌≤◌, [], ◌∷◌, ◌++◌, List, length, get_or, refl, sym, ap, arith}
 use Rattle.swim_wire.specs.TwoPuts.{first_failed, both_put, first_and_others, others_of}
 use Rattle.swim_config.specs.declared.config.Config.{Config}
-use Rattle.swim_config.specs.declared.keys.Key.{Key}
+use Rattle.swim_config.specs.declared.keys.ConfigKey.{ConfigKey}
 use Rattle.swim_config.specs.Summary.{numbers_text, told_text}
-use Rattle.swim_config.proofs.summaries.+put_numbers.Goals as goal
+use Rattle.swim_config.proofs.config_summary.+put_numbers.Goals as goal
 
 -- the first key and the others
-first_told : (config : Config) (keys : List Key) (other : Key) → 1 ≤ length keys →
+first_told : (config : Config) (keys : List ConfigKey) (other : ConfigKey) → 1 ≤ length keys →
     told_text config (get_or keys 0 other) ++ numbers_text config (others_of keys) ≡ numbers_text config keys
 first_told config keys other some =
     ap (numbers_text config) (sym (first_and_others keys (get_or keys 0 other) some (same keys some)))
   where
-    same : (keys : List Key) → 1 ≤ length keys → get_or keys 0 other ≡ get_or keys 0 (get_or keys 0 other)
+    same : (keys : List ConfigKey) → 1 ≤ length keys → get_or keys 0 other ≡ get_or keys 0 (get_or keys 0 other)
     same [] some = absurd (omega (arith, some))
     same (key ∷ others) some = refl
 

@@ -1,7 +1,7 @@
 use Rattle.std.proofs.Common.{codes}
 use Rattle.swim_wire.specs.Streams.{puts_less, puts_then}
 use Rattle.swim_config.specs.Summary.{path_text, telling_text}
-use Rattle.swim_config.proofs.summaries.put_paths.Goals as goal
+use Rattle.swim_config.proofs.config_summary.put_paths.Goals as goal
 
 pub returns-then-not-put_telling-clause-bytes : goal.returns-then-not-put_telling-clause-bytes
 returns-then-not-put_telling-clause-bytes g c =

@@ -1,5 +1,5 @@
 use Rattle.std.proofs.Common.{length}
-use Rattle.swim_config.proofs.summaries.+put_numbers.Given as goal
+use Rattle.swim_config.proofs.config_summary.+put_numbers.Given as goal
 
 abbrev pub decreases-put_numbers : goal.decreases-put_numbers
 decreases-put_numbers g l = length l.keys.now

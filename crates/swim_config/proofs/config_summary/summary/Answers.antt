@@ -1,6 +1,6 @@
 use Rattle.swim_wire.specs.Streams.{puts_less, puts_then}
 use Rattle.swim_config.specs.Summary.{numbers_and_members_text, place_text}
-use Rattle.swim_config.proofs.summaries.summary.Goals as goal
+use Rattle.swim_config.proofs.config_summary.summary.Goals as goal
 
 pub returns-then-not-put_place-clause-bytes : goal.returns-then-not-put_place-clause-bytes
 returns-then-not-put_place-clause-bytes g c =

@@ -7,7 +7,7 @@ ghost use Rattle.swim_config.specs.Summary.{numbers_and_members_text, numbers_te
 ghost use Rattle.swim_config.specs.Summary.{place_text, summary_text, telling_text, told_text};
 
 use crate::config::Config;
-use crate::keys::{Key, NUMBER_KEYS};
+use crate::keys::{ConfigKey, NUMBER_KEYS};
 use crate::socket_path::SocketPath;
 use swim_history::{Opening, Row, table_of};
 use swim_wire::{Piece, Sink, put_pieces};
@@ -102,7 +102,7 @@ fn put_numbers_and_members<W: Sink>(writer: &mut W, config: &Config) -> bool
 }
 
 /// The numbers of these keys, as far as they have some.
-fn put_numbers<W: Sink>(writer: &mut W, config: &Config, keys: &[Key]) -> bool
+fn put_numbers<W: Sink>(writer: &mut W, config: &Config, keys: &[ConfigKey]) -> bool
     ensures bytes { Puts (W.written writer.old) (W.written writer.new) (numbers_text config.now keys.now) result }
     ensures failures { W.failures writer.new ≡ failures_if (W.failures writer.old) result }
 {
@@ -116,14 +116,14 @@ fn put_numbers<W: Sink>(writer: &mut W, config: &Config, keys: &[Key]) -> bool
 }
 
 /// A key and its number, if it has one.
-fn put_key<W: Sink>(writer: &mut W, config: &Config, key: &Key) -> bool
+fn put_key<W: Sink>(writer: &mut W, config: &Config, key: &ConfigKey) -> bool
     ensures bytes { Puts (W.written writer.old) (W.written writer.new) (told_text config.now key.now) result }
     ensures failures { W.failures writer.new ≡ failures_if (W.failures writer.old) result }
 {
     put_number(writer, *key, config.number(*key))
 }
 
-fn put_number<W: Sink>(writer: &mut W, key: Key, number: Option<u64>) -> bool
+fn put_number<W: Sink>(writer: &mut W, key: ConfigKey, number: Option<u64>) -> bool
     ensures bytes { Puts (W.written writer.old) (W.written writer.new) (number_text key number) result }
     ensures failures { W.failures writer.new ≡ failures_if (W.failures writer.old) result }
 {
@@ -140,7 +140,7 @@ fn put_number<W: Sink>(writer: &mut W, key: Key, number: Option<u64>) -> bool
 }
 
 /// What stands before a key.
-fn mark_of(key: Key) -> &'static [u8]
+fn mark_of(key: ConfigKey) -> &'static [u8]
     ensures { result.now ≡ mark_of key }
 {
     if key.begins_line() { b"\n" } else { b" " }

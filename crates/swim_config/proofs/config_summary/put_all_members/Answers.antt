@@ -2,7 +2,7 @@ use Rattle.std.proofs.Common.{◌≡◌, ◌++◌, length, ap, ap₂, ◌∙◌}
 use Rattle.swim_history.specs.Changes.{ascending}
 use Rattle.swim_wire.specs.TwoPuts.{first_failed, both_put}
 use Rattle.swim_config.specs.Summary.{all_members_text, count_text, members_text}
-use Rattle.swim_config.proofs.summaries.put_all_members.Goals as goal
+use Rattle.swim_config.proofs.config_summary.put_all_members.Goals as goal
 
 pub returns-then-not-put_count-clause-bytes : goal.returns-then-not-put_count-clause-bytes
 returns-then-not-put_count-clause-bytes g c =
