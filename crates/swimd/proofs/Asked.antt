@@ -14,7 +14,7 @@ use Rattle.swimd.specs.Asking.{sent, stopped_so}
 use Rattle.swimd.proofs.ControlLines.{all_taken}
 use Rattle.swimd.specs.declared.askers.Came.{Came}
 use Rattle.swimd.specs.declared.askers.Came.TheVariants as came
-use Rattle.swimd.specs.declared.control_lines.Met.TheVariants.{Line, Over, Fault}
+use Rattle.swimd.specs.declared.control_lines.NextLine.TheVariants.{Line, Over, Fault}
 use Rattle.swimd.specs.declared.outcomes.Outcome.{Outcome}
 use Rattle.swimd.specs.declared.outcomes.Outcome.TheVariants as outcomes
 use Rattle.swimd.specs.declared.outcomes.Outcome.TheVariants.{AskRefused, AskTimeout, Unanswered, AskUnwritten, AskUnread, Helped}

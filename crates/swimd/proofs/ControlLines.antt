@@ -10,8 +10,8 @@ use Rattle.std.specs.Io.KnownBytes.{Consumes, IsAtEnd, Keeps}
 use Rattle.swim_wire.specs.Lines.{has_feed}
 use Rattle.swimd.specs.Asking.{IsAll, Reads, end_met, joined}
 use Rattle.swimd.proofs.Lines.{texts_of, next_word}
-use Rattle.swimd.specs.declared.control_lines.Met.{Met}
-use Rattle.swimd.specs.declared.control_lines.Met.TheVariants.{Line, Over, Fault}
+use Rattle.swimd.specs.declared.control_lines.NextLine.{NextLine}
+use Rattle.swimd.specs.declared.control_lines.NextLine.TheVariants.{Line, Over, Fault}
 
 pub take_twice : (n : ℕ) (xs ys : List ℕ) → take n (take n xs ++ ys) ≡ take n (xs ++ ys)
 take_twice zero xs ys = refl
@@ -116,7 +116,7 @@ pub ends_between : (o m n : Option (List ℕ)) (line : List ℕ) → Taking o m 
 ends_between o m n line t e k =
     (end_before o m t.text t.taken (t.unbegun refl) e, rw (← t.unbegun refl) (consumes_kept o m n t.text t.taken k))
 
-pub ends_by_end : (o m n : Option (List ℕ)) (line : List ℕ) (is_begun : Bool) (met : Met) → Taking o m line is_begun → IsAtEnd m →
+pub ends_by_end : (o m n : Option (List ℕ)) (line : List ℕ) (is_begun : Bool) (met : NextLine) → Taking o m line is_begun → IsAtEnd m →
     Keeps m n → met ≡ end_met is_begun → Reads met o n line
 ends_by_end o m n line true met t e k is = rw is (ends_within o m n line t e k)
 ends_by_end o m n line false met t e k is = rw is (ends_between o m n line t e k)

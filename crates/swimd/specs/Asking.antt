@@ -8,8 +8,8 @@ use Rattle.swim_wire.specs.Lines.{has_feed}
 use Rattle.swim_wire.specs.Streams.{PutsFront}
 use Rattle.swimd.specs.declared.askers.Came.{Came}
 use Rattle.swimd.specs.declared.askers.Came.TheVariants as came
-use Rattle.swimd.specs.declared.control_lines.Met.{Met}
-use Rattle.swimd.specs.declared.control_lines.Met.TheVariants.{Line, Over, Fault}
+use Rattle.swimd.specs.declared.control_lines.NextLine.{NextLine}
+use Rattle.swimd.specs.declared.control_lines.NextLine.TheVariants.{Line, Over, Fault}
 use Rattle.swimd.specs.declared.outcomes.Outcome.{Outcome}
 use Rattle.swimd.specs.declared.outcomes.Outcome.TheVariants.{Asked, AskRefused, AskTimeout, Unanswered, AskUnwritten, AskUnread, NoDaemon}
 use Rattle.swimd.specs.Answers.{is_answer, is_refusal, is_stopping}
@@ -49,13 +49,13 @@ abbrev pub TakesPart : Option (List ℕ) → Option (List ℕ) → Type 0
 TakesPart old new = (text : List ℕ) × Consumes old new text × (has_feed text ≡ false)
 
 -- what a look for the next line took, and what of it is to be sent
-abbrev pub Reads : Met → Option (List ℕ) → Option (List ℕ) → List ℕ → Type 0
+abbrev pub Reads : NextLine → Option (List ℕ) → Option (List ℕ) → List ℕ → Type 0
 Reads Line old new sent = (line : InputLine) × TakesLine line old new × (sent ≡ sent_of line)
 Reads Over old new sent = IsAtEnd old × Consumes old new []
 Reads Fault old new sent = TakesPart old new
 
 -- what the end of an input is, where a line has begun or has not
-abbrev pub end_met : Bool → Met
+abbrev pub end_met : Bool → NextLine
 end_met true = Line
 end_met false = Over
 

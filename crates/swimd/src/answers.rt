@@ -10,7 +10,7 @@ use swim_wire::Words;
 const ANSWER_BYTES: usize = 16_384;
 
 /// An answer, or a front of one.
-pub type Answer = ArrayVec<u8, ANSWER_BYTES>;
+pub type ControlAnswer = ArrayVec<u8, ANSWER_BYTES>;
 
 /// Whether a text is a whole answer: rows of a table, which begin with a digit, or of counts, which begin with the
 /// program's name, and then one other line.

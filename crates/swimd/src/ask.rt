@@ -3,9 +3,9 @@
 ghost use Rattle.std.specs.Prelude.{◌≡◌, ◌||◌};
 ghost use Rattle.swimd.specs.Asking.{Asking, Asks, Passes, asked_so, stopped_so};
 
-use crate::answers::{Answer, is_refusal, is_stopping};
+use crate::answers::{ControlAnswer, is_refusal, is_stopping};
 use crate::askers::{Asker, Came};
-use crate::control_lines::{ControlLine, Met, read_line};
+use crate::control_lines::{ControlLine, NextLine, read_line};
 use crate::details::{Details, words_of};
 use crate::outcomes::Outcome;
 use crate::sockets::ControlSocket;
@@ -44,13 +44,13 @@ fn ask_lines<S: Source, A: Asker, W: Sink>(reader: &mut S, asker: &mut A, writer
         (record { left = S.left reader.new; written = W.written writer.new; asked = A.asked asker.new }) result }
 {
     let mut line = ControlLine::new();
-    let mut answer = Answer::new();
+    let mut answer = ControlAnswer::new();
     let mut is_refused = false;
     for _turn in 0..u64::MAX {
         match read_line(reader, &mut line) {
-            Met::Line => {}
-            Met::Over => return asked(is_refused),
-            Met::Fault => return Outcome::AskUnread,
+            NextLine::Line => {}
+            NextLine::Over => return asked(is_refused),
+            NextLine::Fault => return Outcome::AskUnread,
         }
         if let Err(outcome) = pass(line.as_slice(), asker, &mut answer, writer) {
             return outcome;
@@ -67,7 +67,7 @@ fn ask_lines<S: Source, A: Asker, W: Sink>(reader: &mut S, asker: &mut A, writer
 fn pass<A: Asker, W: Sink>(
     line: &[u8],
     asker: &mut A,
-    answer: &mut Answer,
+    answer: &mut ControlAnswer,
     writer: &mut W,
 ) -> Result<(), Outcome>
     ensures { Passes line.now result answer.new.items (W.written writer.old) (W.written writer.new)

@@ -4,7 +4,7 @@ ghost use Rattle.std.specs.Prelude.{◌≡◌, ◌∷◌, [], true, List, Option
 ghost use Rattle.swimd.specs.Answers.{is_answer};
 ghost use Rattle.swimd.specs.Asking.{Grows, Sent};
 
-use crate::answers::Answer;
+use crate::answers::ControlAnswer;
 
 /// What came of a line that was sent.
 #[derive(Clone, Copy, Debug, PartialEq, Eq)]
@@ -24,7 +24,7 @@ pub trait Asker {
     ghost asked: { Self → Option (List Sent) };
 
     /// Sends a line once, and takes its answer in.
-    fn ask(&mut self, line: &[u8], answer: &mut Answer) -> Came
+    fn ask(&mut self, line: &[u8], answer: &mut ControlAnswer) -> Came
         ensures asked { Grows (asked self.old) (asked self.new)
             (record { line = line.now; came = result; answer = answer.new.items } ∷ []) }
         ensures whole { result ≡ Came.Answer → is_answer answer.new.items ≡ true };

@@ -19,7 +19,7 @@ pub type ControlLine = ArrayVec<u8, LINE_BYTES>;
 
 /// What a look for the next line of an input met.
 #[derive(Clone, Copy, Debug, PartialEq, Eq)]
-pub enum Met {
+pub enum NextLine {
     /// A line, with its line feed; the last one may have none.
     Line,
     /// The end of the input.
@@ -30,31 +30,35 @@ pub enum Met {
 
 /// Reads the next line of an input, and keeps what is sent of it.
 #[tactic(auto, using(crate::proofs::ControlLines::begins, crate::proofs::ControlLines::goes_further, crate::proofs::ControlLines::line_fits, crate::proofs::ControlLines::ends_by_feed, crate::proofs::ControlLines::ends_by_end, crate::proofs::ControlLines::ends_by_fault))]
-pub fn read_line<S: Source>(reader: &mut S, line: &mut ControlLine) -> Met
+pub fn read_line<S: Source>(reader: &mut S, line: &mut ControlLine) -> NextLine
     ensures { Reads result (S.left reader.old) (S.left reader.new) line.new.items }
 {
     line.clear();
     let mut is_begun = false;
     for _turn in 0..u64::MAX {
         match reader.byte() {
-            Byte::Fault => return Met::Fault,
+            Byte::Fault => return NextLine::Fault,
             Byte::End => return at_end(is_begun),
             Byte::One(b'\n') => {
                 line.push(b'\n');
-                return Met::Line;
+                return NextLine::Line;
             }
             Byte::One(byte) => add(line, &[byte], SENT_BYTES),
         }
         is_begun = true;
     }
-    Met::Fault
+    NextLine::Fault
 }
 
 /// What the end of an input is, where a line has begun or has not.
-fn at_end(is_begun: bool) -> Met
+fn at_end(is_begun: bool) -> NextLine
     ensures { result ≡ end_met is_begun }
 {
-    if is_begun { Met::Line } else { Met::Over }
+    if is_begun {
+        NextLine::Line
+    } else {
+        NextLine::Over
+    }
 }
 
 /// The line that words make, with single spaces between them, as much as is sent of it.

@@ -303,7 +303,7 @@ fn announce<R: Net + Clock, F: Sink>(
         (F.written faults.new, F.failures faults.new) }
 {
     if !is_quiet {
-        Notice::listens(rt, config).tell(rt, alloc, faults);
+        Notice::listens(rt, config).tell_notice(rt, alloc, faults);
     }
 }
 
@@ -323,7 +323,7 @@ fn open_door<'r, R: Files<File = File> + Net + Clock, F: Sink>(
 {
     let place = Place::take(rt, path);
     if place.is_cleared() {
-        Notice::removed(rt, path).tell(rt, alloc, faults);
+        Notice::removed(rt, path).tell_notice(rt, alloc, faults);
     }
     match UnixDoor::bind(rt, alloc, rt, path) {
         Ok(door) => Ok(door),

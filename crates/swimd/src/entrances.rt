@@ -69,7 +69,7 @@ fn bind_entrance<R: Files<File = File> + Net + Clock, F: Sink>(
 {
     let place = Place::take(rt, path);
     if place.is_cleared() {
-        Notice::removed(rt, path).tell(rt, alloc, faults);
+        Notice::removed(rt, path).tell_notice(rt, alloc, faults);
     }
     match UnixEntrance::bind(rt, path) {
         Ok(entrance) => Ok(entrance),

@@ -96,7 +96,7 @@ impl<'r, R: Files<File = File> + Net + Clock> Shelf<JournalFile<'r, R>> for Fold
             }
             Err(fault) => {
                 let notice = Notice::unwritten(self.rt, path.as_str(), fault.kind());
-                notice.tell(self.rt, self.alloc, notices);
+                notice.tell_notice(self.rt, self.alloc, notices);
                 Some(JournalFile::new(self.rt, None))
             }
         }
@@ -120,7 +120,7 @@ impl<'r, R: Files<File = File> + Net + Clock> Shelf<JournalFile<'r, R>> for Fold
             };
             let path = path_of(dir.as_str(), self.me, stamp);
             let notice = Notice::unwritten(self.rt, path.as_str(), fault);
-            notice.tell(self.rt, self.alloc, notices);
+            notice.tell_notice(self.rt, self.alloc, notices);
         }
         is_kept
     }

@@ -3,8 +3,8 @@
 ghost use Rattle.std.specs.Prelude.{◌≡◌, IfSome};
 ghost use Rattle.swimd.specs.Commands.{IsKeyText, MakesKey};
 
-use crate::commands::help;
 use crate::outcomes::Outcome;
+use crate::program_commands::help;
 use std::fs;
 use std::fs::File;
 use std::io::Read;

@@ -9,7 +9,6 @@ mod books;
 mod bulletins;
 mod checking;
 mod chroniclers;
-mod commands;
 mod comments;
 mod control_lines;
 mod counters;
@@ -25,6 +24,7 @@ mod metrics_files;
 mod notices;
 mod old_files;
 mod outcomes;
+mod program_commands;
 mod sockets;
 mod stacks;
 mod strangers;
@@ -49,7 +49,7 @@ fn main(rt: HostRuntime) -> ExitCode {
     let alloc = rt.alloc();
     let status = match words_given(&rt) {
         Ok(texts) => match words_in(alloc, texts.as_slice()) {
-            Ok(words) => commands::command(
+            Ok(words) => program_commands::command(
                 &rt,
                 alloc,
                 words.as_slice(),
@@ -58,13 +58,13 @@ fn main(rt: HostRuntime) -> ExitCode {
                 &mut faults,
                 WriteSink::new(rt.stderr()),
             ),
-            Err(_) => commands::tell(
+            Err(_) => program_commands::tell_outcome(
                 Outcome::Refused(ConfigFault::NoMemory),
                 &Details::new(),
                 &mut faults,
             ),
         },
-        Err(outcome) => commands::tell(outcome, &Details::new(), &mut faults),
+        Err(outcome) => program_commands::tell_outcome(outcome, &Details::new(), &mut faults),
     };
     ExitCode::from(status)
 }

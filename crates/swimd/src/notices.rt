@@ -151,7 +151,7 @@ impl Notice {
 
     /// Writes it, where standard error takes it at once. Where it can't be written nothing else changes.
     #[tactic(auto, using(swim_life::specs::Notices::no_notices))]
-    pub fn tell<R: Net, F: Sink>(&self, rt: &R, alloc: Global, faults: &mut F)
+    pub fn tell_notice<R: Net, F: Sink>(&self, rt: &R, alloc: Global, faults: &mut F)
         ensures { Notices (F.written faults.old, F.failures faults.old)
             (F.written faults.new, F.failures faults.new) }
     {
@@ -231,7 +231,7 @@ impl<'r, R: Net + Clock> Herald for Announcer<'r, R> {
     {
         self.begun = number.saturating_add(1);
         if !self.is_quiet {
-            Notice::begins(self.rt, number).tell(self.rt, self.alloc, notices);
+            Notice::begins(self.rt, number).tell_notice(self.rt, self.alloc, notices);
         }
     }
 }

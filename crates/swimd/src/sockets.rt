@@ -4,7 +4,7 @@ ghost use Rattle.std.specs.Prelude.{◌≡◌, None, true};
 ghost use Rattle.swimd.specs.Answers.{is_answer};
 ghost use Rattle.swimd.specs.Asking.{Grows};
 
-use crate::answers::{Answer, is_answer, is_refusal};
+use crate::answers::{ControlAnswer, is_answer, is_refusal};
 use crate::askers::{Asker, Came};
 use std::io::{self, ErrorKind, Read, Write};
 use std::net::{Net, Shutdown};
@@ -74,7 +74,7 @@ impl<'r, 'p, R: Net + Clock> ControlSocket<'r, 'p, R> {
     }
 
     /// Sends a line, and takes in what comes.
-    fn send(&mut self, line: &[u8], answer: &mut Answer) -> io::Result<()> {
+    fn send(&mut self, line: &[u8], answer: &mut ControlAnswer) -> io::Result<()> {
         let timer = Timer::new(self.rt, self.limit)?;
         let stream = self.stream(&timer)?;
         // Who took no more of the line may have answered all the same.
@@ -112,7 +112,7 @@ impl<'r, 'p, R: Net + Clock> ControlSocket<'r, 'p, R> {
 impl<'r, 'p, R: Net + Clock> Asker for ControlSocket<'r, 'p, R> {
     ghost asked = { λ s. None };
 
-    fn ask(&mut self, line: &[u8], answer: &mut Answer) -> Came {
+    fn ask(&mut self, line: &[u8], answer: &mut ControlAnswer) -> Came {
         answer.clear();
         let came = came_of(self.send(line, answer));
         match came {
@@ -177,7 +177,7 @@ fn take_answer<R: Clock>(
     rt: &R,
     mut stream: &UnixStream,
     timer: &Timer,
-    answer: &mut Answer,
+    answer: &mut ControlAnswer,
 ) -> io::Result<bool> {
     let mut bytes = [0; READ_BYTES];
     let mut read = stream.read(&mut bytes);
@@ -197,7 +197,7 @@ fn take_answer<R: Clock>(
 }
 
 /// Adds what came of an answer. More than an answer may have is none.
-fn add(answer: &mut Answer, part: &[u8]) -> io::Result<()> {
+fn add(answer: &mut ControlAnswer, part: &[u8]) -> io::Result<()> {
     match answer.try_extend_from_slice(part) {
         Ok(()) => Ok(()),
         Err(_) => Err(io::Error::from(ErrorKind::InvalidData)),

@@ -14,15 +14,15 @@ use swim_wire::{KNOWN_MEMBERS, Peer};
 
 /// How many datagrams were thrown away, and where the newest came from, as two threads share it.
 #[derive(Drop)]
-pub struct Tally {
+pub struct SharedThrown {
     count: AtomicU64,
     newest: AtomicU64,
 }
 
-impl Tally {
+impl SharedThrown {
     /// None was yet.
-    fn new() -> Tally {
-        Tally {
+    fn new() -> SharedThrown {
+        SharedThrown {
             count: AtomicU64::new(0),
             newest: AtomicU64::new(0),
         }
@@ -53,16 +53,16 @@ impl Tally {
 /// What a daemon throws away: what came faster than the fence lets in, and of the rest what has no tag by a key of the group.
 #[derive(Drop)]
 pub struct Strangers {
-    pub fenced: Tally,
-    pub forged: Tally,
+    pub fenced: SharedThrown,
+    pub forged: SharedThrown,
 }
 
 impl Strangers {
     /// None came yet.
     pub fn new() -> Strangers {
         Strangers {
-            fenced: Tally::new(),
-            forged: Tally::new(),
+            fenced: SharedThrown::new(),
+            forged: SharedThrown::new(),
         }
     }
 }
@@ -91,7 +91,7 @@ fn unpacked(number: u64) -> Option<Peer> {
 #[derive(Drop)]
 pub struct NotingLine<'s, L: Sieve> {
     line: L,
-    tally: &'s Tally,
+    thrown: &'s SharedThrown,
 }
 
 // A contract sees the line below.
@@ -102,11 +102,11 @@ impl<'s, L: Sieve> Model for NotingLine<'s, L> {
 }
 
 impl<'s, L: Sieve> NotingLine<'s, L> {
-    /// A line over that one, which notes in the tally what that one throws away.
-    pub fn new(line: L, tally: &'s Tally) -> NotingLine<'s, L>
+    /// A line over that one, which notes there what that one throws away.
+    pub fn new(line: L, thrown: &'s SharedThrown) -> NotingLine<'s, L>
         ensures { result ≡ line }
     {
-        NotingLine { line, tally }
+        NotingLine { line, thrown }
     }
 }
 
@@ -122,7 +122,7 @@ impl<'s, L: Sieve> Line for NotingLine<'s, L> {
         ensures listed { L.listed self.new ≡ L.listed self.old }
     {
         let got = self.line.receive(rt, bytes);
-        self.tally.note(self.line.thrown());
+        self.thrown.note(self.line.thrown());
         got
     }
 

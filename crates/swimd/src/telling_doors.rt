@@ -9,7 +9,7 @@ use crate::counters::Counters;
 use crate::happenings::{Happening, unsaid};
 use crate::metrics_files::MetricsFile;
 use crate::notices::Notice;
-use crate::strangers::Tally;
+use crate::strangers::SharedThrown;
 use std::alloc::Global;
 use std::fs::File;
 use std::marker::Model;
@@ -40,12 +40,12 @@ impl Telling {
     }
 
     /// How many there are and where the newest came from, if that is to be told now. Then nothing more is for a minute.
-    fn due<K: Clock>(&mut self, clock: &K, tally: &Tally) -> Option<(u64, Peer)> {
-        let count = tally.count();
+    fn due<K: Clock>(&mut self, clock: &K, thrown: &SharedThrown) -> Option<(u64, Peer)> {
+        let count = thrown.count();
         if count == self.told || self.is_pausing(clock) {
             return None;
         }
-        let newest = tally.newest()?;
+        let newest = thrown.newest()?;
         self.told_at = Some(Instant::now(clock).ok()?);
         self.told = count;
         Some((count, newest))
@@ -120,7 +120,7 @@ impl<'s, 'r, R: Files<File = File> + Net + Clock, D: Door + Drop, G: Sink + Drop
     }
 
     /// Tells what there is to be told.
-    fn tell<W: Wait>(&mut self, rt: &W)
+    fn tell_what_is_due<W: Wait>(&mut self, rt: &W)
         ensures { self.new ≡ self.old }
     {
         if !self.is_quiet {
@@ -156,11 +156,11 @@ impl<'s, 'r, R: Files<File = File> + Net + Clock, D: Door + Drop, G: Sink + Drop
         let strangers = &self.counters.strangers;
         if let Some((count, newest)) = self.fenced.due(self.rt, &strangers.fenced) {
             let notice = Notice::fenced(self.rt, newest, count);
-            notice.tell(self.rt, self.alloc, &mut self.log);
+            notice.tell_notice(self.rt, self.alloc, &mut self.log);
         }
         if let Some((count, newest)) = self.forged.due(self.rt, &strangers.forged) {
             let notice = Notice::forged(self.rt, newest, count);
-            notice.tell(self.rt, self.alloc, &mut self.log);
+            notice.tell_notice(self.rt, self.alloc, &mut self.log);
         }
     }
 
@@ -173,7 +173,7 @@ impl<'s, 'r, R: Files<File = File> + Net + Clock, D: Door + Drop, G: Sink + Drop
         };
         if let Some(notice) = self.file.write(&measures, &outside) {
             if self.counters.bulletin.count_unwritten() == 0 {
-                notice.tell(self.rt, self.alloc, &mut self.log);
+                notice.tell_notice(self.rt, self.alloc, &mut self.log);
             }
         }
     }
@@ -190,7 +190,7 @@ impl<'s, 'r, R: Files<File = File> + Net + Clock, D: Door + Drop, G: Sink + Drop
     fn next<W: Wait>(&mut self, rt: &W) -> Knock<D::Reader, D::Writer>
         ensures { Grows (D.faults self.old) (D.faults self.new) (is_fault result ∷ []) }
     {
-        self.tell(rt);
+        self.tell_what_is_due(rt);
         self.door.next(rt)
     }
 
@@ -216,9 +216,9 @@ fn tell_each<R: Net + Clock, G: Sink>(
     log: &mut G,
 ) {
     for happening in waiting {
-        happening.notice(rt).tell(rt, alloc, log);
+        happening.notice(rt).tell_notice(rt, alloc, log);
     }
     if 0 < more {
-        unsaid(rt, more).tell(rt, alloc, log);
+        unsaid(rt, more).tell_notice(rt, alloc, log);
     }
 }

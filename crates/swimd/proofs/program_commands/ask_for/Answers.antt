@@ -1,7 +1,7 @@
 use Rattle.std.proofs.Common.{◌++◌, Some, option_map, refl, sym, ap, subst, ◌∙◌}
 use Rattle.swimd.specs.Asking.{Asks}
 use Rattle.swimd.specs.Commands.{AsksWanted}
-use Rattle.swimd.proofs.commands.ask_for.Goals as goal
+use Rattle.swimd.proofs.program_commands.ask_for.Goals as goal
 
 pub returns-in-Some : goal.returns-in-Some
 returns-in-Some g c =

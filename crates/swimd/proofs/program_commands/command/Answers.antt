@@ -1,5 +1,5 @@
 use Rattle.std.proofs.Common.{refl}
-use Rattle.swimd.proofs.commands.command.Goals as goal
+use Rattle.swimd.proofs.program_commands.command.Goals as goal
 
 pub returns : goal.returns
 returns g c = record {
@@ -12,5 +12,5 @@ returns g c = record {
   done = c.carry_out-outcome.ensures.done;
   left = refl;
   written = refl;
-  told = c.tell.ensures;
+  told = c.tell_outcome.ensures;
 }

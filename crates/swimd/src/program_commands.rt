@@ -55,7 +55,7 @@ pub fn command<
 {
     let mut details = Details::new();
     let outcome = carry_out(rt, alloc, words, reader, writer, faults, log, &mut details);
-    tell(outcome, &details, faults)
+    tell_outcome(outcome, &details, faults)
 }
 
 /// Does what the words ask, and answers how it ended.
@@ -151,7 +151,7 @@ fn version<W: Sink>(writer: &mut W) -> Outcome
 }
 
 /// Tells an outcome, with what a person needs below it, and answers its status.
-pub fn tell<F: Sink>(outcome: Outcome, details: &Details, faults: &mut F) -> u8
+pub fn tell_outcome<F: Sink>(outcome: Outcome, details: &Details, faults: &mut F) -> u8
     requires { Explains outcome details.now }
     ensures { Told outcome (F.written faults.old) (F.written faults.new) (F.failures faults.old)
         (F.failures faults.new) result }

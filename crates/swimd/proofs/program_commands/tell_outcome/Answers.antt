@@ -1,7 +1,7 @@
 use Rattle.std.proofs.Common.{◌++◌, ap, ◌∙◌}
 use Rattle.swim_wire.specs.Streams.{puts_kept, failures_if}
 use Rattle.swimd.specs.Outcomes.{outcome_text}
-use Rattle.swimd.proofs.commands.tell.Goals as goal
+use Rattle.swimd.proofs.program_commands.tell_outcome.Goals as goal
 
 pub returns : goal.returns
 returns g c = record {
