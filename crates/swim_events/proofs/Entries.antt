@@ -3,7 +3,7 @@ use Rattle.std.proofs.Common.{ℕ, List, [], ◌++◌, map, take, refl, sym, app
 use Rattle.swim_history.specs.declared.entries.Entry.{Entry}
 use Rattle.swim_history.specs.Setting.{Setting}
 use Rattle.swim_history.specs.Changes.{changes, table}
-use Rattle.swim_events.specs.declared.watchers.Standing.TheVariants.{Following}
+use Rattle.swim_events.specs.declared.watchers.WatcherStanding.TheVariants.{Following}
 use Rattle.swim_events.specs.Texts.{change_text, table_text}
 use Rattle.swim_events.specs.Watchers.{AtWatcher, after_sent}
 use Rattle.swim_events.specs.Watched.{IsTold}

@@ -12,7 +12,7 @@ use Rattle.swim_history.specs.Clock.{period_number}
 use Rattle.swim_history.specs.Changes.{change_by, changes, table}
 use Rattle.swim_events.specs.declared.outlets.Offer.{Offer}
 use Rattle.swim_events.specs.declared.outlets.Offer.TheVariants.{Took, Full, Gone}
-use Rattle.swim_events.specs.declared.watchers.Standing.TheVariants.{Following}
+use Rattle.swim_events.specs.declared.watchers.WatcherStanding.TheVariants.{Following}
 use Rattle.swim_events.specs.Texts.{change_text, life_text, table_text}
 use Rattle.swim_events.specs.Watchers.{AtWatcher, IsStream, after_sent, after_text}
 use Rattle.swim_events.specs.Guests.{AreSent, AtGuest, Grows, IsTurn, IsUntaken, kept_if, newcomer, put_text, told_of}

@@ -3,8 +3,8 @@ use Rattle.std.proofs.Common.{◌≡◌, ℕ, Bool, true, false, cond, List, [],
 use Rattle.std.proofs.lemmas.List.{take-append-drop}
 use Rattle.std.proofs.lemmas.List.Folds.{concat-append}
 use Rattle.std.specs.List.{concat}
-use Rattle.swim_events.specs.declared.watchers.Standing.{Standing}
-use Rattle.swim_events.specs.declared.watchers.Standing.TheVariants.{Following, Losing, Lost}
+use Rattle.swim_events.specs.declared.watchers.WatcherStanding.{WatcherStanding}
+use Rattle.swim_events.specs.declared.watchers.WatcherStanding.TheVariants.{Following, Losing, Lost}
 use Rattle.swim_events.specs.Texts.{lost_text}
 use Rattle.swim_events.specs.Watchers.{AtWatcher, fits, losing, text_then, after_text, left_then, after_sent, IsFront, Streams, IsStream}
 
@@ -29,7 +29,7 @@ losing_streams first texts sent pending front = by (fits pending lost_text)
     by true = (sent ++ pending, front, sym (append_assoc sent pending lost_text))
     by false = front
 
-text_streams : (standing : Standing) (first : List ℕ) (texts : List (List ℕ)) (sent pending text : List ℕ) →
+text_streams : (standing : WatcherStanding) (first : List ℕ) (texts : List (List ℕ)) (sent pending text : List ℕ) →
     Streams standing first texts (sent ++ pending) → IsStream first (texts ++ text ∷ []) sent (text_then standing text pending)
 text_streams Following first texts sent pending text all = by (fits pending text)
   where
@@ -55,7 +55,7 @@ pub put_streams : (first : List ℕ) (texts : List (List ℕ)) (sent text : List
     IsStream first (texts ++ text ∷ []) sent (after_text text w)
 put_streams first texts sent text w is = text_streams w.standing first texts sent w.pending text is
 
-left_streams : (standing : Standing) (first : List ℕ) (texts : List (List ℕ)) (sent left : List ℕ) →
+left_streams : (standing : WatcherStanding) (first : List ℕ) (texts : List (List ℕ)) (sent left : List ℕ) →
     Streams standing first texts (sent ++ left) → IsStream first texts sent (left_then standing left)
 left_streams Following first texts sent left is = is
 left_streams Losing first texts sent left is = losing_streams first texts sent left is
@@ -82,7 +82,7 @@ lost_now pending = by (fits pending lost_text)
     by true is = cc is
     by false is = cc is
 
-kept_text : (standing : Standing) (text pending : List ℕ) → (text_then standing text pending).standing ≡ Following →
+kept_text : (standing : WatcherStanding) (text pending : List ℕ) → (text_then standing text pending).standing ≡ Following →
     (standing ≡ Following) × ((text_then standing text pending).pending ≡ pending ++ text)
 kept_text Following text pending keeps = by (fits pending text) keeps
   where
@@ -100,7 +100,7 @@ pub put_keeps_up : (text : List ℕ) (w new : AtWatcher) → new ≡ after_text 
 put_keeps_up text w new is keeps =
     let kept = kept_text w.standing text w.pending (rw is at keeps) in (kept.0, rw is kept.1)
 
-kept_left : (standing : Standing) (left : List ℕ) → (left_then standing left).standing ≡ Following →
+kept_left : (standing : WatcherStanding) (left : List ℕ) → (left_then standing left).standing ≡ Following →
     (standing ≡ Following) × ((left_then standing left).pending ≡ left)
 kept_left Following left is = (refl, refl)
 kept_left Losing left is = absurd (lost_now left is)

@@ -6,8 +6,8 @@ use Rattle.swim_history.specs.declared.entries.Entry.{Entry}
 use Rattle.swim_history.specs.Setting.{Setting}
 use Rattle.swim_history.specs.Clock.{period_number}
 use Rattle.swim_history.specs.Changes.{change_by, changes, table}
-use Rattle.swim_events.specs.declared.watchers.Standing.{Standing}
-use Rattle.swim_events.specs.declared.watchers.Standing.TheVariants.{Following, Losing, Lost}
+use Rattle.swim_events.specs.declared.watchers.WatcherStanding.{WatcherStanding}
+use Rattle.swim_events.specs.declared.watchers.WatcherStanding.TheVariants.{Following, Losing, Lost}
 use Rattle.swim_events.specs.Texts.{change_text, changes_text, life_text, table_text}
 use Rattle.swim_events.specs.Watchers.{AtWatcher, IsFront, IsStream, Streams}
 use Rattle.swim_events.specs.Watched.{IsCutShort, IsTold, IsWatched, IsWatchedOver, Lived, lived_on}
@@ -163,7 +163,7 @@ pub told : (o : Setting) (h newer before : List Entry) (later : List Change) (se
     IsTold w.standing o h (sent ++ w.pending)
 told o h newer before later sent w cut goes_on is = by w.standing (sent ++ w.pending) is
   where
-    by : (standing : Standing) (stream : List ℕ) → Streams standing (table_text (table o before)) (map change_text later) stream →
+    by : (standing : WatcherStanding) (stream : List ℕ) → Streams standing (table_text (table o before)) (map change_text later) stream →
         IsTold standing o h stream
     by Following stream is =
         record { newer = newer; before = before; cut = cut; later = later; goes_on = goes_on; text_is = is }

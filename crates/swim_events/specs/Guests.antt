@@ -4,7 +4,7 @@ use Rattle.swim_history.specs.declared.rows.Row.{Row}
 use Rattle.swim_history.specs.declared.rows.Change.{Change}
 use Rattle.swim_events.specs.declared.outlets.Offer.{Offer}
 use Rattle.swim_events.specs.declared.outlets.Offer.TheVariants.{Took, Full, Gone}
-use Rattle.swim_events.specs.declared.watchers.Standing.TheVariants.{Following, Lost}
+use Rattle.swim_events.specs.declared.watchers.WatcherStanding.TheVariants.{Following, Lost}
 use Rattle.swim_events.specs.Texts.{change_text, table_text}
 use Rattle.swim_events.specs.Watchers.{AtWatcher, after_sent, after_text, is_behind}
 

@@ -6,8 +6,8 @@ use Rattle.swim_history.specs.declared.rows.Change.TheVariants.{Up, Failed, Gone
 use Rattle.swim_history.specs.declared.entries.Entry.{Entry}
 use Rattle.swim_history.specs.Setting.{Setting}
 use Rattle.swim_history.specs.Changes.{changes, table}
-use Rattle.swim_events.specs.declared.watchers.Standing.{Standing}
-use Rattle.swim_events.specs.declared.watchers.Standing.TheVariants.{Following, Losing, Lost}
+use Rattle.swim_events.specs.declared.watchers.WatcherStanding.{WatcherStanding}
+use Rattle.swim_events.specs.declared.watchers.WatcherStanding.TheVariants.{Following, Losing, Lost}
 use Rattle.swim_events.specs.Texts.{changes_text, life_text, lost_text, table_text}
 
 -- a table, and then changes
@@ -31,7 +31,7 @@ pub record IsCutShort (o : Setting) (h : List Entry) (text : List ℕ) : Type 0 
   pub watched : IsWatched o older text
 
 -- what a watcher was told of a history, and is to be told yet
-abbrev pub IsTold : Standing → Setting → List Entry → List ℕ → Type 0
+abbrev pub IsTold : WatcherStanding → Setting → List Entry → List ℕ → Type 0
 IsTold Following o h stream = IsWatched o h stream
 IsTold Losing o h stream = IsCutShort o h stream
 IsTold Lost o h stream = (text : List ℕ) × IsCutShort o h text × (stream ≡ text ++ lost_text)

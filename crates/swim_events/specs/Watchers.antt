@@ -1,17 +1,17 @@
 -- What is to be sent to a watcher, and what a watcher was told.
 use Rattle.std.specs.Prelude.{◌≡◌, ℕ, ◌+◌, nat_le, Bool, true, false, List, ◌∷◌, ◌++◌, length, drop, if◌then◌else◌}
 use Rattle.std.specs.List.{concat}
-use Rattle.swim_events.specs.declared.watchers.Standing.{Standing}
-use Rattle.swim_events.specs.declared.watchers.Standing.TheVariants.{Following, Losing, Lost}
+use Rattle.swim_events.specs.declared.watchers.WatcherStanding.{WatcherStanding}
+use Rattle.swim_events.specs.declared.watchers.WatcherStanding.TheVariants.{Following, Losing, Lost}
 use Rattle.swim_events.specs.Texts.{lost_text}
 
 -- the bytes that are to be sent, and whether the watcher keeps up
 pub record AtWatcher : Type 0 where
   pub pending : List ℕ
-  pub standing : Standing
+  pub standing : WatcherStanding
 
 -- it can't be told all any more
-abbrev pub is_behind_at : Standing → Bool
+abbrev pub is_behind_at : WatcherStanding → Bool
 is_behind_at Following = false
 is_behind_at Losing = true
 is_behind_at Lost = true
@@ -34,7 +34,7 @@ losing pending =
     else record { pending = pending; standing = Losing }
 
 -- after a text: all of it is to be sent, or nothing
-abbrev pub text_then : Standing → List ℕ → List ℕ → AtWatcher
+abbrev pub text_then : WatcherStanding → List ℕ → List ℕ → AtWatcher
 text_then Following text pending =
     if fits pending text then record { pending = pending ++ text; standing = Following } else losing pending
 text_then Losing text pending = record { pending = pending; standing = Losing }
@@ -44,7 +44,7 @@ abbrev pub after_text : List ℕ → AtWatcher → AtWatcher
 after_text text w = text_then w.standing text w.pending
 
 -- after the first bytes were sent, so many
-abbrev pub left_then : Standing → List ℕ → AtWatcher
+abbrev pub left_then : WatcherStanding → List ℕ → AtWatcher
 left_then Following left = record { pending = left; standing = Following }
 left_then Losing left = losing left
 left_then Lost left = record { pending = left; standing = Lost }
@@ -62,7 +62,7 @@ pub record IsFront (first : List ℕ) (texts : List (List ℕ)) (stream : List �
 
 -- a stream of a first text and others: all of them, or those before the one that didn't fit, and then `lost`, which may not
 -- have fitted yet
-abbrev pub Streams : Standing → List ℕ → List (List ℕ) → List ℕ → Type 0
+abbrev pub Streams : WatcherStanding → List ℕ → List (List ℕ) → List ℕ → Type 0
 Streams Following first texts stream = stream ≡ first ++ concat texts
 Streams Losing first texts stream = IsFront first texts stream
 Streams Lost first texts stream = (front : List ℕ) × IsFront first texts front × (stream ≡ front ++ lost_text)

@@ -7,8 +7,8 @@ use Rattle.swim_history.specs.declared.rows.RowState.TheVariants as states
 use Rattle.swim_history.specs.declared.rows.Change.{Change}
 use Rattle.swim_history.specs.declared.rows.Change.TheVariants.{Up, Failed, Gone}
 use Rattle.swim_events.specs.declared.events.Event.TheVariants.{Life, Lost, Ended}
-use Rattle.swim_events.specs.declared.watchers.Standing.TheVariants.{Following, Losing}
-use Rattle.swim_events.specs.declared.watchers.Standing.TheVariants as standing
+use Rattle.swim_events.specs.declared.watchers.WatcherStanding.TheVariants.{Following, Losing}
+use Rattle.swim_events.specs.declared.watchers.WatcherStanding.TheVariants as standing
 use Rattle.swim_events.specs.Texts.{event_text, shown, table_text}
 use Rattle.swim_events.specs.Watched.{lines_after, watched_text}
 use Rattle.swim_events.specs.Watchers.{after_sent, after_text}

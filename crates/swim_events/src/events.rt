@@ -14,7 +14,7 @@ use swim_wire::{Id, Peer};
 pub const LINE_BYTES: usize = 40;
 
 /// An event's line, with its line feed.
-pub type Line = ArrayString<LINE_BYTES>;
+pub type EventText = ArrayString<LINE_BYTES>;
 
 /// What those are told who watch a member table.
 #[derive(Clone, Copy, Debug, PartialEq, Eq)]
@@ -40,7 +40,7 @@ pub fn event_of_row(row: &Row) -> Event
 }
 
 /// The line of an event.
-pub fn line_of(event: &Event) -> Line
+pub fn line_of(event: &Event) -> EventText
     ensures { result.bytes ≡ event_text event.now }
 {
     match event {
@@ -52,7 +52,7 @@ pub fn line_of(event: &Event) -> Line
 }
 
 /// The line of a change.
-fn change_line(change: &Change) -> Line
+fn change_line(change: &Change) -> EventText
     ensures { result.bytes ≡ change_text change.now }
 {
     match change {
@@ -62,7 +62,7 @@ fn change_line(change: &Change) -> Line
     }
 }
 
-fn up_line(id: Id, peer: &Peer) -> Line
+fn up_line(id: Id, peer: &Peer) -> EventText
     ensures { result.bytes ≡ change_text (changes.Up id peer.now) }
 {
     let mut digits = Buffer::new();
@@ -76,7 +76,7 @@ fn up_line(id: Id, peer: &Peer) -> Line
     line
 }
 
-fn failed_line(id: Id, number: u64) -> Line
+fn failed_line(id: Id, number: u64) -> EventText
     ensures { result.bytes ≡ change_text (changes.Failed id number) }
 {
     let mut digits = Buffer::new();
@@ -89,7 +89,7 @@ fn failed_line(id: Id, number: u64) -> Line
     line
 }
 
-fn gone_line(id: Id) -> Line
+fn gone_line(id: Id) -> EventText
     ensures { result.bytes ≡ change_text (changes.Gone id) }
 {
     let mut digits = Buffer::new();
@@ -100,7 +100,7 @@ fn gone_line(id: Id) -> Line
     line
 }
 
-fn life_line(number: u64) -> Line
+fn life_line(number: u64) -> EventText
     ensures { result.bytes ≡ life_text number }
 {
     let mut digits = Buffer::new();
@@ -111,7 +111,7 @@ fn life_line(number: u64) -> Line
     line
 }
 
-fn fixed_line(text: &str) -> Line
+fn fixed_line(text: &str) -> EventText
     requires { length text.now ≤ LINE_BYTES }
     ensures { result.bytes ≡ text.now }
 {

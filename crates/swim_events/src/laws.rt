@@ -11,7 +11,7 @@ ghost use Rattle.swim_history.specs.Changes.{change_by, changes, rows_after, tab
 ghost use Rattle.swim_history.specs.After.{setting_after};
 ghost use Rattle.swim_events.specs.Texts.{changes_text, life_text, shown, table_text};
 ghost use Rattle.swim_events.specs.Watchers.{AtWatcher, after_sent};
-ghost use Rattle.swim_events.specs.declared.watchers.Standing.TheVariants.{Following};
+ghost use Rattle.swim_events.specs.declared.watchers.WatcherStanding.TheVariants.{Following};
 ghost use Rattle.swim_events.specs.Telling.{IsTelling, IsTellingOver};
 ghost use Rattle.swim_events.specs.Watched.{IsTold, IsWatched, IsWatchedOver, Lived, lines_after, lived_on};
 

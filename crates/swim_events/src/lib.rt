@@ -10,9 +10,9 @@ mod telling;
 mod watchers;
 mod watching;
 
-pub use events::{Event, LINE_BYTES, Line, event_of_row, line_of};
+pub use events::{Event, EventText, LINE_BYTES, event_of_row, line_of};
 pub use galleries::{Gallery, MOST_WATCHERS};
 pub use outlets::{Entrance, Offer, Outlet};
 pub use telling::tell_next;
-pub use watchers::{Standing, WATCHER_BYTES, Watcher};
+pub use watchers::{WATCHER_BYTES, Watcher, WatcherStanding};
 pub use watching::Watching;

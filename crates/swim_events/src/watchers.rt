@@ -15,7 +15,7 @@ pub const WATCHER_BYTES: usize = 65_536;
 
 /// Whether a watcher keeps up.
 #[derive(Clone, Copy, Debug, PartialEq, Eq)]
-pub enum Standing {
+pub enum WatcherStanding {
     /// It was told all.
     Following,
     /// It can't be told all any more, and there is no room yet to tell it so.
@@ -30,7 +30,7 @@ pub enum Standing {
 #[derive(Drop)]
 pub struct Watcher {
     pending: Vec<u8>,
-    standing: Standing,
+    standing: WatcherStanding,
 }
 
 impl Model for Watcher {
@@ -50,7 +50,7 @@ impl Watcher {
     /// where that was refused.
     pub fn new(alloc: Global, rows: &[Row]) -> Result<Watcher, AllocError>
         requires { length rows.now ≤ KNOWN_MEMBERS }
-        ensures told { IfOk result (λ w. w ≡ record { pending = table_text rows.now; standing = Standing.Following }) }
+        ensures told { IfOk result (λ w. w ≡ record { pending = table_text rows.now; standing = WatcherStanding.Following }) }
         ensures stream { IfOk result (λ w. IsStream (table_text rows.now) [] [] w) }
     {
         let mut pending = Vec::with_capacity(alloc, WATCHER_BYTES)?;
@@ -58,15 +58,15 @@ impl Watcher {
         pending.extend_from_slice(b".\n")?;
         Ok(Watcher {
             pending,
-            standing: Standing::Following,
+            standing: WatcherStanding::Following,
         })
     }
 
     /// Takes a text, if it fits behind the bytes that are still to be sent and the watcher keeps up.
     pub fn put(&mut self, text: &[u8])
         ensures exact { self.new ≡ after_text text.now self.old }
-        ensures keeps_up { self.new.standing ≡ Standing.Following →
-            (self.old.standing ≡ Standing.Following) × (self.new.pending ≡ self.old.pending ++ text.now) }
+        ensures keeps_up { self.new.standing ≡ WatcherStanding.Following →
+            (self.old.standing ≡ WatcherStanding.Following) × (self.new.pending ≡ self.old.pending ++ text.now) }
         ensures stream { (first : List ℕ) (texts : List (List ℕ)) (sent : List ℕ) → IsStream first texts sent self.old →
             IsStream first (texts ++ text.now ∷ []) sent self.new }
     {
@@ -85,8 +85,8 @@ impl Watcher {
     pub fn sent(&mut self, count: usize)
         requires { count ≤ length self.old.pending }
         ensures exact { self.new ≡ after_sent count self.old }
-        ensures keeps_up { self.new.standing ≡ Standing.Following →
-            (self.old.standing ≡ Standing.Following) × (self.new.pending ≡ drop count self.old.pending) }
+        ensures keeps_up { self.new.standing ≡ WatcherStanding.Following →
+            (self.old.standing ≡ WatcherStanding.Following) × (self.new.pending ≡ drop count self.old.pending) }
         ensures stream { (first : List ℕ) (texts : List (List ℕ)) (sent : List ℕ) → IsStream first texts sent self.old →
             IsStream first texts (sent ++ take count self.old.pending) self.new }
     {
@@ -95,29 +95,29 @@ impl Watcher {
 
     /// Whether the watcher keeps up: it was told all, or all is to be sent to it.
     pub fn keeps_up(&self) -> bool
-        ensures { IsTrue result ↔ (self.now.standing ≡ Standing.Following) }
+        ensures { IsTrue result ↔ (self.now.standing ≡ WatcherStanding.Following) }
     {
-        self.standing == Standing::Following
+        self.standing == WatcherStanding::Following
     }
 
     /// Whether it can't be told all any more.
     pub fn is_losing(&self) -> bool
         ensures { result ≡ is_behind self.now }
     {
-        self.standing != Standing::Following
+        self.standing != WatcherStanding::Following
     }
 
     /// Whether the watcher is lost and all was sent to it, `lost` too: its connection is to be closed.
     pub fn is_over(&self) -> bool
-        ensures { IsTrue result ↔ ((self.now.standing ≡ Standing.Lost) × (self.now.pending ≡ [])) }
+        ensures { IsTrue result ↔ ((self.now.standing ≡ WatcherStanding.Lost) × (self.now.pending ≡ [])) }
     {
-        self.standing == Standing::Lost && self.pending.is_empty()
+        self.standing == WatcherStanding::Lost && self.pending.is_empty()
     }
 
     fn take_text(&mut self, text: &[u8])
         ensures { self.new ≡ after_text text.now self.old }
     {
-        if self.standing != Standing::Following {
+        if self.standing != WatcherStanding::Following {
             return;
         }
         if text.len() > WATCHER_BYTES - self.pending.len() {
@@ -132,7 +132,7 @@ impl Watcher {
         ensures { self.new ≡ after_sent count self.old }
     {
         drop_front(&mut self.pending, count);
-        if self.standing == Standing::Losing {
+        if self.standing == WatcherStanding::Losing {
             self.lose();
         }
     }
@@ -144,11 +144,11 @@ impl Watcher {
         let line = line_of(&Event::Lost);
         let text = line.as_str().as_bytes();
         if text.len() > WATCHER_BYTES - self.pending.len() {
-            self.standing = Standing::Losing;
+            self.standing = WatcherStanding::Losing;
             return;
         }
         let _done = self.pending.extend_from_slice(text);
-        self.standing = Standing::Lost;
+        self.standing = WatcherStanding::Lost;
     }
 }
 
