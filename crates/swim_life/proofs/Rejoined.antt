@@ -18,14 +18,16 @@ use Rattle.swim_node.specs.declared.receipts.Receipt.{Receipt}
 use Rattle.swim_node.specs.Answered.{kept, refused, IsAnswered, MayRefuse}
 use Rattle.swim_node.specs.Seats.{Seated}
 use Rattle.swim_rejoin.specs.Histories.{Event}
+use Rattle.swim_rejoin.specs.Histories.Event.{Joined}
 use Rattle.swim_life.specs.declared.counts.Counts.{Counts}
 use Rattle.swim_life.specs.declared.counts.Why.{Why}
-use Rattle.swim_life.specs.Answers.{has_started, message_by, message_in}
+use Rattle.swim_life.specs.declared.rejoining.Returning.{Returning}
+use Rattle.swim_life.specs.Answers.{has_joined, has_started, message_by, message_in}
 use Rattle.swim_life.specs.Calling.{Hears}
 use Rattle.swim_life.specs.Finished.{IsFinished}
 use Rattle.swim_life.specs.Knocking.{starts_in}
 use Rattle.swim_life.specs.Posts.{AtSender, Posted}
-use Rattle.swim_life.specs.Rejoining.{HearsAndJoins, IsJoinTold, IsMessage, Joins, JoinsThen, whom}
+use Rattle.swim_life.specs.Rejoining.{HearsAndJoins, IsJoinTold, IsMessage, IsReturning, Joins, JoinsAgain, JoinsThen, whom}
 use Rattle.swim_life.proofs.Called.{at_sender, count_kept, refused_so}
 
 -- a member was joined
@@ -35,11 +37,9 @@ pub joined_so : {O N : Type 0} (posted : O → Option (List Posted)) (messages :
     IfOk answer (λ r. IsAnswered o old new (Join row.id row.peer) (kept r.position r.number r.call r.reply) r.news) →
     IfErr answer (λ fault. new ≡ refused fault old) → IfErr answer (MayRefuse o limit old) →
     IsFinished posted answer messages post counts end after next →
-    Joins o limit row (at_sender old boxed counts) end (at_sender new after next)
+    Joins o limit row (at_sender old boxed counts) end (at_sender new after next) (has_joined answer)
 joined_so posted messages o limit row old new (Ok r) boxed post after counts next end in_box ok err refuses done =
     inl (
-      Join row.id row.peer,
-      refl,
       record {
         kept = kept r.position r.number r.call r.reply;
         news = r.news;
@@ -47,9 +47,10 @@ joined_so posted messages o limit row old new (Ok r) boxed post after counts nex
         counted = count_kept posted (messages r) post after counts next done.1;
         goes_on = done.0;
       },
+      refl,
     )
 joined_so posted messages o limit row old new (Err f) boxed post after counts next end in_box ok err refuses done =
-    inr (f, refuses, refused_so posted messages old new f boxed post after counts next end in_box err done)
+    inr (f, refuses, refused_so posted messages old new f boxed post after counts next end in_box err done, refl)
 
 -- the message that was heard
 pub message_so : {O N : Type 0} (posted : O → Option (List Posted)) (messages : Receipt N → List (Address × Message)) (o : Setting)
@@ -80,6 +81,22 @@ started_so o old new (Ok r) ok err =
 started_so o old new (Err f) ok err =
     let same : starts_in new.calls ≡ starts_in old.calls = ap (λ (s : Seated). starts_in s.calls) err in omega (arith, same)
 
+-- a member was joined again, and that is remembered
+pub joined_again : {O : Type 0} (o : Setting) (limit : ℕ) (row : Row) (before after : Returning) (old : AtSender O) (end : Option Why)
+    (new : AtSender O) (is_joined : Bool) (period : ℕ) → Joins o limit row old end new is_joined → is_joined ≡ true →
+    ((h : List Event) → IsReturning before h → IsReturning after (Joined row.id period ∷ h)) →
+    JoinsAgain o limit row before old end new after
+joined_again o limit row before after old end new true period joins is told =
+    (true, joins, λ h returning. (Joined row.id period ∷ h, told h returning, (period, refl)))
+joined_again o limit row before after old end new false period joins is told = absurd (cc is)
+
+-- it wasn't, and nothing is
+pub not_joined : {O : Type 0} (o : Setting) (limit : ℕ) (row : Row) (returning : Returning) (old : AtSender O) (end : Option Why)
+    (new : AtSender O) (is_joined : Bool) → Joins o limit row old end new is_joined → is_joined ≡ false →
+    JoinsAgain o limit row returning old end new returning
+not_joined o limit row returning old end new true joins is = absurd (cc is)
+not_joined o limit row returning old end new false joins is = (false, joins, λ h was. (h, was, refl))
+
 -- nobody is to be joined again
 pub none_joined : {O : Type 0} (o : Setting) (limit rejoin me : ℕ) (h : List Event) (bytes : List ℕ) (source : Address)
     (old : AtSender O) (heard : Option Why) (mid : AtSender O) (message : Option Message) (found : Option Row) →
@@ -98,13 +115,13 @@ none_joined o limit rejoin me h bytes source old heard mid message found hears i
 pub one_joined : {O : Type 0} (o : Setting) (limit rejoin me : ℕ) (h told : List Event) (bytes : List ℕ) (source : Address)
     (old : AtSender O) (heard : Option Why) (mid : AtSender O) (message : Option Message) (found : Option Row) (row : Row)
     (end : Option Why) (new : AtSender O) → Hears o limit bytes source old heard mid → IsMessage bytes old heard mid message →
-    found ≡ Some row → found ≡ whom rejoin me h source message → Joins o limit row mid end new → IsJoinTold row h told →
-    HearsAndJoins o limit rejoin me h bytes source old end new told
-one_joined o limit rejoin me h told bytes source old heard mid message found row end new hears is some found_is joins is_told = record {
+    found ≡ Some row → found ≡ whom rejoin me h source message → (is_joined : Bool) → Joins o limit row mid end new is_joined →
+    IsJoinTold row is_joined h told → HearsAndJoins o limit rejoin me h bytes source old end new told
+one_joined o limit rejoin me h told bytes source old heard mid message found row end new hears is some found_is is_joined joins is_told = record {
   mid = mid;
   heard = heard;
   hears = hears;
   message = message;
   is = is;
-  joins = subst (λ (f : Option Row). JoinsThen o limit f h mid heard end new told) (sym some ∙ found_is) (joins, is_told);
+  joins = subst (λ (f : Option Row). JoinsThen o limit f h mid heard end new told) (sym some ∙ found_is) (is_joined, joins, is_told);
 }

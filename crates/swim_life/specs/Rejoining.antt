@@ -1,5 +1,5 @@
 -- Which members the receiver of a life joins again by itself.
-use Rattle.std.specs.Prelude.{◌≡◌, ◌⊎◌, ℕ, All, List, ◌∷◌, ◌++◌, Option, Some, None, option_and_then}
+use Rattle.std.specs.Prelude.{◌≡◌, ◌⊎◌, ℕ, Bool, true, false, All, List, ◌∷◌, ◌++◌, Option, Some, None, option_and_then}
 use Rattle.swim_wire.specs.Address.{Address}
 use Rattle.swim_wire.specs.Layout.{IsTextOf}
 use Rattle.swim_wire.specs.Messages.{Message}
@@ -8,6 +8,7 @@ use Rattle.swim_history.specs.declared.rows.Change.{Change}
 use Rattle.swim_history.specs.declared.rows.Row.{Row}
 use Rattle.swim_history.specs.Changes.{table_after}
 use Rattle.swim_history.specs.Setting.{Setting}
+use Rattle.swim_node.specs.declared.receipts.CallFault.{CallFault}
 use Rattle.swim_node.specs.Answered.{MayRefuse}
 use Rattle.swim_rejoin.specs.Believing.{believed}
 use Rattle.swim_rejoin.specs.Histories.{Event, table_in}
@@ -15,7 +16,8 @@ use Rattle.swim_rejoin.specs.Histories.Event.{Joined, Knocked, Looked}
 use Rattle.swim_rejoin.specs.Rejoiners.{Follows}
 use Rattle.swim_life.specs.declared.counts.Why.{Why}
 use Rattle.swim_life.specs.declared.rejoining.Returning.{Returning}
-use Rattle.swim_life.specs.Calling.{Calls, Hears}
+use Rattle.swim_life.specs.Answers.{is_joining}
+use Rattle.swim_life.specs.Calling.{IsMade, IsRefused, Hears}
 use Rattle.swim_life.specs.Posts.{AtSender}
 
 -- what the receiver learns between two datagrams: a table of the node, or a knock that the ticker told it of
@@ -49,19 +51,29 @@ IsMessage bytes old end new (Some m) = IsTextOf bytes m × (end ≡ None)
 abbrev pub whom : ℕ → ℕ → List Event → Address → Option Message → Option Row
 whom rejoin me h source message = option_and_then (λ m. believed rejoin me h m source) message
 
--- the node is told to list that member at its row's address
-abbrev pub Joins : {O : Type 0} → Setting → ℕ → Row → AtSender O → Option Why → AtSender O → Type 0
-Joins o limit row old end new = Calls o (λ call. call ≡ Join row.id row.peer) (MayRefuse o limit old.seat) old end new
+-- the node is told to list that member at its row's address. It was joined where the reply says so, and only there
+abbrev pub Joins : {O : Type 0} → Setting → ℕ → Row → AtSender O → Option Why → AtSender O → Bool → Type 0
+Joins o limit row old end new is_joined =
+    ((made : IsMade o (Join row.id row.peer) old end new) × (is_joined ≡ is_joining made.kept.reply))
+    ⊎ ((fault : CallFault) × MayRefuse o limit old.seat fault × IsRefused fault old end new × (is_joined ≡ false))
 
--- and that it was joined again is remembered, if it was
-abbrev pub IsJoinTold : Row → List Event → List Event → Type 0
-IsJoinTold row h told = (told ≡ h) ⊎ ((period : ℕ) × (told ≡ Joined row.id period ∷ h))
+-- that it was joined again is remembered where it was, and nothing where it wasn't
+abbrev pub IsJoinTold : Row → Bool → List Event → List Event → Type 0
+IsJoinTold row true h told = (period : ℕ) × (told ≡ Joined row.id period ∷ h)
+IsJoinTold row false h told = told ≡ h
+
+-- a member is joined again, and that is remembered, or nothing is
+abbrev pub JoinsAgain : {O : Type 0} → Setting → ℕ → Row → Returning → AtSender O → Option Why → AtSender O → Returning → Type 0
+JoinsAgain o limit row before old end new after =
+    (is_joined : Bool) × Joins o limit row old end new is_joined
+    × ((h : List Event) → IsReturning before h → (told : List Event) × IsReturning after told × IsJoinTold row is_joined h told)
 
 -- what follows the call for a datagram: nothing where nobody is to be joined again, and else the call that joins it
 abbrev pub JoinsThen : {O : Type 0} → Setting → ℕ → Option Row → List Event → AtSender O → Option Why → Option Why → AtSender O →
     List Event → Type 0
 JoinsThen o limit None h mid heard end new told = (new ≡ mid) × (end ≡ heard) × (told ≡ h)
-JoinsThen o limit (Some row) h mid heard end new told = Joins o limit row mid end new × IsJoinTold row h told
+JoinsThen o limit (Some row) h mid heard end new told =
+    (is_joined : Bool) × Joins o limit row mid end new is_joined × IsJoinTold row is_joined h told
 
 -- a datagram was heard, and then whoever it shows to be there again was joined
 pub record HearsAndJoins {O : Type 0} (o : Setting) (limit rejoin me : ℕ) (h : List Event) (bytes : List ℕ) (source : Address)

@@ -8,7 +8,7 @@ ghost use Rattle.swim_history.specs.Setting.{Setting};
 ghost use Rattle.swim_rejoin.specs.Histories.{Event, table_in};
 ghost use Rattle.swim_rejoin.specs.Histories.Event.{Joined};
 ghost use Rattle.swim_rejoin.specs.Rejoiners.{Follows};
-ghost use Rattle.swim_life.specs.Rejoining.{HearsAndJoins, IsJoinTold, IsOfSame, IsReturning, Joins, Learns, LearnsOn, whom};
+ghost use Rattle.swim_life.specs.Rejoining.{HearsAndJoins, IsOfSame, IsReturning, JoinsAgain, Learns, LearnsOn, whom};
 
 use crate::counts::Why;
 use crate::gates::Post;
@@ -178,6 +178,7 @@ pub(crate) fn hear_and_join<N: Naming, O: Post + Drop, C: Chooser, H: Wait + Dro
 
 /// Joins a member again. Where it was joined, it's time to look at the table: it shows it as up. Why the receiver ends,
 /// if it does.
+#[tactic(auto, using(crate::proofs::Rejoined::joined_again, crate::proofs::Rejoined::not_joined))]
 fn join_again<N: Naming, O: Post + Drop, C: Chooser, H: Wait + Drop, R: Wait>(
     rt: &R,
     node: &Node<N, C, H>,
@@ -187,9 +188,7 @@ fn join_again<N: Naming, O: Post + Drop, C: Chooser, H: Wait + Drop, R: Wait>(
     row: &Row,
 ) -> Option<Why>
     ensures same { IsOfSame returning.old returning.new }
-    ensures joins { Joins N.opening N.limit row.now sender.old result sender.new }
-    ensures told { (h : List Event) → IsReturning returning.old h → (told : List Event) × IsReturning returning.new told
-        × IsJoinTold row.now h told }
+    ensures joins { JoinsAgain N.opening N.limit row.now returning.old sender.old result sender.new returning.new }
     ensures full { result ≡ Some Why.JournalFull → 0 < sender.new.seat.full }
 {
     let (end, is_joined) = sender.join(rt, node, row);

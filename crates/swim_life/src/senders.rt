@@ -88,7 +88,7 @@ impl<N: Naming, O: Post + Drop, const SEAT: u8> Sender<N, O, SEAT> {
         node: &Node<N, C, H>,
         row: &Row,
     ) -> (Option<Why>, bool)
-        ensures joins { Joins N.opening N.limit row.now self.old result.0 self.new }
+        ensures joins { Joins N.opening N.limit row.now self.old result.0 self.new result.1 }
         ensures full { result.0 ≡ Some Why.JournalFull → 0 < self.new.seat.full }
     {
         let answer = node.join(rt, &mut self.held.seat, row.id, row.peer);

@@ -15,9 +15,9 @@ invariant_of-self g c =
 pub returns-clause-joins : goal.returns-clause-joins
 returns-clause-joins g c =
     let new : AtSender g.row.O.Denot = record { seat = c.join-answer.new.seat; post = c.finish-end.new.post; counts = c.finish-end.new.counts } in
-    subst (λ old. Joins g.N.Naming.opening g.N.Naming.limit c.args.row.now old c.finish-end.result new) c.self.view_is
-    (joined_so g.O.Post.posted (λ r. sends_of r.reply c.opening-opening.result.now) g.N.Naming.opening g.N.Naming.limit c.args.row.now c.self.inside.held.seat c.join-answer.new.seat c.join-answer.result (box_value c.self.inside.post) c.deref_mut.result.now c.finish-end.new.post c.self.inside.counts c.finish-end.new.counts c.finish-end.result
-    (search rules) c.join-answer.ensures.ok c.join-answer.ensures.err c.join-answer.ensures.refuses c.finish-end.ensures)
+    subst (λ old. Joins g.N.Naming.opening g.N.Naming.limit c.args.row.now old c.finish-end.result new c.has_joined-is_joined.result) c.self.view_is
+    (rw c.has_joined-is_joined.ensures (joined_so g.O.Post.posted (λ r. sends_of r.reply c.opening-opening.result.now) g.N.Naming.opening g.N.Naming.limit c.args.row.now c.self.inside.held.seat c.join-answer.new.seat c.join-answer.result (box_value c.self.inside.post) c.deref_mut.result.now c.finish-end.new.post c.self.inside.counts c.finish-end.new.counts c.finish-end.result
+    (search rules) c.join-answer.ensures.ok c.join-answer.ensures.err c.join-answer.ensures.refuses c.finish-end.ensures))
 
 pub returns-clause-full : goal.returns-clause-full
 returns-clause-full g c =
