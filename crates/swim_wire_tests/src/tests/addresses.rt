@@ -6,16 +6,16 @@ use swim_wire::Peer;
 fn assert_address<R: Abort>(rt: &R, text: &str, ip: [u8; 4], port: u16) {
     match Peer::read(text.as_bytes()) {
         Some(peer) => {
-            assert_eq!(rt; peer.ip, ip);
-            assert_eq!(rt; peer.port, port);
-            assert_eq!(rt; peer.write().as_str(), text);
+            assert!(rt; peer.ip == ip);
+            assert!(rt; peer.port == port);
+            assert!(rt; peer.write().as_str() == text);
         }
         None => panic!(rt; "{text} is an address"),
     }
 }
 
 fn assert_none<R: Abort>(rt: &R, text: &str) {
-    assert_eq!(rt; Peer::read(text.as_bytes()), None, "at {text}");
+    assert!(rt; Peer::read(text.as_bytes()).is_none(), "at {text}");
 }
 
 #[test]
@@ -30,7 +30,7 @@ fn as_bytes(rt: HostRuntime) {
         ip: [10, 0, 0, 2],
         port: 7000,
     };
-    assert_eq!(rt; peer.to_bytes(), [10, 0, 0, 2, 0x1b, 0x58]);
+    assert!(rt; peer.to_bytes() == [10, 0, 0, 2, 0x1b, 0x58]);
 }
 
 #[test]

@@ -48,13 +48,13 @@ fn message(
 
 // A message has this text, which is read as it.
 fn assert_text<R: Abort>(rt: &R, message: &Message, text: &[u8]) {
-    assert_eq!(rt; encode(message).as_slice(), text);
-    assert_eq!(rt; decode(text), Ok(*message));
+    assert!(rt; encode(message).as_slice() == text);
+    assert!(rt; decode(text) == Ok(*message));
 }
 
 // Bytes are no datagram, and this is the first fault.
 fn assert_fault<R: Abort>(rt: &R, bytes: &[u8], fault: WireFault) {
-    assert_eq!(rt; decode(bytes), Err(fault));
+    assert!(rt; decode(bytes) == Err(fault));
 }
 
 // A text with other bytes at these places has this as its first fault.
@@ -175,7 +175,7 @@ fn ports(rt: HostRuntime) {
 // The text is a message that tells this port.
 fn assert_port<R: Abort>(rt: &R, text: &[u8], port: u16) {
     match decode(text) {
-        Ok(message) => assert_eq!(rt; message.at.map(|peer| peer.port), Some(port)),
+        Ok(message) => assert!(rt; message.at.is_some_and(|peer| peer.port == port)),
         Err(_) => panic!(rt; "a message"),
     }
 }
@@ -206,7 +206,7 @@ fn fault_numbers(rt: HostRuntime) {
         (WireFault::Form, 7),
         (WireFault::ZeroPort, 8),
     ] {
-        assert_eq!(rt; fault.number(), number);
+        assert!(rt; fault.number() == number);
     }
 }
 
@@ -228,7 +228,7 @@ fn fault_names(rt: HostRuntime) -> Result<(), Fail> {
         ),
         (WireFault::ZeroPort, "the port is 0"),
     ] {
-        assert_eq!(rt; format!(in rt.alloc(); "{fault}")?.as_str(), name);
+        assert!(rt; format!(in rt.alloc(); "{fault}")?.as_str() == name);
     }
     Ok(())
 }

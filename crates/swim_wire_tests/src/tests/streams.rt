@@ -74,8 +74,8 @@ fn assert_second<R: Abort>(
     (bytes, left): (&[u8], u32),
 ) {
     let (got, line, after) = second(text, page, budget);
-    assert_eq!(rt; got, taken);
-    assert_eq!(rt; line.as_slice(), bytes);
+    assert!(rt; got == taken);
+    assert!(rt; line.as_slice() == bytes);
     assert_eq!(rt; after, left);
 }
 
@@ -107,7 +107,7 @@ fn takes_lines(rt: HostRuntime) {
 // The second line of a text is refused, with such a budget.
 fn assert_refused<R: Abort>(rt: &R, page: &mut Page, text: &[u8], budget: u32, taken: Taken) {
     let (got, line, after) = second(text, page, budget);
-    assert_eq!(rt; got, taken);
+    assert!(rt; got == taken);
     assert!(rt; line.len() <= 4);
     assert!(rt; after <= budget);
 }
@@ -137,8 +137,8 @@ fn tells_failures_in_mid_stream(rt: HostRuntime) {
     ];
     for (taken, bytes) in table {
         let got = next_line(&mut source, &mut page, &mut line, &mut budget);
-        assert_eq!(rt; got, taken);
-        assert_eq!(rt; line.as_slice(), bytes);
+        assert!(rt; got == taken);
+        assert!(rt; line.as_slice() == bytes);
     }
 }
 
@@ -158,17 +158,17 @@ fn answers_before_it_waits(rt: HostRuntime) {
         next_line(&mut source, &mut sink, &mut line, &mut budget);
         assert!(rt; sink.put(b"third"));
     }
-    assert_eq!(rt; seen.as_slice(), b"firstsecond".as_slice());
+    assert!(rt; seen.as_slice() == b"firstsecond".as_slice());
 }
 
 // The next byte of a source.
 fn assert_byte<R: Abort, S: Source>(rt: &R, source: &mut S, byte: Byte) {
-    assert_eq!(rt; source.byte(), byte);
+    assert!(rt; source.byte() == byte);
 }
 
 // What is ready in a source, of which so many bytes are skipped.
 fn skip_of<R: Abort, S: Source>(rt: &R, source: &mut S, ready: &[u8], count: usize) {
-    assert_eq!(rt; source.ready(), ready);
+    assert!(rt; source.ready() == ready);
     assert!(rt; count <= source.ready().len());
     source.skip(count);
 }
@@ -223,7 +223,7 @@ fn assert_taken<R: Abort>(
     alloc: Global,
     interruptions: u32,
     refuses_in: u32,
-    (is_put, is_flushed): (bool, bool),
+    are_done: (bool, bool),
     whole: usize,
 ) {
     let mut taken = Vec::new(alloc);
@@ -233,12 +233,21 @@ fn assert_taken<R: Abort>(
             interruptions,
             refuses_in,
         });
-        assert!(rt; !sink.flush());
-        assert_eq!(rt; sink.put(&[b'x'; 5000]), is_put);
-        assert_eq!(rt; sink.flush(), is_flushed);
-        assert!(rt; sink.flush());
+        put_and_flush(rt, &mut sink, &[b'x'; 5000], are_done);
     }
-    assert_eq!(rt; taken.len(), whole);
+    assert!(rt; taken.len() == whole);
+}
+
+fn put_and_flush<R: Abort, S: Sink>(
+    rt: &R,
+    sink: &mut S,
+    bytes: &[u8],
+    (is_put, is_flushed): (bool, bool),
+) {
+    assert!(rt; !sink.flush());
+    assert!(rt; sink.put(bytes) == is_put);
+    assert!(rt; sink.flush() == is_flushed);
+    assert!(rt; sink.flush());
 }
 
 #[test]
@@ -256,18 +265,18 @@ fn shows_what_was_put(rt: HostRuntime) {
     assert!(rt; !page.put(b"cd"));
     assert!(rt; page.put(b"ef"));
     assert!(rt; page.flush());
-    assert_eq!(rt; page.text(), b"abef".as_slice());
+    assert!(rt; page.text() == b"abef".as_slice());
 }
 
 // The next word.
 fn assert_word<R: Abort>(rt: &R, words: &mut Words<'_>, word: &[u8]) {
     assert!(rt; !words.is_empty());
-    assert_eq!(rt; words.next(), Some(word));
+    assert!(rt; words.next() == Some(word));
 }
 
 fn assert_no_word<R: Abort>(rt: &R, words: &mut Words<'_>) {
     assert!(rt; words.is_empty());
-    assert_eq!(rt; words.next(), None);
+    assert!(rt; words.next().is_none());
 }
 
 #[test]
