@@ -1,7 +1,7 @@
 -- Lines that are written one after another.
 use Rattle.std.proofs.Common.{◌≡◌, ℕ, Bool, true, false, List, [], ◌++◌, Option, refl}
 use Rattle.std.specs.List.{list_all}
-use Rattle.swim_wire.specs.Streams.{Puts, puts_then, puts_less}
+use Rattle.swim_text.specs.Streams.{Puts, puts_then, puts_less}
 use Rattle.swim_config.specs.declared.config_fault.ConfigFault.{ConfigFault}
 use Rattle.swim_config.specs.Causes.{AreIndented, PutsLines, IsCause, Causes, indented, expected_text}
 use Rattle.swim_config.specs.Configuration.{is_printing}

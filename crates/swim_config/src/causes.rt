@@ -1,14 +1,14 @@
 //! The lines below the line of a configuration's fault.
 
 ghost use Rattle.std.specs.Prelude.{◌≡◌};
-ghost use Rattle.swim_wire.specs.Streams.{failures_if};
+ghost use Rattle.swim_text.specs.Streams.{failures_if};
 ghost use Rattle.swim_config.specs.Causes.{Causes};
 
 use crate::config_fault::ConfigFault;
 use crate::expected::put_expected;
 use crate::found::put_found;
 use std::alloc::Global;
-use swim_wire::Sink;
+use swim_text::Sink;
 
 /// Writes what was expected where a configuration of these bytes has that fault, what stood there, and in which line;
 /// and answers whether the sink took it. Where memory is refused less is told.

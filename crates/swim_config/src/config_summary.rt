@@ -1,7 +1,7 @@
 //! The summary of a configuration.
 
 ghost use Rattle.std.specs.Prelude.{◌≡◌, ◌++◌, length};
-ghost use Rattle.swim_wire.specs.Streams.{Puts, failures_if};
+ghost use Rattle.swim_text.specs.Streams.{Puts, failures_if};
 ghost use Rattle.swim_config.specs.Summary.{all_members_text, count_text, mark_of, member_text, members_text, number_text};
 ghost use Rattle.swim_config.specs.Summary.{numbers_and_members_text, numbers_text, own_text, path_text, paths_text};
 ghost use Rattle.swim_config.specs.Summary.{place_text, summary_text, telling_text, told_text};
@@ -10,7 +10,8 @@ use crate::config::Config;
 use crate::keys::{ConfigKey, NUMBER_KEYS};
 use crate::socket_path::SocketPath;
 use swim_history::{Opening, Row, table_of};
-use swim_wire::{Piece, Sink, put_pieces};
+use swim_text::Sink;
+use swim_wire::{Piece, put_pieces};
 
 /// Writes what a configuration says, its members ascending by id, and answers whether the sink took it.
 pub fn summary<W: Sink>(config: &Config, writer: &mut W) -> bool

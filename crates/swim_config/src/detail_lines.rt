@@ -2,14 +2,15 @@
 
 ghost use Rattle.std.specs.Prelude.{◌≡◌, [], true};
 ghost use Rattle.std.specs.List.{list_all};
-ghost use Rattle.swim_wire.specs.Streams.{Puts, failures_if};
+ghost use Rattle.swim_text.specs.Streams.{Puts, failures_if};
 ghost use Rattle.swim_config.specs.Causes.{PutsLines, indented};
 ghost use Rattle.swim_config.specs.Configuration.{is_printing};
 
 use arrayvec::ArrayVec;
 use itoa::Buffer;
 use std::marker::Model;
-use swim_wire::{Piece, Sink, put_pieces};
+use swim_text::Sink;
+use swim_wire::{Piece, put_pieces};
 
 /// The most bytes of a line, without the spaces before it.
 pub const DETAIL_BYTES: usize = 160;

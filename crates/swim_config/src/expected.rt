@@ -1,13 +1,14 @@
 //! What a configuration was expected to say, where it has a fault.
 
 ghost use Rattle.std.specs.Prelude.{◌≡◌, ◌++◌, codes};
-ghost use Rattle.swim_wire.specs.Streams.{Puts, failures_if};
+ghost use Rattle.swim_text.specs.Streams.{Puts, failures_if};
 ghost use Rattle.swim_config.specs.Causes.{expected_as, expected_of, expected_text, purpose_text, rule_text};
 
 use crate::config_fault::ConfigFault;
 use crate::keys::{ConfigKey, ValueForm};
 use swim_history::OpeningFault;
-use swim_wire::{Piece, Sink, put_pieces};
+use swim_text::Sink;
+use swim_wire::{Piece, put_pieces};
 
 /// Writes what was expected, and answers whether the sink took it.
 pub fn put_expected<W: Sink>(writer: &mut W, fault: ConfigFault) -> bool

@@ -1,7 +1,7 @@
 //! The text of a configuration's fault.
 
 ghost use Rattle.std.specs.Prelude.{◌≡◌, ◌++◌};
-ghost use Rattle.swim_wire.specs.Streams.{Puts, failures_if};
+ghost use Rattle.swim_text.specs.Streams.{Puts, failures_if};
 ghost use Rattle.swim_history.specs.Texts.{feed};
 ghost use Rattle.swim_config.specs.FaultTexts.{fault_text};
 ghost use Rattle.swim_config.specs.Keys.{key_text};
@@ -9,7 +9,8 @@ ghost use Rattle.swim_config.specs.Keys.{key_text};
 use crate::config_fault::ConfigFault;
 use crate::keys::ConfigKey;
 use swim_history::OpeningFault;
-use swim_wire::{Piece, Sink, put_pieces};
+use swim_text::Sink;
+use swim_wire::{Piece, put_pieces};
 
 /// Writes the line of a fault, and answers whether the sink took it.
 pub fn put_fault<W: Sink>(writer: &mut W, fault: ConfigFault) -> bool

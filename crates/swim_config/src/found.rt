@@ -1,7 +1,7 @@
 //! What stood in a configuration where it has a fault.
 
 ghost use Rattle.std.specs.Prelude.{◌≡◌};
-ghost use Rattle.swim_wire.specs.Streams.{failures_if};
+ghost use Rattle.swim_text.specs.Streams.{failures_if};
 ghost use Rattle.swim_config.specs.Causes.{PutsLines};
 
 use crate::config_fault::ConfigFault;
@@ -12,7 +12,7 @@ use crate::keys::ConfigKey;
 use crate::statements::{StatementPlace, line_at, line_of};
 use crate::unknown_keys::{first_unknown, nearest};
 use std::alloc::Global;
-use swim_wire::Sink;
+use swim_text::Sink;
 use toml::Table;
 
 /// A document of which lines are shown.

@@ -1,12 +1,12 @@
 //! The text of a configuration, read to its end.
 
 ghost use Rattle.std.specs.Prelude.{◌≡◌, []};
-ghost use Rattle.swim_wire.specs.Streams.{failures_if};
+ghost use Rattle.swim_text.specs.Streams.{failures_if};
 ghost use Rattle.swim_config.specs.Inputs.{IsRead};
 
 use crate::reading::CONFIG_BYTES;
 use arrayvec::ArrayVec;
-use swim_wire::{Byte, Source};
+use swim_text::{Byte, Source};
 
 /// How many bytes are read at the most: one more than a configuration may have, so that it shows where there are too
 /// many.

@@ -1,7 +1,7 @@
 //! Warnings of what a configuration allows and can't work.
 
 ghost use Rattle.std.specs.Prelude.{◌≡◌, length};
-ghost use Rattle.swim_wire.specs.Streams.{Puts, failures_if};
+ghost use Rattle.swim_text.specs.Streams.{Puts, failures_if};
 ghost use Rattle.swim_config.specs.Warnings.{addresses_and_more_text, few_relays_text, flood_entries, flood_text, floods_and_more_text};
 ghost use Rattle.swim_config.specs.Warnings.{floods_text, is_plain, is_same_address, rounds_ms, short_for_a_flood_text};
 ghost use Rattle.swim_config.specs.Warnings.{journal_text, long_period_text, own_address_text, own_addresses_text, own_line};
@@ -11,7 +11,8 @@ ghost use Rattle.swim_config.specs.Warnings.{short_journal_text, three_rounds, t
 
 use crate::config::Config;
 use swim_history::{Opening, Row};
-use swim_wire::{Id, Peer, Piece, Sink, put_pieces};
+use swim_text::Sink;
+use swim_wire::{Id, Peer, Piece, put_pieces};
 
 /// A day, in milliseconds.
 const DAY_MS: u64 = 86_400_000;

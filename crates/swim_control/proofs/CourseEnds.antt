@@ -3,8 +3,8 @@ use Rattle.std.proofs.Common.{◌≡◌, ℕ, ◌+◌, ◌<◌, Bool, true, fals
 use Rattle.std.specs.Io.KnownBytes.{Keeps, Appends}
 use Rattle.std.proofs.lemmas.Option.{same_Some}
 use Rattle.std.proofs.lemmas.List.{append_assoc, length-append}
-use Rattle.swim_wire.specs.ShortLines.{IsTaken}
-use Rattle.swim_wire.specs.Streams.{Puts, PutsFront, appends_both, kept_appends, appends_kept}
+use Rattle.swim_text.specs.ShortLines.{IsTaken}
+use Rattle.swim_text.specs.Streams.{Puts, PutsFront, appends_both, kept_appends, appends_kept}
 use Rattle.swim_control.specs.declared.desks.Answer.TheVariants as answers
 use Rattle.swim_control.specs.declared.desks.Command.{Command}
 use Rattle.swim_control.specs.declared.commands.Said.{Said}

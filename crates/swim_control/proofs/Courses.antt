@@ -4,10 +4,10 @@ use Rattle.std.specs.Prelude.{◌==◌, ◌||◌}
 use Rattle.std.specs.Io.KnownBytes.{Keeps, Appends}
 use Rattle.std.proofs.lemmas.Bool.{lt-ltb, le-ltb}
 use Rattle.std.proofs.lemmas.List.{append_assoc, length-append, reverse-append}
-use Rattle.swim_wire.specs.Cutting.{pieces_at, pieces_last, bare_at, bare_last}
-use Rattle.swim_wire.specs.Lines.{pieces, has_feed}
-use Rattle.swim_wire.specs.ShortLines.{IsTaken}
-use Rattle.swim_wire.specs.Streams.{Puts, PutsFront, appends_none, appends_both, kept_appends, keeps_self}
+use Rattle.swim_text.specs.Cutting.{pieces_at, pieces_last, bare_at, bare_last}
+use Rattle.swim_text.specs.Lines.{pieces, has_feed}
+use Rattle.swim_text.specs.ShortLines.{IsTaken}
+use Rattle.swim_text.specs.Streams.{Puts, PutsFront, appends_none, appends_both, kept_appends, keeps_self}
 use Rattle.swim_control.specs.declared.desks.Command.{Command}
 use Rattle.swim_control.specs.declared.commands.Said.{Said}
 use Rattle.swim_control.specs.declared.commands.Said.TheVariants.{Stop, Asks}

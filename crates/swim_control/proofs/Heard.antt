@@ -4,11 +4,11 @@ use Rattle.std.specs.List.{AllByRecursion}
 use Rattle.std.specs.Io.KnownBytes.{Keeps}
 use Rattle.std.proofs.lemmas.Bool.{eq-eqb, ne_eqb}
 use Rattle.std.proofs.lemmas.List.{append-nil}
-use Rattle.swim_wire.specs.declared.short_lines.LineEnd.{LineEnd}
-use Rattle.swim_wire.specs.declared.short_lines.LineEnd.TheVariants as lines
-use Rattle.swim_wire.specs.ShortLines.{ComesKnown, none_taken}
+use Rattle.swim_text.specs.declared.short_lines.LineEnd.{LineEnd}
+use Rattle.swim_text.specs.declared.short_lines.LineEnd.TheVariants as lines
+use Rattle.swim_text.specs.ShortLines.{ComesKnown, none_taken}
 use Rattle.std.proofs.lemmas.Option.{same_Some}
-use Rattle.swim_wire.specs.Streams.{Puts, appends_kept, puts_kept, keeps_self}
+use Rattle.swim_text.specs.Streams.{Puts, appends_kept, puts_kept, keeps_self}
 use Rattle.swim_control.specs.declared.desks.Command.{Command}
 use Rattle.swim_control.specs.declared.commands.Said.{Said}
 use Rattle.swim_control.specs.declared.commands.Said.TheVariants.{Stop, Asks}

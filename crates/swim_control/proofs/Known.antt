@@ -2,9 +2,9 @@
 use Rattle.std.proofs.Common.{◌≡◌, ◌⊎◌, ℕ, Bool, true, false, List, Option, Some, None, refl, sym, ap, subst, ◌∙◌, inl, inr}
 use Rattle.std.specs.Io.KnownBytes.{Keeps}
 use Rattle.std.proofs.lemmas.Option.{same_Some}
-use Rattle.swim_wire.specs.ShortLines.{ComesKnown}
-use Rattle.swim_wire.specs.Streams.{keeps_self}
-use Rattle.swim_wire.specs.declared.short_lines.LineEnd.TheVariants as lines
+use Rattle.swim_text.specs.ShortLines.{ComesKnown}
+use Rattle.swim_text.specs.Streams.{keeps_self}
+use Rattle.swim_text.specs.declared.short_lines.LineEnd.TheVariants as lines
 use Rattle.swim_control.specs.declared.desks.Command.{Command}
 use Rattle.swim_control.specs.declared.faults.Fault.TheVariants.{LongLine, Unended}
 use Rattle.swim_control.specs.declared.serving.Served.{Served}

@@ -1,6 +1,6 @@
 -- What one line does, by what it says.
 use Rattle.std.proofs.Common.{◌≡◌, ℕ, Bool, List, [], ◌∷◌, Option, None, Some, Result, Ok, Err, refl, subst}
-use Rattle.swim_wire.specs.Streams.{Puts}
+use Rattle.swim_text.specs.Streams.{Puts}
 use Rattle.swim_control.specs.declared.desks.Answer.{Answer}
 use Rattle.swim_control.specs.declared.desks.Answer.TheVariants as answers
 use Rattle.swim_control.specs.declared.desks.Command.{Command}

@@ -4,9 +4,9 @@ use Rattle.std.specs.Prelude.{if◌then◌else◌}
 use Rattle.std.specs.Str.{bytes_eq}
 use Rattle.swim_wire.specs.Address.{Address, address_of}
 use Rattle.swim_wire.specs.Arguments.{◌>>=◌, argument, nothing_left}
-use Rattle.swim_wire.specs.Lines.{bare, has_feed}
-use Rattle.swim_wire.specs.Numbers.{id_of}
-use Rattle.swim_wire.specs.Words.{words_of}
+use Rattle.swim_text.specs.Lines.{bare, has_feed}
+use Rattle.swim_wire.specs.Ids.{id_of}
+use Rattle.swim_text.specs.Words.{words_of}
 use Rattle.swim_control.specs.declared.faults.LineFault.{LineFault}
 use Rattle.swim_control.specs.declared.faults.LineFault.TheVariants.{UnknownWord, BadId, BadPeer, Extra}
 use Rattle.swim_control.specs.declared.faults.Fault.{Fault}

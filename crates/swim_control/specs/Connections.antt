@@ -2,8 +2,8 @@
 -- milliseconds.
 use Rattle.std.specs.Prelude.{◌≡◌, ℕ, ◌+◌, ◌<◌, ◌≤◌, true, false, ◌⊎◌, List, [], ◌∷◌, ◌++◌, Option, Some, None}
 use Rattle.std.specs.Io.KnownBytes.{Keeps}
-use Rattle.swim_wire.specs.declared.short_lines.LineEnd.{LineEnd}
-use Rattle.swim_wire.specs.ShortLines.{Advances}
+use Rattle.swim_text.specs.declared.short_lines.LineEnd.{LineEnd}
+use Rattle.swim_text.specs.ShortLines.{Advances}
 use Rattle.swim_control.specs.declared.desks.Command.{Command}
 use Rattle.swim_control.specs.declared.connections.Close.TheVariants as closes
 use Rattle.swim_control.specs.declared.connections.Stand.{Stand}

@@ -3,7 +3,7 @@
 -- call. Lists of calls are newest first.
 use Rattle.std.specs.Prelude.{◌≡◌, ◌≢◌, ◌==◌, ℕ, ◌<◌, List, [], ◌∷◌, ◌++◌, Option, None, if◌then◌else◌, map}
 use Rattle.std.specs.List.{AllByRecursion}
-use Rattle.swim_wire.specs.ShortLines.{IsTakenKnown}
+use Rattle.swim_text.specs.ShortLines.{IsTakenKnown}
 use Rattle.swim_control.specs.declared.desks.Command.{Command}
 use Rattle.swim_control.specs.declared.connections.Stand.{Stand}
 use Rattle.swim_control.specs.declared.connections.Stand.TheVariants.{Ended}

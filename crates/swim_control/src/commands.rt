@@ -5,7 +5,8 @@ ghost use Rattle.swim_control.specs.Commands.{word_of, said_after, line_said};
 
 use crate::desks::Command;
 use crate::faults::LineFault;
-use swim_wire::{Words, nothing_left, take_id, take_peer};
+use swim_text::Words;
+use swim_wire::{nothing_left, take_id, take_peer};
 
 /// The longest control line, in bytes without its line feed.
 pub const LINE_BYTES: usize = 128;

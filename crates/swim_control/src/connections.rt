@@ -12,7 +12,7 @@ use arrayvec::ArrayVec;
 use std::alloc::Global;
 use std::marker::Model;
 use std::sync::Wait;
-use swim_wire::{Met, Polled, Sink, read_on};
+use swim_text::{Met, Polled, Sink, read_on};
 
 /// How many milliseconds a connection may send no whole line.
 pub const MOST_SILENT_MS: u64 = 60_000;

@@ -11,7 +11,7 @@ use std::alloc::Global;
 use std::collections::VecDeque;
 use std::marker::Model;
 use std::sync::Wait;
-use swim_wire::{Polled, Sink};
+use swim_text::{Polled, Sink};
 
 /// How many connections are served at a time.
 pub const MOST_CONNECTIONS: usize = 64;

@@ -2,7 +2,7 @@
 
 ghost use Rattle.std.specs.Prelude.{◌≡◌, ◌⊎◌, ℕ, Some, not, false};
 ghost use Rattle.std.specs.Io.KnownBytes.{Keeps};
-ghost use Rattle.swim_wire.specs.Streams.{failures_if};
+ghost use Rattle.swim_text.specs.Streams.{failures_if};
 ghost use Rattle.swim_control.specs.Serving.{IsServedKnown, ReadsFail, is_write_fault};
 ghost use Rattle.swim_control.specs.Texts.{fault_text};
 ghost use Rattle.swim_control.specs.Turns.{IsLast};
@@ -15,7 +15,7 @@ use crate::turns::turn;
 use arrayvec::ArrayVec;
 use std::alloc::Global;
 use std::sync::Wait;
-use swim_wire::{LineEnd, Sink, Source, next_short_line};
+use swim_text::{LineEnd, Sink, Source, next_short_line};
 
 /// How many reads of one byte a connection may have.
 pub(crate) const READS: u32 = 1_048_576;

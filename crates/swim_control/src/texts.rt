@@ -1,14 +1,14 @@
 //! The texts of answers, written to a sink. Each function answers whether the sink took its text.
 
 ghost use Rattle.std.specs.Prelude.{◌≡◌, ◌++◌, decimal};
-ghost use Rattle.swim_wire.specs.Streams.{Puts, failures_if};
+ghost use Rattle.swim_text.specs.Streams.{Puts, failures_if};
 ghost use Rattle.swim_history.specs.Texts.{feed};
 ghost use Rattle.swim_control.specs.Texts.{fault_text, list_text, answer_text};
 
 use crate::desks::{Answer, StatsText};
 use crate::faults::Fault;
 use swim_history::{Table, put_table};
-use swim_wire::{Sink, put_numbered};
+use swim_text::{Sink, put_numbered};
 
 /// The line of a fault.
 pub fn put_fault<W: Sink>(writer: &mut W, fault: Fault) -> bool

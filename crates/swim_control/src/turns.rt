@@ -1,7 +1,7 @@
 //! One line of a connection: it is read, its command is carried out, and it is answered.
 
 ghost use Rattle.std.specs.Prelude.{◌≡◌, not, Ok};
-ghost use Rattle.swim_wire.specs.Streams.{failures_if};
+ghost use Rattle.swim_text.specs.Streams.{failures_if};
 ghost use Rattle.swim_control.specs.declared.commands.Said.TheVariants.{Asks};
 ghost use Rattle.swim_control.specs.Commands.{line_said, said_by};
 ghost use Rattle.swim_control.specs.Serving.{is_write_fault};
@@ -16,7 +16,7 @@ use crate::texts::{put_answer, put_counts, put_fault, put_list};
 use std::alloc::Global;
 use std::sync::Wait;
 use swim_history::put_gap;
-use swim_wire::{LineEnd, Sink};
+use swim_text::{LineEnd, Sink};
 
 /// Answers a line, and tells how serving ends with it, if it does.
 pub fn turn<R: Wait, W: Sink, D: Desk>(

@@ -1,12 +1,13 @@
 //! The texts of a member table and of a gap, written to a sink. Each function answers whether the sink took its text.
 
 ghost use Rattle.std.specs.Prelude.{◌≡◌};
-ghost use Rattle.swim_wire.specs.Streams.{Puts, failures_if};
+ghost use Rattle.swim_text.specs.Streams.{Puts, failures_if};
 ghost use Rattle.swim_history.specs.Texts.{row_text, rows_text, table_text, gap_text};
 
 use crate::gaps::Gap;
 use crate::rows::{Row, RowState};
-use swim_wire::{Piece, Sink, put_pieces};
+use swim_text::Sink;
+use swim_wire::{Piece, put_pieces};
 
 /// A line for each row, and a dot.
 pub fn put_table<W: Sink>(writer: &mut W, rows: &[Row]) -> bool

@@ -4,12 +4,12 @@ use Rattle.hex.specs.Hex.{encode_lower}
 use Rattle.hex.proofs.HexLemmas.{decode_of-encode_lower}
 use Rattle.swim_wire.specs.Address.{Address, IsAddress, address_text}
 use Rattle.swim_wire.specs.AddressLaws.{address_read}
-use Rattle.swim_wire.specs.Cutting.{pieces_at, bare_at}
+use Rattle.swim_text.specs.Cutting.{pieces_at, bare_at}
 use Rattle.swim_wire.specs.Layout.{text_of}
-use Rattle.swim_wire.specs.Lines.{pieces, has_feed}
-use Rattle.swim_wire.specs.Numbers.{positive_read}
-use Rattle.swim_wire.specs.Parts.{has, cut_at, cut_none}
-use Rattle.swim_wire.specs.Words.{words_of, words_cut}
+use Rattle.swim_text.specs.Lines.{pieces, has_feed}
+use Rattle.swim_text.specs.Numbers.{positive_read}
+use Rattle.swim_text.specs.Parts.{has, cut_at, cut_none}
+use Rattle.swim_text.specs.Words.{words_of, words_cut}
 use Rattle.swim_wire.specs.Messages.{Message}
 use Rattle.swim_history.specs.declared.calls.Call.{Call}
 use Rattle.swim_history.specs.declared.calls.Call.TheVariants.{Tick, Hear, Join, Remove}

@@ -3,7 +3,7 @@ use Rattle.std.specs.Prelude.{is_some as is_told}
 use Rattle.std.proofs.Common.{◌≡◌, ◌≢◌, ℕ, suc, ◌<◌, ◌≤◌, ◌+◌, ◌^◌, Bool, true, false, List, [], ◌∷◌, ◌++◌, length, map, drop, Option, Some, None, Result, Ok, Err, refl, sym, ap, subst, ◌∙◌, arith}
 use Rattle.std.proofs.lemmas.Bool.{lt-ltb}
 use Rattle.rand_chacha.specs.ChaCha.{ChaCha}
-use Rattle.swim_wire.specs.Lines.{bare}
+use Rattle.swim_text.specs.Lines.{bare}
 use Rattle.swim_history.specs.declared.calls.Call.{Call}
 use Rattle.swim_history.specs.declared.calls.Call.TheVariants.{Tick, Hear, Join, Remove}
 use Rattle.swim_history.specs.declared.entries.Entry.{Entry}

@@ -4,8 +4,8 @@ use mathlib.Core.List.{reverse_aux}
 use Rattle.std.specs.List.{flat_map}
 use Rattle.std.proofs.lemmas.Bool.{le-ltb}
 use Rattle.rand_chacha.specs.ChaCha.{ChaCha}
-use Rattle.swim_wire.specs.Cutting.{lines_join}
-use Rattle.swim_wire.specs.Lines.{pieces, bare}
+use Rattle.swim_text.specs.Cutting.{lines_join}
+use Rattle.swim_text.specs.Lines.{pieces, bare}
 use Rattle.swim_history.specs.declared.calls.Call.{Call}
 use Rattle.swim_history.specs.declared.calls.Call.TheVariants.{Tick, Hear, Join, Remove}
 use Rattle.swim_history.specs.declared.entries.Entry.{Entry}

@@ -2,8 +2,8 @@
 use Rattle.std.specs.Prelude.{is_some}
 use Rattle.std.proofs.Common.{◌≡◌, ℕ, suc, ◌+◌, Bool, true, false, cond, List, [], ◌∷◌, ◌++◌, length, Option, Some, None, codes, decimal, refl, ap, ◌∙◌, arith, append_assoc}
 use Rattle.std.specs.Prelude.{◌==◌}
-use Rattle.swim_wire.specs.Cutting.{bare_at, pieces_at}
-use Rattle.swim_wire.specs.Lines.{pieces, bare, has_feed}
+use Rattle.swim_text.specs.Cutting.{bare_at, pieces_at}
+use Rattle.swim_text.specs.Lines.{pieces, bare, has_feed}
 use Rattle.swim_history.specs.declared.calls.Call.{Call}
 use Rattle.swim_history.specs.declared.calls.Call.TheVariants.{Tick, Hear, Join, Remove}
 use Rattle.swim_history.specs.declared.replies.Reply.{Reply}

@@ -3,7 +3,7 @@ use Rattle.std.proofs.Common.{◌≡◌, ℕ, List, [], ◌∷◌, ◌++◌, len
 use Rattle.std.specs.Prelude.{reverse}
 use Rattle.std.proofs.lemmas.List.{reverse-append, reverse-reverse}
 use Rattle.std.proofs.lemmas.Grind.{reverse_onto}
-use Rattle.swim_wire.specs.Lines.{pieces}
+use Rattle.swim_text.specs.Lines.{pieces}
 use Rattle.swim_history.specs.declared.entries.Entry.{Entry}
 use Rattle.swim_node.specs.Cells.{Filing}
 use Rattle.swim_node.specs.Following.{filing_of, filings_of}

@@ -4,7 +4,7 @@ use Rattle.std.specs.List.{join_with_byte}
 use Rattle.hex.specs.Hex.{lower_digits, IsBytes}
 use Rattle.hex.proofs.HexLemmas.{length-encode_with}
 use Rattle.swim_wire.specs.Address.{IsAddress}
-use Rattle.swim_wire.specs.Lines.{pieces, bare}
+use Rattle.swim_text.specs.Lines.{pieces, bare}
 use Rattle.swim_history.specs.Laws.Check.{no_fault as no_opening_fault}
 use Rattle.swim_wire.specs.declared.messages.Version.{Version}
 use Rattle.swim_wire.specs.declared.messages.Version.TheVariants.{One, Two}

@@ -8,9 +8,9 @@ use Rattle.hex.proofs.HexLemmas.{decode_sized-encode_lower}
 use Rattle.swim_targets.specs.Draws.{of_seed}
 use Rattle.swim_wire.specs.Address.{Address, IsAddress, address_text}
 use Rattle.swim_wire.specs.AddressLaws.{address_read}
-use Rattle.swim_wire.specs.Cutting.{pieces_at}
-use Rattle.swim_wire.specs.Lines.{pieces, bare}
-use Rattle.swim_wire.specs.Numbers.{number_of, number_read, positive_read}
+use Rattle.swim_text.specs.Cutting.{pieces_at}
+use Rattle.swim_text.specs.Lines.{pieces, bare}
+use Rattle.swim_text.specs.Numbers.{number_of, number_read, positive_read}
 use Rattle.swim_wire.specs.declared.messages.Version.{Version}
 use Rattle.swim_wire.specs.declared.messages.Version.TheVariants.{One, Two}
 use Rattle.swim_history.specs.Setting.{Setting}

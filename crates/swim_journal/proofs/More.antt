@@ -2,7 +2,7 @@
 use Rattle.std.proofs.Common.{◌≡◌, ℕ, List, [], ◌∷◌, ◌++◌, Option, Bool, true, false, refl, sym, ap, subst, ◌∙◌, append_assoc, append-nil}
 use mathlib.Core.List.{IsPrefix}
 use Rattle.std.specs.Io.KnownBytes.{Appends, Keeps}
-use Rattle.swim_wire.specs.Streams.{Puts, puts_less, puts_then, puts_kept}
+use Rattle.swim_text.specs.Streams.{Puts, puts_less, puts_then, puts_kept}
 use Rattle.swim_node.specs.Cells.{Filing}
 use Rattle.swim_journal.specs.declared.writing.Progress.{Progress}
 use Rattle.swim_journal.specs.declared.writing.Progress.TheVariants.{All, Part, Cut}

@@ -7,7 +7,7 @@ use Rattle.std.proofs.lemmas.Bool.{or_from, ne_eqb, lt-ltb}
 use Rattle.std.proofs.lemmas.List.Folds.{list_any-append}
 use Rattle.hex.specs.Hex.{IsBytes, encode_lower, encode_with, lower_digits}
 use Rattle.swim_wire.specs.Address.{Address, dot, colon, address_text}
-use Rattle.swim_wire.specs.Parts.{has}
+use Rattle.swim_text.specs.Parts.{has}
 
 pub both_without : (byte : ℕ) (xs ys : List ℕ) → has byte xs ≡ false → has byte ys ≡ false → has byte (xs ++ ys) ≡ false
 both_without byte xs ys p q = list_any-append (λ b. eqb b byte) xs ys ∙ or_from _ _ p q

@@ -1,10 +1,10 @@
 -- Lines of words with a space between them.
 use Rattle.std.proofs.Common.{◌≡◌, ℕ, false, List, [], ◌∷◌, ◌++◌, refl, sym, ap, ◌∙◌, append_assoc}
 use Rattle.std.specs.List.{join_with_byte}
-use Rattle.swim_wire.specs.Cutting.{pieces_at, bare_at}
-use Rattle.swim_wire.specs.Lines.{pieces, bare, has_feed}
-use Rattle.swim_wire.specs.Parts.{has}
-use Rattle.swim_wire.specs.Words.{words_of}
+use Rattle.swim_text.specs.Cutting.{pieces_at, bare_at}
+use Rattle.swim_text.specs.Lines.{pieces, bare, has_feed}
+use Rattle.swim_text.specs.Parts.{has}
+use Rattle.swim_text.specs.Words.{words_of}
 use Rattle.swim_history.specs.Texts.{feed}
 use Rattle.swim_journal.proofs.Back.{words_at, words_last}
 use Rattle.swim_journal.proofs.Without.{both_without}

@@ -3,7 +3,7 @@ use Rattle.std.specs.Prelude.{◌≡◌, ℕ, ◌<◌, ◌≤◌, ◌^◌, List,
 use Rattle.hex.specs.Hex.{encode_lower, IsBytes}
 use Rattle.swim_wire.specs.Address.{IsAddress, address_text}
 use Rattle.swim_wire.specs.Layout.{text_of, decoded}
-use Rattle.swim_wire.specs.Lines.{pieces, bare}
+use Rattle.swim_text.specs.Lines.{pieces, bare}
 use Rattle.swim_wire.specs.Messages.{Message}
 use Rattle.swim_history.specs.declared.calls.Call.{Call}
 use Rattle.swim_history.specs.declared.calls.Call.TheVariants.{Tick, Hear, Join, Remove}

@@ -2,7 +2,7 @@
 use Rattle.std.specs.Prelude.{◌≡◌, ℕ, ◌<◌, ◌≤◌, ◌^◌, true, false, is_some, List, [], ◌∷◌, ◌++◌, length}
 use Rattle.std.specs.Prelude.{reverse, Option, Some, None, Result}
 use Rattle.rand_chacha.specs.ChaCha.{ChaCha}
-use Rattle.swim_wire.specs.Lines.{pieces}
+use Rattle.swim_text.specs.Lines.{pieces}
 use Rattle.swim_history.specs.declared.calls.Call.{Call}
 use Rattle.swim_history.specs.declared.entries.Entry.{Entry}
 use Rattle.swim_history.specs.Setting.{Setting, IsSetting}

@@ -3,7 +3,7 @@
 ghost use Rattle.std.specs.Prelude.{◌≡◌, ◌++◌};
 ghost use Rattle.hex.specs.Hex.{encode_lower};
 ghost use Rattle.swim_wire.specs.Address.{IsAddress};
-ghost use Rattle.swim_wire.specs.Streams.{Puts, failures_if};
+ghost use Rattle.swim_text.specs.Streams.{Puts, failures_if};
 ghost use Rattle.swim_history.specs.declared.rows.RowState.TheVariants.{Up, Failed};
 ghost use Rattle.swim_journal.specs.Headings.{mark_line, open_line, wire_text, row_line, row_lines, seed_line};
 ghost use Rattle.swim_journal.specs.Headings.{header_text};
@@ -12,7 +12,8 @@ ghost use Rattle.swim_journal.specs.Lines.{IsId};
 
 use crate::lines::check_peer;
 use swim_history::{Opening, Row, RowState};
-use swim_wire::{Id, Peer, Piece, Sink, Version, put_pieces};
+use swim_text::Sink;
+use swim_wire::{Id, Peer, Piece, Version, put_pieces};
 
 /// The header of the journal file of a detector's life: its opening, how many entries the journal may have, and the seed
 /// with the number of the life, from whose stream it draws. The row of a member that failed tells the number of that

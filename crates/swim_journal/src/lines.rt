@@ -3,13 +3,14 @@
 ghost use Rattle.std.specs.Prelude.{◌≡◌};
 ghost use Rattle.hex.specs.Hex.{IsBytes};
 ghost use Rattle.swim_wire.specs.Address.{IsAddress};
-ghost use Rattle.swim_wire.specs.Streams.{Puts, failures_if};
+ghost use Rattle.swim_text.specs.Streams.{Puts, failures_if};
 ghost use Rattle.swim_history.specs.declared.calls.Call.TheVariants.{Hear, Join};
 ghost use Rattle.swim_journal.specs.Lines.{call_line, IsDecoded, IsSpoken, IsReadBack};
 
 use swim_history::Call;
 use swim_script::datagram_line;
-use swim_wire::{Id, Message, Peer, Piece, Sink, decode, encode, put_pieces};
+use swim_text::Sink;
+use swim_wire::{Id, Message, Peer, Piece, decode, encode, put_pieces};
 
 /// The line of a call. In a journal file it reads back as that call.
 pub fn put_call<W: Sink>(writer: &mut W, call: &Call) -> bool

@@ -2,7 +2,7 @@
 
 ghost use Rattle.std.specs.Prelude.{◌≡◌, ◌+◌, ◌<◌, ◌++◌, ◌∷◌, [], Bool, true, false, IfNone, IfSome, length};
 ghost use mathlib.Core.List.{IsPrefix};
-ghost use Rattle.swim_wire.specs.Streams.{Puts, failures_if};
+ghost use Rattle.swim_text.specs.Streams.{Puts, failures_if};
 ghost use Rattle.swim_journal.specs.Journals.{calls_text, AreReadBack, step_calls};
 
 use crate::naming::PageNaming;
@@ -12,7 +12,7 @@ use std::marker::Model;
 use std::sync::Wait;
 use swim_node::{Followed, Follower, Node};
 use swim_targets::Chooser;
-use swim_wire::Sink;
+use swim_text::Sink;
 
 /// Writes a node's journal into a sink while the node runs. Once the sink has failed, at a text or where it was to hand
 /// on what it held back, nothing more is read or written. A contract sees the calls that were read, the sink, and
@@ -25,7 +25,7 @@ pub struct Scribe<N: PageNaming, W: Sink + Drop> {
 }
 
 impl<N: PageNaming, W: Sink + Drop> Model for Scribe<N, W> {
-    ghost use Rattle.swim_wire.specs.Streams.{Puts};
+    ghost use Rattle.swim_text.specs.Streams.{Puts};
     ghost use Rattle.swim_journal.specs.Journals.{Scribed, calls_text, AreReadBack};
 
     ghost Value = { Scribed W };

@@ -1,7 +1,7 @@
 //! A node's journal, written down while the node runs.
 
 ghost use Rattle.std.specs.Prelude.{◌≡◌, ◌++◌, List, false, length, true};
-ghost use Rattle.swim_wire.specs.Streams.{Puts, failures_if};
+ghost use Rattle.swim_text.specs.Streams.{Puts, failures_if};
 ghost use Rattle.swim_history.specs.Texts.{feed};
 ghost use Rattle.swim_node.specs.Cells.{Filing};
 ghost use Rattle.swim_script.specs.Texts.{placed_text};
@@ -14,7 +14,7 @@ use swim_history::{Kept, Reply};
 use swim_node::{Follower, Naming, Node};
 use swim_script::put_placed;
 use swim_targets::Chooser;
-use swim_wire::Sink;
+use swim_text::Sink;
 
 /// The most calls that `write_next` writes.
 pub const STEP_CALLS: u32 = 1024;

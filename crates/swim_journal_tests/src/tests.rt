@@ -11,7 +11,8 @@ use swim_journal::*;
 use swim_node::{CallFault, Naming, Node, Parts, Seat};
 use swim_script::{Session, run};
 use swim_targets::Seeded;
-use swim_wire::{Id, Kind, Message, Page, Peer, PeriodNumber, Text, Version, encode};
+use swim_text::{Page, Text};
+use swim_wire::{Id, Kind, Message, Peer, PeriodNumber, Version, encode};
 
 // Member 1 knows member 2, and member 3, which failed in period 4 of 9. It has a timeout of one tick and a period of three, and
 // draws from life 5 of a seed of sevens.

@@ -4,8 +4,8 @@ use Rattle.std.specs.Prelude.{IfErr, MatchOption, nat_lt, if◌then◌else◌}
 use Rattle.std.specs.Option.{unwrap_or}
 use Rattle.swim_wire.specs.Address.{Address}
 use Rattle.swim_wire.specs.Messages.{Message}
-use Rattle.swim_wire.specs.declared.short_lines.LineEnd.{LineEnd}
-use Rattle.swim_wire.specs.declared.short_lines.LineEnd.TheVariants as lines
+use Rattle.swim_text.specs.declared.short_lines.LineEnd.{LineEnd}
+use Rattle.swim_text.specs.declared.short_lines.LineEnd.TheVariants as lines
 use Rattle.swim_history.specs.declared.calls.Call.{Call}
 use Rattle.swim_history.specs.declared.entries.Entry.{Entry}
 use Rattle.swim_history.specs.declared.replies.Reply.{Reply}

@@ -1,7 +1,7 @@
 -- The file of a life: its header, and behind it what was written of its journal.
 use Rattle.std.proofs.Common.{◌≡◌, ℕ, ◌≤◌, Bool, true, false, not, List, ◌++◌, length, Option, refl, sym, subst}
 use Rattle.rand_chacha.specs.ChaCha.{ChaCha}
-use Rattle.swim_wire.specs.Streams.{Puts, puts_less, puts_then}
+use Rattle.swim_text.specs.Streams.{Puts, puts_less, puts_then}
 use Rattle.swim_history.specs.declared.entries.Entry.{Entry}
 use Rattle.swim_history.specs.Setting.{Setting}
 use Rattle.swim_targets.specs.Draws.{DrawsOrder, DrawsPlace, of_seed}

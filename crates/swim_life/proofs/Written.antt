@@ -2,7 +2,7 @@
 use Rattle.std.proofs.Common.{◌≡◌, ℕ, ◌==◌, ◌&&◌, Bool, true, false, List, [], ◌∷◌, ◌++◌, length, Option}
 use Rattle.std.proofs.Common.{refl, sym, subst, eqb-true, append_assoc}
 use mathlib.Core.List.{IsPrefix}
-use Rattle.swim_wire.specs.Streams.{Puts, puts_less}
+use Rattle.swim_text.specs.Streams.{Puts, puts_less}
 use Rattle.swim_history.specs.declared.entries.Entry.{Entry}
 use Rattle.swim_node.specs.Cells.{Filing}
 use Rattle.swim_node.specs.Following.{filings_of}

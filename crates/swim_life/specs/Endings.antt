@@ -1,6 +1,6 @@
 -- The lines that tell how lives ended.
 use Rattle.std.specs.Prelude.{◌≡◌, ℕ, Bool, true, false, List, [], ◌++◌, length, Option, codes, decimal}
-use Rattle.swim_wire.specs.Streams.{Puts, failures_if}
+use Rattle.swim_text.specs.Streams.{Puts, failures_if}
 use Rattle.swim_history.specs.Judgement.{judgements}
 use Rattle.swim_life.specs.declared.counts.Why.{Why}
 use Rattle.swim_life.specs.declared.counts.Why.TheVariants.{JournalFull}

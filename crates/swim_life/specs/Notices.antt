@@ -1,7 +1,7 @@
 -- Notices: lines for people, beside what is written for programs.
 use Rattle.std.specs.Prelude.{◌≡◌, ℕ, false, List, [], ◌∷◌, ◌++◌, codes}
 use Rattle.std.proofs.Common.{refl, subst, sym}
-use Rattle.swim_wire.specs.Lines.{has_feed}
+use Rattle.swim_text.specs.Lines.{has_feed}
 use Rattle.swim_life.specs.Endings.{TellsText, Written}
 
 -- one line, without its line feed

@@ -1,6 +1,6 @@
 -- What was written of a life's journal.
 use Rattle.std.specs.Prelude.{◌≡◌, ℕ, false, not, List, Option}
-use Rattle.swim_wire.specs.Streams.{Puts}
+use Rattle.swim_text.specs.Streams.{Puts}
 use Rattle.swim_node.specs.Following.{filings_of}
 use Rattle.swim_journal.specs.Headings.{header_text}
 use Rattle.swim_journal.specs.Journals.{calls_text, AreReadBack}

@@ -15,7 +15,7 @@ use swim_events::{Entrance, Gallery, MOST_WATCHERS, Outlet, Watching, tell_next}
 use swim_journal::{STEP_CALLS, Scribe};
 use swim_node::Node;
 use swim_targets::Chooser;
-use swim_wire::Sink;
+use swim_text::Sink;
 
 /// Reads a node's journal: its scribe writes it, those who watch are told what it changes of the member table, and its
 /// reporter hears of each call. A contract sees its scribe, what is known, those who watch, and the reporter.

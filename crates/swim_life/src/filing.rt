@@ -23,7 +23,7 @@ use swim_journal::laws::a_header_tells_its_opening;
 use swim_journal::put_header;
 use swim_node::OpenFault;
 use swim_targets::Seeded;
-use swim_wire::Sink;
+use swim_text::Sink;
 
 /// The life of this number: with a file for its journal, where the shelf opens one.
 #[tactic(auto, using(crate::specs::Notices::notices_both, crate::proofs::LifeFiles::drawn_with_cut))]

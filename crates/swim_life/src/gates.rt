@@ -7,11 +7,12 @@ ghost use Rattle.swim_life.specs.Gates.{FitsInto, is_fault};
 ghost use Rattle.swim_life.specs.Notices.{Notices};
 ghost use Rattle.swim_life.specs.Posts.{Grows, IsFresh};
 ghost use Rattle.swim_life.specs.Written.{IsFile};
-ghost use Rattle.swim_wire.specs.Streams.{one_more};
+ghost use Rattle.swim_text.specs.Streams.{one_more};
 
 use crate::lives::{Past, Terms};
 use std::sync::Wait;
-use swim_wire::{KNOWN_MEMBERS, Peer, Polled, Sink};
+use swim_text::{Polled, Sink};
+use swim_wire::{KNOWN_MEMBERS, Peer};
 
 /// What a line got.
 #[derive(Clone, Copy, Debug, PartialEq, Eq)]

@@ -1,7 +1,7 @@
 //! A life: a node with its workers, from its opening to its close.
 
 ghost use Rattle.std.specs.Prelude.{◌≡◌, ◌≤◌, ◌||◌, [], ◌∷◌, length, true, box_value};
-ghost use Rattle.swim_wire.specs.Streams.{Puts};
+ghost use Rattle.swim_text.specs.Streams.{Puts};
 ghost use Rattle.swim_history.specs.Changes.{changes};
 ghost use Rattle.swim_node.specs.Following.{filings_of};
 ghost use Rattle.swim_node.specs.Seats.{AreNew, AreTheSeats};
@@ -36,7 +36,7 @@ use swim_events::{Entrance, Gallery, Outlet};
 use swim_history::Journal;
 use swim_node::{Naming, Node, Seat, Viewer};
 use swim_targets::Seeded;
-use swim_wire::Sink;
+use swim_text::Sink;
 
 /// What a life leaves behind.
 #[derive(Drop)]

@@ -33,7 +33,7 @@ use swim_events::{Entrance, Event, Gallery, Outlet};
 use swim_history::{Journal, Opening};
 use swim_node::{Node, OpenFault, Parts};
 use swim_targets::Seeded;
-use swim_wire::Sink;
+use swim_text::Sink;
 
 /// What stays of a life: why it ended, its journal, and its counts.
 #[derive(Drop)]

@@ -2,7 +2,7 @@
 //! nothing.
 
 ghost use Rattle.std.specs.Prelude.{◌≡◌, None, false};
-ghost use Rattle.swim_wire.specs.Streams.{failures_if};
+ghost use Rattle.swim_text.specs.Streams.{failures_if};
 
 use crate::gates::{Beat, Pace, Shelf};
 use crate::lives::{Past, Terms};
@@ -12,7 +12,7 @@ use swim_control::StatsText;
 use swim_events::{Entrance, Offer, Outlet};
 use swim_history::{Change, Opening};
 use swim_node::Followed;
-use swim_wire::Sink;
+use swim_text::Sink;
 
 /// A sink that takes nothing.
 #[derive(Drop)]

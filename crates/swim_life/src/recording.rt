@@ -2,7 +2,7 @@
 //! and has the reporter hear of each call.
 
 ghost use Rattle.std.specs.Prelude.{◌≡◌, ◌≤◌, ◌&&◌, ◌==◌, [], ◌∷◌, MatchBool, length, true};
-ghost use Rattle.swim_wire.specs.Streams.{Puts};
+ghost use Rattle.swim_text.specs.Streams.{Puts};
 ghost use Rattle.swim_history.specs.Changes.{changes};
 ghost use Rattle.swim_node.specs.Following.{filings_of};
 ghost use Rattle.swim_node.specs.OneHistory.{AreFullWhereMet, IsOneHistory};
@@ -24,7 +24,7 @@ use swim_events::{Entrance, Gallery, Outlet};
 use swim_history::Journal;
 use swim_node::{Node, Seat};
 use swim_targets::Chooser;
-use swim_wire::Sink;
+use swim_text::Sink;
 
 /// The writer: at each tick of its pace it reads what was added to the journal, writes it, and tells those who watch and
 /// the reporter; at each beat it takes in who has come, and sends. It ends with the life, or where its pace tells it to,

@@ -27,7 +27,7 @@ use std::thread::Threads;
 use swim_events::{Entrance, Outlet};
 use swim_node::{Naming, Node, Viewer};
 use swim_targets::{Chooser, Seeded};
-use swim_wire::Sink;
+use swim_text::Sink;
 
 /// What the receiver takes into its thread.
 #[derive(Drop)]

@@ -2,14 +2,14 @@
 
 ghost use Rattle.std.specs.Prelude.{◌≡◌, ◌≤◌, true, length, drop, None, slice_range};
 ghost use Rattle.std.specs.Io.KnownBytes.{Keeps};
-ghost use Rattle.swim_wire.specs.Streams.{Gives, Puts, failures_then, failures_if};
-ghost use Rattle.swim_wire.specs.Polled.{Looks};
+ghost use Rattle.swim_text.specs.Streams.{Gives, Puts, failures_then, failures_if};
+ghost use Rattle.swim_text.specs.Polled.{Looks};
 
 use arrayvec::ArrayVec;
 use std::io::{ErrorKind, Read, Write};
 use std::net::Shutdown;
 use std::os::unix::net::UnixStream;
-use swim_wire::{Byte, Look, Polled, Sink, Source};
+use swim_text::{Byte, Look, Polled, Sink, Source};
 
 /// How many bytes are read at a time.
 const READ_BYTES: usize = 4096;

@@ -1,6 +1,6 @@
 -- The lines of samples, as they are written.
 use Rattle.std.proofs.Common.{◌≡◌, ℕ, ◌≤◌, List, [], ◌∷◌, ◌++◌, append_assoc, append-nil, codes, decimal, get_or, length, map, refl, sym, ap, ◌∙◌, arith}
-use Rattle.swim_wire.specs.TwoPuts.{first_and_others, others_of}
+use Rattle.swim_text.specs.TwoPuts.{first_and_others, others_of}
 use Rattle.swim_history.specs.Texts.{feed}
 use Rattle.swim_metrics.specs.declared.families.MetricKind.{MetricKind}
 use Rattle.swim_metrics.specs.declared.families.Metric.{Metric}

@@ -1,7 +1,7 @@
 //! The texts that tell the metrics, written to a sink. Each function answers whether the sink took its text.
 
 ghost use Rattle.std.specs.Prelude.{◌≡◌};
-ghost use Rattle.swim_wire.specs.Streams.{Puts, failures_if};
+ghost use Rattle.swim_text.specs.Streams.{Puts, failures_if};
 ghost use Rattle.swim_metrics.specs.Families.{family_of};
 ghost use Rattle.swim_metrics.specs.Texts.{exposition_text, families_lines, families_text, family_lines, family_text};
 ghost use Rattle.swim_metrics.specs.Texts.{head_text, kind_text, samples_text, stats_text};
@@ -10,7 +10,8 @@ use crate::families::{ALL_METRICS, Metric, MetricKind};
 use crate::measures::Measures;
 use crate::outside::Outside;
 use crate::samples::put_samples;
-use swim_wire::{Piece, Sink, put_pieces};
+use swim_text::Sink;
+use swim_wire::{Piece, put_pieces};
 
 /// Writes the metrics in the exposition format of Prometheus: of each what it tells, its type, and its values.
 pub fn put_exposition<W: Sink>(writer: &mut W, measures: &Measures, outside: &Outside<'_>) -> bool

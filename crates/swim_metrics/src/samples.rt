@@ -1,7 +1,7 @@
 //! The lines of a metric's values, written to a sink. Each function answers whether the sink took its text.
 
 ghost use Rattle.std.specs.Prelude.{◌≡◌, ◌++◌, codes, map};
-ghost use Rattle.swim_wire.specs.Streams.{Puts, failures_if};
+ghost use Rattle.swim_text.specs.Streams.{Puts, failures_if};
 ghost use Rattle.swim_metrics.specs.Families.{bucket_sample, dropped_samples, escaped, escaped_one, one_time};
 ghost use Rattle.swim_metrics.specs.Families.{version_sample, wait_samples};
 ghost use Rattle.swim_metrics.specs.Texts.{sample_text, samples_text};
@@ -10,7 +10,8 @@ ghost use Rattle.swim_metrics.specs.Told.{labelled_of, samples_of};
 use crate::dropped::Dropped;
 use crate::families::Samples;
 use crate::wait_histograms::{HistogramBucket, Waits};
-use swim_wire::{Piece, Sink, put_pieces};
+use swim_text::Sink;
+use swim_wire::{Piece, put_pieces};
 
 /// A value, and what stands between the metric's name and it.
 #[derive(Clone, Copy, Debug)]

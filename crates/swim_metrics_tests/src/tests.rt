@@ -10,7 +10,8 @@ use std::process::Abort;
 use std::test::Fail;
 use swim_history::{Call, DropReason, Refusal, Reply};
 use swim_metrics::{Hearings, HistogramBucket, Metrics, put_exposition, put_stats};
-use swim_wire::{Kind, Page};
+use swim_text::Page;
+use swim_wire::Kind;
 
 // Reads an entry. It says nothing of what it does, so that the proofs of long tests stay short.
 fn read(metrics: &mut Metrics, call: Call, reply: Reply) {

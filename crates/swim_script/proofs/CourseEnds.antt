@@ -2,8 +2,8 @@
 use Rattle.std.proofs.Common.{◌≡◌, ◌≢◌, ℕ, ◌+◌, ◌-◌, Bool, true, false, cond, List, [], ◌∷◌, ◌++◌, length, reverse, Option, Some, None, Result, Ok, Err, refl, sym, ap, subst, ◌∙◌, inl, inr, arith, append-nil}
 use Rattle.std.specs.Io.KnownBytes.{Keeps, Appends}
 use Rattle.std.proofs.lemmas.List.{length-map, reverse-reverse}
-use Rattle.swim_wire.specs.Lines.{pieces, IsLine, IsLong, IsOversize, IsCutShort}
-use Rattle.swim_wire.specs.Streams.{appends_both, kept_appends, appends_kept}
+use Rattle.swim_text.specs.Lines.{pieces, IsLine, IsLong, IsOversize, IsCutShort}
+use Rattle.swim_text.specs.Streams.{appends_both, kept_appends, appends_kept}
 use Rattle.swim_history.specs.declared.entries.Entry.{Entry}
 use Rattle.std.proofs.lemmas.Option.{same_Some}
 use Rattle.swim_history.specs.declared.openings.OpeningFault.{OpeningFault}

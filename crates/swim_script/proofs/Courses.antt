@@ -4,8 +4,8 @@ use Rattle.std.specs.Io.KnownBytes.{Keeps}
 use Rattle.std.proofs.lemmas.Bool.{lt-ltb, le-ltb}
 use Rattle.std.proofs.lemmas.Grind.{reverse_onto}
 use Rattle.std.proofs.lemmas.List.{append_assoc, take_at, take-append-drop, map-append, length-map, length-drop, length-reverse, reverse-append, reverse-reverse}
-use Rattle.swim_wire.specs.Lines.{pieces, bare, IsLine}
-use Rattle.swim_wire.specs.Streams.{appends_none, appends_both, kept_appends, keeps_self}
+use Rattle.swim_text.specs.Lines.{pieces, bare, IsLine}
+use Rattle.swim_text.specs.Streams.{appends_none, appends_both, kept_appends, keeps_self}
 use Rattle.swim_history.specs.declared.entries.Entry.{Entry}
 use Rattle.swim_detector.specs.Recording.{Recording}
 use Rattle.swim_script.specs.declared.choosers.Drawer.{Drawer}

@@ -3,8 +3,8 @@ use Rattle.std.proofs.Common.{◌≡◌, ℕ, ◌+◌, List, ◌∷◌, Option, 
 use Rattle.std.specs.Prelude.{MatchResult}
 use Rattle.std.specs.Result.{IsErrAnd}
 use Rattle.std.specs.Io.KnownBytes.{Keeps}
-use Rattle.swim_wire.specs.Lines.{bare, TakesKnown}
-use Rattle.swim_wire.specs.declared.lines.Taken.TheVariants.{Line, Long, Size, Over, Failed, Unsent}
+use Rattle.swim_text.specs.Lines.{bare, TakesKnown}
+use Rattle.swim_text.specs.declared.lines.Taken.TheVariants.{Line, Long, Size, Over, Failed, Unsent}
 use Rattle.swim_history.specs.declared.entries.Entry.{Entry}
 use Rattle.swim_script.specs.declared.faults.FaultKind.TheVariants as kinds
 use Rattle.swim_script.specs.declared.faults.ScriptFault.{ScriptFault}

@@ -2,7 +2,7 @@
 use Rattle.std.specs.Prelude.{is_some}
 use Rattle.std.proofs.Common.{◌≡◌, ℕ, ◌+◌, ◌≤◌, cond, Bool, true, false, List, [], ◌∷◌, length, Option, Some, None, Result, Ok, Err, refl, sym, ap, subst, ◌∙◌, inl, inr, arith, append-nil}
 use Rattle.std.specs.Io.KnownBytes.{Keeps}
-use Rattle.swim_wire.specs.Streams.{appends_none}
+use Rattle.swim_text.specs.Streams.{appends_none}
 use Rattle.swim_wire.specs.Address.{Address}
 use Rattle.swim_wire.specs.declared.codec.WireFault.{WireFault}
 use Rattle.swim_history.specs.declared.calls.Call.{Call}

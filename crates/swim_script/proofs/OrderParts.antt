@@ -4,7 +4,7 @@ use Rattle.std.specs.Prelude.{option_and_then}
 use Rattle.std.specs.Option.{option_map}
 use Rattle.std.proofs.lemmas.Bool.{lt-ltb, le-ltb}
 use Rattle.std.proofs.lemmas.List.{length-append}
-use Rattle.swim_wire.specs.Numbers.{id_of}
+use Rattle.swim_wire.specs.Ids.{id_of}
 use Rattle.swim_script.specs.declared.commands.LineFault.TheVariants.{Number, Order}
 use Rattle.swim_script.specs.Arguments.{ids_of, order_within}
 

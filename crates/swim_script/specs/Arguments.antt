@@ -8,9 +8,10 @@ use Rattle.arrayvec.specs.ArrayVec.{ArrayVec}
 use Rattle.hex.specs.Hex.{decode_of, decode_sized}
 use Rattle.swim_wire.specs.Address.{Address, address_of}
 use Rattle.swim_wire.specs.Arguments.{◌>>=◌, argument}
-use Rattle.swim_wire.specs.Numbers.{number_of, id_of}
+use Rattle.swim_text.specs.Numbers.{number_of}
+use Rattle.swim_wire.specs.Ids.{id_of}
 use Rattle.swim_wire.specs.Layout.{decoded}
-use Rattle.swim_wire.specs.Words.{words_by}
+use Rattle.swim_text.specs.Words.{words_by}
 use Rattle.swim_wire.specs.Messages.{Message}
 use Rattle.swim_wire.specs.declared.codec.WireFault.{WireFault}
 use Rattle.swim_wire.specs.declared.messages.Version.{Version}

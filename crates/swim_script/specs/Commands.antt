@@ -3,7 +3,7 @@ use Rattle.std.specs.Prelude.{◌≡◌, ℕ, Bool, true, ◌==◌, ◌&&◌, Li
 use Rattle.std.specs.Prelude.{if◌then◌else◌}
 use Rattle.std.specs.Str.{bytes_eq}
 use Rattle.swim_wire.specs.Arguments.{◌>>=◌, nothing_left}
-use Rattle.swim_wire.specs.Words.{words_of}
+use Rattle.swim_text.specs.Words.{words_of}
 use Rattle.swim_script.specs.declared.commands.LineFault.{LineFault}
 use Rattle.swim_script.specs.declared.commands.LineFault.TheVariants as faults
 use Rattle.swim_script.specs.declared.commands.Draws.TheVariants.{Scripted, Seeded}

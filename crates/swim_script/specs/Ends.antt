@@ -1,7 +1,7 @@
 -- What is left of a script that was played to its end.
 use Rattle.std.specs.Prelude.{◌≡◌, ℕ, List, reverse, Option, Some, None, Result, Ok, Err}
 use Rattle.std.specs.Io.KnownBytes.{Appends}
-use Rattle.swim_wire.specs.Lines.{pieces}
+use Rattle.swim_text.specs.Lines.{pieces}
 use Rattle.swim_history.specs.declared.entries.Entry.{Entry}
 use Rattle.swim_history.specs.Storing.Written.{Written}
 use Rattle.swim_detector.specs.Recording.{Recording}

@@ -1,7 +1,7 @@
 -- The forms of a script.
 use Rattle.std.specs.Prelude.{ℕ, ◌==◌, ◌&&◌, Bool, List, [], ◌∷◌, length, codes, if◌then◌else◌}
 use Rattle.std.specs.Str.{bytes_eq}
-use Rattle.swim_wire.specs.Lines.{bare}
+use Rattle.swim_text.specs.Lines.{bare}
 use Rattle.swim_script.specs.declared.forms.Form.{Form}
 use Rattle.swim_script.specs.declared.forms.Form.TheVariants.{Script, Journal}
 

@@ -2,7 +2,7 @@
 -- list of lines is newest first, so that each line stands before the earlier ones.
 use Rattle.std.specs.Prelude.{ℕ, ◌+◌, Bool, true, false, ◌||◌, List, [], ◌∷◌, ◌++◌, length, Option, Some, None, Result}
 use Rattle.std.specs.Prelude.{Ok, Err, if◌then◌else◌, is_some}
-use Rattle.swim_wire.specs.Lines.{bare}
+use Rattle.swim_text.specs.Lines.{bare}
 use Rattle.swim_wire.specs.declared.messages.Version.{Version}
 use Rattle.swim_wire.specs.declared.messages.Version.TheVariants.{One}
 use Rattle.swim_history.specs.Setting.{Setting}

@@ -3,8 +3,8 @@ use Rattle.std.specs.Prelude.{◌≡◌, ◌≢◌, ◌⊎◌, ℕ, ◌+◌, ◌
 use Rattle.std.specs.Prelude.{reverse, Option, Some, None, Result, Ok, Err}
 use Rattle.std.specs.Io.KnownBytes.{Keeps, Appends}
 use Rattle.swim_wire.specs.Address.{Address}
-use Rattle.swim_wire.specs.Lines.{pieces}
-use Rattle.swim_wire.specs.Streams.{Puts}
+use Rattle.swim_text.specs.Lines.{pieces}
+use Rattle.swim_text.specs.Streams.{Puts}
 use Rattle.swim_wire.specs.declared.codec.WireFault.{WireFault}
 use Rattle.swim_wire.specs.Messages.{Message}
 use Rattle.swim_history.specs.declared.calls.Call.{Call}

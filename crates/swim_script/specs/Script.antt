@@ -5,7 +5,7 @@ use Rattle.std.specs.Prelude.{length, map, take, drop, reverse, ◌≢◌, Optio
 use Rattle.std.specs.List.{list_all}
 use Rattle.std.specs.Io.KnownBytes.{Appends}
 use Rattle.swim_wire.specs.Address.{Address}
-use Rattle.swim_wire.specs.Lines.{pieces, bare, has_feed}
+use Rattle.swim_text.specs.Lines.{pieces, bare, has_feed}
 use Rattle.swim_wire.specs.declared.codec.WireFault.{WireFault}
 use Rattle.swim_history.specs.declared.calls.Call.{Call}
 use Rattle.swim_history.specs.declared.calls.Call.TheVariants as calls

@@ -2,13 +2,14 @@
 
 ghost use Rattle.std.specs.Prelude.{◌≡◌, ◌++◌, codes, decimal};
 ghost use Rattle.swim_wire.specs.Pieces.{piece_text};
-ghost use Rattle.swim_wire.specs.Streams.{Puts, failures_if};
+ghost use Rattle.swim_text.specs.Streams.{Puts, failures_if};
 ghost use Rattle.swim_script.specs.Texts.{placed_text, answer_text, reply_text, id_text, probe_text, relays_text};
 ghost use Rattle.swim_script.specs.Texts.{more_relays_text, send_text, sends_text, wire_text};
 
 use crate::datagrams::datagram_line;
 use swim_history::{Opening, Probe, Relay, Reply, sends};
-use swim_wire::{Id, Message, Peer, Piece, Sink, WireFault, put_number, put_numbered, put_pieces};
+use swim_text::{Sink, put_number, put_numbered};
+use swim_wire::{Id, Message, Peer, Piece, WireFault, put_pieces};
 
 /// The lines of a reply: its text, and a line for each message that it sends.
 pub fn put_answer<W: Sink>(writer: &mut W, reply: &Reply, opening: &Opening) -> bool

@@ -1,7 +1,7 @@
 //! The arguments of a line.
 
 ghost use Rattle.std.specs.Prelude.{◌≡◌, option_and_then};
-ghost use Rattle.swim_wire.specs.Numbers.{number_of};
+ghost use Rattle.swim_text.specs.Numbers.{number_of};
 ghost use Rattle.swim_wire.specs.Arguments.{TakesFrom};
 ghost use Rattle.swim_script.specs.Arguments.{open_arguments, take_number, take_order, take_seed, take_life};
 ghost use Rattle.swim_script.specs.Arguments.{take_datagram, take_state, state_told};
@@ -13,7 +13,8 @@ use crate::forms::Form;
 use std::marker::Model;
 use swim_history::RowState;
 use swim_targets::Order;
-use swim_wire::{Id, Message, Version, WireFault, Words, read_number, take_id};
+use swim_text::{Words, read_number};
+use swim_wire::{Id, Message, Version, WireFault, take_id};
 
 /// The length of a seed, in bytes. Twice as many digits spell it.
 pub const SEED_BYTES: usize = 32;

@@ -10,7 +10,8 @@ use crate::arguments::{
 };
 use crate::forms::Form;
 use swim_history::Row;
-use swim_wire::{Id, Message, Peer, Version, WireFault, Words, nothing_left, take_id, take_peer};
+use swim_text::Words;
+use swim_wire::{Id, Message, Peer, Version, WireFault, nothing_left, take_id, take_peer};
 
 /// The longest line of a script, in bytes without its line feed.
 pub const LINE_BYTES: usize = 2048;

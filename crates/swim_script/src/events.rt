@@ -1,7 +1,7 @@
 //! The event lines of a script.
 
 ghost use Rattle.std.specs.Prelude.{◌≡◌, ◌≢◌, ◌+◌, ◌<◌, Some, None, not, false, MatchResult, ◌⊎◌, IfSome, MatchBool};
-ghost use Rattle.swim_wire.specs.Streams.{failures_if};
+ghost use Rattle.swim_text.specs.Streams.{failures_if};
 ghost use Rattle.swim_script.specs.Texts.{wire_text, newest_text};
 ghost use Rattle.swim_script.specs.Script.{is_write, result_kind};
 ghost use Rattle.swim_script.specs.Holds.{Started, Called, Showed, table_of, gap_of, PlaysLine, ShowsLine, HearsLine};
@@ -18,7 +18,8 @@ use std::alloc::Global;
 use std::mem;
 use swim_detector::Recorder;
 use swim_history::{Call, put_gap, put_table};
-use swim_wire::{Id, Message, Page, Peer, Sink, WireFault};
+use swim_text::{Page, Sink};
+use swim_wire::{Id, Message, Peer, WireFault};
 
 impl Session {
     /// At the first event line, checks the opening and opens the recorder.

@@ -1,6 +1,6 @@
 //! Calls of the detector, with their answers.
 
-ghost use Rattle.swim_wire.specs.Streams.{Puts, failures_if};
+ghost use Rattle.swim_text.specs.Streams.{Puts, failures_if};
 ghost use Rattle.std.specs.Prelude.{◌≡◌};
 ghost use Rattle.swim_script.specs.Holds.{Answers};
 
@@ -8,7 +8,7 @@ use crate::answers::put_answer;
 use crate::choosers::Drawer;
 use swim_detector::{ApplyFault, Recorder};
 use swim_history::Call;
-use swim_wire::Sink;
+use swim_text::Sink;
 
 /// Makes a call, and writes its answer. It answers whether the sink took all of it.
 pub fn play<W: Sink>(recorder: &mut Recorder<Drawer>, call: Call, writer: &mut W) -> bool

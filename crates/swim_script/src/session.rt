@@ -2,8 +2,8 @@
 
 ghost use Rattle.std.specs.Prelude.{◌≡◌, ◌≢◌, ◌+◌, ◌<◌, ◌≤◌, ◌∷◌, List, ℕ, Some, None, Ok, Err, MatchResult, OnOk, not};
 ghost use Rattle.std.specs.Prelude.{if◌then◌else◌};
-ghost use Rattle.swim_wire.specs.Lines.{bare};
-ghost use Rattle.swim_wire.specs.Streams.{failures_if};
+ghost use Rattle.swim_text.specs.Lines.{bare};
+ghost use Rattle.swim_text.specs.Streams.{failures_if};
 ghost use Rattle.swim_history.specs.declared.entries.Entry.{Entry};
 ghost use Rattle.swim_script.specs.declared.commands.Command.TheVariants as commands;
 ghost use Rattle.swim_script.specs.Ends.{IsJournalOf};
@@ -22,7 +22,8 @@ use std::alloc::Global;
 use std::marker::Model;
 use swim_detector::Recorder;
 use swim_history::{Call, Journal, Row};
-use swim_wire::{Sink, Version};
+use swim_text::Sink;
+use swim_wire::Version;
 
 /// Where a script has come: its header, and the recorder once an event line was met.
 #[derive(Drop)]

@@ -1,7 +1,7 @@
 //! The simulator: a script in, replies out.
 
 ghost use Rattle.std.specs.Prelude.{◌≡◌, if◌then◌else◌, OnOk};
-ghost use Rattle.swim_wire.specs.Streams.{one_more};
+ghost use Rattle.swim_text.specs.Streams.{one_more};
 ghost use Rattle.swim_script.specs.Ends.{LeavesKnown, unplayed};
 ghost use Rattle.swim_script.specs.Script.{RunsKnown, is_read, is_write};
 
@@ -10,7 +10,7 @@ use crate::faults::{FaultKind, ScriptFault};
 use crate::forms::Form;
 use crate::session::Session;
 use arrayvec::ArrayVec;
-use swim_wire::{Sink, Source, Taken, next_line};
+use swim_text::{Sink, Source, Taken, next_line};
 
 /// Plays the script that the reader gives, and writes its answers. Each answer is written as soon as its
 /// line was read, and handed on before the reader is waited for. What a journal file tells of answers is compared with

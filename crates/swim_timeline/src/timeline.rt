@@ -1,7 +1,7 @@
 //! The picture of a journal.
 
 ghost use Rattle.std.specs.Prelude.{◌≡◌, ◌-◌, min, length, IfOk, OnErr};
-ghost use Rattle.swim_wire.specs.Streams.{failures_if};
+ghost use Rattle.swim_text.specs.Streams.{failures_if};
 ghost use Rattle.swim_history.specs.Clock.{ticks};
 ghost use Rattle.swim_timeline.specs.Shown.{Shows, before_tick, within};
 
@@ -15,7 +15,8 @@ use crate::scale::{LEFT, Scale};
 use crate::spans::Span;
 use std::alloc::{AllocError, Global};
 use swim_history::Journal;
-use swim_wire::{Id, Sink};
+use swim_text::Sink;
+use swim_wire::Id;
 
 /// Puts the picture of these ticks of a journal, and answers whether the writer took all of it. The picture is an SVG that
 /// stands alone: a lane for each member, and from left to right what happened to it at which tick. It says how much of

@@ -4,8 +4,9 @@ use std::test::Fail;
 use swim_detector::Recorder;
 use swim_history::{Call, Journal, Opening, Row, RowState};
 use swim_targets::Scripted;
+use swim_text::Page;
 use swim_timeline::{MarkKind, PictureMark, Span, View, put_timeline, show};
-use swim_wire::{Id, Kind, Message, Page, Peer, PeriodNumber, Version};
+use swim_wire::{Id, Kind, Message, Peer, PeriodNumber, Version};
 
 fn id(value: u32) -> Result<Id, Fail> {
     Ok(Id::new(value).ok_or("an id is not 0")?)

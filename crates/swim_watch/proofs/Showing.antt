@@ -2,7 +2,7 @@
 use Rattle.std.proofs.Common.{ℕ, Bool, List, [], ◌∷◌, ◌++◌, Option, Some, None, sym, ap, ◌∙◌, append_assoc, append-nil}
 use Rattle.std.proofs.lemmas.Grind.{flat_map-append}
 use Rattle.std.proofs.lemmas.List.{map-append}
-use Rattle.swim_wire.specs.Streams.{appends_both, appends_none, keeps_self}
+use Rattle.swim_text.specs.Streams.{appends_both, appends_none, keeps_self}
 use Rattle.swim_watch.specs.Watching.{Grows, Passes, Shown, Shows, Watched, Watches}
 use Rattle.swim_watch.specs.declared.watching.WatchEnd.TheVariants as ends
 use Rattle.swim_watch.specs.declared.watching.Passed.TheVariants as passed

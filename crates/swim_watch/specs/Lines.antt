@@ -3,8 +3,9 @@ use Rattle.std.specs.Prelude.{ℕ, ◌-◌, ◌^◌, List, [], ◌∷◌, Option
 use Rattle.std.specs.Str.{bytes_eq}
 use Rattle.swim_wire.specs.Address.{Address, address_of}
 use Rattle.swim_wire.specs.Arguments.{◌>>=◌, argument, nothing_left}
-use Rattle.swim_wire.specs.Numbers.{id_of, number_of}
-use Rattle.swim_wire.specs.Words.{words_of}
+use Rattle.swim_text.specs.Numbers.{number_of}
+use Rattle.swim_wire.specs.Ids.{id_of}
+use Rattle.swim_text.specs.Words.{words_of}
 use Rattle.swim_history.specs.declared.rows.Change.TheVariants as changes
 use Rattle.swim_events.specs.declared.events.Event.TheVariants as events
 use Rattle.swim_watch.specs.declared.feed_events.NoEvent.{NoEvent}

@@ -3,7 +3,7 @@ use Rattle.std.specs.Prelude.{◌≡◌, ℕ, Bool, true, false, List, [], ◌�
 use Rattle.std.specs.List.{flat_map}
 use Rattle.std.specs.Io.KnownBytes.{Appends, Keeps}
 use Rattle.serde_json.specs.Written.{compact_text}
-use Rattle.swim_wire.specs.Streams.{PutsFront}
+use Rattle.swim_text.specs.Streams.{PutsFront}
 use Rattle.swim_watch.specs.Lines.{said_of}
 use Rattle.swim_watch.specs.Objects.{shown_data}
 use Rattle.swim_watch.specs.declared.watching.WatchEnd.{WatchEnd}

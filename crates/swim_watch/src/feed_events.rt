@@ -6,7 +6,8 @@ ghost use Rattle.swim_watch.specs.Lines.{said_after, said_of, take_number, word_
 
 use swim_events::Event;
 use swim_history::Change;
-use swim_wire::{Words, nothing_left, read_number, take_id, take_peer};
+use swim_text::{Words, read_number};
+use swim_wire::{nothing_left, take_id, take_peer};
 
 /// What a line says to those who watch.
 #[derive(Clone, Copy, Debug, PartialEq, Eq)]

@@ -9,7 +9,8 @@ use jiff::Timestamp;
 use std::alloc::{AllocError, Global};
 use std::rt::Clock;
 use std::sync::Wait;
-use swim_wire::{Piece, Sink, put_pieces};
+use swim_text::Sink;
+use swim_wire::{Piece, put_pieces};
 
 /// How watching ended.
 #[derive(Clone, Copy, Debug, PartialEq, Eq)]

@@ -3,8 +3,9 @@ ghost use Rattle.std.specs.Prelude.{None};
 use std::test::Fail;
 use swim_events::Event;
 use swim_history::Change;
+use swim_text::Page;
 use swim_watch::{EventLine, Feed, FeedEvent, NoEvent, WatchEnd, read_said, show, watch};
-use swim_wire::{Id, Page, Peer};
+use swim_wire::{Id, Peer};
 
 /// Gives these lines, and then none.
 #[derive(Drop)]

@@ -1,3 +1,2 @@
 pub mod Addresses
-pub mod Decimals
 pub mod RoundTrip

@@ -2,8 +2,8 @@
 use Rattle.std.specs.Prelude.{ℕ, ◌<◌, ◌^◌, ◌≡◌, List, [], ◌∷◌, ◌++◌, length, map, Option, Some, decimal}
 use Rattle.std.specs.List.{All, join_with_byte}
 use Rattle.std.specs.Option.{option_and_then}
-use Rattle.swim_wire.specs.Numbers.{number_of, positive_of}
-use Rattle.swim_wire.specs.Parts.{cut}
+use Rattle.swim_text.specs.Numbers.{number_of, positive_of}
+use Rattle.swim_text.specs.Parts.{cut}
 
 -- the octets of an IPv4 address, and a port
 pub record Address : Type 0 where

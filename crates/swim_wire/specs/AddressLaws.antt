@@ -10,8 +10,8 @@ use Rattle.std.proofs.lemmas.List.Elements.{All-from_recursion}
 use Rattle.std.proofs.lemmas.List.Folds.{list_any-append}
 use Rattle.std.proofs.lemmas.Str.Parse.{digit_from_value}
 use Rattle.swim_wire.specs.Address.{Address, IsAddress, dot, colon, address_text, ◌>>=◌, ip_of, address_of}
-use Rattle.swim_wire.specs.Numbers.{number_of, number_read, number_only, positive_of, positive_read, positive_only}
-use Rattle.swim_wire.specs.Parts.{has, cut, cut_at, cut_joined}
+use Rattle.swim_text.specs.Numbers.{number_of, number_read, number_only, positive_of, positive_read, positive_only}
+use Rattle.swim_text.specs.Parts.{has, cut, cut_at, cut_joined}
 
 -- a byte that is no digit is in no digits
 digits_without : (byte : ℕ) → ((c : ℕ) → IsInRange 48 57 c → eqb c byte ≡ false) → (text : List ℕ) → AllDigits 10 text →

@@ -1,6 +1,11 @@
--- Words on lists of ids.
+-- Words on ids and on lists of them.
 use Rattle.std.specs.Prelude.{ℕ, Bool, false, ◌||◌, ◌==◌, not, nat_eq, List, [], ◌∷◌, filter, Option, Some, None}
 use Rattle.std.specs.List.{list_any}
+use Rattle.swim_text.specs.Numbers.{positive_of}
+
+-- the id whose number the text is
+abbrev pub id_of : List ℕ → Option ℕ
+id_of text = positive_of 4294967295 text
 
 -- how many members a detector may know
 abbrev pub most_members : ℕ

@@ -3,11 +3,11 @@
 ghost use Rattle.std.specs.Prelude.{◌≡◌};
 ghost use Rattle.swim_wire.specs.Address.{address_of};
 ghost use Rattle.swim_wire.specs.Arguments.{TakesFrom, argument, nothing_left};
-ghost use Rattle.swim_wire.specs.Numbers.{id_of};
+ghost use Rattle.swim_wire.specs.Ids.{id_of};
 
 use crate::ids::Id;
 use crate::peers::Peer;
-use crate::words::Words;
+use swim_text::Words;
 
 /// Takes the next word, which is to be an id.
 pub fn take_id<E: Copy>(words: &mut Words<'_>, fault: E) -> Result<Id, E>

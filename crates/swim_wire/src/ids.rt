@@ -2,10 +2,10 @@
 
 ghost use Rattle.std.specs.Prelude.{◌≡◌, ℕ, ◌<◌, ◌^◌, Some, IfSome, decimal};
 ghost use Rattle.std.specs.Option.{SomeIff};
-ghost use Rattle.swim_wire.specs.Numbers.{id_of};
+ghost use Rattle.swim_wire.specs.Ids.{id_of};
 
-use crate::numbers::read_number;
 use std::marker::Model;
+use swim_text::read_number;
 
 /// The id of a member: 1 to 4294967295. A contract sees the number.
 #[derive(Clone, Copy, Debug, PartialEq, Eq, PartialOrd, Ord)]

@@ -4,13 +4,12 @@ ghost use Rattle.std.specs.Prelude.{◌≡◌, ◌+◌, ◌<◌, ◌≤◌, [], 
 ghost use Rattle.std.specs.Int.{w16, to_be_bytes};
 ghost use Rattle.arrayvec.specs.ArrayString.{array_string_len};
 ghost use Rattle.swim_wire.specs.Address.{Address, IsAddress, address_text, address_of, ip_of as octets_of};
-ghost use Rattle.swim_wire.specs.Numbers.{number_of, positive_of};
+ghost use Rattle.swim_text.specs.Numbers.{number_of, positive_of};
 
-use crate::numbers::read_number;
-use crate::parts::cut;
 use arrayvec::ArrayString;
 use itoa::Buffer;
 use std::marker::Model;
+use swim_text::{cut, read_number};
 
 /// Where a member's detector listens: an IPv4 address and a port other than 0.
 #[derive(Clone, Copy, Debug, PartialEq, Eq)]

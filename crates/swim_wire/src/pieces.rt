@@ -1,12 +1,12 @@
 //! Texts that are written to a sink piece by piece.
 
 ghost use Rattle.std.specs.Prelude.{◌≡◌};
-ghost use Rattle.swim_wire.specs.Streams.{Puts, failures_if};
+ghost use Rattle.swim_text.specs.Streams.{Puts, failures_if};
 ghost use Rattle.swim_wire.specs.Pieces.{piece_text, pieces_text};
 
 use crate::peers::Peer;
-use crate::streams::Sink;
-use crate::texts::{put_address, put_number};
+use crate::texts::put_address;
+use swim_text::{Sink, put_number};
 
 /// A piece of a text.
 #[derive(Clone, Copy, Debug)]

@@ -1,6 +1,4 @@
 mod addresses;
 mod datagrams;
-mod decimals;
+mod ids;
 mod pieces;
-mod short_lines;
-mod streams;

@@ -6,7 +6,7 @@ use Rattle.std.proofs.lemmas.List.{map-append}
 use Rattle.std.proofs.lemmas.List.Folds.{list_any-append}
 use Rattle.std.specs.List.{flat_map}
 use Rattle.std.specs.Io.KnownBytes.{Appends, Consumes}
-use Rattle.swim_wire.specs.Streams.{appends_both, appends_none, keeps_self}
+use Rattle.swim_text.specs.Streams.{appends_both, appends_none, keeps_self}
 use Rattle.swimd.specs.Answers.{is_refusal, is_stopping}
 use Rattle.swimd.specs.Asking.{Asker, Asking, EndsInStop, Exchange, Grows, HasAsked, IsDone, IsStopped}
 use Rattle.swimd.specs.Asking.{Passes, Reads, Sent, asked_so, bytes_of, has_refusal}

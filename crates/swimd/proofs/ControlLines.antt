@@ -7,7 +7,7 @@ use Rattle.std.proofs.lemmas.List.{length-take}
 use Rattle.std.proofs.lemmas.List.Folds.{list_any-append}
 use Rattle.std.specs.List.{flat_map}
 use Rattle.std.specs.Io.KnownBytes.{Consumes, IsAtEnd, Keeps}
-use Rattle.swim_wire.specs.Lines.{has_feed}
+use Rattle.swim_text.specs.Lines.{has_feed}
 use Rattle.swimd.specs.Asking.{IsAll, Reads, end_met, joined}
 use Rattle.swimd.proofs.Lines.{texts_of, next_word}
 use Rattle.swimd.specs.declared.control_lines.NextLine.{NextLine}

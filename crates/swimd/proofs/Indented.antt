@@ -2,7 +2,7 @@
 use Rattle.std.proofs.Common.{◌≡◌, ℕ, ◌==◌, ◌&&◌, Bool, true, false, List, [], ◌∷◌, ◌++◌, Some, refl, ◌∙◌, arith}
 use Rattle.std.specs.List.{list_all}
 use Rattle.std.proofs.lemmas.Bool.{leb-true, ne_eqb, or_from}
-use Rattle.swim_wire.specs.Lines.{has_feed}
+use Rattle.swim_text.specs.Lines.{has_feed}
 use Rattle.swim_config.specs.Causes.{AreIndented, Causes, IsCause}
 use Rattle.swim_config.specs.Configuration.{is_printing}
 use Rattle.swim_config.specs.Indented.{both_indented}

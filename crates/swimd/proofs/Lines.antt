@@ -6,7 +6,7 @@ use Rattle.std.proofs.lemmas.List.{map-append}
 use Rattle.std.proofs.lemmas.List.Folds.{list_any-append, list_any_at}
 use Rattle.std.specs.List.{list_any}
 use Rattle.clap.proofs.WalkLemmas.{list_any-map}
-use Rattle.swim_wire.specs.Lines.{has_feed}
+use Rattle.swim_text.specs.Lines.{has_feed}
 use Rattle.swimd.specs.Answers.{is_over}
 
 -- a list that begins with something isn't empty

@@ -1,6 +1,6 @@
 -- What is told while a daemon starts.
 use Rattle.std.proofs.Common.{◌≡◌, ℕ, false, List, [], ◌∷◌, refl, sym, subst, inl, inr}
-use Rattle.swim_wire.specs.Lines.{has_feed}
+use Rattle.swim_text.specs.Lines.{has_feed}
 use Rattle.swim_config.specs.declared.config.Config.{Config}
 use Rattle.swim_life.specs.Endings.{TellsText, Written}
 use Rattle.swim_life.specs.Notices.{Notices, line_text, notices_both}

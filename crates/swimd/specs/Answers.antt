@@ -2,7 +2,7 @@
 use Rattle.std.specs.Prelude.{◌==◌, ◌&&◌, ◌||◌, ℕ, Bool, true, false, List, [], ◌∷◌, codes, if◌then◌else◌, nat_le}
 use Rattle.std.specs.List.{starts_with}
 use Rattle.std.specs.Str.{bytes_eq}
-use Rattle.swim_wire.specs.Words.{words_by}
+use Rattle.swim_text.specs.Words.{words_by}
 
 -- a row of a table begins with a digit, and one of counts with the program's name
 abbrev pub begins_with_digit : List ℕ → Bool

@@ -3,9 +3,9 @@ use Rattle.std.specs.Prelude.{◌≡◌, ◌⊎◌, ℕ, ◌<◌, Bool, true, fa
 use Rattle.std.specs.Prelude.{Option, Some, None, Result, Ok, Err}
 use Rattle.std.specs.List.{flat_map, list_any}
 use Rattle.std.specs.Io.KnownBytes.{Appends, Consumes, IsAtEnd, Keeps}
-use Rattle.swim_wire.specs.Cutting.{feed_if}
-use Rattle.swim_wire.specs.Lines.{has_feed}
-use Rattle.swim_wire.specs.Streams.{PutsFront}
+use Rattle.swim_text.specs.Cutting.{feed_if}
+use Rattle.swim_text.specs.Lines.{has_feed}
+use Rattle.swim_text.specs.Streams.{PutsFront}
 use Rattle.swimd.specs.declared.askers.Came.{Came}
 use Rattle.swimd.specs.declared.askers.Came.TheVariants as came
 use Rattle.swimd.specs.declared.control_lines.NextLine.{NextLine}

@@ -2,7 +2,7 @@
 use Rattle.std.specs.Prelude.{◌≡◌, ◌⊎◌, ℕ, Bool, not, List, [], ◌∷◌, ◌++◌, length, Option, Some, None, codes}
 use Rattle.std.specs.Io.KnownBytes.{Appends}
 use Rattle.hex.specs.Hex.{encode_lower}
-use Rattle.swim_wire.specs.Streams.{Puts, PutsFront, failures_if}
+use Rattle.swim_text.specs.Streams.{Puts, PutsFront, failures_if}
 use Rattle.swim_life.specs.Endings.{Written}
 use Rattle.swim_config.specs.declared.config_fault.ConfigFault.TheVariants.{NoMemory}
 use Rattle.swimd.specs.declared.outcomes.Outcome.{Outcome}

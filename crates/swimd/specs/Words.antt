@@ -11,8 +11,8 @@ use Rattle.clap.specs.Walk.{Row, Rule, Text, all_of, first_of}
 use Rattle.clap.specs.declared.builder.action.ArgAction.TheVariants.{Append, Set, SetTrue}
 use Rattle.clap.specs.declared.error.kind.ErrorKind.{ErrorKind}
 use Rattle.clap.specs.declared.error.kind.ErrorKind.TheVariants.{DisplayHelp, DisplayVersion, OutOfMemory}
-use Rattle.swim_wire.specs.Lines.{has_feed}
-use Rattle.swim_wire.specs.Numbers.{number_of}
+use Rattle.swim_text.specs.Lines.{has_feed}
+use Rattle.swim_text.specs.Numbers.{number_of}
 use Rattle.swimd.specs.Asking.{joined}
 use Rattle.swimd.specs.declared.words.Asked.{Asked}
 use Rattle.swimd.specs.declared.words.Asked.TheVariants as asked

@@ -4,7 +4,7 @@ ghost use Rattle.std.specs.Prelude.{◌≡◌};
 ghost use Rattle.swimd.specs.Answers.{begins_with_digit, is_answer, is_over, is_refusal, is_row, is_stopping};
 
 use arrayvec::ArrayVec;
-use swim_wire::Words;
+use swim_text::Words;
 
 /// Room for an answer. The longest, a table of 128 rows of at most 61 bytes, has less than 8,000.
 const ANSWER_BYTES: usize = 16_384;

@@ -12,7 +12,7 @@ use crate::sockets::ControlSocket;
 use std::io::ErrorKind;
 use std::net::Net;
 use std::rt::Clock;
-use swim_wire::{Sink, Source};
+use swim_text::{Sink, Source};
 
 /// Asks the daemon at a path the lines of an input, and writes its answers, each of which may take so many seconds.
 pub fn ask<R: Net + Clock, S: Source, W: Sink>(

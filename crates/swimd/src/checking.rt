@@ -1,7 +1,7 @@
 //! The command that checks a configuration.
 
 ghost use Rattle.std.specs.Prelude.{◌≡◌, not, []};
-ghost use Rattle.swim_wire.specs.Streams.{failures_if};
+ghost use Rattle.swim_text.specs.Streams.{failures_if};
 ghost use Rattle.swimd.specs.Checking.{ChecksKnown, Shows, Warned, is_unread, is_unwritten};
 ghost use Rattle.swimd.specs.Details.{Explains};
 
@@ -10,7 +10,7 @@ use crate::outcomes::Outcome;
 use arrayvec::ArrayVec;
 use std::alloc::Global;
 use swim_config::{Config, INPUT_BYTES, put_warnings, read_config, read_input, summary};
-use swim_wire::{Sink, Source};
+use swim_text::{Sink, Source};
 
 /// Reads a configuration, and writes its summary, and then what it warns of. What stands below the line of a fault is told in
 /// the details.

@@ -5,7 +5,7 @@ ghost use Rattle.std.specs.List.{flat_map};
 ghost use Rattle.swimd.specs.Asking.{Reads, end_met, joined};
 
 use arrayvec::ArrayVec;
-use swim_wire::{Byte, Source};
+use swim_text::{Byte, Source};
 
 /// How many bytes of a line are sent at most: one more than a daemon takes, so that it says of a longer one that it
 /// is too long.

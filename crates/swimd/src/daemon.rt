@@ -35,7 +35,8 @@ use swim_life::{
     ClockSleeper, Door, Hall, LivesEnd, Place, Returning, SleepingPace, Terms, UdpLine, UnixDoor,
     UnixEntrance, run_lives,
 };
-use swim_wire::{Peer, ReadSource, Sink};
+use swim_text::{ReadSource, Sink};
+use swim_wire::Peer;
 
 /// Runs the daemon of a configuration file, and writes how its lives ended. What stands in the way of a start is told in
 /// the details. Among the faults stands what the configuration is warned of, and then, while it runs, notices; where it is

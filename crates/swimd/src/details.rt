@@ -11,7 +11,7 @@ use std::alloc::Global;
 use std::io::ErrorKind;
 use std::marker::Model;
 use swim_config::{ConfigFault, put_cause};
-use swim_wire::Page;
+use swim_text::Page;
 
 /// How many bytes details have at most.
 const DETAILS_BYTES: usize = 2048;

@@ -15,7 +15,7 @@ use std::rt::{Clock, Files};
 use swim_config::SocketPath;
 use swim_events::{Event, Gallery, Outlet};
 use swim_life::{Place, Sight, UnixEntrance};
-use swim_wire::Sink;
+use swim_text::Sink;
 
 /// How often a life's journal is read, and written to its file, in milliseconds.
 const WRITE_MS: u32 = 50;

@@ -14,7 +14,8 @@ use std::os::unix::fs::OpenOptionsExt;
 use std::rt::{Clock, Files};
 use swim_config::JournalFiles;
 use swim_life::{Past, Shelf, Terms};
-use swim_wire::{Id, Sink};
+use swim_text::Sink;
+use swim_wire::Id;
 
 /// The folder in which a daemon makes a file for each of its lives, if it does. Each is new and its owner's alone. At a
 /// life's beginning old files of this member are removed. What fails is told among the notices.

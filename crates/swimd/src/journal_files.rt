@@ -1,14 +1,14 @@
 //! Journal files as they are written.
 
 ghost use Rattle.std.specs.Prelude.{◌≡◌, true, false, length, None};
-ghost use Rattle.swim_wire.specs.Streams.{failures_if};
+ghost use Rattle.swim_text.specs.Streams.{failures_if};
 
 use crate::comments::comment_behind;
 use arrayvec::ArrayVec;
 use std::fs::{File, OpenFile};
 use std::io::{ErrorKind, Write};
 use std::rt::Clock;
-use swim_wire::Sink;
+use swim_text::Sink;
 
 /// How many bytes of a file are held back at most.
 const HELD_BYTES: usize = 16_384;

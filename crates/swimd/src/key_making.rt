@@ -10,7 +10,7 @@ use std::fs::File;
 use std::io::Read;
 use std::rt::Files;
 use swim_keys::KEY_BYTES;
-use swim_wire::Sink;
+use swim_text::Sink;
 
 /// Where the system gives random bytes that no stranger can foretell.
 const RANDOM_SOURCE: &str = "/dev/urandom";

@@ -40,7 +40,7 @@ use std::env;
 use std::io::ErrorKind;
 use std::process::ExitCode;
 use swim_config::ConfigFault;
-use swim_wire::{ReadSource, WriteSink};
+use swim_text::{ReadSource, WriteSink};
 
 fn main(rt: HostRuntime) -> ExitCode {
     let mut reader = ReadSource::new(rt.stdin());

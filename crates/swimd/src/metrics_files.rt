@@ -10,7 +10,7 @@ use std::rt::{Clock, Files};
 use std::time::{Duration, Instant};
 use swim_config::SocketPath;
 use swim_metrics::{Measures, Outside, put_exposition};
-use swim_wire::{Sink, WriteSink};
+use swim_text::{Sink, WriteSink};
 
 /// How often the file is written, in seconds.
 const PAUSE_SECONDS: u64 = 10;

@@ -1,8 +1,8 @@
 //! What a daemon tells people while it runs: lines on standard error, each with the time in UTC.
 
 ghost use Rattle.std.specs.Prelude.{◌≡◌, ℕ, false};
-ghost use Rattle.swim_wire.specs.Lines.{has_feed};
-ghost use Rattle.swim_wire.specs.Streams.{one_more};
+ghost use Rattle.swim_text.specs.Lines.{has_feed};
+ghost use Rattle.swim_text.specs.Streams.{one_more};
 ghost use Rattle.swim_life.specs.Endings.{TellsText};
 ghost use Rattle.swim_life.specs.Notices.{Notices, line_text};
 
@@ -23,7 +23,8 @@ use std::time::Duration;
 use std::{fmt, io};
 use swim_config::Config;
 use swim_life::Herald;
-use swim_wire::{Peer, Piece, Sink, put_pieces};
+use swim_text::Sink;
+use swim_wire::{Peer, Piece, put_pieces};
 
 /// The descriptor of standard error.
 const STANDARD_ERROR: RawFd = 2;

@@ -7,7 +7,8 @@ use arrayvec::{ArrayString, ArrayVec};
 use std::alloc::{AllocError, Global};
 use std::fmt::Write;
 use std::rt::Files;
-use swim_wire::{Byte, Id, ReadSource, Source, read_number};
+use swim_text::{Byte, ReadSource, Source, read_number};
+use swim_wire::Id;
 
 /// Room for a name of a journal file, which has at most 57 bytes; of a longer name a front is looked at.
 const NAME_BYTES: usize = 64;

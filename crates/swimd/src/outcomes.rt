@@ -1,11 +1,11 @@
 //! How a command of the program ended.
 
 ghost use Rattle.std.specs.Prelude.{◌≡◌};
-ghost use Rattle.swim_wire.specs.Streams.{Puts, failures_if};
+ghost use Rattle.swim_text.specs.Streams.{Puts, failures_if};
 ghost use Rattle.swimd.specs.Outcomes.{status_of, outcome_text};
 
 use swim_config::{ConfigFault, put_fault};
-use swim_wire::Sink;
+use swim_text::Sink;
 
 /// How a command ended.
 #[derive(Clone, Copy, Debug, PartialEq, Eq)]

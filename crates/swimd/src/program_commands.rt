@@ -1,7 +1,7 @@
 //! The commands of the program, with its standard streams handed in.
 
 ghost use Rattle.std.specs.Prelude.{◌≡◌, ◌++◌, [], codes, map, option_map};
-ghost use Rattle.swim_wire.specs.Streams.{Puts, failures_if};
+ghost use Rattle.swim_text.specs.Streams.{Puts, failures_if};
 ghost use Rattle.swimd.specs.Commands.{AsksWanted, Carried, Commanded, Helps, Told};
 ghost use Rattle.swimd.specs.Details.{Explains};
 ghost use Rattle.swimd.specs.Outcomes.{outcome_text};
@@ -22,7 +22,7 @@ use std::rt::{Clock, Files};
 use std::sync::Wait;
 use std::thread::Threads;
 use swim_config::ConfigFault;
-use swim_wire::{ReadSource, Sink, Source};
+use swim_text::{ReadSource, Sink, Source};
 
 /// Does what the words after the program's name ask, and answers the status with which the program ends. The log is where a
 /// daemon's worker tells people what it threw away: a sink of its own, as those who tell the faults hold theirs.
@@ -163,7 +163,7 @@ pub fn tell_outcome<F: Sink>(outcome: Outcome, details: &Details, faults: &mut F
 }
 
 /// Writes the line of an outcome, and then those below it, and answers whether the sink took all of them.
-#[tactic(auto, using(swim_wire::specs::Streams::puts_then, swim_wire::specs::Streams::puts_less))]
+#[tactic(auto, using(swim_text::specs::Streams::puts_then, swim_text::specs::Streams::puts_less))]
 fn put_told<F: Sink>(faults: &mut F, outcome: Outcome, lines: &[u8]) -> bool
     ensures bytes { Puts (F.written faults.old) (F.written faults.new) (outcome_text outcome ++ lines.now) result }
     ensures failures { F.failures faults.new ≡ failures_if (F.failures faults.old) result }

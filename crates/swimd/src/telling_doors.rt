@@ -18,7 +18,8 @@ use std::rt::{Clock, Files};
 use std::sync::Wait;
 use std::time::{Duration, Instant};
 use swim_life::{Door, Knock};
-use swim_wire::{Peer, Sink};
+use swim_text::Sink;
+use swim_wire::Peer;
 
 /// How long no more datagrams of a kind are told that were thrown away, once some were, in seconds.
 const PAUSE_SECONDS: u64 = 60;

@@ -1,10 +1,10 @@
 //! A sink that keeps a text of counts.
 
 ghost use Rattle.std.specs.Prelude.{◌≡◌, Some};
-ghost use Rattle.swim_wire.specs.Streams.{Puts, failures_if};
+ghost use Rattle.swim_text.specs.Streams.{Puts, failures_if};
 
 use swim_control::StatsText;
-use swim_wire::Sink;
+use swim_text::Sink;
 
 /// A sink that keeps what it is given, as long as there is room.
 #[derive(Drop)]

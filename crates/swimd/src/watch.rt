@@ -12,8 +12,8 @@ use std::net::Net;
 use std::rt::Clock;
 use std::sync::Wait;
 use swim_config::ConfigFault;
+use swim_text::Sink;
 use swim_watch::{WatchEnd, watch};
-use swim_wire::Sink;
 
 /// Writes what the daemon tells at the socket of that path, and what those tell that come after it there, as it comes or as
 /// JSON.

@@ -7,7 +7,7 @@ ghost use Rattle.clap.specs.Simple.{app_of, new_app, subcommand_rows_of};
 ghost use Rattle.clap.specs.Values.{kind_of};
 ghost use Rattle.clap.specs.Walk.{rows_of, rule_of};
 ghost use Rattle.clap.specs.declared.builder.command.Command.TheViews.{out-Command};
-ghost use Rattle.swim_wire.specs.Lines.{has_feed};
+ghost use Rattle.swim_text.specs.Lines.{has_feed};
 ghost use Rattle.swimd.specs.Words.{IsAsked, answer_to, ask_app, asked_in, flag_of, flag_rule, line_in, line_of, needed_rule};
 ghost use Rattle.swimd.specs.Words.{option_rule, program, program_alone, run_app, seconds_in, unasked_by, wanted, watch_app};
 ghost use Rattle.swimd.specs.Words.{words_rule};
@@ -16,7 +16,7 @@ use crate::control_lines::{ControlLine, line_of};
 use clap::error::ErrorKind;
 use clap::{Arg, ArgAction, ArgMatches, Command, Error};
 use std::alloc::{AllocError, Global};
-use swim_wire::read_number;
+use swim_text::read_number;
 
 /// The version of the program.
 pub const VERSION: &str = "1.0";

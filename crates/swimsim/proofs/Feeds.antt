@@ -1,10 +1,10 @@
 -- Where bytes have a line feed.
 use Rattle.std.proofs.Common.{◌≡◌, ℕ, suc, ◌==◌, ◌||◌, Bool, true, false, List, [], ◌∷◌, ◌++◌, length, Option, Some, None, refl, sym, ap, ◌∙◌, append_assoc, arith}
 use Rattle.memchr.specs.Find.{Nowhere, Passes, is_byte}
-use Rattle.swim_wire.specs.Lines.{has_feed}
-use Rattle.swim_wire.specs.Cutting.{has_feed_then}
-use Rattle.swim_wire.specs.declared.short_lines.LineEnd.{LineEnd}
-use Rattle.swim_wire.specs.declared.short_lines.LineEnd.TheVariants.{Feed}
+use Rattle.swim_text.specs.Lines.{has_feed}
+use Rattle.swim_text.specs.Cutting.{has_feed_then}
+use Rattle.swim_text.specs.declared.short_lines.LineEnd.{LineEnd}
+use Rattle.swim_text.specs.declared.short_lines.LineEnd.TheVariants.{Feed}
 use Rattle.swimsim.specs.WholeLines.{EndsIfMet}
 
 -- where no byte is a line feed

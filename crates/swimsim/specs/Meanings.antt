@@ -8,7 +8,7 @@ use Rattle.swim_wire.specs.declared.messages.Version.{Version}
 use Rattle.swim_wire.specs.declared.messages.Version.TheVariants.{One, Two}
 use Rattle.swim_wire.specs.Address.{Address, address_text}
 use Rattle.swim_wire.specs.Messages.{Message}
-use Rattle.swim_wire.specs.Words.{words_of}
+use Rattle.swim_text.specs.Words.{words_of}
 use Rattle.swim_history.specs.Texts.{feed}
 use Rattle.swim_script.specs.declared.commands.Command.{Command}
 use Rattle.swim_script.specs.declared.commands.Command.TheVariants.{Hear as Heard}

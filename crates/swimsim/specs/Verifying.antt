@@ -5,9 +5,9 @@ use Rattle.swim_script.specs.declared.faults.ScriptFault.{ScriptFault}
 use Rattle.swim_script.specs.declared.faults.FaultKind.TheVariants as kind
 use Rattle.swimsim.specs.declared.witness.FileEnd.{FileEnd}
 use Rattle.swimsim.specs.declared.witness.FileEnd.TheVariants.{Unmet, Whole, Cut, Long, Foreign, Failed}
-use Rattle.swim_wire.specs.declared.short_lines.LineEnd.{LineEnd}
-use Rattle.swim_wire.specs.declared.short_lines.LineEnd.TheVariants.{Feed, Unended, Over}
-use Rattle.swim_wire.specs.declared.short_lines.LineEnd.TheVariants as met
+use Rattle.swim_text.specs.declared.short_lines.LineEnd.{LineEnd}
+use Rattle.swim_text.specs.declared.short_lines.LineEnd.TheVariants.{Feed, Unended, Over}
+use Rattle.swim_text.specs.declared.short_lines.LineEnd.TheVariants as met
 
 -- the fault of the line that ended the run; a file that tells no opening, for which line 0 stands, has none
 abbrev pub fault_of_run : Result (Unit {0}) ScriptFault → Option ScriptFault

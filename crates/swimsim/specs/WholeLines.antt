@@ -1,9 +1,9 @@
 -- What is taken of a source, whole lines at a time.
 use Rattle.std.specs.Prelude.{◌≡◌, ℕ, false, List, [], ◌∷◌, ◌++◌, Option, Some, None}
 use Rattle.std.specs.Io.KnownBytes.{Consumes}
-use Rattle.swim_wire.specs.Lines.{has_feed}
-use Rattle.swim_wire.specs.declared.short_lines.LineEnd.{LineEnd}
-use Rattle.swim_wire.specs.declared.short_lines.LineEnd.TheVariants.{Feed}
+use Rattle.swim_text.specs.Lines.{has_feed}
+use Rattle.swim_text.specs.declared.short_lines.LineEnd.{LineEnd}
+use Rattle.swim_text.specs.declared.short_lines.LineEnd.TheVariants.{Feed}
 
 -- the bytes that a source lost stand behind those that were held before
 pub record Moves (old new : Option (List ℕ)) (before after : List ℕ) : Type 0 where

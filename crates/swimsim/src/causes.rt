@@ -6,7 +6,8 @@ use crate::spelling::{meant_by, text_of};
 use std::fmt;
 use swim_history::OpeningFault;
 use swim_script::Word;
-use swim_wire::{Id, Words};
+use swim_text::Words;
+use swim_wire::Id;
 
 /// What UTF-8 text begins with that some editors write.
 const BYTE_ORDER_MARK: &[u8; 3] = b"\xef\xbb\xbf";

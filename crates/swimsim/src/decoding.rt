@@ -4,7 +4,8 @@ use crate::meanings::{message_after, message_words};
 use crate::wording::Teller;
 use std::alloc::Global;
 use std::cell::Cell;
-use swim_wire::{Message, Sink};
+use swim_text::Sink;
+use swim_wire::Message;
 
 /// Who has words for datagrams: below each line `> PEER HEX` stands its datagram in words, and those of a message that
 /// was heard stand above the next line, which answers it. In want of memory words are left out.

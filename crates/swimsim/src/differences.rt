@@ -7,7 +7,7 @@ use crate::marks::Mark;
 use std::alloc::Global;
 use swim_history::Journal;
 use swim_script::put_placed;
-use swim_wire::{Page, Sink};
+use swim_text::{Page, Sink};
 
 /// The first byte of a line that is another than that of the text, or the line's end where the text goes on.
 pub fn first_difference<'a>(line: &'a [u8], text: &[u8]) -> Mark<'a>

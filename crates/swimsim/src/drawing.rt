@@ -6,8 +6,8 @@ use std::fs::File;
 use std::io::{Read, Seek};
 use std::process::ExitCode;
 use swim_history::Journal;
+use swim_text::{Sink, Words, WriteSink};
 use swim_timeline::{Span, View, put_timeline};
-use swim_wire::{Sink, Words, WriteSink};
 
 /// What the first two lines of a picture begin with.
 const FIRST_LINE: &[u8; 39] = b"<svg xmlns=\"http://www.w3.org/2000/svg\"";

@@ -13,7 +13,8 @@ use swim_history::{OpeningFault, Row, RowState};
 use swim_script::{
     Command, FaultKind, Form, LineFault, OpenArguments, ScriptFault, Word, first_word, read_command,
 };
-use swim_wire::{Id, Words};
+use swim_text::Words;
+use swim_wire::Id;
 
 /// A line with the word that is at fault.
 #[derive(Clone, Copy, Debug)]

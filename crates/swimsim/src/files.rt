@@ -13,7 +13,7 @@ use crate::wording::Worded;
 use std::cell::RefCell;
 use std::fs::File;
 use std::io::{self, ErrorKind, Read, Stdin, Stdout, Write};
-use swim_wire::{Byte, ReadSource, Sink, Source, WriteSink};
+use swim_text::{Byte, ReadSource, Sink, Source, WriteSink};
 
 /// Where a script lies.
 #[derive(Drop)]

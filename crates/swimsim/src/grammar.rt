@@ -10,7 +10,8 @@ use swim_script::{
     Form, LineFault, Word, take_datagram, take_life, take_long_number, take_number, take_order,
     take_seed, take_version,
 };
-use swim_wire::{Words, take_id, take_peer};
+use swim_text::Words;
+use swim_wire::{take_id, take_peer};
 
 /// An argument of a line.
 #[derive(Clone, Copy, Debug, PartialEq, Eq)]

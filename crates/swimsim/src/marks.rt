@@ -2,7 +2,7 @@
 
 use crate::grammar::{Argument, arguments_of, take_argument};
 use swim_script::{Form, Word};
-use swim_wire::Words;
+use swim_text::Words;
 
 /// A part of a line: the bytes before it, and its own. A word that is missing has none, behind the line's end.
 #[derive(Clone, Copy, Debug)]

@@ -5,7 +5,8 @@ ghost use Rattle.swimsim.specs.Meanings.{kind_name, field_words, version_words, 
 
 use std::alloc::{AllocError, Global};
 use swim_script::{Command, Form, Word, read_command};
-use swim_wire::{Kind, Message, Peer, Version, Words};
+use swim_text::Words;
+use swim_wire::{Kind, Message, Peer, Version};
 
 /// The line that says in words what a message is.
 pub fn message_words(alloc: Global, message: &Message) -> Result<String, AllocError>

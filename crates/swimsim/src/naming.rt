@@ -5,7 +5,7 @@ use crate::tallies::Tally;
 use crate::wording::Teller;
 use std::alloc::Global;
 use std::cell::Cell;
-use swim_wire::Sink;
+use swim_text::Sink;
 
 /// Who has names for reasons: behind each number of a reason stands its name. In want of memory names are left out. It
 /// counts the answers that no entry of a journal tells.

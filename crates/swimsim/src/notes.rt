@@ -7,7 +7,7 @@ use std::cell::RefCell;
 use swim_history::{KNOWN_MEMBERS, Row};
 use swim_script::{Command, Form, LINE_BYTES, first_word, read_command};
 use swim_targets::Order;
-use swim_wire::Words;
+use swim_text::Words;
 
 /// How many rows are noted: one more than an opening may have, so that the first that is too many can be told.
 const NOTED_ROWS: usize = KNOWN_MEMBERS + 1;

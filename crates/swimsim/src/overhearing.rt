@@ -3,10 +3,10 @@
 ghost use Rattle.std.specs.Prelude.{◌≡◌, ◌≤◌, length, take, drop, IfSome};
 ghost use Rattle.std.specs.Io.{StartsWith};
 ghost use Rattle.std.specs.Io.KnownBytes.{Consumes};
-ghost use Rattle.swim_wire.specs.Streams.{Gives, failures_then};
+ghost use Rattle.swim_text.specs.Streams.{Gives, failures_then};
 
 use std::marker::Model;
-use swim_wire::{Byte, Source};
+use swim_text::{Byte, Source};
 
 /// Who overhears the bytes of a source.
 pub trait Listener {

@@ -8,7 +8,8 @@ ghost use Rattle.swimsim.specs.declared.reasons.Reason.{Reason};
 
 use std::fmt;
 use swim_history::{DropReason, Refusal};
-use swim_wire::{WireFault, read_number};
+use swim_text::read_number;
+use swim_wire::WireFault;
 
 /// The greatest number of a reason.
 pub const MOST_NUMBER: u8 = 8;

@@ -3,7 +3,7 @@
 ghost use Rattle.std.specs.Prelude.{◌≡◌, ◌<◌, ◌≤◌, None, false, length};
 ghost use Rattle.std.specs.Io.{StartsWith};
 ghost use Rattle.std.specs.Io.KnownBytes.{Consumes};
-ghost use Rattle.swim_wire.specs.Lines.{has_feed};
+ghost use Rattle.swim_text.specs.Lines.{has_feed};
 ghost use Rattle.swimsim.specs.Verifying.{end_at, is_front};
 ghost use Rattle.swimsim.specs.WholeLines.{EndsBy, EndsIfMet, Moves};
 
@@ -14,7 +14,7 @@ use memchr::memrchr;
 use std::alloc::Global;
 use std::io::{self, ErrorKind, Read};
 use swim_script::{LINE_BYTES, ScriptFault};
-use swim_wire::{Byte, LineEnd, ReadSource, Source};
+use swim_text::{Byte, LineEnd, ReadSource, Source};
 
 /// The first line of a journal file.
 const MARK: &[u8; 9] = b"journal 1";

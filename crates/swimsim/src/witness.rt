@@ -7,7 +7,7 @@ use std::alloc::{AllocError, Global};
 use std::collections::BTreeMap;
 use swim_evidence::{Confirmations, Draw, Heading};
 use swim_script::{Command, Form, Word, first_word, read_command};
-use swim_wire::{Words, read_number};
+use swim_text::{Words, read_number};
 
 /// How a journal file ended, as far as it was read.
 #[derive(Clone, Copy, Debug, PartialEq, Eq)]

@@ -2,11 +2,11 @@
 
 ghost use Rattle.std.specs.Prelude.{◌≡◌, true, None as none};
 ghost use Rattle.std.specs.Io.KnownBytes.{Keeps};
-ghost use Rattle.swim_wire.specs.Streams.{Puts, failures_if};
+ghost use Rattle.swim_text.specs.Streams.{Puts, failures_if};
 
 use arrayvec::ArrayVec;
 use std::marker::Model;
-use swim_wire::Sink;
+use swim_text::Sink;
 
 /// More than a line has bytes that words are put to.
 const WORDED_LINE_BYTES: usize = 128;

@@ -2,7 +2,7 @@
 
 use std::alloc::Global;
 use swim_config::{put_cause, put_fault, read_config};
-use swim_wire::Page;
+use swim_text::Page;
 
 /// A configuration with no member.
 pub const ALONE: &str = "id = 1

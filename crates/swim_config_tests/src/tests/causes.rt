@@ -2,7 +2,7 @@
 
 use std::alloc::Global;
 use swim_config::{ConfigFault, put_cause, put_warnings, read_config};
-use swim_wire::Page;
+use swim_text::Page;
 
 /// A configuration that can't work in any of the ways that are warned of.
 const DOUBTFUL: &str = "id = 1

@@ -5,7 +5,7 @@ use std::alloc::Global;
 use swim_config::{
     ConfigFault, ConfigKey, INPUT_BYTES, put_fault, read_config, read_input, summary,
 };
-use swim_wire::{Page, Sink, Text};
+use swim_text::{Page, Sink, Text};
 
 /// A configuration with a member.
 const WHOLE: &str = "id = 1

@@ -4,7 +4,7 @@ use super::alone::{ALONE, told_of};
 use std::alloc::Global;
 use std::test::Fail;
 use swim_config::{read_config, summary};
-use swim_wire::Page;
+use swim_text::Page;
 
 /// What a value of `events` has to be.
 const EXPECTED: &str =

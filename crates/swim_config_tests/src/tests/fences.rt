@@ -4,7 +4,7 @@ use super::alone::{ALONE, told_of};
 use std::alloc::Global;
 use std::test::Fail;
 use swim_config::{put_warnings, read_config, summary};
-use swim_wire::Page;
+use swim_text::Page;
 
 /// The configuration behind these lines.
 fn behind(alloc: Global, lines: &str) -> Result<String, Fail> {

@@ -4,7 +4,7 @@ use super::alone::{ALONE, told_of};
 use std::alloc::Global;
 use std::test::Fail;
 use swim_config::{Config, read_config, summary};
-use swim_wire::Page;
+use swim_text::Page;
 
 /// A key, and the same with other digits in front.
 const FIRST: &str = "00112233445566778899aabbccddeeffFFEEDDCCBBAA99887766554433221100";

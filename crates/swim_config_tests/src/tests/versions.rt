@@ -4,7 +4,8 @@ use super::alone::{ALONE, told_of};
 use std::alloc::Global;
 use std::test::Fail;
 use swim_config::{read_config, summary};
-use swim_wire::{Page, Version};
+use swim_text::Page;
+use swim_wire::Version;
 
 /// Its summary.
 const SUMMARY: &str = "id 1

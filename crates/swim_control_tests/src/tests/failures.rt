@@ -6,7 +6,7 @@ use std::process::Abort;
 use std::sync::Wait;
 use std::test::*;
 use swim_control::Served;
-use swim_wire::{Page, Text};
+use swim_text::{Page, Text};
 
 /// A dialogue, and its answers.
 const TEXT: &[u8] = b"list\njoin 0 1.2.3.4:5\nlis";

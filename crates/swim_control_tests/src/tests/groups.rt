@@ -6,7 +6,8 @@ use std::sync::Wait;
 use std::test::*;
 use swim_control::{Answer, Desk, Served, StatsText, serve};
 use swim_history::{Gap, Row, RowState, Table};
-use swim_wire::{Id, Page, Peer, ReadSource, Sink, Source, Text};
+use swim_text::{Page, ReadSource, Sink, Source, Text};
+use swim_wire::{Id, Peer};
 
 /// A desk that holds a member table, and no detector. Member 3 has a gap. So many joins and removals meet room in the
 /// journal; the one before which so many others stand is refused for memory.

@@ -6,7 +6,7 @@ use std::process::Abort;
 use std::sync::Wait;
 use std::test::*;
 use swim_control::Served;
-use swim_wire::{Byte, Page, ReadSource, Source, Text};
+use swim_text::{Byte, Page, ReadSource, Source, Text};
 
 /// How many reads a connection may have.
 const READS: usize = 1_048_576;

@@ -6,7 +6,7 @@ use super::*;
 use arrayvec::ArrayVec;
 use std::sync::atomic::{AtomicBool, Ordering};
 use swim_life::{Door, Hall, Knock};
-use swim_wire::{Sink, Text};
+use swim_text::{Sink, Text};
 
 // A list, a join of no id, and a line that is cut off.
 const LINES: &[u8] = b"list\njoin 0 1.2.3.4:5\nlis";

@@ -2,7 +2,7 @@
 
 ghost use Rattle.std.specs.Prelude.{◌≡◌, None};
 ghost use Rattle.std.specs.Io.KnownBytes.{Keeps};
-ghost use Rattle.swim_wire.specs.Streams.{Puts, failures_if};
+ghost use Rattle.swim_text.specs.Streams.{Puts, failures_if};
 
 use super::gates::{Counter, NoDoor, Signals};
 use super::lives::{line, pace};
@@ -14,7 +14,8 @@ use swim_life::{
     run_lives,
 };
 use swim_script::{Session, run};
-use swim_wire::{Page, Sink, Text, Version};
+use swim_text::{Page, Sink, Text};
+use swim_wire::Version;
 
 // A file that takes so many bytes, and no text that is longer than what is left.
 #[derive(Drop)]

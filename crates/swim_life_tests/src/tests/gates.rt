@@ -3,7 +3,7 @@
 ghost use Rattle.std.specs.Prelude.{◌≡◌, [], None};
 ghost use Rattle.swim_life.specs.Gates.{FitsInto};
 ghost use Rattle.swim_life.specs.Notices.{Notices};
-ghost use Rattle.swim_wire.specs.Streams.{one_more};
+ghost use Rattle.swim_text.specs.Streams.{one_more};
 
 use crate::tests::at;
 use arrayvec::ArrayVec;
@@ -13,7 +13,8 @@ use std::sync::atomic::{AtomicBool, AtomicU32, Ordering};
 use std::thread;
 use std::time::Duration;
 use swim_life::{Beat, Door, Got, Herald, Knock, Line, Pace, Post};
-use swim_wire::{Byte, Look, Page, Peer, Polled, Sink, Source, Text};
+use swim_text::{Byte, Look, Page, Polled, Sink, Source, Text};
+use swim_wire::Peer;
 
 /// How many turns a gate waits for another. After that it gives up, and the test's signals stay unset.
 pub const TURNS: u32 = 100_000;

@@ -12,7 +12,8 @@ use swim_life::{
     Beat, Got, Hall, LivesEnd, Never, NoEntrance, NoOutlet, NoReporter, NoShelf, Post, Terms,
     run_lives,
 };
-use swim_wire::{Page, Version};
+use swim_text::Page;
+use swim_wire::Version;
 
 pub fn line<'s, K: Clock + Drop>(clock: K, signals: &'s Signals, faults: u32) -> PingLine<'s, K> {
     PingLine {

@@ -8,7 +8,7 @@ use super::lives::{assert_ended, line, pace};
 use super::*;
 use std::sync::atomic::AtomicBool;
 use swim_life::{Door, Knock};
-use swim_wire::Text;
+use swim_text::Text;
 
 // A post that tells that it was handed a datagram, and is done with it when the operator was answered.
 #[derive(Drop)]

@@ -7,7 +7,7 @@ use super::gates::{TURNS, is_set, pause, set};
 use super::*;
 use std::sync::atomic::{AtomicBool, AtomicU32, Ordering};
 use swim_life::{Beat, Door, Got, Knock};
-use swim_wire::{Sink, Text};
+use swim_text::{Sink, Text};
 
 // Who was shown, by the last octets of the addresses: each is a bit.
 #[derive(Drop)]

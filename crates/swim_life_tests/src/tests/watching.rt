@@ -13,7 +13,7 @@ use swim_life::{
     Beat, ClockSleeper, LivesEnd, NoReporter, NoShelf, Nowhere, SleepingPace, Terms, live_recorded,
     run_lives,
 };
-use swim_wire::Page;
+use swim_text::Page;
 
 // Who came before the life: the table then, that the life begins, and each of its changes.
 const EARLY: &[u8] =

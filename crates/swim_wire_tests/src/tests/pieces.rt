@@ -1,5 +1,6 @@
 use std::test::*;
-use swim_wire::{Page, Peer, Piece, Sink, put_pieces};
+use swim_text::{Page, Sink};
+use swim_wire::{Peer, Piece, put_pieces};
 
 #[test]
 fn pieces_of_each_kind(rt: HostRuntime) {

@@ -1,5 +1,5 @@
 use Rattle.std.proofs.Common.{◌≡◌, ◌≤◌, [], ◌∷◌, ◌++◌, List, length, get_or, refl, sym, ap, arith}
-use Rattle.swim_wire.specs.TwoPuts.{first_failed, both_put, first_and_others, others_of}
+use Rattle.swim_text.specs.TwoPuts.{first_failed, both_put, first_and_others, others_of}
 use Rattle.swim_config.specs.declared.config.Config.{Config}
 use Rattle.swim_config.specs.declared.keys.ConfigKey.{ConfigKey}
 use Rattle.swim_config.specs.Summary.{numbers_text, told_text}

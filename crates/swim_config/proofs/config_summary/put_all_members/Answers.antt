@@ -1,6 +1,6 @@
 use Rattle.std.proofs.Common.{◌≡◌, ◌++◌, length, ap, ap₂, ◌∙◌}
 use Rattle.swim_history.specs.Changes.{ascending}
-use Rattle.swim_wire.specs.TwoPuts.{first_failed, both_put}
+use Rattle.swim_text.specs.TwoPuts.{first_failed, both_put}
 use Rattle.swim_config.specs.Summary.{all_members_text, count_text, members_text}
 use Rattle.swim_config.proofs.config_summary.put_all_members.Goals as goal
 

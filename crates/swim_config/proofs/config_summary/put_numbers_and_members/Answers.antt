@@ -1,4 +1,4 @@
-use Rattle.swim_wire.specs.Streams.{puts_less, puts_then}
+use Rattle.swim_text.specs.Streams.{puts_less, puts_then}
 use Rattle.swim_config.specs.Keys.{number_keys}
 use Rattle.swim_config.specs.Summary.{all_members_text, numbers_text}
 use Rattle.swim_config.proofs.config_summary.put_numbers_and_members.Goals as goal

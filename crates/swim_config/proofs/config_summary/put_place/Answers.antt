@@ -1,4 +1,4 @@
-use Rattle.swim_wire.specs.Streams.{puts_less, puts_then}
+use Rattle.swim_text.specs.Streams.{puts_less, puts_then}
 use Rattle.swim_config.specs.Summary.{own_text, paths_text}
 use Rattle.swim_config.proofs.config_summary.put_place.Goals as goal
 

@@ -1,4 +1,4 @@
-use Rattle.swim_wire.specs.Streams.{puts_less, puts_then}
+use Rattle.swim_text.specs.Streams.{puts_less, puts_then}
 use Rattle.swim_config.specs.Summary.{numbers_and_members_text, place_text}
 use Rattle.swim_config.proofs.config_summary.summary.Goals as goal
 

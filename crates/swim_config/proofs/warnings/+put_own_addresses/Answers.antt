@@ -1,6 +1,6 @@
 use Rattle.std.proofs.Common.{sym, ap}
 use Rattle.swim_config.specs.Warnings.{own_address_text, own_addresses_text}
-use Rattle.swim_wire.specs.TwoPuts.{first_failed, both_put, first_and_others, others_of}
+use Rattle.swim_text.specs.TwoPuts.{first_failed, both_put, first_and_others, others_of}
 use Rattle.swim_config.proofs.warnings.+put_own_addresses.Goals as goal
 
 pub returns-then-not-put_own_address-clause-bytes : goal.returns-then-not-put_own_address-clause-bytes

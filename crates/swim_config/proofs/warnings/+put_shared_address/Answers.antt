@@ -1,7 +1,7 @@
 use Rattle.std.proofs.Common.{◌≡◌, ℕ, Bool, true, List, rules, subst, sym, ap, ◌∙◌}
-use Rattle.swim_wire.specs.Streams.{Puts}
+use Rattle.swim_text.specs.Streams.{Puts}
 use Rattle.std.proofs.Common.{◌∷◌, if◌then◌else◌}
-use Rattle.swim_wire.specs.TwoPuts.{first_and_others, others_of}
+use Rattle.swim_text.specs.TwoPuts.{first_and_others, others_of}
 use Rattle.swim_history.specs.declared.rows.Row.{Row}
 use Rattle.swim_config.specs.Warnings.{is_same_address, shared_address_text, shared_line}
 use Rattle.swim_config.proofs.warnings.+put_shared_address.Goals as goal

@@ -1,5 +1,5 @@
 use Rattle.std.proofs.Common.{List, true, false, subst}
-use Rattle.swim_wire.specs.Streams.{Puts, puts_less, puts_then}
+use Rattle.swim_text.specs.Streams.{Puts, puts_less, puts_then}
 use Rattle.swim_history.specs.declared.rows.Row.{Row}
 use Rattle.swim_config.specs.Warnings.{own_addresses_text, shared_and_more_text}
 use Rattle.swim_config.proofs.warnings.put_addresses.Goals as goal

@@ -1,5 +1,5 @@
 use Rattle.std.proofs.Common.{◌≡◌, ℕ, Bool, true, rules, subst, sym, ◌-◌}
-use Rattle.swim_wire.specs.Streams.{Puts}
+use Rattle.swim_text.specs.Streams.{Puts}
 use Rattle.swim_config.specs.Warnings.{has_few_relays, relays_text, text_if}
 use Rattle.swim_config.proofs.warnings.put_few_relays.Goals as goal
 

@@ -1,4 +1,4 @@
-use Rattle.swim_wire.specs.Streams.{puts_less, puts_then}
+use Rattle.swim_text.specs.Streams.{puts_less, puts_then}
 use Rattle.swim_config.specs.Warnings.{addresses_and_more_text, floods_text}
 use Rattle.swim_config.proofs.warnings.put_floods_and_more.Goals as goal
 

@@ -1,5 +1,5 @@
 use Rattle.std.proofs.Common.{◌≡◌, ℕ, rules, subst}
-use Rattle.swim_wire.specs.Streams.{Puts}
+use Rattle.swim_text.specs.Streams.{Puts}
 use Rattle.swim_config.specs.Warnings.{own_line}
 use Rattle.swim_config.proofs.warnings.put_own_line.Goals as goal
 

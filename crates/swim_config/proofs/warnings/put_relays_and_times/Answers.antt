@@ -1,5 +1,5 @@
 use Rattle.std.proofs.Common.{length}
-use Rattle.swim_wire.specs.Streams.{puts_less, puts_then}
+use Rattle.swim_text.specs.Streams.{puts_less, puts_then}
 use Rattle.swim_config.specs.Warnings.{few_relays_text, times_text}
 use Rattle.swim_config.proofs.warnings.put_relays_and_times.Goals as goal
 

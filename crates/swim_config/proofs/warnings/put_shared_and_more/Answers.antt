@@ -1,5 +1,5 @@
 use Rattle.std.proofs.Common.{List, true, false, subst}
-use Rattle.swim_wire.specs.Streams.{Puts, puts_less, puts_then}
+use Rattle.swim_text.specs.Streams.{Puts, puts_less, puts_then}
 use Rattle.swim_history.specs.declared.rows.Row.{Row}
 use Rattle.swim_config.specs.Warnings.{relays_and_times_text, shared_addresses_text}
 use Rattle.swim_config.proofs.warnings.put_shared_and_more.Goals as goal

@@ -1,5 +1,5 @@
 use Rattle.std.proofs.Common.{◌≡◌, ℕ, Bool, true, rules, subst, sym, nat_lt}
-use Rattle.swim_wire.specs.Streams.{Puts}
+use Rattle.swim_text.specs.Streams.{Puts}
 use Rattle.swim_config.specs.Warnings.{journal_text, text_if}
 use Rattle.swim_config.proofs.warnings.put_short_journal.Goals as goal
 

@@ -1,4 +1,4 @@
-use Rattle.swim_wire.specs.Streams.{puts_less, puts_then}
+use Rattle.swim_text.specs.Streams.{puts_less, puts_then}
 use Rattle.swim_config.specs.Warnings.{long_period_text, period_ms, plain_seed_text}
 use Rattle.swim_config.proofs.warnings.put_times.Goals as goal
 

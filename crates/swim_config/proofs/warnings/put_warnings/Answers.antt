@@ -1,4 +1,4 @@
-use Rattle.swim_wire.specs.Streams.{puts_less, puts_then}
+use Rattle.swim_text.specs.Streams.{puts_less, puts_then}
 use Rattle.swim_config.specs.Warnings.{floods_and_more_text, short_journal_text, three_rounds}
 use Rattle.swim_config.proofs.warnings.put_warnings.Goals as goal
 

@@ -1,7 +1,7 @@
 use Rattle.std.proofs.Common.{◌++◌, decimal}
 use Rattle.std.proofs.lemmas.List.{append_assoc}
 use Rattle.swim_history.specs.Texts.{feed}
-use Rattle.swim_wire.specs.TwoPuts.{first_failed, both_put}
+use Rattle.swim_text.specs.TwoPuts.{first_failed, both_put}
 use Rattle.swim_control.proofs.texts.put_number_line.Goals as goal
 
 pub returns-then-not-put_numbered-clause-bytes : goal.returns-then-not-put_numbered-clause-bytes

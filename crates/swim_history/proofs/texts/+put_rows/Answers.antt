@@ -1,6 +1,6 @@
 use Rattle.std.proofs.Common.{sym, ap}
 use Rattle.swim_history.specs.Texts.{row_text, rows_text}
-use Rattle.swim_wire.specs.TwoPuts.{first_failed, both_put, first_and_others, others_of}
+use Rattle.swim_text.specs.TwoPuts.{first_failed, both_put, first_and_others, others_of}
 use Rattle.swim_history.proofs.texts.+put_rows.Goals as goal
 
 pub returns-then-not-put_row-clause-bytes : goal.returns-then-not-put_row-clause-bytes

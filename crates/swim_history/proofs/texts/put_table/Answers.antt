@@ -1,6 +1,6 @@
 use Rattle.std.proofs.Common.{refl, codes}
 use Rattle.swim_history.specs.Texts.{rows_text, table_text}
-use Rattle.swim_wire.specs.TwoPuts.{first_failed, both_put}
+use Rattle.swim_text.specs.TwoPuts.{first_failed, both_put}
 use Rattle.swim_history.proofs.texts.put_table.Goals as goal
 
 pub returns-then-not-put_rows-clause-bytes : goal.returns-then-not-put_rows-clause-bytes

@@ -1,5 +1,5 @@
 use Rattle.std.proofs.Common.{sym, subst}
-use Rattle.swim_wire.specs.TwoPuts.{first_and_others}
+use Rattle.swim_text.specs.TwoPuts.{first_and_others}
 use Rattle.swim_journal.specs.Headings.{AreTellable}
 use Rattle.swim_journal.proofs.headings.+check_rows.Goals as goal
 

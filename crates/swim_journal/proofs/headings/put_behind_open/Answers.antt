@@ -1,5 +1,5 @@
 use Rattle.std.proofs.Common.{refl, ap, ◌++◌, ◌∙◌}
-use Rattle.swim_wire.specs.TwoPuts.{first_failed, both_put}
+use Rattle.swim_text.specs.TwoPuts.{first_failed, both_put}
 use Rattle.swim_history.specs.Setting.{Setting}
 use Rattle.swim_journal.specs.Headings.{wire_text, row_lines, seed_line}
 use Rattle.swim_journal.proofs.headings.put_behind_open.Goals as goal

@@ -1,5 +1,5 @@
 use Rattle.std.proofs.Common.{refl, ◌++◌}
-use Rattle.swim_wire.specs.TwoPuts.{first_failed, both_put}
+use Rattle.swim_text.specs.TwoPuts.{first_failed, both_put}
 use Rattle.swim_journal.specs.Headings.{row_lines, seed_line}
 use Rattle.swim_journal.proofs.headings.put_known.Goals as goal
 

@@ -1,5 +1,5 @@
 use Rattle.std.proofs.Common.{List, ℕ, subst, ◌∙◌}
-use Rattle.swim_wire.specs.Streams.{Puts}
+use Rattle.swim_text.specs.Streams.{Puts}
 use Rattle.swim_journal.proofs.Back.{hear_line}
 use Rattle.swim_journal.proofs.lines.put_heard.Goals as goal
 

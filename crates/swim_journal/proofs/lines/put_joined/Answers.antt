@@ -1,5 +1,5 @@
 use Rattle.std.proofs.Common.{◌≡◌, ℕ, List, subst, rules}
-use Rattle.swim_wire.specs.Streams.{Puts}
+use Rattle.swim_text.specs.Streams.{Puts}
 use Rattle.swim_history.specs.declared.calls.Call.TheVariants.{Join}
 use Rattle.swim_journal.specs.Lines.{call_line}
 use Rattle.swim_journal.proofs.Back.{join_line}

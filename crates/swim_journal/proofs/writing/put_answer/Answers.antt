@@ -2,7 +2,7 @@ use Rattle.std.proofs.Common.{refl, ◌++◌, codes}
 use Rattle.swim_history.specs.Texts.{feed}
 use Rattle.swim_script.specs.Texts.{placed_text}
 use Rattle.swim_journal.specs.Lines.{answer_line}
-use Rattle.swim_wire.specs.TwoPuts.{first_failed, both_put}
+use Rattle.swim_text.specs.TwoPuts.{first_failed, both_put}
 use Rattle.swim_journal.proofs.writing.put_answer.Goals as goal
 
 pub returns-then-not-put-clause-bytes : goal.returns-then-not-put-clause-bytes

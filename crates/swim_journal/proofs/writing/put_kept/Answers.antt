@@ -1,7 +1,7 @@
 use Rattle.std.proofs.Common.{refl}
 use Rattle.swim_journal.specs.Lines.{call_line, answer_line}
 use Rattle.swim_journal.specs.Journals.{kept_text}
-use Rattle.swim_wire.specs.TwoPuts.{first_failed, both_put}
+use Rattle.swim_text.specs.TwoPuts.{first_failed, both_put}
 use Rattle.swim_journal.proofs.writing.put_kept.Goals as goal
 
 pub returns-then-not-put_call-clause-bytes : goal.returns-then-not-put_call-clause-bytes

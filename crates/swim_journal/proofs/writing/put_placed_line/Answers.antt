@@ -1,7 +1,7 @@
 use Rattle.std.proofs.Common.{refl, ◌++◌}
 use Rattle.swim_history.specs.Texts.{feed}
 use Rattle.swim_script.specs.Texts.{placed_text}
-use Rattle.swim_wire.specs.TwoPuts.{first_failed, both_put}
+use Rattle.swim_text.specs.TwoPuts.{first_failed, both_put}
 use Rattle.swim_journal.proofs.writing.put_placed_line.Goals as goal
 
 pub returns-then-not-put_placed-clause-bytes : goal.returns-then-not-put_placed-clause-bytes

@@ -1,5 +1,5 @@
 use Rattle.std.proofs.Common.{◌≡◌, ◌+◌, ◌-◌, ◌^◌, min, None, ap, ◌∙◌, sym, rules}
-use Rattle.swim_wire.specs.Streams.{one_more}
+use Rattle.swim_text.specs.Streams.{one_more}
 use Rattle.swim_life.specs.Lives.{end_after}
 use Rattle.swim_life.specs.Notices.{notices_both}
 use Rattle.swim_life.proofs.Heard.{last_watched, none_watched, one_more_watched, opened_watched, stopped_watched}

@@ -1,6 +1,6 @@
 use Rattle.std.proofs.Common.{◌≡◌, ◌==◌, ◌&&◌, ◌∙◌, Bool, List, length, refl, subst, sym}
 use mathlib.Core.List.{IsPrefix}
-use Rattle.swim_wire.specs.Streams.{Puts}
+use Rattle.swim_text.specs.Streams.{Puts}
 use Rattle.swim_history.specs.Run.{IsRun}
 use Rattle.swim_history.specs.Setting.{Setting, IsSetting}
 use Rattle.swim_node.specs.Cells.{Filing}

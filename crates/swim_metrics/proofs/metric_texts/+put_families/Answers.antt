@@ -1,4 +1,4 @@
-use Rattle.swim_wire.specs.TwoPuts.{first_failed, both_put, others_of}
+use Rattle.swim_text.specs.TwoPuts.{first_failed, both_put, others_of}
 use Rattle.swim_metrics.specs.Texts.{families_text}
 use Rattle.swim_metrics.proofs.Lines.{first_family}
 use Rattle.swim_metrics.proofs.metric_texts.+put_families.Goals as goal

@@ -1,4 +1,4 @@
-use Rattle.swim_wire.specs.TwoPuts.{first_failed, both_put, others_of}
+use Rattle.swim_text.specs.TwoPuts.{first_failed, both_put, others_of}
 use Rattle.swim_metrics.specs.Texts.{families_lines}
 use Rattle.swim_metrics.proofs.Lines.{first_lines}
 use Rattle.swim_metrics.proofs.metric_texts.+put_lines.Goals as goal

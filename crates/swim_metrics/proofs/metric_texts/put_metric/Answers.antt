@@ -1,4 +1,4 @@
-use Rattle.swim_wire.specs.TwoPuts.{first_failed, both_put}
+use Rattle.swim_text.specs.TwoPuts.{first_failed, both_put}
 use Rattle.swim_metrics.specs.Families.{family_of}
 use Rattle.swim_metrics.specs.Texts.{family_text, head_text, samples_text}
 use Rattle.swim_metrics.specs.Told.{samples_of}

@@ -1,5 +1,5 @@
 use Rattle.std.proofs.Common.{codes}
-use Rattle.swim_wire.specs.Streams.{puts_less, puts_then}
+use Rattle.swim_text.specs.Streams.{puts_less, puts_then}
 use Rattle.swim_metrics.specs.Families.{all}
 use Rattle.swim_metrics.specs.Texts.{families_lines}
 use Rattle.swim_metrics.proofs.metric_texts.put_stats.Goals as goal

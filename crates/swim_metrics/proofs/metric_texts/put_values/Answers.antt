@@ -1,5 +1,5 @@
 use Rattle.std.proofs.Common.{List, subst, ℕ}
-use Rattle.swim_wire.specs.Streams.{Puts}
+use Rattle.swim_text.specs.Streams.{Puts}
 use Rattle.swim_metrics.specs.Families.{family_of}
 use Rattle.swim_metrics.specs.Told.{samples_of}
 use Rattle.swim_metrics.proofs.Lines.{lines_of}

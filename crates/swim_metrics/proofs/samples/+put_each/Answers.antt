@@ -1,5 +1,5 @@
 use Rattle.std.proofs.Common.{map}
-use Rattle.swim_wire.specs.TwoPuts.{first_failed, both_put, others_of}
+use Rattle.swim_text.specs.TwoPuts.{first_failed, both_put, others_of}
 use Rattle.swim_metrics.specs.Texts.{samples_text}
 use Rattle.swim_metrics.specs.Told.{labelled_of}
 use Rattle.swim_metrics.proofs.Lines.{first_line}

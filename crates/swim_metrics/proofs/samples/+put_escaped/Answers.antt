@@ -1,4 +1,4 @@
-use Rattle.swim_wire.specs.TwoPuts.{first_failed, both_put, others_of}
+use Rattle.swim_text.specs.TwoPuts.{first_failed, both_put, others_of}
 use Rattle.swim_metrics.specs.Families.{escaped}
 use Rattle.swim_metrics.proofs.Lines.{first_escaped}
 use Rattle.swim_metrics.proofs.samples.+put_escaped.Goals as goal

@@ -1,5 +1,5 @@
 use Rattle.std.proofs.Common.{List, subst, ℕ}
-use Rattle.swim_wire.specs.Streams.{Puts}
+use Rattle.swim_text.specs.Streams.{Puts}
 use Rattle.swim_metrics.proofs.Lines.{bucket_line}
 use Rattle.swim_metrics.proofs.samples.put_bucket.Goals as goal
 

@@ -1,6 +1,6 @@
 use Rattle.std.proofs.Common.{List, [], ◌++◌, codes, subst, ℕ}
-use Rattle.swim_wire.specs.Streams.{Puts}
-use Rattle.swim_wire.specs.TwoPuts.{first_failed, both_put}
+use Rattle.swim_text.specs.Streams.{Puts}
+use Rattle.swim_text.specs.TwoPuts.{first_failed, both_put}
 use Rattle.swim_metrics.specs.Families.{escaped, version_sample}
 use Rattle.swim_metrics.specs.Texts.{samples_text}
 use Rattle.swim_metrics.proofs.Lines.{version_line}

@@ -1,5 +1,5 @@
 use Rattle.std.proofs.Common.{codes}
-use Rattle.swim_wire.specs.Streams.{puts_less, puts_then}
+use Rattle.swim_text.specs.Streams.{puts_less, puts_then}
 use Rattle.swim_metrics.specs.Families.{escaped}
 use Rattle.swim_metrics.proofs.samples.put_version_on.Goals as goal
 

@@ -1,5 +1,5 @@
 use Rattle.std.proofs.Common.{map}
-use Rattle.swim_wire.specs.TwoPuts.{first_failed, both_put}
+use Rattle.swim_text.specs.TwoPuts.{first_failed, both_put}
 use Rattle.swim_metrics.specs.Families.{bucket_sample, total_samples, wait_samples}
 use Rattle.swim_metrics.specs.Texts.{samples_text}
 use Rattle.swim_metrics.proofs.Lines.{wait_lines}

@@ -1,6 +1,6 @@
 use Rattle.std.proofs.Common.{sym, ap, ◌++◌, decimal, codes}
 use Rattle.swim_script.specs.Texts.{more_relays_text}
-use Rattle.swim_wire.specs.TwoPuts.{first_failed, both_put, first_and_others, others_of}
+use Rattle.swim_text.specs.TwoPuts.{first_failed, both_put, first_and_others, others_of}
 use Rattle.swim_script.proofs.answers.+put_more_relays.Goals as goal
 
 pub returns-then-not-put_numbered-clause-bytes : goal.returns-then-not-put_numbered-clause-bytes

@@ -1,6 +1,6 @@
 use Rattle.std.proofs.Common.{sym, ap}
 use Rattle.swim_script.specs.Texts.{send_text, sends_text}
-use Rattle.swim_wire.specs.TwoPuts.{first_failed, both_put, first_and_others, others_of}
+use Rattle.swim_text.specs.TwoPuts.{first_failed, both_put, first_and_others, others_of}
 use Rattle.swim_script.proofs.answers.+put_sends.Goals as goal
 
 pub returns-then-not-put_send-clause-bytes : goal.returns-then-not-put_send-clause-bytes

@@ -2,7 +2,7 @@ use Rattle.std.proofs.Common.{false, refl, ◌++◌, ◌∙◌}
 use Rattle.swim_history.specs.Sends.{sends_of}
 use Rattle.swim_history.specs.Texts.{feed}
 use Rattle.swim_script.specs.Texts.{reply_text, answer_text, sends_text}
-use Rattle.swim_wire.specs.TwoPuts.{first_failed, both_put}
+use Rattle.swim_text.specs.TwoPuts.{first_failed, both_put}
 use Rattle.swim_script.proofs.answers.put_answer.Goals as goal
 
 pub returns-then-not-put_reply-clause-bytes : goal.returns-then-not-put_reply-clause-bytes

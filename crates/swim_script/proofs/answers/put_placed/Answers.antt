@@ -1,7 +1,7 @@
 use Rattle.std.proofs.Common.{◌++◌, codes, decimal}
 use Rattle.std.proofs.lemmas.List.{append_assoc}
 use Rattle.swim_script.specs.Texts.{placed_text, reply_text}
-use Rattle.swim_wire.specs.TwoPuts.{first_failed, both_put}
+use Rattle.swim_text.specs.TwoPuts.{first_failed, both_put}
 use Rattle.swim_script.proofs.answers.put_placed.Goals as goal
 
 pub returns-then-not-put_pieces-clause-bytes : goal.returns-then-not-put_pieces-clause-bytes

@@ -1,6 +1,6 @@
 use Rattle.std.proofs.Common.{ℕ, List, ◌++◌, codes, ap, subst, ◌∙◌, append-nil}
 use Rattle.swim_wire.specs.Address.{address_text}
-use Rattle.swim_wire.specs.Streams.{Puts}
+use Rattle.swim_text.specs.Streams.{Puts}
 use Rattle.swim_script.proofs.answers.put_send.Goals as goal
 
 pub returns-clause-bytes : goal.returns-clause-bytes

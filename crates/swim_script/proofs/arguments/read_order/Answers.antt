@@ -1,7 +1,7 @@
 use Rattle.std.proofs.Common.{◌∷◌, List, ℕ, ◌<◌, length, subst, sym, ◌∙◌, ap, arith}
 use Rattle.std.specs.Result.{result_ok}
 use Rattle.std.proofs.lemmas.Bool.{eqb-true, eqb-false}
-use Rattle.swim_wire.specs.Words.{words_by}
+use Rattle.swim_text.specs.Words.{words_by}
 use Rattle.swim_script.proofs.OrderParts.{Reading, reads_kept, reads_too_many}
 use Rattle.swim_script.proofs.arguments.read_order.Goals as goal
 

@@ -1,5 +1,5 @@
 use Rattle.std.proofs.Common.{length}
-use Rattle.swim_wire.specs.Words.{words_by}
+use Rattle.swim_text.specs.Words.{words_by}
 use Rattle.swim_script.proofs.OrderParts.{Reading}
 use Rattle.swim_script.proofs.arguments.read_order.Given as goal
 

@@ -1,6 +1,6 @@
 use Rattle.std.proofs.Common.{ℕ, ◌+◌, ◌-◌, List, Err, refl, sym, ap, subst, ◌∙◌, arith}
-use Rattle.swim_wire.specs.Lines.{TakesKnown}
-use Rattle.swim_wire.specs.declared.lines.Taken.TheVariants.{Line}
+use Rattle.swim_text.specs.Lines.{TakesKnown}
+use Rattle.swim_text.specs.declared.lines.Taken.TheVariants.{Line}
 use Rattle.swim_script.specs.declared.faults.ScriptFault.{ScriptFault}
 use Rattle.swim_script.specs.declared.forms.Form.TheVariants.{Script}
 use Rattle.swim_script.specs.Script.{RunsKnown}

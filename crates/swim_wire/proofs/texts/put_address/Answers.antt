@@ -1,6 +1,6 @@
 use Rattle.std.proofs.Common.{ℕ, List, refl, ap, ◌∙◌, ◌++◌}
 use Rattle.swim_wire.specs.Address.{address_text}
-use Rattle.swim_wire.specs.TwoPuts.{first_failed, both_put}
+use Rattle.swim_text.specs.TwoPuts.{first_failed, both_put}
 use Rattle.swim_wire.proofs.texts.put_address.Goals as goal
 
 pub returns-then-not-put-clause-bytes : goal.returns-then-not-put-clause-bytes

@@ -1,6 +1,6 @@
 use Rattle.std.proofs.Common.{ℕ, List, [], Option, refl, sym, append-nil}
 use Rattle.std.specs.Io.KnownBytes.{Keeps, Appends}
-use Rattle.swim_wire.specs.Streams.{PutsFront, appends_kept}
+use Rattle.swim_text.specs.Streams.{PutsFront, appends_kept}
 use Rattle.swim_config.specs.Summary.{summary_text}
 use Rattle.swimd.proofs.checking.show.Goals as goal
 

@@ -1,7 +1,7 @@
 -- The bytes taken so far have no line feed.
 use Rattle.std.proofs.Common.{◌≡◌, ◌-◌, false, length}
 use Rattle.std.specs.Io.KnownBytes.{Consumes}
-use Rattle.swim_wire.specs.Lines.{has_feed}
+use Rattle.swim_text.specs.Lines.{has_feed}
 use Rattle.swimsim.proofs.whole_lines.take_lines.Given as goal
 
 abbrev pub invariant-loop-reader : goal.invariant-loop-reader

@@ -1,5 +1,5 @@
 use Rattle.std.proofs.Common.{◌≡◌, ◌++◌, ◌∷◌, [], List, ap, sym, subst, ◌∙◌}
-use Rattle.swim_wire.specs.Streams.{Puts}
+use Rattle.swim_text.specs.Streams.{Puts}
 use Rattle.swim_node.specs.Cells.{Filing}
 use Rattle.swim_journal.specs.Journals.{calls_text, AreReadBack}
 use Rattle.swim_journal.proofs.More.{back_join, next_written}

@@ -1,5 +1,5 @@
 use Rattle.std.proofs.Common.{rules, ◌≡◌, true, false, sym, subst}
-use Rattle.swim_wire.specs.Streams.{Puts}
+use Rattle.swim_text.specs.Streams.{Puts}
 use Rattle.swim_journal.specs.declared.writing.Progress.{Progress}
 use Rattle.swim_journal.specs.declared.writing.Progress.TheVariants.{Cut}
 use Rattle.swim_journal.specs.Journals.{calls_text, is_taken, AreReadBack}

@@ -1,5 +1,5 @@
 use Rattle.std.proofs.Common.{◌+◌, ◌-◌, ◌≤◌, drop, arith, length-take}
-use Rattle.swim_wire.specs.Buffers.{drop_range}
+use Rattle.swim_text.specs.Buffers.{drop_range}
 use Rattle.swim_life.proofs.unix_streams.StreamSourceSource.skip.Goals as goal
 
 pub returns-clause-ready : goal.returns-clause-ready

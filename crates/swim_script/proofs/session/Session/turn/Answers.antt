@@ -1,5 +1,5 @@
 use Rattle.std.proofs.Common.{◌≡◌, ◌∷◌, ◌+◌, refl, sym, ap, subst, ◌∙◌, Ok, Err, Some, None, inl}
-use Rattle.swim_wire.specs.Streams.{keeps_self}
+use Rattle.swim_text.specs.Streams.{keeps_self}
 use Rattle.swim_script.specs.Commands.{fault_of_word, word_for, LineStandsAt}
 use Rattle.swim_script.specs.Headers.{read_after}
 use Rattle.swim_script.specs.Script.{lines_of, at_line}

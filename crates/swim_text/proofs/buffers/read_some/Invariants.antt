@@ -1,0 +1,6 @@
+-- What the reader has left stays.
+use Rattle.std.specs.Io.KnownBytes.{Keeps}
+use Rattle.swim_text.proofs.buffers.read_some.Given as goal
+
+abbrev pub invariant-loop : goal.invariant-loop
+invariant-loop g l = Keeps (g.R.Read.remaining l.initial.reader) (g.R.Read.remaining l.reader)

@@ -1,0 +1,11 @@
+pub mod Buffers
+pub mod Cutting
+pub mod Lines
+pub mod Memory
+pub mod Numbers
+pub mod Parts
+pub mod Polled
+pub mod ShortLines
+pub mod Streams
+pub mod TwoPuts
+pub mod Words

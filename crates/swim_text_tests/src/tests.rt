@@ -1,0 +1,4 @@
+mod numbers;
+mod parts;
+mod short_lines;
+mod streams;

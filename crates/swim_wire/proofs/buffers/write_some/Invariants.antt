@@ -1,6 +1,0 @@
--- What the writer holds stays.
-use Rattle.std.specs.Io.KnownBytes.{Keeps}
-use Rattle.swim_wire.proofs.buffers.write_some.Given as goal
-
-abbrev pub invariant-loop : goal.invariant-loop
-invariant-loop g l = Keeps (g.W.Write.contents l.initial.writer) (g.W.Write.contents l.writer)
