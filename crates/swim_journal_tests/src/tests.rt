@@ -6,12 +6,13 @@ use std::marker::Brand;
 use std::process::Abort;
 use std::sync::Wait;
 use std::test::*;
+use swim_doubles::Text;
 use swim_history::Opening;
 use swim_journal::*;
 use swim_node::{CallFault, Naming, Node, Parts, Seat};
 use swim_script::{Session, run};
 use swim_targets::Seeded;
-use swim_text::{Page, Text};
+use swim_text::Page;
 use swim_wire::{Id, Kind, Message, Peer, PeriodNumber, Version, encode};
 
 // Member 1 knows member 2, and member 3, which failed in period 4 of 9. It has a timeout of one tick and a period of three, and

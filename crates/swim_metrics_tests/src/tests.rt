@@ -8,6 +8,7 @@ use crate::tests::entries::{
 use crate::tests::expected::{exposition, stats};
 use std::process::Abort;
 use std::test::Fail;
+use swim_doubles::FailingPage;
 use swim_history::{Call, DropReason, Refusal, Reply};
 use swim_metrics::{Hearings, HistogramBucket, Metrics, put_exposition, put_stats};
 use swim_text::Page;
@@ -155,7 +156,7 @@ fn a_sink_that_fails_is_told(rt: HostRuntime) -> Result<(), Fail> {
     let metrics = Metrics::new(&first_opening()?);
     let outside = outside("0.9.1", id(1)?);
     for puts in 0..20 {
-        let mut page = Page::failing_after(rt.alloc(), Some(puts), None);
+        let mut page = FailingPage::new(rt.alloc(), Some(puts), None);
         let is_told = put_exposition(&mut page, &metrics.measures(), &outside);
         assert!(rt; !is_told);
     }

@@ -14,7 +14,7 @@ mod texts;
 mod words;
 
 pub use lines::{Taken, next_line};
-pub use memory::{Page, Text};
+pub use memory::Page;
 pub use numbers::read_number;
 pub use parts::cut;
 pub use polled::{Look, Met, Polled, read_on};

@@ -2,6 +2,7 @@ use std::alloc::Global;
 use std::process::Abort;
 use std::test::Fail;
 use swim_detector::Recorder;
+use swim_doubles::FailingPage;
 use swim_history::{Call, Journal, Opening, Row, RowState};
 use swim_targets::Scripted;
 use swim_text::Page;
@@ -224,7 +225,7 @@ fn the_head_tells_the_second_version_alone(rt: HostRuntime) -> Result<(), Fail> 
 #[test]
 fn tells_what_was_not_written(rt: HostRuntime) -> Result<(), Fail> {
     let journal = Journal::new(rt.alloc(), opening(Version::One)?);
-    let mut page = Page::failing_after(rt.alloc(), Some(0), None);
+    let mut page = FailingPage::new(rt.alloc(), Some(0), None);
     assert!(rt; !put_timeline(rt.alloc(), &journal, span(0, 10), &mut page)?);
     Ok(())
 }

@@ -1,6 +1,7 @@
 ghost use Rattle.std.specs.Prelude.{None};
 
 use std::test::Fail;
+use swim_doubles::FailingPage;
 use swim_events::Event;
 use swim_history::Change;
 use swim_text::Page;
@@ -149,7 +150,7 @@ fn ends_where_a_line_cant_be_written(rt: HostRuntime) {
     let mut feed = Lines {
         left: &[".", "gone 4", "lost"],
     };
-    let mut page = Page::failing_after(rt.alloc(), None, Some(1));
+    let mut page = FailingPage::new(rt.alloc(), None, Some(1));
     let ended = watch(&rt, rt.alloc(), &mut feed, false, &mut page);
     assert_eq!(rt; ended, WatchEnd::Unwritten);
     assert_eq!(rt; feed.left.len(), 1);

@@ -5,7 +5,8 @@ use std::alloc::Global;
 use swim_config::{
     ConfigFault, ConfigKey, INPUT_BYTES, put_fault, read_config, read_input, summary,
 };
-use swim_text::{Page, Sink, Text};
+use swim_doubles::{FailingPage, Text};
+use swim_text::{Page, Sink};
 
 /// A configuration with a member.
 const WHOLE: &str = "id = 1
@@ -41,7 +42,7 @@ enum End {
     NotHandedOn,
 }
 
-fn show(alloc: Global, reader: &mut Text, page: &mut Page) -> End {
+fn show<W: Sink>(alloc: Global, reader: &mut Text, page: &mut W) -> End {
     let mut text = ArrayVec::<u8, INPUT_BYTES>::new();
     if !read_input(reader, &mut text) {
         return End::Unread;
@@ -91,14 +92,14 @@ fn tells_a_failed_read(rt: HostRuntime) {
 
 #[test]
 fn tells_a_failed_write(rt: HostRuntime) {
-    let mut page = Page::failing_after(rt.alloc(), Some(3), None);
+    let mut page = FailingPage::new(rt.alloc(), Some(3), None);
     let end = show(rt.alloc(), &mut Text::new(WHOLE.as_bytes()), &mut page);
     assert_eq!(rt; end, End::Unwritten);
 }
 
 #[test]
 fn tells_a_summary_that_is_not_handed_on(rt: HostRuntime) {
-    let mut page = Page::failing_after(rt.alloc(), None, Some(0));
+    let mut page = FailingPage::new(rt.alloc(), None, Some(0));
     let end = show(rt.alloc(), &mut Text::new(WHOLE.as_bytes()), &mut page);
     assert_eq!(rt; end, End::NotHandedOn);
 }

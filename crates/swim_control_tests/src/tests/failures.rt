@@ -6,7 +6,7 @@ use std::process::Abort;
 use std::sync::Wait;
 use std::test::*;
 use swim_control::Served;
-use swim_text::{Page, Text};
+use swim_doubles::{FailingPage, Text};
 
 /// A dialogue, and its answers.
 const TEXT: &[u8] = b"list\njoin 0 1.2.3.4:5\nlis";
@@ -55,7 +55,7 @@ fn needs_no_more_reads(rt: HostRuntime) {
 
 /// Whether a put of the answers fails where so many are taken.
 fn fails_after<R: Wait + Abort>(rt: &R, alloc: Global, puts: u32) -> bool {
-    let mut page = Page::failing_after(alloc, Some(puts), None);
+    let mut page = FailingPage::new(alloc, Some(puts), None);
     let end = serve_two(rt, alloc, &mut Text::new(TEXT), &mut page);
     assert!(rt; ANSWERS.starts_with(page.text()));
     let fails = end == Served::WriteFault;
@@ -88,7 +88,7 @@ fn assert_unflushed<R: Wait + Abort>(
     text: &[u8],
     answers: &[u8],
 ) {
-    let mut page = Page::failing_after(alloc, None, Some(flushes));
+    let mut page = FailingPage::new(alloc, None, Some(flushes));
     let end = serve_two(rt, alloc, &mut Text::new(text), &mut page);
     assert_eq!(rt; end, Served::WriteFault);
     assert_eq!(rt; page.text(), answers);

@@ -5,8 +5,9 @@ use std::process::Abort;
 use std::sync::Wait;
 use std::test::*;
 use swim_control::{Answer, Desk, Served, StatsText, serve};
+use swim_doubles::Text;
 use swim_history::{Gap, Row, RowState, Table};
-use swim_text::{Page, ReadSource, Sink, Source, Text};
+use swim_text::{Page, ReadSource, Sink, Source};
 use swim_wire::{Id, Peer};
 
 /// A desk that holds a member table, and no detector. Member 3 has a gap. So many joins and removals meet room in the
@@ -186,11 +187,11 @@ pub fn assert_at_once<R: Wait + Abort>(
 }
 
 /// How serving what a source gives ends, by a group of members 2 and 3.
-pub fn serve_two<S: Source, R: Wait>(
+pub fn serve_two<S: Source, W: Sink, R: Wait>(
     rt: &R,
     alloc: Global,
     source: &mut S,
-    page: &mut Page,
+    page: &mut W,
 ) -> Served {
     serve(rt, alloc, source, page, &mut Group::of_two())
 }

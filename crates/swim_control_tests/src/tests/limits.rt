@@ -6,7 +6,8 @@ use std::process::Abort;
 use std::sync::Wait;
 use std::test::*;
 use swim_control::Served;
-use swim_text::{Byte, Page, ReadSource, Source, Text};
+use swim_doubles::Text;
+use swim_text::{Byte, Page, ReadSource, Source};
 
 /// How many reads a connection may have.
 const READS: usize = 1_048_576;

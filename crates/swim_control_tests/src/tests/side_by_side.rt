@@ -10,7 +10,8 @@ use std::process::Abort;
 use std::sync::Wait;
 use std::test::*;
 use swim_control::{Close, Connections, MOST_CONNECTIONS, Served, Stand};
-use swim_text::{Sink, Text};
+use swim_doubles::Text;
+use swim_text::Sink;
 
 /// What the clients of a test see: all answers, in the order in which they were handed on.
 #[derive(Drop)]

@@ -5,8 +5,9 @@ use super::lives::{assert_ended, line, pace, post};
 use super::*;
 use arrayvec::ArrayVec;
 use std::sync::atomic::{AtomicBool, Ordering};
+use swim_doubles::Text;
 use swim_life::{Door, Hall, Knock};
-use swim_text::{Sink, Text};
+use swim_text::Sink;
 
 // A list, a join of no id, and a line that is cut off.
 const LINES: &[u8] = b"list\njoin 0 1.2.3.4:5\nlis";

@@ -8,13 +8,14 @@ use super::gates::{Counter, NoDoor, Signals};
 use super::lives::{line, pace};
 use super::*;
 use std::sync::atomic::AtomicBool;
+use swim_doubles::Text;
 use swim_events::Gallery;
 use swim_life::{
     ClockSleeper, Hall, LivesEnd, NoEntrance, NoOutlet, NoReporter, Shelf, SleepingPace, Terms,
     run_lives,
 };
 use swim_script::{Session, run};
-use swim_text::{Page, Sink, Text};
+use swim_text::{Page, Sink};
 use swim_wire::Version;
 
 // A file that takes so many bytes, and no text that is longer than what is left.

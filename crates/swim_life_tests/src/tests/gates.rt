@@ -12,8 +12,9 @@ use std::sync::Wait;
 use std::sync::atomic::{AtomicBool, AtomicU32, Ordering};
 use std::thread;
 use std::time::Duration;
+use swim_doubles::Text;
 use swim_life::{Beat, Door, Got, Herald, Knock, Line, Pace, Post};
-use swim_text::{Byte, Look, Page, Polled, Sink, Source, Text};
+use swim_text::{Byte, Look, Page, Polled, Sink, Source};
 use swim_wire::Peer;
 
 /// How many turns a gate waits for another. After that it gives up, and the test's signals stay unset.

@@ -7,8 +7,8 @@ use super::gates::{Signals, TURNS, is_set, pause, set};
 use super::lives::{assert_ended, line, pace};
 use super::*;
 use std::sync::atomic::AtomicBool;
+use swim_doubles::Text;
 use swim_life::{Door, Knock};
-use swim_text::Text;
 
 // A post that tells that it was handed a datagram, and is done with it when the operator was answered.
 #[derive(Drop)]

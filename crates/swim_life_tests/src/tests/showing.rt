@@ -6,8 +6,9 @@ ghost use Rattle.swim_life.specs.Gates.{FitsInto};
 use super::gates::{TURNS, is_set, pause, set};
 use super::*;
 use std::sync::atomic::{AtomicBool, AtomicU32, Ordering};
+use swim_doubles::Text;
 use swim_life::{Beat, Door, Got, Knock};
-use swim_text::{Sink, Text};
+use swim_text::Sink;
 
 // Who was shown, by the last octets of the addresses: each is a bit.
 #[derive(Drop)]

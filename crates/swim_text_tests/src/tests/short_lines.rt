@@ -2,7 +2,8 @@
 
 use arrayvec::ArrayVec;
 use std::process::Abort;
-use swim_text::{Byte, LineEnd, Met, Page, Source, Text, next_short_line, read_on};
+use swim_doubles::{FailingPage, Text};
+use swim_text::{Byte, LineEnd, Met, Page, Source, next_short_line, read_on};
 
 /// What the first line of a text ends with, where a line has at most 4 bytes, its bytes, and the reads that are left.
 fn first(text: &[u8], page: &mut Page, mut reads: u32) -> (LineEnd, ArrayVec<u8, 4>, u32) {
@@ -54,7 +55,7 @@ fn ends_at_the_byte_too_many(rt: HostRuntime) {
 #[test]
 fn tells_failures_of_short_lines(rt: HostRuntime) {
     let mut source = Text::failing_after(b"ab\ncd", 4);
-    let mut page = Page::failing_after(rt.alloc(), None, Some(5));
+    let mut page = FailingPage::new(rt.alloc(), None, Some(5));
     let mut line = ArrayVec::<u8, 4>::new();
     let mut reads = 99;
     for end in [

@@ -4,7 +4,8 @@ use arrayvec::ArrayVec;
 use std::alloc::Global;
 use std::io::{Error, ErrorKind, Read, Result, Write};
 use std::process::Abort;
-use swim_text::{Byte, Page, ReadSource, Sink, Source, Taken, Text, Words, WriteSink, next_line};
+use swim_doubles::{FailingPage, Text};
+use swim_text::{Byte, Page, ReadSource, Sink, Source, Taken, Words, WriteSink, next_line};
 
 /// A reader that is interrupted so many times before it gives its bytes.
 #[derive(Drop)]
@@ -125,7 +126,7 @@ fn refuses_lines(rt: HostRuntime) {
 #[test]
 fn tells_failures_in_mid_stream(rt: HostRuntime) {
     let mut source = Text::failing_after(b"ab\ncd", 4);
-    let mut page = Page::failing_after(rt.alloc(), None, Some(5));
+    let mut page = FailingPage::new(rt.alloc(), None, Some(5));
     let mut line = ArrayVec::<u8, 4>::new();
     let mut budget = 99;
     let table = [
@@ -260,7 +261,7 @@ fn writes_all_it_took(rt: HostRuntime) {
 
 #[test]
 fn shows_what_was_put(rt: HostRuntime) {
-    let mut page = Page::failing_after(rt.alloc(), Some(1), None);
+    let mut page = FailingPage::new(rt.alloc(), Some(1), None);
     assert!(rt; page.put(b"ab"));
     assert!(rt; !page.put(b"cd"));
     assert!(rt; page.put(b"ef"));

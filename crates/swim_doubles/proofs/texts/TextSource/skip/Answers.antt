@@ -1,6 +1,6 @@
 use Rattle.std.proofs.Common.{◌≡◌, suc, ◌-◌, sym, take-append-drop, arith}
-use Rattle.swim_text.specs.Memory.{length_ready, take_ready, drop_ready}
-use Rattle.swim_text.proofs.memory.TextSource.skip.Goals as goal
+use Rattle.swim_doubles.specs.Texts.{length_ready, take_ready, drop_ready}
+use Rattle.swim_doubles.proofs.texts.TextSource.skip.Goals as goal
 
 pub bounds-self-inside-count : goal.bounds-self-inside-count
 bounds-self-inside-count c =

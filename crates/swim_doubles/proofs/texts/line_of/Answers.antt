@@ -1,6 +1,6 @@
 use Rattle.std.proofs.Common.{[], ◌∷◌, ◌+◌, length, take, arith, sym, ap, ◌∙◌, length-append, length-take}
 use Rattle.swim_text.specs.Parts.{cut_joined, first_with, through_first}
-use Rattle.swim_text.proofs.memory.line_of.Goals as goal
+use Rattle.swim_doubles.proofs.texts.line_of.Goals as goal
 
 pub slice_bounds-result-end : goal.slice_bounds-result-end
 slice_bounds-result-end c =

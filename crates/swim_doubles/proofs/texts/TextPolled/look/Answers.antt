@@ -1,6 +1,6 @@
 use Rattle.std.proofs.Common.{ap}
-use Rattle.swim_text.specs.Memory.{TextState, ready_within}
-use Rattle.swim_text.proofs.memory.TextPolled.look.Goals as goal
+use Rattle.swim_doubles.specs.Texts.{TextState, ready_within}
+use Rattle.swim_doubles.proofs.texts.TextPolled.look.Goals as goal
 
 pub returns : goal.returns
 returns c =

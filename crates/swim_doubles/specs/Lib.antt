@@ -1,0 +1,3 @@
+pub mod Countdowns
+pub mod Pages
+pub mod Texts
