@@ -28,7 +28,8 @@ GAUGES = [
 ]
 COUNTERS = [
     "ticks", "pings_sent", "pings_heard", "acks_heard", "asks_sent", "requests_served", "dropped", "verdicts", "joins",
-    "own_joins", "removals", "knocks", "lives", "unsent", "wire", "refused", "forged", "fenced", "lost_watchers", "metrics_unwritten",
+    "own_joins", "removals", "knocks", "lives", "unsent", "wire", "refused", "forged", "fenced", "lost_watchers",
+    "metrics_unwritten",
 ]
 NAMES = {
     **{f"swimd_{it}": "gauge" for it in GAUGES},
@@ -213,7 +214,8 @@ def stats_say_the_same(machine):
     growing = [key for key in first if key[0].endswith("_total") and first[key] > then[key]]
     must(not growing and first["swimd_lives_total", None] >= 5, f"it says {first}, and then {then}")
     must(set(first) == set(written(path)), f"`stats` says {sorted(first, key=str)}")
-    ran = subprocess.run([machine.program, "ask", "--control", daemon.control, "stats"], capture_output=True, timeout=SECONDS)
+    words = [machine.program, "ask", "--control", daemon.control, "stats"]
+    ran = subprocess.run(words, capture_output=True, timeout=SECONDS)
     must((ran.returncode, ran.stderr) == (0, b"") and ran.stdout.endswith(b"\n.\n"), f"`ask` says {ran!r}")
     must(daemon.ask(b"stats 1\n") == b"fault 5\n", "`stats` takes a word")
     must(daemon.stop().status == 0, "it ended otherwise")
@@ -272,7 +274,8 @@ def a_folder_that_is_gone(machine):
     until(lambda: daemon.states()[2] == "failed", "member 2 is judged")
     time.sleep(PAUSE + 1)
     stats = stats_of(daemon)
-    must(stats["swimd_verdicts_total", None] == 1 and stats["swimd_metrics_unwritten_total", None] == 2, f"it says {stats}")
+    told = stats["swimd_verdicts_total", None], stats["swimd_metrics_unwritten_total", None]
+    must(told == (1, 2), f"it says {stats}")
     os.mkdir(os.path.dirname(path))
     must(daemon.stop().status == 0, "it ended otherwise")
     told = [it for it in told_lines(daemon, daemon.told) if it.startswith("metrics ")]
