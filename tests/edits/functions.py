@@ -11,8 +11,8 @@ check of the whole crate.
 import os
 import re
 
-# The head of an `impl`, or the end of an item.
-IMPL = re.compile(r"^(?:unsafe )?impl\b(.*)|^\}$", re.MULTILINE)
+# The head of an `impl`, which may have several lines, or the end of an item.
+IMPL = re.compile(r"^(?:unsafe )?impl\b([^{]*)|^\}$", re.MULTILINE)
 REFERENCE = re.compile(r"&(?:'\w+ )?")
 TYPE = re.compile(r"^(?:pub(?:\([^)]*\))? )?(?:struct|enum) (\w+)", re.MULTILINE)
 # The brace before a body ends the first line of the head or that of the last parameters, or it stands alone.
@@ -64,7 +64,7 @@ def matches_in(file, texts):
     and its match. None in another file."""
     text = texts[file] if file.startswith("src/") else ""
     for found in FUNCTION.finditer(text):
-        heads = [it[1] for it in IMPL.finditer(text, 0, found.start())]
+        heads = [it[1] and " ".join(it[1].split()) for it in IMPL.finditer(text, 0, found.start())]
         head = heads[-1] if found["indent"] and heads else None
         above = owner_of(head, file, texts) if head else module_of(file)
         yield "::".join([*above, found["name"]]), head, found
