@@ -15,7 +15,7 @@ import subprocess
 from concurrent.futures import ProcessPoolExecutor
 from itertools import zip_longest
 
-from tests.support.daemons import DaemonFault, Machine, end_what_was_started
+from tests.support.daemons import PORTS_TRIED, DaemonFault, Machine, PortTaken, end_what_was_started
 from tests.support.journals import must_verify_all
 from tests.support.parts import ended, leave_out, program, reference, timed
 
@@ -35,10 +35,20 @@ def ordinary():
 
 
 def complaints(programs, test):
+    """What is complained of a test. It is tried anew where somebody took a port that was free a moment ago."""
+    for _ in range(PORTS_TRIED):
+        with contextlib.suppress(PortTaken):
+            return complaints_at_once(programs, test)
+    return [f"    {PORTS_TRIED} times a port that was free was taken"]
+
+
+def complaints_at_once(programs, test):
     with Machine(*programs) as machine:
         try:
             said = test(machine)
             must_verify_all(machine)
+        except PortTaken:
+            raise
         except (DaemonFault, OSError, subprocess.SubprocessError, LookupError, AssertionError) as fault:
             said = f"{type(fault).__name__}: {fault}"
         return [f"    {said}"] if said else []
