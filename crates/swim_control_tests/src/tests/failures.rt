@@ -76,8 +76,9 @@ fn tells_a_failing_write(rt: HostRuntime) {
             failed = puts + 1;
         }
     }
-    // The puts of the answers: the table takes 5 for each row and 1 for its end, and a fault 3.
-    assert_eq!(rt; failed, 17);
+    // The puts of the answers: the table takes 6 for each row and 1 for its end, and a fault 3. A row is an id, a space,
+    // an empty word and an address, the state with the line feed, and an empty text where its pieces end.
+    assert_eq!(rt; failed, 19);
 }
 
 /// Where the flush after so many others fails, that is told, and this text has been answered so.
