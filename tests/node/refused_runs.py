@@ -260,10 +260,10 @@ def goes_on(ran, ack, lines, number, machine):
 
 def is_written(machine, entries, is_cut):
     """Whether the journal's file holds as many entries as the life had, or where that is cut, not more. What it holds
-    is played."""
+    is played; a file that is cut before its first answer holds nothing to play."""
     texts = [it.text for it in journals(f"{machine.journals}/0")]
-    for it in texts:
-        must_play(machine.simulator, front(it), "what is there of it")
+    for it in filter(None, map(front, texts)):
+        must_play(machine.simulator, it, "what is there of it")
     counts = [len(told(it)) for it in texts]
     return counts == [entries] or (is_cut and sum(counts) <= entries and len(counts) <= 1)
 
