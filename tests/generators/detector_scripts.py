@@ -227,3 +227,19 @@ def openings(r):
     events = ["tick", "tick", "table", "gap 2", "join 3 1.2.3.4:5", "remove 2", "hear 1.2.3.4:5 ", "hear 1.2.3.4:5 5"]
     script.events = [r.choice(events)] * r.choice([0, 1, 1, 5])
     return script
+
+
+# The kinds whose lines a detector answers, whatever it drew.
+ANSWERED = [
+    mixed,
+    churning,
+    planned,
+    growing_from_nobody,
+    relaying,
+    flooding,
+    crowded,
+    near_the_last_number,
+    with_a_small_journal,
+    seeded,
+    misread,
+]

@@ -9,23 +9,11 @@ from typing import NamedTuple
 
 from tests.generators.broken_scripts import broken, misspelt, noisy
 from tests.generators.cut_scripts import answers
-from tests.generators.detector_scripts import churning, crowded, flooding, growing_from_nobody, misread, mixed, planned
-from tests.generators.detector_scripts import near_the_last_number, relaying, seeded, with_a_small_journal
+from tests.generators.detector_scripts import ANSWERED, mixed, seeded
 from tests.generators.growing_scripts import Script, joined
 from tests.generators.version_scripts import asking_about_anybody, telling_versions
 
-KINDS = [
-    mixed,
-    churning,
-    planned,
-    growing_from_nobody,
-    relaying,
-    flooding,
-    crowded,
-    near_the_last_number,
-    with_a_small_journal,
-]
-KINDS += [seeded, seeded, misread, asking_about_anybody]
+KINDS = [*ANSWERED, seeded, asking_about_anybody]
 FIRST = "journal 1"
 LIVES = [0, 1, 2, 3, 2**32 - 1, 2**32, 2**64 - 1]
 

@@ -8,24 +8,12 @@ that acks hit the aim. `large_script(seed)` gives one that is about as large as 
 import random
 
 from tests.generators.broken_scripts import about_as_large_as_may_be, broken, misspelt, noisy
-from tests.generators.detector_scripts import churning, crowded, flooding, growing_from_nobody, misread, mixed
-from tests.generators.detector_scripts import near_the_last_number, openings, planned, relaying, seeded
-from tests.generators.detector_scripts import with_a_small_journal
+from tests.generators.detector_scripts import ANSWERED, openings
 from tests.generators.growing_scripts import Script, joined
 from tests.generators.version_scripts import asking_about_anybody, telling_versions
 
 KINDS = [
-    mixed,
-    churning,
-    planned,
-    growing_from_nobody,
-    relaying,
-    flooding,
-    crowded,
-    near_the_last_number,
-    with_a_small_journal,
-    seeded,
-    misread,
+    *ANSWERED,
     openings,
     broken,
     misspelt,

@@ -1,6 +1,7 @@
 """The crates of this repository: which stand below which, whether what was built is older than what it is made of, and
 how a program is proved and built."""
 
+import functools
 import os
 import shlex
 import shutil
@@ -14,6 +15,13 @@ from tests.support.parts import NoProgram, timed
 # On four processors, from nothing: some take half a minute, and some five.
 MINUTES_A_CRATE = 2
 SOURCES = ("src", "specs", "proofs")
+
+
+@functools.lru_cache(maxsize=None)
+def kit():
+    """The toolchain's folder: that of the page whose path `rt doc` prints."""
+    page = subprocess.run(["rt", "doc"], stdout=subprocess.PIPE, check=True, text=True).stdout.strip()
+    return os.path.dirname(page)
 
 
 class Crates:

@@ -138,6 +138,17 @@ def rest_of(connection):
         return rest
 
 
+def come(stream, length):
+    """So many bytes of a pipe, or fewer where they don't come within some seconds."""
+    found, end = b"", time.monotonic() + SECONDS
+    while len(found) < length and select.select([stream], [], [], max(0.0, end - time.monotonic()))[0]:
+        more = os.read(stream.fileno(), length - len(found))
+        if not more:
+            break
+        found += more
+    return found
+
+
 class Daemon:
     """A daemon with its folder. What isn't given of its configuration is that of a group on one fast machine."""
 

@@ -1,14 +1,13 @@
 """`swimd ask`: a line made of words, its statuses, and that nothing it meets makes it hang; help and the version."""
 
 import os
-import select
 import signal
 import socket
 import subprocess
 import threading
 import time
 
-from tests.support.daemons import SECONDS, must, until
+from tests.support.daemons import SECONDS, come, must, until
 from tests.swimd.daemon_lines import LISTED, quiet
 
 # How long a limit of one second may take on a machine that has much to do.
@@ -313,17 +312,6 @@ def one_who_thinks_for_long(machine):
         finally:
             child.kill()
     must(daemon.stop().status == 0, "the daemon ended otherwise")
-
-
-def come(stream, length):
-    """So many bytes of a pipe, or fewer where they don't come within some seconds."""
-    found, end = b"", time.monotonic() + SECONDS
-    while len(found) < length and select.select([stream], [], [], max(0.0, end - time.monotonic()))[0]:
-        more = os.read(stream.fileno(), length - len(found))
-        if not more:
-            break
-        found += more
-    return found
 
 
 def help_and_version(machine):

@@ -1,12 +1,10 @@
 """Control connections to a daemon: in pieces, cut off, many, silent, and by `swimd ask`."""
 
 import os
-import select
 import stat
 import subprocess
-import time
 
-from tests.support.daemons import SECONDS, connected, must, talk, until
+from tests.support.daemons import SECONDS, come, connected, must, talk, until
 from tests.support.datagrams import ACK, PING, datagram, fields
 
 MINUTE = 60_000
@@ -172,17 +170,6 @@ def a_dialogue_by_ask(machine):
         finally:
             child.kill()
     must(daemon.stop().status == 0, "the daemon ended otherwise")
-
-
-def come(stream, length):
-    """So many bytes of a pipe, or fewer where they don't come within some seconds."""
-    found, end = b"", time.monotonic() + SECONDS
-    while len(found) < length and select.select([stream], [], [], max(0.0, end - time.monotonic()))[0]:
-        more = os.read(stream.fileno(), length - len(found))
-        if not more:
-            break
-        found += more
-    return found
 
 
 def may_connect(path, user):
