@@ -8,13 +8,15 @@ import subprocess
 import time
 from pathlib import Path
 
-from tests.support.crates import SOURCES
+from tests.support.crates import SOURCES, kit
 
 # What the prover says where a proof names something that the edited body hasn't any more, and of what rests on that: it
 # says little of the contract.
 ONLY_NAMES = re.compile(r"has no field|is not in scope|has no `|was not admitted|which was rejected, was not checked")
 ERROR = re.compile(r"(?:\./)?(\S+?):\d+:\d+: error: .*")
 SEARCH = re.compile(r"`search` did not prove .*")
+# What it says of a proof file whose function it doesn't know by that name.
+MISNAMED = re.compile(r"`\w+` has no function `([^`]*)`")
 # What the prover says last, where a crate got as far as to it.
 VERDICTS = ("logic=proved", "logic=not-proved", "only=")
 REFUSED, NOT_REFUSED, BAD_EDIT = "refused", "NOT REFUSED", "BAD EDIT"
@@ -29,6 +31,7 @@ class Check:
         self.unproved = [it for it in lines if it.startswith("fn ") and not it.endswith(": proved")]
         self.errors = [it for it in lines if ERROR.match(it)]
         self.is_told = any(it.startswith(VERDICTS) for it in lines)
+        self.misnamed = {found[1] for it in lines for found in [MISNAMED.search(it)] if found}
 
     def refusal(self, crate, path):
         """The error that stands inside a function or in its own answers: that something isn't proved. None where there
@@ -63,26 +66,25 @@ class Check:
 
 def prover_words(crates, name):
     """What checks a crate over the libraries that lie below it, as they are. `rt check` would prove those anew that
-    `rt ci` left: it takes only what it built itself. The toolchain's folder is that of the page whose path `rt doc`
-    prints."""
-    page = subprocess.run(["rt", "doc"], stdout=subprocess.PIPE, check=True, text=True).stdout.strip()
-    kit, below = os.path.dirname(page), crates.below[name]
+    `rt ci` left: it takes only what it built itself."""
+    toolchain, below = kit(), crates.below[name]
     root = "main" if os.path.exists(f"{crates.folder(name)}/src/main.rt") else "lib"
-    libraries = {"std": f"{kit}/rlibs/std.rlib"}
-    libraries.update({it: crates.made(it) if it in crates.below else f"{kit}/rlibs/{it}.rlib" for it in below})
-    folders = [f"{kit}/rlibs", *(os.path.dirname(crates.made(it)) for it in crates.chain(*below))]
-    return [f"{kit}/bin/rattle", "check", "--crate-name", name, f"src/{root}.rt",
+    libraries = {"std": f"{toolchain}/rlibs/std.rlib"}
+    libraries.update({it: crates.made(it) if it in crates.below else f"{toolchain}/rlibs/{it}.rlib" for it in below})
+    folders = [f"{toolchain}/rlibs", *(os.path.dirname(crates.made(it)) for it in crates.chain(*below))]
+    return [f"{toolchain}/bin/rattle", "check", "--crate-name", name, f"src/{root}.rt",
             *(word for it, path in libraries.items() for word in ("--extern", f"{it}={path}")),
             *(word for it in folders for word in ("-L", f"dependency={it}")),
-            "--antt-project", f"{kit}/rattle/logic/antt-project.json", "--logic-built", f"{kit}/logic_built",
+            "--antt-project", f"{toolchain}/rattle/logic/antt-project.json", "--logic-built", f"{toolchain}/logic_built",
             "--links", f"{name}=", "--jobs", "1"]
 
 
 class Room:
-    """A place in which a crate is checked with edits in it. What its checks prove is kept for the next ones."""
+    """A place in which a crate is checked with edits in it. What its checks prove is kept for the next ones. It keeps
+    the functions that the prover doesn't know by the names that they have here."""
 
     def __init__(self, crates, name, folder):
-        self.name, self.folder, self.seconds = name, Path(folder), []
+        self.name, self.folder, self.seconds, self.misnamed = name, Path(folder), [], set()
         self.words = [*prover_words(crates, name), "--incremental", f"{folder}/kept"]
         self.texts = texts_of(crates.folder(name))
         Path(folder, "kept").mkdir(parents=True)
@@ -98,7 +100,9 @@ class Room:
         how = {"stdin": subprocess.DEVNULL, "stdout": subprocess.PIPE, "stderr": subprocess.STDOUT, "errors": "replace"}
         said = subprocess.run([*self.words, *words], cwd=self.folder, **how).stdout
         self.seconds.append(time.monotonic() - began)
-        return Check(said.split("\n"))
+        check = Check(said.split("\n"))
+        self.misnamed |= check.misnamed
+        return check
 
 
 def texts_of(folder):

@@ -1,4 +1,5 @@
-"""Edited functions beside what they were: copies under names of their own, so that one check tells of all edits.
+"""Edited functions beside others: copies under names of their own, so that one check tells of several edits of a
+function.
 
 A function is proved against the contracts of what it calls, and nobody calls a copy. So the prover says of a copy what
 it would say of the function with that body. That it does is tried: beside them stands a copy without an edit. A method
@@ -11,13 +12,11 @@ import os
 from tests.edits.functions import matches_in, without_arguments
 
 
-def with_copies(crate, texts, edits):
-    """The texts of a crate with copies of the functions that these edits change: one with each edit, and one of each as
-    it is. Beside them the path of each edit's copy, and of each function's."""
-    made, of_edits, of_functions = dict(texts), {}, {}
-    for number, edit in enumerate(edits):
-        if not edit.function or not is_copyable(edit, texts):
-            continue
+def with_copies(crate, made, texts, edits):
+    """What is made of the texts of a crate, and beside it copies of the functions that these edits change: one with
+    each edit, and one of each as it is. The path of each edit's copy, and of each function's."""
+    made, of_edits, of_functions = dict(made), {}, {}
+    for number, edit in enumerate(it for it in edits if is_copyable(it, texts)):
         if edit.function not in of_functions:
             of_functions[edit.function] = with_copy(crate, made, texts, edit, "as_it_is")
         of_edits[edit] = with_copy(crate, made, edit.planted(texts), edit, f"edit_{number}")

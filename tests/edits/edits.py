@@ -53,6 +53,8 @@ def read_pairs(text):
             if not file or not old:
                 raise BadEdit("a 'new:' line stands before any 'file:' or 'old:' line")
             pairs, old = [*pairs, (file, old, rest[1:])], None
+        elif line:
+            raise BadEdit(f"a line begins with none of 'file:', 'old:' and 'new:': {line.strip()[:60]}")
     if not pairs:
         raise BadEdit("it has no 'old:' and 'new:' pair")
     return pairs

@@ -48,15 +48,34 @@ def without_arguments(text):
     return kept
 
 
+def arguments_of(text):
+    """What stands between the angle brackets of a trait."""
+    return text.partition("<")[2].rpartition(">")[0]
+
+
+def parts_of(head):
+    """The head of an `impl` behind that word: the names of its parameters, its trait, if there is one, and its type."""
+    text, parameters = head.replace("->", "").split("{")[0].split(" where ")[0].strip(), []
+    if text.startswith("<"):
+        end = next(at for at in range(1, len(text) + 1) if text.count("<", 0, at) == text.count(">", 0, at))
+        parameters, text = re.findall(r"(?:^|,) *(?:const )?(\w+)", without_arguments(text[1:end - 1])), text[end:]
+    trait, _, of = text.rpartition(" for ")
+    return parameters, trait.strip(), of.strip()
+
+
 def owner_of(head, file, texts):
-    """The path under which the functions of an `impl` stand: its type, and right behind that the trait, if there is
-    one."""
-    words = without_arguments(head).split("{")[0].split(" where ")[0].split(" for ")
-    names = [it.strip().split("::")[-1] for it in reversed(words)]
+    """The path under which the functions of an `impl` stand. Those of a type stand where the type does. Those of a trait
+    stand in the file's own module, under the type's name, the trait's, and those of the trait's arguments that are no
+    parameters; what is dropped stands with the type."""
+    parameters, trait, of = parts_of(head)
     # A reference to a type is named behind a word.
-    reference = REFERENCE.match(names[0])
-    names[0] = names[0][reference.end():] if reference else names[0]
-    return [*home_of(names[0], file, texts), "".join(["Ref" if reference else "", *names])]
+    reference = REFERENCE.match(of)
+    name = without_arguments(of[reference.end():] if reference else of).split("::")[-1]
+    if not trait or trait == "Drop":
+        return [*home_of(name, file, texts), name]
+    told = without_arguments(trait).split("::")[-1]
+    arguments = [it for it in re.findall(r"(?<!')\b[A-Z]\w*", arguments_of(trait)) if it not in parameters]
+    return [*module_of(file), "".join(["Ref" * bool(reference), name, told, *arguments])]
 
 
 def matches_in(file, texts):

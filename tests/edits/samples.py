@@ -12,6 +12,7 @@ WANTED = {
     "changes_nothing.edit": (NOT_REFUSED, "still proved"),
     "changes_the_same_function.edit": (REFUSED, "returns"),
     "does_not_parse.edit": (BAD_EDIT, "did not reach the prover"),
+    "has_a_line_that_is_not_read.edit": (BAD_EDIT, "begins with none of"),
     "is_refused_by_no_contract.edit": (BAD_EDIT, "not by a contract"),
     "is_refused_for_names_alone.edit": (BAD_EDIT, "names what the edit took away"),
     "lacks_its_text.edit": (BAD_EDIT, "0 times"),

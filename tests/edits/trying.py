@@ -1,5 +1,5 @@
-"""Tries the edits of a crate: together, each in a copy of the function that it changes (copies.py), and those of
-functions that have no copy together where they change different ones.
+"""Tries the edits of a crate: together, the first of each function where it stands, the others in copies of their
+functions (copies.py), and those of functions that have no copy together where they change different ones.
 
 A function is proved against the contracts of what it calls, and not against their bodies. So such edits don't see one
 another, and one among others is refused exactly where an error stands inside the function that it changed or in that
@@ -26,22 +26,14 @@ class Tried(NamedTuple):
 
 
 class Beside(NamedTuple):
-    """Which edits were tried in copies, by which errors some of them were refused, and what is told of the functions as
-    they are: of each an error, or none."""
+    """Which edits were tried beside one another, and by which errors some of them were refused."""
 
-    copied: set
+    tried: set
     refused: dict
-    unedited: dict
-
-    def is_clear(self, function):
-        """Whether no error is told of a function as it is, so that one of an edit of it tells something."""
-        return function in self.unedited and not self.unedited[function]
 
 
 def try_edits(room, paths):
-    """Tries the edits of these paths in the room of their crate, and gives what came of each. A function of which an
-    error is told without any edit, as for the holes around it, tells nothing: its edits are tried in the whole
-    crate."""
+    """Tries the edits of these paths in the room of their crate, and gives what came of each."""
     tried, edits = [], []
     for path in paths:
         try:
@@ -49,9 +41,9 @@ def try_edits(room, paths):
         except BadEdit as fault:
             tried.append(Tried(path.rpartition("/")[2], BAD_EDIT, str(fault), "read"))
     beside = try_beside(room, edits)
-    tried += [Tried(it.name, REFUSED, why, f"one of {len(beside.copied)} copies") for it, why in beside.refused.items()]
+    tried += [Tried(it.name, REFUSED, why, f"one of {len(beside.tried)}") for it, why in beside.refused.items()]
     others = [it for it in edits if it not in beside.refused]
-    alone = [it for it in others if it in beside.copied or not beside.is_clear(it.function)]
+    alone = [it for it in others if it in beside.tried or not it.function]
     left = [it for it in others if it not in alone]
     while left:
         batch, texts = together(left, room.texts)
@@ -64,20 +56,22 @@ def try_edits(room, paths):
 
 
 def try_beside(room, edits):
-    """Tries these edits in copies, and by the same check the functions as they are. Where that doesn't reach the
-    prover, as a copy isn't read or typed, half of them is tried after the other."""
-    texts, copies, bases = with_copies(room.name, room.texts, edits)
-    near = {it: bases.get(it, it) for edit in edits for it in edit.near}
-    said = checked(room, texts, sorted([*near.values(), *copies.values()]))
+    """Tries by one check the first edit of each function, where it stands, and the others in copies. An error of a
+    copy tells something only where none is told of the copy of its function as it is. Where the check doesn't reach the
+    prover, as an edit isn't read or typed, half of them is tried after the other."""
+    own = [it for it in edits if it.function]
+    first, texts = together(own, room.texts)
+    texts, copies, bases = with_copies(room.name, texts, room.texts, [it for it in own if it not in first])
+    said = checked(room, texts, sorted([*(it.function for it in first), *copies.values(), *bases.values()]))
     if said.is_told:
-        unedited = {it: said.refusal(room.name, path) for it, path in near.items()}
-        errors = {it: said.refusal(room.name, path) for it, path in copies.items() if not unedited[it.function]}
-        return Beside({*copies}, {it: why for it, why in errors.items() if why}, unedited)
-    if len(edits) < 2:
-        return Beside(set(), {}, {})
-    one, other = (try_beside(room, it) for it in (edits[::2], edits[1::2]))
-    unedited = {it: one.unedited.get(it) or other.unedited.get(it) for it in {**one.unedited, **other.unedited}}
-    return Beside(one.copied | other.copied, {**one.refused, **other.refused}, unedited)
+        refused = {it: said.refusal(room.name, it.function) for it in first}
+        clear = [it for it in copies if not said.refusal(room.name, bases[it.function])]
+        refused.update({it: said.refusal(room.name, copies[it]) for it in clear})
+        return Beside({*first, *copies}, {it: why for it, why in refused.items() if why})
+    if len(own) < 2:
+        return Beside(set(), {})
+    one, other = (try_beside(room, it) for it in (own[::2], own[1::2]))
+    return Beside(one.tried | other.tried, {**one.refused, **other.refused})
 
 
 def together(edits, texts):
@@ -106,10 +100,9 @@ def refusals(room, texts, functions):
 
 
 def try_alone(room, edit, beside):
-    """Tries one edit: what it was planted in by itself, unless a copy of that was tried; and where no error is told
-    there, the whole crate."""
+    """Tries one edit: what it was planted in by itself, unless that was tried; and where no error is told there, the
+    whole crate."""
     texts = edit.planted(room.texts)
-    near = [] if edit in beside.copied else [it for it in edit.near if beside.is_clear(it)]
-    for error in refusals(room, texts, near).values():
+    for error in refusals(room, texts, [] if edit in beside.tried else edit.near).values():
         return Tried(edit.name, REFUSED, error, "alone")
     return Tried(edit.name, *room.check(texts).ending(), "alone, in the whole crate")
