@@ -16,7 +16,8 @@ same_length : (rows : List Row) → length (rows_up (members_of rows)) ≡ lengt
 same_length [] = refl
 same_length (row ∷ rows) = ap suc (same_length rows)
 
-all_up : (last : ℕ) (rows : List Row) → list_all (λ row. is_state_past last row.state) (rows_up (members_of rows)) ≡ true
+all_up : (last : ℕ) (rows : List Row) → list_all (λ row. is_state_past last row.state) (rows_up (members_of rows)) ≡
+    true
 all_up last [] = refl
 all_up last (row ∷ rows) = all_up last rows
 

@@ -22,5 +22,8 @@ setting_from last o = setting_of o.me o.k o.rtt o.period (members_of o.rows) las
 abbrev pub begun_at : ℕ → Config → Config
 begun_at milliseconds config =
     if config.begins_by_clock
-    then record config { opening = setting_from (min milliseconds largest_last) config.opening; begins_by_clock = false }
+    then record config {
+      opening = setting_from (min milliseconds largest_last) config.opening;
+      begins_by_clock = false;
+    }
     else config

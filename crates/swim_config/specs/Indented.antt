@@ -11,7 +11,8 @@ use Rattle.std.proofs.lemmas.Str.Parse.{digit_from_value}
 use Rattle.swim_history.specs.Texts.{feed}
 use Rattle.swim_history.specs.declared.openings.OpeningFault.{OpeningFault}
 use Rattle.swim_history.specs.declared.openings.OpeningFault.TheVariants.{Relays, Timing, TooManyRows, Myself, Twice}
-use Rattle.swim_config.specs.Causes.{AreIndented, IsCause, expected_as, expected_of, expected_text, indented, indented_lines}
+use Rattle.swim_config.specs.Causes.{AreIndented, IsCause, expected_as, expected_of, expected_text, indented}
+use Rattle.swim_config.specs.Causes.{indented_lines}
 use Rattle.swim_config.specs.Causes.{purpose_text, rule_text}
 use Rattle.swim_config.specs.Configuration.{is_printing}
 use Rattle.swim_config.specs.Keys.{form_of, about_of}
@@ -28,7 +29,8 @@ none_indented = record { lines = []; printing = refl; is = refl }
 lines-append : (xs ys : List (List ℕ)) → indented_lines (xs ++ ys) ≡ indented_lines xs ++ indented_lines ys
 lines-append [] ys = refl
 lines-append (x ∷ xs) ys =
-    ap (λ l. indented x ++ l) (lines-append xs ys) ∙ sym (append_assoc (indented x) (indented_lines xs) (indented_lines ys))
+    ap (λ l. indented x ++ l) (lines-append xs ys) ∙
+    sym (append_assoc (indented x) (indented_lines xs) (indented_lines ys))
 
 pub both_indented : (a b : List ℕ) → AreIndented a → AreIndented b → AreIndented (a ++ b)
 both_indented a b p q = record {
@@ -42,7 +44,8 @@ pub line_indented : (line : List ℕ) → list_all is_printing line ≡ true →
 line_indented line is = record { lines = line ∷ []; printing = rw is refl; is = sym (append-nil (indented line)) }
 
 -- the same, from the pieces of which it was made
-pub made_indented : (none begun put whole text : List ℕ) → none ≡ [] → begun ≡ none ++ 32 ∷ 32 ∷ [] → put ≡ begun ++ text →
+pub made_indented : (none begun put whole text : List ℕ) → none ≡ [] → begun ≡ none ++ 32 ∷ 32 ∷ [] →
+    put ≡ begun ++ text →
     whole ≡ put ++ 10 ∷ [] → list_all is_printing text ≡ true → AreIndented whole
 made_indented none begun put whole text e b p w prints = rw is (line_indented text prints)
   where
@@ -52,7 +55,8 @@ made_indented none begun put whole text e b p w prints = rw is (line_indented te
 -- a byte more that prints
 pub one_more_prints : (old new : List ℕ) (byte : ℕ) → list_all is_printing old ≡ true → is_printing byte ≡ true →
     new ≡ old ++ byte ∷ [] → list_all is_printing new ≡ true
-one_more_prints old new byte all one e = ap (list_all is_printing) e ∙ list_all-append is_printing old (byte ∷ []) ∙ rw (all, one) refl
+one_more_prints old new byte all one e = ap (list_all is_printing) e ∙ list_all-append is_printing old (byte ∷ []) ∙
+    rw (all, one) refl
 
 -- ---- numbers print
 
@@ -61,7 +65,8 @@ digit_prints c digit = and_from _ _ (le-leb 32 c (omega arith)) (le-leb c 126 (o
 
 digits_print : (text : List ℕ) → AllDigits 10 text → list_all is_printing text ≡ true
 digits_print [] digits = refl
-digits_print (d ∷ text) digits = and_from _ _ (digit_prints d (digit_from_value d digits.0)) (digits_print text digits.1)
+digits_print (d ∷ text) digits =
+    and_from _ _ (digit_prints d (digit_from_value d digits.0)) (digits_print text digits.1)
 
 number_prints : (n : ℕ) → n < 2 ^ 64 → list_all is_printing (decimal n) ≡ true
 number_prints n small = digits_print (decimal n) (decimal_is_IsNumeral n small).0.1
@@ -97,11 +102,14 @@ words_expected words about prints about_prints =
     (part_then (codes "expected: ") (words ++ purpose_text about) refl
     (part_then words (purpose_text about) prints (purpose_ends about about_prints)))
 
-number_expected : (least most : ℕ) (about : List ℕ) → least < 2 ^ 64 → most < 2 ^ 64 → list_all is_printing about ≡ true →
+number_expected : (least most : ℕ) (about : List ℕ) → least < 2 ^ 64 → most < 2 ^ 64 →
+    list_all is_printing about ≡ true →
     AreIndented (expected_as (Number least most) about)
 number_expected least most about l m prints =
-    begun_indented (codes "expected: " ++ (codes "an integer from " ++ (decimal least ++ (codes " to " ++ (decimal most ++ purpose_text about)))))
-    (part_then (codes "expected: ") (codes "an integer from " ++ (decimal least ++ (codes " to " ++ (decimal most ++ purpose_text about)))) refl
+    begun_indented (codes "expected: " ++
+    (codes "an integer from " ++ (decimal least ++ (codes " to " ++ (decimal most ++ purpose_text about)))))
+    (part_then (codes "expected: ")
+    (codes "an integer from " ++ (decimal least ++ (codes " to " ++ (decimal most ++ purpose_text about)))) refl
     (part_then (codes "an integer from ") (decimal least ++ (codes " to " ++ (decimal most ++ purpose_text about))) refl
     (part_then (decimal least) (codes " to " ++ (decimal most ++ purpose_text about)) (number_prints least l)
     (part_then (codes " to ") (decimal most ++ purpose_text about) refl
@@ -118,7 +126,8 @@ Fits form = Unit {0}
 form_fits : (key : ConfigKey) → Fits (form_of key)
 form_fits key = grind arith
 
-form_indented : (form : ValueForm) (about : List ℕ) → Fits form → list_all is_printing about ≡ true → AreIndented (expected_as form about)
+form_indented : (form : ValueForm) (about : List ℕ) → Fits form → list_all is_printing about ≡ true →
+    AreIndented (expected_as form about)
 form_indented (Number least most) about fits prints = number_expected least most about fits.0 fits.1 prints
 form_indented Peer about fits prints = words_expected (codes "a string IP:PORT, as 10.0.0.1:7000") about refl prints
 form_indented Path about fits prints =
@@ -134,7 +143,8 @@ key_indented key = form_indented (form_of key) (about_of key) (form_fits key) (a
 
 rule_indented : (fault : OpeningFault) → AreIndented (rule_text fault)
 rule_indented Relays = line_indented (codes "expected: k of at most 8") refl
-rule_indented Timing = line_indented (codes "expected: rtt of at least 1, and period from three times rtt to 65535") refl
+rule_indented Timing =
+    line_indented (codes "expected: rtt of at least 1, and period from three times rtt to 65535") refl
 rule_indented TooManyRows = line_indented (codes "expected: at most 128 members") refl
 rule_indented Myself = line_indented (codes "expected: members with other ids than this one") refl
 rule_indented Twice = line_indented (codes "expected: each member once") refl

@@ -5,7 +5,8 @@ use Rattle.swim_config.specs.declared.keys.ValueForm.TheVariants.{Number, Peer, 
 use Rattle.swim_config.specs.declared.keys.ConfigKey.{ConfigKey}
 use Rattle.swim_config.specs.declared.keys.ConfigKey.TheVariants as keys
 
--- what the table says of a key: its name where it stands, what its value has to be, the number that it has where it is left
+-- what the table says of a key: its name where it stands, what its value has to be, the number that it has where it is
+-- left
 -- out, what it is for, and whether its number begins a line of the summary
 pub record KeyEntry : Type 0 where
   pub name : List ℕ

@@ -1,5 +1,6 @@
 -- What a configuration allows and can't work, as it is warned of.
-use Rattle.std.specs.Prelude.{ℕ, ◌+◌, ◌*◌, ◌-◌, ◌/◌, ◌^◌, min, Bool, ◌&&◌, ◌==◌, nat_lt, nat_le, List, [], ◌∷◌, ◌++◌, length}
+use Rattle.std.specs.Prelude.{ℕ, ◌+◌, ◌*◌, ◌-◌, ◌/◌, ◌^◌, min, Bool, ◌&&◌, ◌==◌, nat_lt, nat_le, List, [], ◌∷◌, ◌++◌}
+use Rattle.std.specs.Prelude.{length}
 use Rattle.std.specs.Prelude.{slice_index, if◌then◌else◌, codes, decimal}
 use Rattle.std.specs.List.{list_all}
 use Rattle.std.specs.Str.{bytes_eq}
@@ -14,7 +15,8 @@ text_if applies text = if applies then text else []
 
 -- ---- the journal
 
--- the entries of three rounds: a round has as many periods as members are listed, each of them its ticks and two entries more,
+-- the entries of three rounds: a round has as many periods as members are listed, each of them its ticks and two
+-- entries more,
 -- and it has two entries for each other member
 abbrev pub three_rounds : Setting → ℕ
 three_rounds o = 3 * (length o.rows * (o.period + 2) + 2 * length o.rows)

@@ -4,8 +4,10 @@ ghost use Rattle.std.specs.Prelude.{◌≡◌};
 ghost use Rattle.toml.specs.View.{table_view};
 ghost use Rattle.swim_wire.specs.Layout.{version_of};
 ghost use Rattle.swim_config.specs.Configuration.{config_with, fence_in, files_in};
-ghost use Rattle.swim_config.specs.Configuration.{journal_settings_in, number_of, place_in, rejoin_in, settings_in, times_in};
-ghost use Rattle.swim_config.specs.Configuration.{told_count, told_fence, told_keep, told_last, told_rejoin, told_version};
+ghost use Rattle.swim_config.specs.Configuration.{journal_settings_in, number_of, place_in, rejoin_in, settings_in};
+ghost use Rattle.swim_config.specs.Configuration.{times_in};
+ghost use Rattle.swim_config.specs.Configuration.{told_count, told_fence, told_keep, told_last, told_rejoin};
+ghost use Rattle.swim_config.specs.Configuration.{told_version};
 ghost use Rattle.swim_config.specs.Configuration.{version_in};
 
 use crate::config_fault::ConfigFault;
@@ -42,7 +44,8 @@ pub struct Config {
     pub keys: GroupKeys,
     /// Whether `last` is to be the system's clock as the daemon starts: keys are set, and `last` was left out.
     pub begins_by_clock: bool,
-    /// How many datagrams a second are handed on of each listed member's address, and of all others together; 0 for all.
+    /// How many datagrams a second are handed on of each listed member's address, and of all others together; 0 for
+    /// all.
     pub fence: u32,
     /// Whether `fence` stands in the document.
     pub is_fence_given: bool,

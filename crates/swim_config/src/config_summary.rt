@@ -2,7 +2,8 @@
 
 ghost use Rattle.std.specs.Prelude.{◌≡◌, ◌++◌, length};
 ghost use Rattle.swim_text.specs.Streams.{Puts, failures_if};
-ghost use Rattle.swim_config.specs.Summary.{all_members_text, count_text, mark_of, member_text, members_text, number_text};
+ghost use Rattle.swim_config.specs.Summary.{all_members_text, count_text, mark_of, member_text, members_text};
+ghost use Rattle.swim_config.specs.Summary.{number_text};
 ghost use Rattle.swim_config.specs.Summary.{numbers_and_members_text, numbers_text, own_text, path_text, paths_text};
 ghost use Rattle.swim_config.specs.Summary.{place_text, summary_text, telling_text, told_text};
 

@@ -11,7 +11,7 @@ use crate::config_fault::ConfigFault;
 use crate::keys::ConfigKey;
 use crate::values::find;
 use arrayvec::ArrayVec;
-use swim_keys::{Key as GroupKey, MOST_KEYS};
+use swim_keys::{GroupKey, MOST_KEYS};
 use toml::value::Array;
 use toml::{Table, Value};
 

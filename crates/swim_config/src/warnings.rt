@@ -2,11 +2,15 @@
 
 ghost use Rattle.std.specs.Prelude.{◌≡◌, length};
 ghost use Rattle.swim_text.specs.Streams.{Puts, failures_if};
-ghost use Rattle.swim_config.specs.Warnings.{addresses_and_more_text, few_relays_text, flood_entries, flood_text, floods_and_more_text};
+ghost use Rattle.swim_config.specs.Warnings.{addresses_and_more_text, few_relays_text, flood_entries, flood_text};
+ghost use Rattle.swim_config.specs.Warnings.{floods_and_more_text};
 ghost use Rattle.swim_config.specs.Warnings.{floods_text, is_plain, is_same_address, rounds_ms, short_for_a_flood_text};
-ghost use Rattle.swim_config.specs.Warnings.{journal_text, long_period_text, own_address_text, own_addresses_text, own_line};
-ghost use Rattle.swim_config.specs.Warnings.{period_ms, period_text, plain_seed_text, relays_and_times_text, relays_text};
-ghost use Rattle.swim_config.specs.Warnings.{shared_address_text, shared_addresses_text, shared_and_more_text, shared_line};
+ghost use Rattle.swim_config.specs.Warnings.{journal_text, long_period_text, own_address_text, own_addresses_text};
+ghost use Rattle.swim_config.specs.Warnings.{own_line};
+ghost use Rattle.swim_config.specs.Warnings.{period_ms, period_text, plain_seed_text, relays_and_times_text};
+ghost use Rattle.swim_config.specs.Warnings.{relays_text};
+ghost use Rattle.swim_config.specs.Warnings.{shared_address_text, shared_addresses_text, shared_and_more_text};
+ghost use Rattle.swim_config.specs.Warnings.{shared_line};
 ghost use Rattle.swim_config.specs.Warnings.{short_journal_text, three_rounds, times_text, warnings_text};
 
 use crate::config::Config;
@@ -17,7 +21,8 @@ use swim_wire::{Id, Peer, Piece, put_pieces};
 /// A day, in milliseconds.
 const DAY_MS: u64 = 86_400_000;
 
-/// Writes a line for each thing that a configuration allows and that can't work, and answers whether the sink took them.
+/// Writes a line for each thing that a configuration allows and that can't work, and answers whether the sink took
+/// them.
 pub fn put_warnings<W: Sink>(writer: &mut W, config: &Config) -> bool
     ensures bytes { Puts (W.written writer.old) (W.written writer.new) (warnings_text config.now) result }
     ensures failures { W.failures writer.new ≡ failures_if (W.failures writer.old) result }

@@ -1,5 +1,6 @@
 -- Connections that were heard stay so with each turn.
-use Rattle.std.proofs.Common.{◌≡◌, ◌≢◌, ℕ, ◌+◌, ◌<◌, Bool, true, false, List, [], ◌∷◌, ◌++◌, Option, Some, None, Result, Ok, Err, refl, sym, ap, subst, ◌∙◌, inl, inr, arith}
+use Rattle.std.proofs.Common.{◌≡◌, ◌≢◌, ℕ, ◌+◌, ◌<◌, Bool, true, false, List, [], ◌∷◌, ◌++◌, Option, Some, None, Result}
+use Rattle.std.proofs.Common.{Ok, Err, refl, sym, ap, subst, ◌∙◌, inl, inr, arith}
 use Rattle.std.specs.List.{AllByRecursion}
 use Rattle.std.specs.Io.KnownBytes.{Keeps}
 use Rattle.std.proofs.lemmas.Bool.{eq-eqb, ne_eqb}
@@ -9,7 +10,7 @@ use Rattle.swim_text.specs.declared.short_lines.LineEnd.TheVariants as lines
 use Rattle.swim_text.specs.ShortLines.{ComesKnown, none_taken}
 use Rattle.std.proofs.lemmas.Option.{same_Some}
 use Rattle.swim_text.specs.Streams.{Puts, appends_kept, puts_kept, keeps_self}
-use Rattle.swim_control.specs.declared.desks.Command.{Command}
+use Rattle.swim_control.specs.declared.desks.DeskCommand.{DeskCommand}
 use Rattle.swim_control.specs.declared.commands.Said.{Said}
 use Rattle.swim_control.specs.declared.commands.Said.TheVariants.{Stop, Asks}
 use Rattle.swim_control.specs.declared.faults.Fault.{Fault}
@@ -26,13 +27,17 @@ use Rattle.swim_control.specs.Desks.{Told}
 use Rattle.swim_control.specs.Serving.{CourseKnown, IsServedKnown, line_text, end_at}
 use Rattle.swim_control.specs.Turns.{closed, Asked, IsLast, Meets, Turned}
 use Rattle.swim_control.specs.Talks.{Talk, Talks}
-use Rattle.swim_control.specs.SideBySide.{Called, Leads, calls_by, Joins, Brought, IsHeard, AreApart, AreHeard, IsServedTo, HearsOn, HearsNewcomer}
-use Rattle.swim_control.proofs.Known.{start_known, next_known, turn_known, long_known, unended_known, over_known, spent_known, failed_known}
+use Rattle.swim_control.specs.SideBySide.{Called, Leads, calls_by, Joins, Brought, IsHeard, AreApart, AreHeard}
+use Rattle.swim_control.specs.SideBySide.{IsServedTo, HearsOn, HearsNewcomer}
+use Rattle.swim_control.proofs.Known.{start_known, next_known, turn_known, long_known, unended_known, over_known}
+use Rattle.swim_control.proofs.Known.{spent_known, failed_known}
 
 -- ---- what is handed on changes nothing
 
-course_kept : {S : Type 0} (asks : S → Command → Told → S → Type 0) (text rest : Option (List ℕ)) (first now : S) (old mid new : Option (List ℕ)) (reads : ℕ) →
-    CourseKnown asks text rest first now old mid reads → Keeps mid new → CourseKnown asks text rest first now old new reads
+course_kept : {S : Type 0} (asks : S → DeskCommand → Told → S → Type 0) (text rest : Option (List ℕ)) (first now : S)
+    (old mid new : Option (List ℕ)) (reads : ℕ) →
+    CourseKnown asks text rest first now old mid reads → Keeps mid new →
+    CourseKnown asks text rest first now old new reads
 course_kept asks None rest first now old mid new reads c kept = tt
 course_kept asks (Some text) None first now old mid new reads c kept = absurd c
 course_kept asks (Some text) (Some rest) first now old mid new reads c kept = record {
@@ -48,24 +53,29 @@ course_kept asks (Some text) (Some rest) first now old mid new reads c kept = re
 
 -- ---- the calls of one connection
 
-own_call : (id : ℕ) (command : Command) (told : Told) (log : List Called) →
-    calls_by id (record { by = id; command = command; told = told } ∷ log) ≡ record { by = id; command = command; told = told } ∷ calls_by id log
+own_call : (id : ℕ) (command : DeskCommand) (told : Told) (log : List Called) →
+    calls_by id (record { by = id; command = command; told = told } ∷ log) ≡
+    record { by = id; command = command; told = told } ∷ calls_by id log
 own_call id command told log = rw (eq-eqb id id refl) refl
 
-others_call : (id other : ℕ) (command : Command) (told : Told) (log : List Called) → id ≢ other →
+others_call : (id other : ℕ) (command : DeskCommand) (told : Told) (log : List Called) → id ≢ other →
     calls_by other (record { by = id; command = command; told = told } ∷ log) ≡ calls_by other log
 others_call id other command told log apart = rw (ne_eqb id other apart) refl
 
 -- a line's turn, as a turn of the connection's calls
-pub record Owned {S : Type 0} (asks : S → Command → Told → S → Type 0) (first after : S) (id : ℕ) (read : Result Said Fault) (old new : Option (List ℕ)) (result : Option Served) (log : List Called) : Type 0 where
+pub record Owned {S : Type 0} (asks : S → DeskCommand → Told → S → Type 0) (first after : S) (id : ℕ)
+    (read : Result Said Fault) (old new : Option (List ℕ)) (result : Option Served) (log : List Called) : Type 0 where
   pub more : List Called
   pub leads : Leads asks first (more ++ log) after
   pub turned : Turned (Joins id) read (calls_by id log) (calls_by id (more ++ log)) old new result
   pub others : (other : ℕ) → id ≢ other → calls_by other (more ++ log) ≡ calls_by other log
   pub mine : AllByRecursion (λ (c : Called). c.by ≡ id) more
 
-quiet : {S : Type 0} (asks : S → Command → Told → S → Type 0) (first now after : S) (id : ℕ) (read : Result Said Fault) (old new : Option (List ℕ)) (result : Option Served) (log : List Called) (told : List Told) →
-    Leads asks first log now → after ≡ now → Turned (Joins id) read (calls_by id log) (calls_by id log) old new result → Owned asks first after id read old new result log
+quiet : {S : Type 0} (asks : S → DeskCommand → Told → S → Type 0) (first now after : S) (id : ℕ)
+    (read : Result Said Fault) (old new : Option (List ℕ)) (result : Option Served) (log : List Called)
+    (told : List Told) →
+    Leads asks first log now → after ≡ now → Turned (Joins id) read (calls_by id log) (calls_by id log) old new result →
+    Owned asks first after id read old new result log
 quiet asks first now after id read old new result log told leads same turned = record {
   more = [];
   leads = subst (Leads asks first log) (sym same) leads;
@@ -74,51 +84,67 @@ quiet asks first now after id read old new result log told leads same turned = r
   mine = tt;
 }
 
-pub owned : {S : Type 0} (asks : S → Command → Told → S → Type 0) (first now after : S) (id : ℕ) (read : Result Said Fault) (old new : Option (List ℕ)) (result : Option Served) (log : List Called) →
-    Leads asks first log now → Turned asks read now after old new result → Owned asks first after id read old new result log
-owned {S = S} asks first now after id read old new result log leads turned = by read turned.told turned.asked turned.put turned.is where
-  by : (r : Result Said Fault) (told : List Told) → Asked asks r now told after → Puts old new (line_text r told) turned.done → result ≡ closed turned.done (end_at r told) → Owned asks first after id r old new result log
-  by (Err fault) [] asked put is = quiet asks first now after id (Err fault) old new result log [] leads asked (record { told = []; asked = refl; done = turned.done; put = put; is = is })
-  by (Err fault) (x ∷ told) asked put is = absurd asked
-  by (Ok Stop) [] asked put is = quiet asks first now after id (Ok Stop) old new result log [] leads asked (record { told = []; asked = refl; done = turned.done; put = put; is = is })
-  by (Ok Stop) (x ∷ told) asked put is = absurd asked
-  by (Ok (Asks command)) [] asked put is = absurd asked
-  by (Ok (Asks command)) (x ∷ []) asked put is = record {
-    more = record { by = id; command = command; told = x } ∷ [];
-    leads = (now, (leads, asked));
-    turned = record { told = x ∷ []; asked = own_call id command x log; done = turned.done; put = put; is = is };
-    others = λ other apart. others_call id other command x log apart;
-    mine = (refl, tt);
-  }
-  by (Ok (Asks command)) (x ∷ y ∷ told) asked put is = absurd asked
+pub owned : {S : Type 0} (asks : S → DeskCommand → Told → S → Type 0) (first now after : S) (id : ℕ)
+    (read : Result Said Fault) (old new : Option (List ℕ)) (result : Option Served) (log : List Called) →
+    Leads asks first log now → Turned asks read now after old new result →
+    Owned asks first after id read old new result log
+owned {S = S} asks first now after id read old new result log leads turned =
+    by read turned.told turned.asked turned.put turned.is where
+      by : (r : Result Said Fault) (told : List Told) → Asked asks r now told after →
+          Puts old new (line_text r told) turned.done → result ≡ closed turned.done (end_at r told) →
+          Owned asks first after id r old new result log
+      by (Err fault) [] asked put is =
+          quiet asks first now after id (Err fault) old new result log [] leads asked
+          (record { told = []; asked = refl; done = turned.done; put = put; is = is })
+      by (Err fault) (x ∷ told) asked put is = absurd asked
+      by (Ok Stop) [] asked put is =
+          quiet asks first now after id (Ok Stop) old new result log [] leads asked
+          (record { told = []; asked = refl; done = turned.done; put = put; is = is })
+      by (Ok Stop) (x ∷ told) asked put is = absurd asked
+      by (Ok (Asks command)) [] asked put is = absurd asked
+      by (Ok (Asks command)) (x ∷ []) asked put is = record {
+        more = record { by = id; command = command; told = x } ∷ [];
+        leads = (now, (leads, asked));
+        turned = record { told = x ∷ []; asked = own_call id command x log; done = turned.done; put = put; is = is };
+        others = λ other apart. others_call id other command x log apart;
+        mine = (refl, tt);
+      }
+      by (Ok (Asks command)) (x ∷ y ∷ told) asked put is = absurd asked
 
 -- ---- a line that has ended
 
-same_end : (text : List ℕ) (end e : Served) (done : Bool) (old mid new : Option (List ℕ)) → Puts old mid text done → Keeps mid new → Some e ≡ closed done (Some end) → IsLast old new text end e
+same_end : (text : List ℕ) (end e : Served) (done : Bool) (old mid new : Option (List ℕ)) → Puts old mid text done →
+    Keeps mid new → Some e ≡ closed done (Some end) → IsLast old new text end e
 same_end text end e true old mid new put kept is = inl (same_Some e end is, puts_kept old mid new text true put kept)
-same_end text end e false old mid new put kept is = inr (same_Some e ends.WriteFault is, puts_kept old mid new text false put kept)
+same_end text end e false old mid new put kept is =
+    inr (same_Some e ends.WriteFault is, puts_kept old mid new text false put kept)
 
 never_none : (end : Served) (done : Bool) → None ≡ closed done (Some end) → ⊥
 never_none end true is = absurd (cc is)
 never_none end false is = absurd (cc is)
 
-unsent_failed : (rest left : Option (List ℕ)) (line : List ℕ) (reads still : ℕ) → ComesKnown rest left lines.Unsent line 128 reads still → ComesKnown rest left lines.Failed line 128 reads still
+unsent_failed : (rest left : Option (List ℕ)) (line : List ℕ) (reads still : ℕ) →
+    ComesKnown rest left lines.Unsent line 128 reads still → ComesKnown rest left lines.Failed line 128 reads still
 unsent_failed None left line reads still i = tt
 unsent_failed (Some rest) None line reads still i = absurd i
 unsent_failed (Some rest) (Some left) line reads still i = i
 
 -- what became of it: serving goes on, with no part of a line read, or it has ended
-pub record Stepped {S : Type 0} (asks : S → Command → Told → S → Type 0) (first after : S) (id : ℕ) (text left old written : Option (List ℕ)) (still : ℕ) (end : Option Served) (log : List Called) : Type 0 where
+pub record Stepped {S : Type 0} (asks : S → DeskCommand → Told → S → Type 0) (first after : S) (id : ℕ)
+    (text left old written : Option (List ℕ)) (still : ℕ) (end : Option Served) (log : List Called) : Type 0 where
   pub more : List Called
   pub leads : Leads asks first (more ++ log) after
   pub others : (other : ℕ) → id ≢ other → calls_by other (more ++ log) ≡ calls_by other log
   pub mine : AllByRecursion (λ (c : Called). c.by ≡ id) more
   pub goes_on : end ≡ None → CourseKnown (Joins id) text left [] (calls_by id (more ++ log)) old written still
-  pub ends : (e : Served) → end ≡ Some e → IsServedKnown (Joins id) text left [] (calls_by id (more ++ log)) old written e
+  pub ends : (e : Served) → end ≡ Some e →
+      IsServedKnown (Joins id) text left [] (calls_by id (more ++ log)) old written e
 
 -- the end of serving asks nothing of the desk
-ended : {S : Type 0} (asks : S → Command → Told → S → Type 0) (first now after : S) (id : ℕ) (text left old written : Option (List ℕ)) (still : ℕ) (end : Option Served) (log : List Called) →
-    Leads asks first log now → after ≡ now → (None ≡ end → ⊥) → ((e : Served) → Some e ≡ end → IsServedKnown (Joins id) text left [] (calls_by id log) old written e) →
+ended : {S : Type 0} (asks : S → DeskCommand → Told → S → Type 0) (first now after : S) (id : ℕ)
+    (text left old written : Option (List ℕ)) (still : ℕ) (end : Option Served) (log : List Called) →
+    Leads asks first log now → after ≡ now → (None ≡ end → ⊥) →
+    ((e : Served) → Some e ≡ end → IsServedKnown (Joins id) text left [] (calls_by id log) old written e) →
     Stepped asks first after id text left old written still end log
 ended asks first now after id text left old written still end log leads same some so = record {
   more = [];
@@ -129,10 +155,14 @@ ended asks first now after id text left old written still end log leads same som
   ends = λ e is. so e (sym is);
 }
 
-pub stepped : {S : Type 0} (asks : S → Command → Told → S → Type 0) (first now after : S) (id : ℕ) (text start left old mid put written : Option (List ℕ)) (line : List ℕ) (reads still : ℕ) (met : LineEnd) (end : Option Served) (log : List Called) →
-    Leads asks first log now → CourseKnown (Joins id) text start [] (calls_by id log) old mid reads → ComesKnown start left met line 128 reads still → Meets asks met line now after mid put end → Keeps put written →
+pub stepped : {S : Type 0} (asks : S → DeskCommand → Told → S → Type 0) (first now after : S) (id : ℕ)
+    (text start left old mid put written : Option (List ℕ)) (line : List ℕ) (reads still : ℕ) (met : LineEnd)
+    (end : Option Served) (log : List Called) →
+    Leads asks first log now → CourseKnown (Joins id) text start [] (calls_by id log) old mid reads →
+    ComesKnown start left met line 128 reads still → Meets asks met line now after mid put end → Keeps put written →
     Stepped asks first after id text left old written still end log
-stepped asks first now after id text start left old mid put written line reads still lines.Feed end log leads c i m kept =
+stepped asks first now after id text start left old mid put written line reads still lines.Feed end log leads c i m
+    kept =
     let o = owned asks first now after id (said_by (line_said line)) mid put end log leads m in
     record {
       more = o.more;
@@ -140,60 +170,97 @@ stepped asks first now after id text start left old mid put written line reads s
       others = o.others;
       mine = o.mine;
       goes_on = λ none. course_kept (Joins id) text left [] (calls_by id (o.more ++ log)) old put written still
-          (next_known (Joins id) text start left line [] (calls_by id log) (calls_by id (o.more ++ log)) old mid mid put reads still c i (keeps_self mid)
-          (subst (λ (e : Option Served). Turned (Joins id) (said_by (line_said line)) (calls_by id log) (calls_by id (o.more ++ log)) mid put e) none o.turned)) kept;
-      ends = λ e is. turn_known (Joins id) text start left line [] (calls_by id log) (calls_by id (o.more ++ log)) old mid mid put written reads still e e c i (keeps_self mid)
-          (subst (λ (x : Option Served). Turned (Joins id) (said_by (line_said line)) (calls_by id log) (calls_by id (o.more ++ log)) mid put x) is o.turned) (inl refl) kept;
+          (next_known (Joins id) text start left line [] (calls_by id log) (calls_by id (o.more ++ log)) old mid mid put
+          reads still c i (keeps_self mid)
+          (subst (λ (e : Option Served). Turned (Joins id) (said_by (line_said line)) (calls_by id log)
+          (calls_by id (o.more ++ log)) mid put e) none o.turned)) kept;
+      ends = λ e is. turn_known (Joins id) text start left line [] (calls_by id log) (calls_by id (o.more ++ log)) old
+          mid mid put written reads still e e c i (keeps_self mid)
+          (subst (λ (x : Option Served). Turned (Joins id) (said_by (line_said line)) (calls_by id log)
+          (calls_by id (o.more ++ log)) mid put x) is o.turned) (inl refl) kept;
     }
-stepped asks first now after id text start left old mid put written line reads still lines.Long end log leads c i m kept =
-    ended asks first now after id text left old written still end log leads m.0 (λ none. never_none ends.TooLong m.1.0 (none ∙ m.1.2))
-    (λ e is. long_known (Joins id) text start left line [] (calls_by id log) old mid mid written reads still e c i (keeps_self mid) (same_end (fault_text LongLine) ends.TooLong e m.1.0 mid put written m.1.1 kept (is ∙ m.1.2)))
-stepped asks first now after id text start left old mid put written line reads still lines.Unended end log leads c i m kept =
-    ended asks first now after id text left old written still end log leads m.0 (λ none. never_none ends.Unended m.1.0 (none ∙ m.1.2))
-    (λ e is. unended_known (Joins id) text start left line [] (calls_by id log) old mid mid written reads still e c i (keeps_self mid) (same_end (fault_text Unended) ends.Unended e m.1.0 mid put written m.1.1 kept (is ∙ m.1.2)))
-stepped asks first now after id text start left old mid put written line reads still lines.Over end log leads c i m kept =
+stepped asks first now after id text start left old mid put written line reads still lines.Long end log leads c i m
+    kept =
+    ended asks first now after id text left old written still end log leads m.0
+    (λ none. never_none ends.TooLong m.1.0 (none ∙ m.1.2))
+    (λ e is. long_known (Joins id) text start left line [] (calls_by id log) old mid mid written reads still e c i
+    (keeps_self mid) (same_end (fault_text LongLine) ends.TooLong e m.1.0 mid put written m.1.1 kept (is ∙ m.1.2)))
+stepped asks first now after id text start left old mid put written line reads still lines.Unended end log leads c i m
+    kept =
+    ended asks first now after id text left old written still end log leads m.0
+    (λ none. never_none ends.Unended m.1.0 (none ∙ m.1.2))
+    (λ e is. unended_known (Joins id) text start left line [] (calls_by id log) old mid mid written reads still e c i
+    (keeps_self mid) (same_end (fault_text Unended) ends.Unended e m.1.0 mid put written m.1.1 kept (is ∙ m.1.2)))
+stepped asks first now after id text start left old mid put written line reads still lines.Over end log leads c i m
+    kept =
     ended asks first now after id text left old written still end log leads m.0 (λ none. absurd (cc (none ∙ m.2)))
-    (λ e is. over_known (Joins id) text start left line [] (calls_by id log) old mid put written reads still e c i (subst (Keeps mid) (sym m.1) (keeps_self mid)) kept (inl (same_Some e ends.Ended (is ∙ m.2))))
-stepped asks first now after id text start left old mid put written line reads still lines.Spent end log leads c i m kept =
+    (λ e is. over_known (Joins id) text start left line [] (calls_by id log) old mid put written reads still e c i
+    (subst (Keeps mid) (sym m.1) (keeps_self mid)) kept (inl (same_Some e ends.Ended (is ∙ m.2))))
+stepped asks first now after id text start left old mid put written line reads still lines.Spent end log leads c i m
+    kept =
     ended asks first now after id text left old written still end log leads m.0 (λ none. absurd (cc (none ∙ m.2)))
-    (λ e is. spent_known (Joins id) text start left line [] (calls_by id log) old mid put written reads still e c i (subst (Keeps mid) (sym m.1) (keeps_self mid)) kept (inl (same_Some e ends.ReadFault (is ∙ m.2))))
-stepped asks first now after id text start left old mid put written line reads still lines.Failed end log leads c i m kept =
+    (λ e is. spent_known (Joins id) text start left line [] (calls_by id log) old mid put written reads still e c i
+    (subst (Keeps mid) (sym m.1) (keeps_self mid)) kept (inl (same_Some e ends.ReadFault (is ∙ m.2))))
+stepped asks first now after id text start left old mid put written line reads still lines.Failed end log leads c i m
+    kept =
     ended asks first now after id text left old written still end log leads m.0 (λ none. absurd (cc (none ∙ m.2)))
-    (λ e is. subst (λ (x : Served). IsServedKnown (Joins id) text left [] (calls_by id log) old written x) (sym (same_Some e ends.ReadFault (is ∙ m.2)))
-    (failed_known (Joins id) text start left line [] (calls_by id log) old mid written reads still c i (subst (λ (p : Option (List ℕ)). Keeps p written) m.1 kept)))
-stepped asks first now after id text start left old mid put written line reads still lines.Unsent end log leads c i m kept =
+    (λ e is. subst (λ (x : Served). IsServedKnown (Joins id) text left [] (calls_by id log) old written x)
+    (sym (same_Some e ends.ReadFault (is ∙ m.2)))
+    (failed_known (Joins id) text start left line [] (calls_by id log) old mid written reads still c i
+    (subst (λ (p : Option (List ℕ)). Keeps p written) m.1 kept)))
+stepped asks first now after id text start left old mid put written line reads still lines.Unsent end log leads c i m
+    kept =
     ended asks first now after id text left old written still end log leads m.0 (λ none. absurd (cc (none ∙ m.2)))
-    (λ e is. subst (λ (x : Served). IsServedKnown (Joins id) text left [] (calls_by id log) old written x) (sym (same_Some e ends.ReadFault (is ∙ m.2)))
-    (failed_known (Joins id) text start left line [] (calls_by id log) old mid written reads still c (unsent_failed start left line reads still i) (subst (λ (p : Option (List ℕ)). Keeps p written) m.1 kept)))
+    (λ e is. subst (λ (x : Served). IsServedKnown (Joins id) text left [] (calls_by id log) old written x)
+    (sym (same_Some e ends.ReadFault (is ∙ m.2)))
+    (failed_known (Joins id) text start left line [] (calls_by id log) old mid written reads still c
+    (unsent_failed start left line reads still i) (subst (λ (p : Option (List ℕ)). Keeps p written) m.1 kept)))
 
 -- ---- a turn of one connection
 
-heard_hands : (b : Brought) (log : List Called) (old new : Talk) → HandsOn old new → IsHeard b log old → IsHeard b log new
+heard_hands : (b : Brought) (log : List Called) (old new : Talk) → HandsOn old new → IsHeard b log old →
+    IsHeard b log new
 heard_hands b log old new h i = subst (IsHeard b log) (sym h.2) (λ serves.
-    let was = i serves in
-    (was.0, was.1, course_kept (Joins old.id) (b.text old.id) was.0 [] (calls_by old.id log) (b.old old.id) old.written new.written was.1 was.2 h.1, was.3))
+    let was = i serves in (
+      was.0,
+      was.1,
+      course_kept (Joins old.id) (b.text old.id) was.0 [] (calls_by old.id log) (b.old old.id) old.written
+          new.written was.1 was.2 h.1,
+      was.3,
+    ))
 
-heard_reads : (b : Brought) (log : List Called) (old new : Talk) → ReadsOn old new → IsHeard b log old → IsHeard b log new
+heard_reads : (b : Brought) (log : List Called) (old new : Talk) → ReadsOn old new → IsHeard b log old →
+    IsHeard b log new
 heard_reads b log old new r i = subst (IsHeard b log) (sym r.3) (λ serves.
-    let was = i serves in
-    (was.0, was.1, course_kept (Joins old.id) (b.text old.id) was.0 [] (calls_by old.id log) (b.old old.id) old.written new.written was.1 was.2 r.2, r.1 was.0 was.1 was.3))
+    let was = i serves in (
+      was.0,
+      was.1,
+      course_kept (Joins old.id) (b.text old.id) was.0 [] (calls_by old.id log) (b.old old.id) old.written
+          new.written was.1 was.2 r.2,
+      r.1 was.0 was.1 was.3,
+    ))
 
 same_ended : (end e : Served) → Ended end ≡ Ended e → end ≡ e
 same_ended end e is = cc is
 
 -- what became of a connection and of the desk
-pub record Outcome {S : Type 0} (asks : S → Command → Told → S → Type 0) (first after : S) (b : Brought) (log : List Called) (stand : Stand) (old new : Talk) : Type 0 where
+pub record Outcome {S : Type 0} (asks : S → DeskCommand → Told → S → Type 0) (first after : S) (b : Brought)
+    (log : List Called) (stand : Stand) (old new : Talk) : Type 0 where
   pub more : List Called
   pub leads : Leads asks first (more ++ log) after
   pub others : (other : ℕ) → old.id ≢ other → calls_by other (more ++ log) ≡ calls_by other log
   pub mine : AllByRecursion (λ (c : Called). c.by ≡ old.id) more
   pub same : new.id ≡ old.id
   pub heard : IsHeard b (more ++ log) new
-  pub ends : (end : Served) → stand ≡ Ended end → IsServedKnown (Joins new.id) (b.text new.id) new.left [] (calls_by new.id (more ++ log)) (b.old new.id) new.written end
+  pub ends : (end : Served) → stand ≡ Ended end →
+      IsServedKnown (Joins new.id) (b.text new.id) new.left [] (calls_by new.id (more ++ log)) (b.old new.id)
+      new.written end
 
 -- nothing was asked
-nothing_asked : {S : Type 0} (asks : S → Command → Told → S → Type 0) (first now after : S) (b : Brought) (log : List Called) (stand : Stand) (old new : Talk) →
-    Leads asks first log now → after ≡ now → new.id ≡ old.id → IsHeard b log new → ((end : Served) → stand ≡ Ended end → ⊥) → Outcome asks first after b log stand old new
+nothing_asked : {S : Type 0} (asks : S → DeskCommand → Told → S → Type 0) (first now after : S) (b : Brought)
+    (log : List Called) (stand : Stand) (old new : Talk) →
+    Leads asks first log now → after ≡ now → new.id ≡ old.id → IsHeard b log new →
+    ((end : Served) → stand ≡ Ended end → ⊥) → Outcome asks first after b log stand old new
 nothing_asked asks first now after b log stand old new leads quiet-so same heard none = record {
   more = [];
   leads = subst (Leads asks first log) (sym quiet-so) leads;
@@ -205,11 +272,14 @@ nothing_asked asks first now after b log stand old new leads quiet-so same heard
 }
 
 -- a line ended
-line_ended : {S : Type 0} (asks : S → Command → Told → S → Type 0) (first desk after : S) (b : Brought) (log : List Called) (now : ℕ) (stand : Stand) (old new : Talk) (end : Option Served) →
-    Leads asks first log desk → IsHeard b log old → Answers asks now old new desk after end → ((e : Served) → stand ≡ Ended e → end ≡ Some e) → Outcome asks first after b log stand old new
+line_ended : {S : Type 0} (asks : S → DeskCommand → Told → S → Type 0) (first desk after : S) (b : Brought)
+    (log : List Called) (now : ℕ) (stand : Stand) (old new : Talk) (end : Option Served) →
+    Leads asks first log desk → IsHeard b log old → Answers asks now old new desk after end →
+    ((e : Served) → stand ≡ Ended e → end ≡ Some e) → Outcome asks first after b log stand old new
 line_ended asks first desk after b log now stand old new end leads i a so =
     let was = i a.serving.1 in
-    let s = stepped asks first desk after old.id (b.text old.id) was.0 new.left (b.old old.id) old.written a.put new.written a.line was.1 new.reads a.met end log leads was.2 (a.read was.0 was.1 was.3) a.meets a.sent in
+    let s = stepped asks first desk after old.id (b.text old.id) was.0 new.left (b.old old.id) old.written a.put
+    new.written a.line was.1 new.reads a.met end log leads was.2 (a.read was.0 was.1 was.3) a.meets a.sent in
     let same : new.id ≡ old.id = ap (λ (t : Talk). t.id) a.rest in
     record {
       more = s.more;
@@ -219,17 +289,24 @@ line_ended asks first desk after b log now stand old new end leads i a so =
       same = same;
       heard = subst (IsHeard b (s.more ++ log)) (sym a.rest) (λ serves.
           (new.left, new.reads, s.goes_on serves, none_taken new.left [] 128 new.reads refl));
-      ends = λ e is. subst (λ (id : ℕ). IsServedKnown (Joins id) (b.text id) new.left [] (calls_by id (s.more ++ log)) (b.old id) new.written e) (sym same) (s.ends e (so e is));
+      ends = λ e is. subst (λ (id : ℕ). IsServedKnown (Joins id) (b.text id) new.left [] (calls_by id (s.more ++ log))
+          (b.old id) new.written e) (sym same) (s.ends e (so e is));
     }
 
-pub turned_heard : {S : Type 0} (asks : S → Command → Told → S → Type 0) (first desk after : S) (b : Brought) (log : List Called) (now : ℕ) (stand : Stand) (old new : Talk) →
-    Leads asks first log desk → IsHeard b log old → Turns asks now stand old new desk after → Outcome asks first after b log stand old new
+pub turned_heard : {S : Type 0} (asks : S → DeskCommand → Told → S → Type 0) (first desk after : S) (b : Brought)
+    (log : List Called) (now : ℕ) (stand : Stand) (old new : Talk) →
+    Leads asks first log desk → IsHeard b log old → Turns asks now stand old new desk after →
+    Outcome asks first after b log stand old new
 turned_heard {S = S} asks first desk after b log now stand old new leads i t = by stand t where
-  hands : (s : Stand) → after ≡ desk → HandsOn old new → ((end : Served) → s ≡ Ended end → ⊥) → Outcome asks first after b log s old new
-  hands s q h none = nothing_asked asks first desk after b log s old new leads q (ap (λ (t : Talk). t.id) h.2) (heard_hands b log old new h i) none
+  hands : (s : Stand) → after ≡ desk → HandsOn old new → ((end : Served) → s ≡ Ended end → ⊥) →
+      Outcome asks first after b log s old new
+  hands s q h none = nothing_asked asks first desk after b log s old new leads q (ap (λ (t : Talk). t.id) h.2)
+      (heard_hands b log old new h i) none
 
-  reads : (s : Stand) → after ≡ desk → ReadsOn old new → ((end : Served) → s ≡ Ended end → ⊥) → Outcome asks first after b log s old new
-  reads s q r none = nothing_asked asks first desk after b log s old new leads q (ap (λ (t : Talk). t.id) r.3) (heard_reads b log old new r i) none
+  reads : (s : Stand) → after ≡ desk → ReadsOn old new → ((end : Served) → s ≡ Ended end → ⊥) →
+      Outcome asks first after b log s old new
+  reads s q r none = nothing_asked asks first desk after b log s old new leads q (ap (λ (t : Talk). t.id) r.3)
+      (heard_reads b log old new r i) none
 
   by : (s : Stand) → Turns asks now s old new desk after → Outcome asks first after b log s old new
   by Idle t = elim t.1 [ inl h ↦ hands Idle t.0 h.0 (λ end is. cc is) | inr r ↦ reads Idle t.0 r.0 (λ end is. cc is) ]
@@ -237,64 +314,97 @@ turned_heard {S = S} asks first desk after b log now stand old new leads i t = b
     | inl q ↦ elim q.1 [ inl h ↦ hands Busy q.0 h.0 (λ end is. cc is) | inr r ↦ reads Busy q.0 r.0 (λ end is. cc is) ]
     | inr a ↦ line_ended asks first desk after b log now Busy old new None leads i a (λ e is. absurd (cc is))
   ]
-  by (Ended end) t = line_ended asks first desk after b log now (Ended end) old new (Some end) leads i t (λ e is. ap Some (same_ended end e is))
-  by (Closed (closes.Served end)) t = nothing_asked asks first desk after b log (Closed (closes.Served end)) old new leads t.0 (ap (λ (t : Talk). t.id) t.1) (subst (IsHeard b log) (sym t.1) i) (λ e is. cc is)
+  by (Ended end) t = line_ended asks first desk after b log now (Ended end) old new (Some end) leads i t
+      (λ e is. ap Some (same_ended end e is))
+  by (Closed (closes.Served end)) t =
+      nothing_asked asks first desk after b log (Closed (closes.Served end)) old new leads t.0
+      (ap (λ (t : Talk). t.id) t.1) (subst (IsHeard b log) (sym t.1) i) (λ e is. cc is)
   by (Closed closes.Silent) t = reads (Closed closes.Silent) t.0 t.1 (λ end is. cc is)
   by (Closed closes.Untaken) t = hands (Closed closes.Untaken) t.0 t.1.0 (λ end is. cc is)
 
 -- ---- all connections
 
-all_still : {A : Type 0} (P Q : A → Type 0) (xs : List A) → ((x : A) → P x → Q x) → AllByRecursion P xs → AllByRecursion Q xs
+all_still : {A : Type 0} (P Q : A → Type 0) (xs : List A) → ((x : A) → P x → Q x) → AllByRecursion P xs →
+    AllByRecursion Q xs
 all_still P Q [] each all = tt
 all_still P Q (x ∷ xs) each all = (each x all.0, all_still P Q xs each all.1)
 
-all_both : {A : Type 0} (P Q R : A → Type 0) (xs : List A) → ((x : A) → P x → Q x → R x) → AllByRecursion P xs → AllByRecursion Q xs → AllByRecursion R xs
+all_both : {A : Type 0} (P Q R : A → Type 0) (xs : List A) → ((x : A) → P x → Q x → R x) → AllByRecursion P xs →
+    AllByRecursion Q xs → AllByRecursion R xs
 all_both P Q R [] each p q = tt
 all_both P Q R (x ∷ xs) each p q = (each x p.0 q.0, all_both P Q R xs each p.1 q.1)
 
-all_more : {A : Type 0} (P : A → Type 0) (xs ys : List A) → AllByRecursion P xs → AllByRecursion P ys → AllByRecursion P (xs ++ ys)
+all_more : {A : Type 0} (P : A → Type 0) (xs ys : List A) → AllByRecursion P xs → AllByRecursion P ys →
+    AllByRecursion P (xs ++ ys)
 all_more P [] ys p q = q
 all_more P (x ∷ xs) ys p q = (p.0, all_more P xs ys p.1 q)
 
 -- one that has another number joins those that are apart
-apart_more : (talks : List Talk) (t : Talk) → AreApart talks → AllByRecursion (λ (u : Talk). u.id ≢ t.id) talks → AreApart (talks ++ t ∷ [])
+apart_more : (talks : List Talk) (t : Talk) → AreApart talks → AllByRecursion (λ (u : Talk). u.id ≢ t.id) talks →
+    AreApart (talks ++ t ∷ [])
 apart_more [] t apart other = (tt, tt)
-apart_more (u ∷ talks) t apart other =
-    (all_more (λ (v : Talk). v.id ≢ u.id) talks (t ∷ []) apart.0 ((λ (same : t.id ≡ u.id). other.0 (sym same)), tt), apart_more talks t apart.1 other.1)
+apart_more (u ∷ talks) t apart other = (
+  all_more (λ (v : Talk). v.id ≢ u.id) talks (t ∷ []) apart.0 ((λ (same : t.id ≡ u.id). other.0 (sym same)), tt),
+  apart_more talks t apart.1 other.1,
+)
 
-heard_still : (b : Brought) (log after : List Called) (t : Talk) → calls_by t.id after ≡ calls_by t.id log → IsHeard b log t → IsHeard b after t
+heard_still : (b : Brought) (log after : List Called) (t : Talk) → calls_by t.id after ≡ calls_by t.id log →
+    IsHeard b log t → IsHeard b after t
 heard_still b log after t same i serves =
-    let was = i serves in
-    (was.0, was.1, subst (λ (calls : List Called). CourseKnown (Joins t.id) (b.text t.id) was.0 [] calls (b.old t.id) t.written was.1) (sym same) was.2, was.3)
+    let was = i serves in (
+      was.0,
+      was.1,
+      subst (λ (calls : List Called). CourseKnown (Joins t.id) (b.text t.id) was.0 [] calls (b.old t.id)
+          t.written was.1) (sym same) was.2,
+      was.3,
+    )
 
 -- those that are left, and the one that had its turn, if it stays
-after_turn : {S : Type 0} (asks : S → Command → Told → S → Type 0) (now count : ℕ) (stand : Stand) (first then_so : Talk) (others talks : List Talk) (desk after : S) →
-    Turns asks now stand first then_so desk after → talks ≡ others ++ kept_at stand then_so → HearsOn asks stand (record { talks = first ∷ others; count = count }) (record { talks = talks; count = count }) desk after
+after_turn : {S : Type 0} (asks : S → DeskCommand → Told → S → Type 0) (now count : ℕ) (stand : Stand)
+    (first then_so : Talk) (others talks : List Talk) (desk after : S) →
+    Turns asks now stand first then_so desk after → talks ≡ others ++ kept_at stand then_so →
+    HearsOn asks stand (record { talks = first ∷ others; count = count }) (record { talks = talks; count = count })
+    desk after
 after_turn asks now count stand first then_so others talks desk after turn are b start log leads all =
     let o = turned_heard asks start desk after b log now stand first then_so leads all.heard.0 turn in
     let kept = all_kept stand o in (
       o.more,
       o.leads,
       record {
-        heard = subst (AllByRecursion (IsHeard b (o.more ++ log))) (sym are) (all_more (IsHeard b (o.more ++ log)) others (kept_at stand then_so) (rest_heard o) kept.0);
+        heard = subst (AllByRecursion (IsHeard b (o.more ++ log))) (sym are)
+            (all_more (IsHeard b (o.more ++ log)) others (kept_at stand then_so) (rest_heard o) kept.0);
         apart = subst AreApart (sym are) kept.1;
-        came = subst (AllByRecursion (λ (t : Talk). t.id < count)) (sym are) (all_more (λ (t : Talk). t.id < count) others (kept_at stand then_so) all.came.1 kept.2);
-        called = all_more (λ (c : Called). c.by < count) o.more log (all_still (λ (c : Called). c.by ≡ first.id) (λ (c : Called). c.by < count) o.more (λ c is. subst (λ (n : ℕ). n < count) (sym is) all.came.0) o.mine) all.called;
+        came = subst (AllByRecursion (λ (t : Talk). t.id < count)) (sym are)
+            (all_more (λ (t : Talk). t.id < count) others (kept_at stand then_so) all.came.1 kept.2);
+        called = all_more (λ (c : Called). c.by < count) o.more log
+            (all_still (λ (c : Called). c.by ≡ first.id) (λ (c : Called). c.by < count) o.more
+            (λ c is. subst (λ (n : ℕ). n < count) (sym is) all.came.0) o.mine) all.called;
       },
       served o,
     )
   where
-    rest_heard : (o : Outcome asks start after b log stand first then_so) → AllByRecursion (IsHeard b (o.more ++ log)) others
+    rest_heard : (o : Outcome asks start after b log stand first then_so) →
+        AllByRecursion (IsHeard b (o.more ++ log)) others
     rest_heard o = all_both (λ (u : Talk). u.id ≢ first.id) (IsHeard b log) (IsHeard b (o.more ++ log)) others
-        (λ u apart i. heard_still b log (o.more ++ log) u (o.others u.id (λ same. apart (sym same))) i) all.apart.0 all.heard.1
+        (λ u apart i. heard_still b log (o.more ++ log) u (o.others u.id (λ same. apart (sym same))) i) all.apart.0
+        all.heard.1
 
-    others_apart : (o : Outcome asks start after b log stand first then_so) → AllByRecursion (λ (u : Talk). u.id ≢ then_so.id) others
+    others_apart : (o : Outcome asks start after b log stand first then_so) →
+        AllByRecursion (λ (u : Talk). u.id ≢ then_so.id) others
     others_apart o = subst (λ (id : ℕ). AllByRecursion (λ (u : Talk). u.id ≢ id) others) (sym o.same) all.apart.0
 
-    stays : (o : Outcome asks start after b log stand first then_so) → AllByRecursion (IsHeard b (o.more ++ log)) (then_so ∷ []) × AreApart (others ++ then_so ∷ []) × AllByRecursion (λ (t : Talk). t.id < count) (then_so ∷ [])
-    stays o = ((o.heard, tt), apart_more others then_so all.apart.1 (others_apart o), (subst (λ (n : ℕ). n < count) (sym o.same) all.came.0, tt))
+    stays : (o : Outcome asks start after b log stand first then_so) →
+        AllByRecursion (IsHeard b (o.more ++ log)) (then_so ∷ []) × AreApart (others ++ then_so ∷ []) ×
+        AllByRecursion (λ (t : Talk). t.id < count) (then_so ∷ [])
+    stays o = (
+      (o.heard, tt),
+      apart_more others then_so all.apart.1 (others_apart o),
+      (subst (λ (n : ℕ). n < count) (sym o.same) all.came.0, tt),
+    )
 
-    all_kept : (s : Stand) (o : Outcome asks start after b log stand first then_so) → AllByRecursion (IsHeard b (o.more ++ log)) (kept_at s then_so) × AreApart (others ++ kept_at s then_so) × AllByRecursion (λ (t : Talk). t.id < count) (kept_at s then_so)
+    all_kept : (s : Stand) (o : Outcome asks start after b log stand first then_so) →
+        AllByRecursion (IsHeard b (o.more ++ log)) (kept_at s then_so) × AreApart (others ++ kept_at s then_so) ×
+        AllByRecursion (λ (t : Talk). t.id < count) (kept_at s then_so)
     all_kept Idle o = stays o
     all_kept Busy o = stays o
     all_kept (Ended end) o = stays o
@@ -302,17 +412,24 @@ after_turn asks now count stand first then_so others talks desk after turn are b
 
     served : (o : Outcome asks start after b log stand first then_so) → IsServedTo b (o.more ++ log) stand talks
     served o = by stand are o.ends where
-      by : (s : Stand) → talks ≡ others ++ kept_at s then_so → ((end : Served) → s ≡ Ended end → IsServedKnown (Joins then_so.id) (b.text then_so.id) then_so.left [] (calls_by then_so.id (o.more ++ log)) (b.old then_so.id) then_so.written end) → IsServedTo b (o.more ++ log) s talks
+      by : (s : Stand) → talks ≡ others ++ kept_at s then_so →
+          ((end : Served) → s ≡ Ended end →
+          IsServedKnown (Joins then_so.id) (b.text then_so.id) then_so.left [] (calls_by then_so.id (o.more ++ log))
+          (b.old then_so.id) then_so.written end) → IsServedTo b (o.more ++ log) s talks
       by Idle is ends = tt
       by Busy is ends = tt
       by (Ended end) is ends = (others, then_so, is, ends end refl)
       by (Closed why) is ends = tt
 
-pub hears_on : {S : Type 0} (asks : S → Command → Told → S → Type 0) (now : ℕ) (stand : Stand) (old new : Talks) (desk after : S) →
-    TakesTurn asks now stand old.talks new.talks desk after → new.count ≡ old.count → HearsOn asks stand old new desk after
+pub hears_on : {S : Type 0} (asks : S → DeskCommand → Told → S → Type 0) (now : ℕ) (stand : Stand) (old new : Talks)
+    (desk after : S) →
+    TakesTurn asks now stand old.talks new.talks desk after → new.count ≡ old.count →
+    HearsOn asks stand old new desk after
 hears_on asks now stand old new desk after t count =
-    subst (λ (talks : List Talk). HearsOn asks stand (record { talks = talks; count = old.count }) new desk after) (sym t.was)
-    (subst (λ (n : ℕ). HearsOn asks stand (record { talks = t.first ∷ t.others; count = old.count }) (record { talks = new.talks; count = n }) desk after) (sym count)
+    subst (λ (talks : List Talk). HearsOn asks stand (record { talks = talks; count = old.count }) new desk after)
+    (sym t.was)
+    (subst (λ (n : ℕ). HearsOn asks stand (record { talks = t.first ∷ t.others; count = old.count })
+    (record { talks = new.talks; count = n }) desk after) (sym count)
     (after_turn asks now old.count stand t.first t.then_so t.others new.talks desk after t.turn t.are))
 
 -- one that comes has a number of its own, and has asked nothing
@@ -322,13 +439,19 @@ no_calls count (c ∷ log) called =
     let apart : c.by ≢ count = λ same. absurd (omega (arith, same, called.0)) in
     rw (ne_eqb c.by count apart) (no_calls count log called.1)
 
-pub newcomer_heard : (old new : Talks) (left written : Option (List ℕ)) (now : ℕ) → new ≡ record { talks = old.talks ++ newcomer old.count left written now ∷ []; count = old.count + 1 } →
+pub newcomer_heard : (old new : Talks) (left written : Option (List ℕ)) (now : ℕ) →
+    new ≡ record { talks = old.talks ++ newcomer old.count left written now ∷ []; count = old.count + 1 } →
     HearsNewcomer old left written new
 newcomer_heard old new left written now is b log text before all = subst (AreHeard b log) (sym is) (record {
   heard = all_more (IsHeard b log) old.talks (t ∷ []) all.heard (heard, tt);
-  apart = apart_more old.talks t all.apart (all_still (λ (u : Talk). u.id < old.count) (λ (u : Talk). u.id ≢ old.count) old.talks (λ u less same. absurd (omega (arith, less, same))) all.came);
-  came = all_more (λ (u : Talk). u.id < old.count + 1) old.talks (t ∷ []) (all_still (λ (u : Talk). u.id < old.count) (λ (u : Talk). u.id < old.count + 1) old.talks (λ u less. omega (arith, less)) all.came) (omega arith, tt);
-  called = all_still (λ (c : Called). c.by < old.count) (λ (c : Called). c.by < old.count + 1) log (λ c less. omega (arith, less)) all.called;
+  apart = apart_more old.talks t all.apart
+      (all_still (λ (u : Talk). u.id < old.count) (λ (u : Talk). u.id ≢ old.count) old.talks
+      (λ u less same. absurd (omega (arith, less, same))) all.came);
+  came = all_more (λ (u : Talk). u.id < old.count + 1) old.talks (t ∷ [])
+      (all_still (λ (u : Talk). u.id < old.count) (λ (u : Talk). u.id < old.count + 1) old.talks
+      (λ u less. omega (arith, less)) all.came) (omega arith, tt);
+  called = all_still (λ (c : Called). c.by < old.count) (λ (c : Called). c.by < old.count + 1) log
+      (λ c less. omega (arith, less)) all.called;
 })
   where
     t : Talk
@@ -336,5 +459,6 @@ newcomer_heard old new left written now is b log text before all = subst (AreHea
 
     heard : IsHeard b log t
     heard serves = (left, 1048576, course, none_taken left [] 128 1048576 refl) where
-      course : CourseKnown (Joins old.count) (b.text old.count) left [] (calls_by old.count log) (b.old old.count) written 1048576
+      course : CourseKnown (Joins old.count) (b.text old.count) left [] (calls_by old.count log) (b.old old.count)
+          written 1048576
       course = rw (no_calls old.count log all.called, text, before) (start_known (Joins old.count) left [] written)

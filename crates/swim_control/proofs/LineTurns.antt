@@ -3,10 +3,10 @@ use Rattle.std.proofs.Common.{◌≡◌, ℕ, Bool, List, [], ◌∷◌, Option,
 use Rattle.swim_text.specs.Streams.{Puts}
 use Rattle.swim_control.specs.declared.desks.Answer.{Answer}
 use Rattle.swim_control.specs.declared.desks.Answer.TheVariants as answers
-use Rattle.swim_control.specs.declared.desks.Command.{Command}
+use Rattle.swim_control.specs.declared.desks.DeskCommand.{DeskCommand}
 use Rattle.swim_control.specs.declared.commands.Said.{Said}
 use Rattle.swim_control.specs.declared.commands.Said.TheVariants.{Stop, Asks}
-use Rattle.swim_control.specs.declared.faults.LineFault.{LineFault}
+use Rattle.swim_control.specs.declared.faults.WordFault.{WordFault}
 use Rattle.swim_control.specs.declared.faults.Fault.TheVariants.{Words}
 use Rattle.swim_control.specs.declared.serving.Served.{Served}
 use Rattle.swim_control.specs.declared.serving.Served.TheVariants as ends
@@ -16,24 +16,35 @@ use Rattle.swim_control.specs.Serving.{end_of_told}
 use Rattle.swim_control.specs.Texts.{fault_text, stopping_text, told_text}
 use Rattle.swim_control.specs.Turns.{end_of_answer, closed, Turned}
 
-pub fault_turned : {S : Type 0} (asks : S → Command → Told → S → Type 0) (read : Result Said LineFault) (fault : LineFault) (now : S) (old new : Option (List ℕ)) (done : Bool) (result : Option Served) →
-    Err fault ≡ read → Puts old new (fault_text (Words fault)) done → result ≡ closed done None → Turned asks (said_by read) now now old new result
+pub fault_turned : {S : Type 0} (asks : S → DeskCommand → Told → S → Type 0) (read : Result Said WordFault)
+    (fault : WordFault) (now : S) (old new : Option (List ℕ)) (done : Bool) (result : Option Served) →
+    Err fault ≡ read → Puts old new (fault_text (Words fault)) done → result ≡ closed done None →
+    Turned asks (said_by read) now now old new result
 fault_turned asks read fault now old new done result says put is =
-    subst (λ (r : Result Said LineFault). Turned asks (said_by r) now now old new result) says (record { told = []; asked = refl; done = done; put = put; is = is })
+    subst (λ (r : Result Said WordFault). Turned asks (said_by r) now now old new result) says
+    (record { told = []; asked = refl; done = done; put = put; is = is })
 
-pub stop_turned : {S : Type 0} (asks : S → Command → Told → S → Type 0) (read : Result Said LineFault) (now : S) (old new : Option (List ℕ)) (done : Bool) (result : Option Served) →
-    Ok Stop ≡ read → Puts old new stopping_text done → result ≡ closed done (Some ends.Stopped) → Turned asks (said_by read) now now old new result
+pub stop_turned : {S : Type 0} (asks : S → DeskCommand → Told → S → Type 0) (read : Result Said WordFault) (now : S)
+    (old new : Option (List ℕ)) (done : Bool) (result : Option Served) →
+    Ok Stop ≡ read → Puts old new stopping_text done → result ≡ closed done (Some ends.Stopped) →
+    Turned asks (said_by read) now now old new result
 stop_turned asks read now old new done result says put is =
-    subst (λ (r : Result Said LineFault). Turned asks (said_by r) now now old new result) says (record { told = []; asked = refl; done = done; put = put; is = is })
+    subst (λ (r : Result Said WordFault). Turned asks (said_by r) now now old new result) says
+    (record { told = []; asked = refl; done = done; put = put; is = is })
 
-pub asks_turned : {S : Type 0} (asks : S → Command → Told → S → Type 0) (read : Result Said LineFault) (command : Command) (now after : S) (old new : Option (List ℕ)) (result : Option Served) →
-    Ok (Asks command) ≡ read → Turned asks (Ok (Asks command)) now after old new result → Turned asks (said_by read) now after old new result
+pub asks_turned : {S : Type 0} (asks : S → DeskCommand → Told → S → Type 0) (read : Result Said WordFault)
+    (command : DeskCommand) (now after : S) (old new : Option (List ℕ)) (result : Option Served) →
+    Ok (Asks command) ≡ read → Turned asks (Ok (Asks command)) now after old new result →
+    Turned asks (said_by read) now after old new result
 asks_turned asks read command now after old new result says turned =
-    subst (λ (r : Result Said LineFault). Turned asks (said_by r) now after old new result) says turned
+    subst (λ (r : Result Said WordFault). Turned asks (said_by r) now after old new result) says turned
 
-pub told_turned : {S : Type 0} (asks : S → Command → Told → S → Type 0) (command : Command) (told : Told) (now after : S) (old new : Option (List ℕ)) (done : Bool) (result : Option Served) →
-    asks now command told after → Puts old new (told_text told) done → result ≡ closed done (end_of_told told) → Turned asks (Ok (Asks command)) now after old new result
-told_turned asks command told now after old new done result asked put is = record { told = told ∷ []; asked = asked; done = done; put = put; is = is }
+pub told_turned : {S : Type 0} (asks : S → DeskCommand → Told → S → Type 0) (command : DeskCommand) (told : Told)
+    (now after : S) (old new : Option (List ℕ)) (done : Bool) (result : Option Served) →
+    asks now command told after → Puts old new (told_text told) done → result ≡ closed done (end_of_told told) →
+    Turned asks (Ok (Asks command)) now after old new result
+told_turned asks command told now after old new done result asked put is =
+    record { told = told ∷ []; asked = asked; done = done; put = put; is = is }
 
 -- how serving ends with an answer is how it ends with what was told
 pub end_told : (answer : Answer) → end_of_answer answer ≡ end_of_told (Answers answer)

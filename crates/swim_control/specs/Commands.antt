@@ -7,13 +7,13 @@ use Rattle.swim_wire.specs.Arguments.{◌>>=◌, argument, nothing_left}
 use Rattle.swim_text.specs.Lines.{bare, has_feed}
 use Rattle.swim_wire.specs.Ids.{id_of}
 use Rattle.swim_text.specs.Words.{words_of}
-use Rattle.swim_control.specs.declared.faults.LineFault.{LineFault}
-use Rattle.swim_control.specs.declared.faults.LineFault.TheVariants.{UnknownWord, BadId, BadPeer, Extra}
+use Rattle.swim_control.specs.declared.faults.WordFault.{WordFault}
+use Rattle.swim_control.specs.declared.faults.WordFault.TheVariants.{UnknownWord, BadId, BadPeer, Extra}
 use Rattle.swim_control.specs.declared.faults.Fault.{Fault}
 use Rattle.swim_control.specs.declared.faults.Fault.TheVariants.{LongLine, Unended, Words}
-use Rattle.swim_control.specs.declared.desks.Command.TheVariants.{List as Lists, Join, Remove, Gap, Stats}
-use Rattle.swim_control.specs.declared.commands.Word.{Word}
-use Rattle.swim_control.specs.declared.commands.Word.TheVariants as words
+use Rattle.swim_control.specs.declared.desks.DeskCommand.TheVariants.{List as Lists, Join, Remove, Gap, Stats}
+use Rattle.swim_control.specs.declared.commands.ControlWord.{ControlWord}
+use Rattle.swim_control.specs.declared.commands.ControlWord.TheVariants as words
 use Rattle.swim_control.specs.declared.commands.Said.{Said}
 use Rattle.swim_control.specs.declared.commands.Said.TheVariants.{Stop, Asks}
 
@@ -27,7 +27,7 @@ fault_number (Words Extra) = 5
 fault_number Unended = 6
 
 -- the first word of a line, if it is known
-abbrev pub word_of : List ℕ → Option Word
+abbrev pub word_of : List ℕ → Option ControlWord
 word_of text =
     if bytes_eq text (codes "list") then Some words.List
     else (if bytes_eq text (codes "join") then Some words.Join
@@ -37,18 +37,18 @@ word_of text =
     else (if bytes_eq text (codes "stop") then Some words.Stop else None)))))
 
 -- an id, an address
-abbrev pub take_id : List (List ℕ) → Result (ℕ × List (List ℕ)) LineFault
+abbrev pub take_id : List (List ℕ) → Result (ℕ × List (List ℕ)) WordFault
 take_id = argument BadId id_of
 
-abbrev pub take_peer : List (List ℕ) → Result (Address × List (List ℕ)) LineFault
+abbrev pub take_peer : List (List ℕ) → Result (Address × List (List ℕ)) WordFault
 take_peer = argument BadPeer address_of
 
 -- what a line says, where no words are left over
-abbrev pub alone : Said → List (List ℕ) → Result Said LineFault
+abbrev pub alone : Said → List (List ℕ) → Result Said WordFault
 alone said after = nothing_left Extra after >>= λ done. Ok said
 
 -- what the words after the first say
-unfoldable pub said_after : Word → List (List ℕ) → Result Said LineFault
+unfoldable pub said_after : ControlWord → List (List ℕ) → Result Said WordFault
 said_after words.List given = alone (Asks Lists) given
 said_after words.Join given = do
   id ← take_id given
@@ -64,19 +64,19 @@ said_after words.Stats given = alone (Asks Stats) given
 said_after words.Stop given = alone Stop given
 
 -- what the words after the first say, if that is known
-abbrev pub known_said : Option Word → List (List ℕ) → Result Said LineFault
+abbrev pub known_said : Option ControlWord → List (List ℕ) → Result Said WordFault
 known_said None after = Err UnknownWord
 known_said (Some word) after = said_after word after
 
-abbrev pub words_said : List (List ℕ) → Result Said LineFault
+abbrev pub words_said : List (List ℕ) → Result Said WordFault
 words_said [] = Err UnknownWord
 words_said (word ∷ after) = known_said (word_of word) after
 
 -- what a line says, that has at most 128 bytes
-abbrev pub line_said : List ℕ → Result Said LineFault
+abbrev pub line_said : List ℕ → Result Said WordFault
 line_said line = words_said (words_of line)
 
-abbrev pub said_by : Result Said LineFault → Result Said Fault
+abbrev pub said_by : Result Said WordFault → Result Said Fault
 said_by (Ok said) = Ok said
 said_by (Err fault) = Err (Words fault)
 

@@ -4,7 +4,7 @@ use Rattle.std.specs.Prelude.{◌≡◌, ℕ, ◌+◌, ◌<◌, ◌≤◌, true,
 use Rattle.std.specs.Io.KnownBytes.{Keeps}
 use Rattle.swim_text.specs.declared.short_lines.LineEnd.{LineEnd}
 use Rattle.swim_text.specs.ShortLines.{Advances}
-use Rattle.swim_control.specs.declared.desks.Command.{Command}
+use Rattle.swim_control.specs.declared.desks.DeskCommand.{DeskCommand}
 use Rattle.swim_control.specs.declared.connections.Close.TheVariants as closes
 use Rattle.swim_control.specs.declared.connections.Stand.{Stand}
 use Rattle.swim_control.specs.declared.connections.Stand.TheVariants.{Idle, Busy, Ended, Closed}
@@ -49,7 +49,7 @@ ReadsOn old new =
 
 -- a line ended so, it was answered, and what was put was handed on as far as it was taken; serving ends so with it, if
 -- it does
-pub record Answers {S : Type 0} (asks : S → Command → Told → S → Type 0) (now : ℕ) (old new : Talk) (desk after : S)
+pub record Answers {S : Type 0} (asks : S → DeskCommand → Told → S → Type 0) (now : ℕ) (old new : Talk) (desk after : S)
     (end : Option Served) : Type 0 where
   pub serving : IsServing old
   pub met : LineEnd
@@ -70,7 +70,7 @@ pub record Answers {S : Type 0} (asks : S → Command → Told → S → Type 0)
 
 -- what a turn at this moment does to a connection and to the desk, and how the connection stands then; for a minute it
 -- may send no whole line
-abbrev pub Turns : {S : Type 0} → (S → Command → Told → S → Type 0) → ℕ → Stand → Talk → Talk → S → S → Type 0
+abbrev pub Turns : {S : Type 0} → (S → DeskCommand → Told → S → Type 0) → ℕ → Stand → Talk → Talk → S → S → Type 0
 Turns asks now Idle old new desk after =
     (after ≡ desk) × (Hands now Idle old new ⊎ (ReadsOn old new × (now < old.since + 60000)))
 Turns asks now Busy old new desk after =
@@ -88,7 +88,7 @@ kept_at (Closed why) t = []
 kept_at stand t = t ∷ []
 
 -- the first connection has its turn, and is the last from then on, unless it was closed
-pub record TakesTurn {S : Type 0} (asks : S → Command → Told → S → Type 0) (now : ℕ) (stand : Stand)
+pub record TakesTurn {S : Type 0} (asks : S → DeskCommand → Told → S → Type 0) (now : ℕ) (stand : Stand)
     (old new : List Talk) (desk after : S) : Type 0 where
   pub first : Talk
   pub others : List Talk

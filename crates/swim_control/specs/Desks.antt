@@ -5,7 +5,8 @@ use Rattle.swim_history.specs.declared.rows.Row.{Row}
 use Rattle.swim_history.specs.declared.gaps.Gap.{Gap}
 use Rattle.swim_control.specs.declared.desks.Answer.{Answer}
 
--- the member table, if there is one; a member's widest gap, if there is one; the answer to a join or a removal; a text of
+-- the member table, if there is one; a member's widest gap, if there is one; the answer to a join or a removal; a text
+-- of
 -- counts
 pub data Told : Type 0 where
   Shows : (table : Option (ArrayVec Row)) → Told

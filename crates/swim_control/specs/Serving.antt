@@ -6,7 +6,7 @@ use Rattle.std.specs.Io.KnownBytes.{Appends}
 use Rattle.swim_text.specs.Lines.{pieces, has_feed}
 use Rattle.swim_text.specs.Streams.{one_more}
 use Rattle.swim_control.specs.declared.desks.Answer.TheVariants as answers
-use Rattle.swim_control.specs.declared.desks.Command.{Command}
+use Rattle.swim_control.specs.declared.desks.DeskCommand.{DeskCommand}
 use Rattle.swim_control.specs.declared.commands.Said.{Said}
 use Rattle.swim_control.specs.declared.commands.Said.TheVariants.{Stop, Asks}
 use Rattle.swim_control.specs.declared.faults.Fault.{Fault}
@@ -25,17 +25,17 @@ abbrev pub lines_of : List ℕ → List (List ℕ)
 lines_of text = reverse (pieces text)
 
 -- the commands after a line that says this
-abbrev pub commands_then : Result Said Fault → List Command → List Command
+abbrev pub commands_then : Result Said Fault → List DeskCommand → List DeskCommand
 commands_then (Ok (Asks command)) before = command ∷ before
 commands_then read before = before
 
 -- the commands that lines give the desk
-abbrev pub commands_in : List (List ℕ) → List Command
+abbrev pub commands_in : List (List ℕ) → List DeskCommand
 commands_in [] = []
 commands_in (line ∷ before) = commands_then (said line) (commands_in before)
 
 -- a run of a desk's relation: given these commands it told this, on its way from one state to another
-abbrev pub Tells : {S : Type 0} → (S → Command → Told → S → Type 0) → S → List Command → List Told → S → Type 0
+abbrev pub Tells : {S : Type 0} → (S → DeskCommand → Told → S → Type 0) → S → List DeskCommand → List Told → S → Type 0
 Tells asks first [] [] last = last ≡ first
 Tells {S = S} asks first (command ∷ commands) (told ∷ before) last =
     (mid : S) × (Tells asks first commands before mid × asks mid command told last)
@@ -137,7 +137,7 @@ Ends WriteFault read part rest told old new = IsPart part × AreCutOff (lines_of
 -- ---- on the way
 
 -- the whole lines that were read were answered, and serving goes on
-pub record Course {S : Type 0} (asks : S → Command → Told → S → Type 0) (text rest : List ℕ) (first now : S)
+pub record Course {S : Type 0} (asks : S → DeskCommand → Told → S → Type 0) (text rest : List ℕ) (first now : S)
     (old new : Option (List ℕ)) (reads : ℕ) : Type 0 where
   pub read : List ℕ
   pub whole : text ≡ read ++ rest
@@ -149,7 +149,8 @@ pub record Course {S : Type 0} (asks : S → Command → Told → S → Type 0) 
   pub written : Appends old new (output_of (lines_of read) told)
 
 -- the same of a text that is known
-abbrev pub CourseKnown : {S : Type 0} → (S → Command → Told → S → Type 0) → Option (List ℕ) → Option (List ℕ) → S → S →
+abbrev pub CourseKnown : {S : Type 0} → (S → DeskCommand → Told → S → Type 0) → Option (List ℕ) → Option (List ℕ) → S →
+    S →
     Option (List ℕ) → Option (List ℕ) → ℕ → Type 0
 CourseKnown asks None rest first now old new reads = Unit {0}
 CourseKnown asks (Some text) None first now old new reads = ⊥
@@ -158,7 +159,7 @@ CourseKnown asks (Some text) (Some rest) first now old new reads = Course asks t
 -- ---- the whole
 
 -- the text was served up to what is left of it: its lines gave the desk their commands, and it ended so
-pub record IsServed {S : Type 0} (asks : S → Command → Told → S → Type 0) (text rest : List ℕ) (first last : S)
+pub record IsServed {S : Type 0} (asks : S → DeskCommand → Told → S → Type 0) (text rest : List ℕ) (first last : S)
     (old new : Option (List ℕ)) (end : Served) : Type 0 where
   pub read : List ℕ
   pub part : List ℕ
@@ -169,7 +170,8 @@ pub record IsServed {S : Type 0} (asks : S → Command → Told → S → Type 0
   pub ends : Ends end read part rest told old new
 
 -- the same of a reader whose bytes are known
-abbrev pub IsServedKnown : {S : Type 0} → (S → Command → Told → S → Type 0) → Option (List ℕ) → Option (List ℕ) → S →
+abbrev pub IsServedKnown : {S : Type 0} → (S → DeskCommand → Told → S → Type 0) → Option (List ℕ) → Option (List ℕ) →
+    S →
     S → Option (List ℕ) → Option (List ℕ) → Served → Type 0
 IsServedKnown asks None rest first last old new end = Unit {0}
 IsServedKnown asks (Some text) None first last old new end = ⊥

@@ -1,10 +1,11 @@
 -- Connections that are served side by side, over all their turns: the answers to each are those to its whole lines, in
--- their order, each of which tells what the desk told in its own call; and the desk was called by all of them, call after
+-- their order, each of which tells what the desk told in its own call; and the desk was called by all of them, call
+-- after
 -- call. Lists of calls are newest first.
 use Rattle.std.specs.Prelude.{◌≡◌, ◌≢◌, ◌==◌, ℕ, ◌<◌, List, [], ◌∷◌, ◌++◌, Option, None, if◌then◌else◌, map}
 use Rattle.std.specs.List.{AllByRecursion}
 use Rattle.swim_text.specs.ShortLines.{IsTakenKnown}
-use Rattle.swim_control.specs.declared.desks.Command.{Command}
+use Rattle.swim_control.specs.declared.desks.DeskCommand.{DeskCommand}
 use Rattle.swim_control.specs.declared.connections.Stand.{Stand}
 use Rattle.swim_control.specs.declared.connections.Stand.TheVariants.{Ended}
 use Rattle.swim_control.specs.Desks.{Told}
@@ -14,11 +15,11 @@ use Rattle.swim_control.specs.Talks.{Talk, Talks}
 -- a call of the desk: the number of the connection that made it, the command, and what was told
 pub record Called : Type 0 where
   pub by : ℕ
-  pub command : Command
+  pub command : DeskCommand
   pub told : Told
 
 -- these calls, one after the other, led a desk from one state to another
-abbrev pub Leads : {S : Type 0} → (S → Command → Told → S → Type 0) → S → List Called → S → Type 0
+abbrev pub Leads : {S : Type 0} → (S → DeskCommand → Told → S → Type 0) → S → List Called → S → Type 0
 Leads asks first log last = Tells asks first (map (λ c. c.command) log) (map (λ c. c.told) log) last
 
 -- the calls of one connection
@@ -27,7 +28,7 @@ calls_by id [] = []
 calls_by id (c ∷ log) = if c.by == id then c ∷ calls_by id log else calls_by id log
 
 -- what a connection asks and is told joins its calls
-abbrev pub Joins : ℕ → List Called → Command → Told → List Called → Type 0
+abbrev pub Joins : ℕ → List Called → DeskCommand → Told → List Called → Type 0
 Joins id calls command told after = after ≡ record { by = id; command = command; told = told } ∷ calls
 
 -- what connections bring, and what was written for them before they came, by their numbers; `None` where it isn't known
@@ -62,9 +63,10 @@ IsServedTo b log (Ended end) talks =
 IsServedTo b log stand talks = Unit {0}
 
 -- with a turn the desk gets a call, or none, and all stay heard
-abbrev pub HearsOn : {S : Type 0} → (S → Command → Told → S → Type 0) → Stand → Talks → Talks → S → S → Type 0
+abbrev pub HearsOn : {S : Type 0} → (S → DeskCommand → Told → S → Type 0) → Stand → Talks → Talks → S → S → Type 0
 HearsOn {S = S} asks stand old new desk after =
-    (b : Brought) (first : S) (log : List Called) → Leads asks first log desk → AreHeard b log old → (more : List Called)
+    (b : Brought) (first : S) (log : List Called) → Leads asks first log desk → AreHeard b log old →
+    (more : List Called)
     × Leads asks first (more ++ log) after × AreHeard b (more ++ log) new × IsServedTo b (more ++ log) stand new.talks
 
 -- all stay heard with one that comes

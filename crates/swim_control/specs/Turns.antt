@@ -6,7 +6,7 @@ use Rattle.swim_text.specs.declared.short_lines.LineEnd.TheVariants as lines
 use Rattle.swim_text.specs.Streams.{Puts, PutsFront}
 use Rattle.swim_control.specs.declared.desks.Answer.{Answer}
 use Rattle.swim_control.specs.declared.desks.Answer.TheVariants as answers
-use Rattle.swim_control.specs.declared.desks.Command.{Command}
+use Rattle.swim_control.specs.declared.desks.DeskCommand.{DeskCommand}
 use Rattle.swim_control.specs.declared.commands.Said.{Said}
 use Rattle.swim_control.specs.declared.commands.Said.TheVariants.{Asks}
 use Rattle.swim_control.specs.declared.faults.Fault.{Fault}
@@ -29,14 +29,14 @@ closed true end = end
 closed false end = Some ends.WriteFault
 
 -- what the desk is asked by a line that says this, and what it tells: one command, or none
-abbrev pub Asked : {S : Type 0} → (S → Command → Told → S → Type 0) → Result Said Fault → S → List Told → S → Type 0
+abbrev pub Asked : {S : Type 0} → (S → DeskCommand → Told → S → Type 0) → Result Said Fault → S → List Told → S → Type 0
 Asked asks (Ok (Asks command)) now (answer ∷ []) after = asks now command answer after
 Asked asks (Ok (Asks command)) now told after = ⊥
 Asked asks read now [] after = after ≡ now
 Asked asks read now told after = ⊥
 
 -- the line was answered, and serving ends so with it, if it does
-pub record Turned {S : Type 0} (asks : S → Command → Told → S → Type 0) (read : Result Said Fault) (now after : S)
+pub record Turned {S : Type 0} (asks : S → DeskCommand → Told → S → Type 0) (read : Result Said Fault) (now after : S)
     (old new : Option (List ℕ)) (result : Option Served) : Type 0 where
   pub told : List Told
   pub asked : Asked asks read now told after
@@ -50,7 +50,7 @@ IsFaulted fault end old new result =
     (done : Bool) × Puts old new (fault_text fault) done × (result ≡ closed done (Some end))
 
 -- what the end of a line asks for was done, before anything is handed on
-abbrev pub Meets : {S : Type 0} → (S → Command → Told → S → Type 0) → LineEnd → List ℕ → S → S → Option (List ℕ) →
+abbrev pub Meets : {S : Type 0} → (S → DeskCommand → Told → S → Type 0) → LineEnd → List ℕ → S → S → Option (List ℕ) →
     Option (List ℕ) → Option Served → Type 0
 Meets asks lines.Feed line now after old new result = Turned asks (said_by (line_said line)) now after old new result
 Meets asks lines.Long line now after old new result = (after ≡ now) × IsFaulted LongLine ends.TooLong old new result

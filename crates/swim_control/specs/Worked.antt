@@ -1,8 +1,8 @@
 -- Worked lines: the definitions, evaluated on texts that were written down by hand.
 use Rattle.std.specs.Prelude.{◌≡◌, ℕ, List, [], ◌∷◌, ◌++◌, None, Ok, Err, codes, refl}
-use Rattle.swim_control.specs.declared.desks.Command.TheVariants.{List as Lists}
+use Rattle.swim_control.specs.declared.desks.DeskCommand.TheVariants.{List as Lists}
 use Rattle.swim_control.specs.declared.commands.Said.TheVariants.{Stop, Asks}
-use Rattle.swim_control.specs.declared.faults.LineFault.TheVariants.{UnknownWord, BadId, Extra}
+use Rattle.swim_control.specs.declared.faults.WordFault.TheVariants.{UnknownWord, BadId, Extra}
 use Rattle.swim_control.specs.declared.faults.Fault.TheVariants as faults
 use Rattle.swim_control.specs.Commands.{said, said_after}
 use Rattle.swim_control.specs.Desks.{Shows}

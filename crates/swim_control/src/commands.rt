@@ -3,8 +3,8 @@
 ghost use Rattle.std.specs.Prelude.{◌≡◌};
 ghost use Rattle.swim_control.specs.Commands.{word_of, said_after, line_said};
 
-use crate::desks::Command;
-use crate::faults::LineFault;
+use crate::desks::DeskCommand;
+use crate::faults::WordFault;
 use swim_text::Words;
 use swim_wire::{nothing_left, take_id, take_peer};
 
@@ -13,7 +13,7 @@ pub const LINE_BYTES: usize = 128;
 
 /// The first word of a line.
 #[derive(Clone, Copy, Debug, PartialEq, Eq)]
-pub enum Word {
+pub enum ControlWord {
     List,
     Join,
     Remove,
@@ -28,35 +28,35 @@ pub enum Said {
     /// That serving is to end.
     Stop,
     /// A command of the desk.
-    Asks(Command),
+    Asks(DeskCommand),
 }
 
 /// What a line says, or the first fault of its words.
-pub fn read_line(line: &[u8]) -> Result<Said, LineFault>
+pub fn read_line(line: &[u8]) -> Result<Said, WordFault>
     ensures { result ≡ line_said line.now }
 {
     let mut words = Words::new(line);
-    let first = words.next().ok_or(LineFault::UnknownWord)?;
-    let word = first_word(first).ok_or(LineFault::UnknownWord)?;
+    let first = words.next().ok_or(WordFault::UnknownWord)?;
+    let word = first_word(first).ok_or(WordFault::UnknownWord)?;
     read_command(word, &mut words)
 }
 
 /// The first word of a line, if it is known.
-fn first_word(text: &[u8]) -> Option<Word>
+fn first_word(text: &[u8]) -> Option<ControlWord>
     ensures { result ≡ word_of text.now }
 {
     if text == b"list".as_slice() {
-        Some(Word::List)
+        Some(ControlWord::List)
     } else if text == b"join".as_slice() {
-        Some(Word::Join)
+        Some(ControlWord::Join)
     } else if text == b"remove".as_slice() {
-        Some(Word::Remove)
+        Some(ControlWord::Remove)
     } else if text == b"gap".as_slice() {
-        Some(Word::Gap)
+        Some(ControlWord::Gap)
     } else if text == b"stats".as_slice() {
-        Some(Word::Stats)
+        Some(ControlWord::Stats)
     } else if text == b"stop".as_slice() {
-        Some(Word::Stop)
+        Some(ControlWord::Stop)
     } else {
         None
     }
@@ -64,36 +64,36 @@ fn first_word(text: &[u8]) -> Option<Word>
 
 /// What the words after the first say.
 #[tactic(auto, unfolding(crate::specs::Commands::said_after))]
-fn read_command(word: Word, words: &mut Words<'_>) -> Result<Said, LineFault>
+fn read_command(word: ControlWord, words: &mut Words<'_>) -> Result<Said, WordFault>
     ensures { result ≡ said_after word words.old }
 {
     match word {
-        Word::List => {
-            nothing_left(words, LineFault::Extra)?;
-            Ok(Said::Asks(Command::List))
+        ControlWord::List => {
+            nothing_left(words, WordFault::Extra)?;
+            Ok(Said::Asks(DeskCommand::List))
         }
-        Word::Join => {
-            let id = take_id(words, LineFault::BadId)?;
-            let peer = take_peer(words, LineFault::BadPeer)?;
-            nothing_left(words, LineFault::Extra)?;
-            Ok(Said::Asks(Command::Join(id, peer)))
+        ControlWord::Join => {
+            let id = take_id(words, WordFault::BadId)?;
+            let peer = take_peer(words, WordFault::BadPeer)?;
+            nothing_left(words, WordFault::Extra)?;
+            Ok(Said::Asks(DeskCommand::Join(id, peer)))
         }
-        Word::Remove => {
-            let id = take_id(words, LineFault::BadId)?;
-            nothing_left(words, LineFault::Extra)?;
-            Ok(Said::Asks(Command::Remove(id)))
+        ControlWord::Remove => {
+            let id = take_id(words, WordFault::BadId)?;
+            nothing_left(words, WordFault::Extra)?;
+            Ok(Said::Asks(DeskCommand::Remove(id)))
         }
-        Word::Gap => {
-            let id = take_id(words, LineFault::BadId)?;
-            nothing_left(words, LineFault::Extra)?;
-            Ok(Said::Asks(Command::Gap(id)))
+        ControlWord::Gap => {
+            let id = take_id(words, WordFault::BadId)?;
+            nothing_left(words, WordFault::Extra)?;
+            Ok(Said::Asks(DeskCommand::Gap(id)))
         }
-        Word::Stats => {
-            nothing_left(words, LineFault::Extra)?;
-            Ok(Said::Asks(Command::Stats))
+        ControlWord::Stats => {
+            nothing_left(words, WordFault::Extra)?;
+            Ok(Said::Asks(DeskCommand::Stats))
         }
-        Word::Stop => {
-            nothing_left(words, LineFault::Extra)?;
+        ControlWord::Stop => {
+            nothing_left(words, WordFault::Extra)?;
             Ok(Said::Stop)
         }
     }

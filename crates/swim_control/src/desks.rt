@@ -1,6 +1,6 @@
 //! Who is asked what control lines ask.
 
-ghost use Rattle.swim_control.specs.declared.desks.Command.{Command};
+ghost use Rattle.swim_control.specs.declared.desks.DeskCommand.{DeskCommand};
 ghost use Rattle.swim_control.specs.Desks.{Told, Shows, Measures, Answers, Counts};
 
 use arrayvec::ArrayVec;
@@ -11,7 +11,7 @@ use swim_wire::{Id, Peer};
 
 /// What a control line asks of a desk.
 #[derive(Clone, Copy, Debug, PartialEq, Eq)]
-pub enum Command {
+pub enum DeskCommand {
     /// Which members are known?
     List,
     /// The member joins, at this address.
@@ -49,25 +49,25 @@ pub enum Answer {
 /// call may wait.
 pub trait Desk {
     /// The desk before, a command, what it tells, and the desk after.
-    ghost asks: { Self → Command → Told → Self → Type 0 };
+    ghost asks: { Self → DeskCommand → Told → Self → Type 0 };
 
     /// The members that are known, ascending by id; `None` where there is no table any more.
     fn list<R: Wait>(&mut self, rt: &R) -> Option<Table>
-        ensures { asks self.old Command.List (Shows result) self.new };
+        ensures { asks self.old DeskCommand.List (Shows result) self.new };
 
     /// Lets a member join.
     fn join<R: Wait>(&mut self, rt: &R, alloc: Global, id: Id, peer: Peer) -> Answer
-        ensures { asks self.old (Command.Join id peer) (Answers result) self.new };
+        ensures { asks self.old (DeskCommand.Join id peer) (Answers result) self.new };
 
     /// Removes a member.
     fn remove<R: Wait>(&mut self, rt: &R, alloc: Global, id: Id) -> Answer
-        ensures { asks self.old (Command.Remove id) (Answers result) self.new };
+        ensures { asks self.old (DeskCommand.Remove id) (Answers result) self.new };
 
     /// The widest gap between successive probes of a member, if there is one.
     fn gap<R: Wait>(&mut self, rt: &R, id: Id) -> Option<Gap>
-        ensures { asks self.old (Command.Gap id) (Measures result) self.new };
+        ensures { asks self.old (DeskCommand.Gap id) (Measures result) self.new };
 
     /// What was counted.
     fn stats<R: Wait>(&mut self, rt: &R) -> StatsText
-        ensures { asks self.old Command.Stats (Counts result) self.new };
+        ensures { asks self.old DeskCommand.Stats (Counts result) self.new };
 }

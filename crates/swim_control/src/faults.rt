@@ -5,7 +5,7 @@ ghost use Rattle.swim_control.specs.Commands.{fault_number};
 
 /// What is wrong with the words of a line.
 #[derive(Clone, Copy, Debug, PartialEq, Eq)]
-pub enum LineFault {
+pub enum WordFault {
     /// An unknown first word.
     UnknownWord,
     /// A missing or refused id.
@@ -24,7 +24,7 @@ pub enum Fault {
     /// The input ended within the line.
     Unended,
     /// Its words are wrong.
-    Words(LineFault),
+    Words(WordFault),
 }
 
 impl Fault {
@@ -34,10 +34,10 @@ impl Fault {
     {
         match self {
             Fault::LongLine => 1,
-            Fault::Words(LineFault::UnknownWord) => 2,
-            Fault::Words(LineFault::BadId) => 3,
-            Fault::Words(LineFault::BadPeer) => 4,
-            Fault::Words(LineFault::Extra) => 5,
+            Fault::Words(WordFault::UnknownWord) => 2,
+            Fault::Words(WordFault::BadId) => 3,
+            Fault::Words(WordFault::BadPeer) => 4,
+            Fault::Words(WordFault::Extra) => 5,
             Fault::Unended => 6,
         }
     }

@@ -1,6 +1,7 @@
 //! Connections that take turns.
 
-ghost use Rattle.std.specs.Prelude.{◌≡◌, ◌⊎◌, ◌↔◌, ◌+◌, ◌-◌, ◌^◌, ◌≤◌, [], ◌∷◌, ◌++◌, IsTrue, MatchOption, IfSome, length};
+ghost use Rattle.std.specs.Prelude.{◌≡◌, ◌⊎◌, ◌↔◌, ◌+◌, ◌-◌, ◌^◌, ◌≤◌, [], ◌∷◌, ◌++◌, IsTrue, MatchOption, IfSome};
+ghost use Rattle.std.specs.Prelude.{length};
 ghost use Rattle.std.specs.Bool.{MatchBool};
 ghost use Rattle.swim_control.specs.Connections.{TakesTurn, newcomer};
 ghost use Rattle.swim_control.specs.SideBySide.{Brought, AreHeard, HearsOn, HearsNewcomer};

@@ -64,8 +64,8 @@ pub fn serve<R: Wait, S: Source, W: Sink, D: Desk>(
                     return send(writer, end);
                 }
             }
-            LineEnd::Long => return tell(writer, Fault::LongLine, Served::TooLong),
-            LineEnd::Unended => return tell(writer, Fault::Unended, Served::Unended),
+            LineEnd::Long => return end_with_fault(writer, Fault::LongLine, Served::TooLong),
+            LineEnd::Unended => return end_with_fault(writer, Fault::Unended, Served::Unended),
             LineEnd::Over => return send(writer, Served::Ended),
             LineEnd::Spent => return send(writer, Served::ReadFault),
             LineEnd::Failed => return Served::ReadFault,
@@ -75,7 +75,7 @@ pub fn serve<R: Wait, S: Source, W: Sink, D: Desk>(
 }
 
 /// Writes the fault of a last line, and hands it on.
-fn tell<W: Sink>(writer: &mut W, fault: Fault, end: Served) -> Served
+fn end_with_fault<W: Sink>(writer: &mut W, fault: Fault, end: Served) -> Served
     requires { is_write_fault (Some end) ≡ false }
     ensures told { IsLast (W.written writer.old) (W.written writer.new) (fault_text fault) end result }
     ensures failures { W.failures writer.new ≡ failures_if (W.failures writer.old)

@@ -9,7 +9,7 @@ ghost use Rattle.swim_control.specs.Texts.{fault_text};
 ghost use Rattle.swim_control.specs.Turns.{Turned, IsFaulted, Meets, end_of_answer, closed};
 
 use crate::commands::{Said, read_line};
-use crate::desks::{Answer, Command, Desk};
+use crate::desks::{Answer, Desk, DeskCommand};
 use crate::faults::Fault;
 use crate::serving::Served;
 use crate::texts::{put_answer, put_counts, put_fault, put_list};
@@ -69,7 +69,7 @@ fn put_end<W: Sink>(writer: &mut W, fault: Fault, end: Served) -> Option<Served>
 fn carry_out<R: Wait, W: Sink, D: Desk>(
     rt: &R,
     alloc: Global,
-    command: Command,
+    command: DeskCommand,
     writer: &mut W,
     desk: &mut D,
 ) -> Option<Served>
@@ -78,23 +78,23 @@ fn carry_out<R: Wait, W: Sink, D: Desk>(
     ensures failures { W.failures writer.new ≡ failures_if (W.failures writer.old) (not (is_write_fault result)) }
 {
     match command {
-        Command::List => {
+        DeskCommand::List => {
             let table = desk.list(rt);
             close(put_list(writer, &table), None)
         }
-        Command::Gap(id) => {
+        DeskCommand::Gap(id) => {
             let gap = desk.gap(rt, id);
             close(put_gap(writer, gap), None)
         }
-        Command::Stats => {
+        DeskCommand::Stats => {
             let text = desk.stats(rt);
             close(put_counts(writer, &text), None)
         }
-        Command::Join(id, peer) => {
+        DeskCommand::Join(id, peer) => {
             let answer = desk.join(rt, alloc, id, peer);
             close(put_answer(writer, answer), end_of(answer))
         }
-        Command::Remove(id) => {
+        DeskCommand::Remove(id) => {
             let answer = desk.remove(rt, alloc, id);
             close(put_answer(writer, answer), end_of(answer))
         }

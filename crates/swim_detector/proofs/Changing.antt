@@ -13,7 +13,8 @@ use Rattle.swim_history.specs.Run.{Answers}
 use Rattle.swim_detector.specs.Recording.{IsChangeOf}
 
 -- one that is refused changes nothing
-pub no_change_refused : (o : Setting) (h : List Entry) (id : ℕ) (peer : Address) (why : Refusal) → Answers o h (Join id peer) (Refused why) Nothing → IsChangeOf o h (Join id peer) None
+pub no_change_refused : (o : Setting) (h : List Entry) (id : ℕ) (peer : Address) (why : Refusal) →
+    Answers o h (Join id peer) (Refused why) Nothing → IsChangeOf o h (Join id peer) None
 no_change_refused o h id peer Myself r (Joined place) Nothing a = absurd (a.0 r)
 no_change_refused o h id peer Listed r (Joined place) Nothing a = absurd (false≢true (sym a.1 ∙ r.1))
 no_change_refused o h id peer Full r (Joined place) Nothing a = absurd (a.2 r.1 r.2)

@@ -12,13 +12,16 @@ use Rattle.swim_history.specs.Laws.Table.{listed_row, table_bound}
 use Rattle.swim_history.specs.Laws.Listed.{listed_once, listed_bound}
 
 -- a member whose row is up is up at its address
-pub row_up : (o : Setting) (h : List Entry) (id : ℕ) (row : Row) → row_of o h id ≡ Some row → row.state ≡ Up → row_of o h id ≡ Some (up id row.peer)
+pub row_up : (o : Setting) (h : List Entry) (id : ℕ) (row : Row) → row_of o h id ≡ Some row → row.state ≡ Up →
+    row_of o h id ≡ Some (up id row.peer)
 row_up o h id row found is =
     let at = listed_row o h id (rw (found, is) refl) in
-    at.1 ∙ ap (λ peer. Some (up id peer)) (sym (ap (λ (row : Row). row.peer) (same_Some row (up id at.0) (sym found ∙ at.1))))
+    at.1 ∙ ap (λ peer. Some (up id peer))
+    (sym (ap (λ (row : Row). row.peer) (same_Some row (up id at.0) (sym found ∙ at.1))))
 
 -- a member whose row failed isn't listed
-pub row_down : (o : Setting) (h : List Entry) (id number : ℕ) (row : Row) → row_of o h id ≡ Some row → row.state ≡ Failed number → is_listed o h id ≡ false
+pub row_down : (o : Setting) (h : List Entry) (id number : ℕ) (row : Row) → row_of o h id ≡ Some row →
+    row.state ≡ Failed number → is_listed o h id ≡ false
 row_down o h id number row found is = rw (found, is) refl
 
 -- the members of an opening that are up

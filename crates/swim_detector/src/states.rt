@@ -40,8 +40,8 @@ impl State {
         }
     }
 
-    /// Answers a call that follows the journal, and tells whether a round begins by it. The order that was drawn is then
-    /// that in which the members are listed.
+    /// Answers a call that follows the journal, and tells whether a round begins by it. The order that was drawn is
+    /// then that in which the members are listed.
     // What answers writes the reply where it is to stand, since a reply is large to be moved.
     pub(crate) fn answer<C: Chooser>(
         &mut self,

@@ -11,12 +11,23 @@ mod versions;
 
 use arrayvec::ArrayVec;
 use std::alloc::Global;
+use std::fmt::Debug;
 use std::process::Abort;
 use std::test::*;
 use swim_detector::Recorder;
 use swim_history::{Call, Opening, Probe, Relay, Reply, Row, RowState};
 use swim_targets::{Order, Scripted};
 use swim_wire::{Id, Kind, Message, Peer, PeriodNumber, Version};
+
+// The two are the same. A call of this is proved at once, and an `assert_eq!` in some seconds.
+fn assert_same<T: PartialEq + Debug, R: Abort>(rt: &R, left: &T, right: &T) {
+    assert_eq!(rt; *left, *right);
+}
+
+// The same, of what stands at a place.
+fn assert_same_at<T: PartialEq + Debug, R: Abort>(rt: &R, place: u32, left: &T, right: &T) {
+    assert_eq!(rt; *left, *right, "at {place}");
+}
 
 fn id(number: u32) -> Id {
     Id::new(number).unwrap_or_default()
@@ -38,7 +49,8 @@ fn order_of(numbers: &[u32]) -> Order {
     order
 }
 
-// Member 1, which knows these others, with a timeout of one tick and a period of three. Its own messages are of version 1.
+// Member 1, which knows these others, with a timeout of one tick and a period of three. Its own messages are of version
+// 1.
 fn opening<R: Abort>(rt: &R, k: u32, others: &[u8], last: u64) -> Opening {
     opening_in(rt, k, others, last, Version::One)
 }

@@ -17,10 +17,12 @@ use Rattle.swim_events.specs.Texts.{change_text, life_text, table_text}
 use Rattle.swim_events.specs.Watchers.{AtWatcher, IsStream, after_sent, after_text}
 use Rattle.swim_events.specs.Guests.{AreSent, AtGuest, Grows, IsTurn, IsUntaken, kept_if, newcomer, put_text, told_of}
 use Rattle.swim_events.specs.Watched.{IsWatchedOver, Lived, lived_on}
-use Rattle.swim_events.specs.Telling.{AreTexts, AreTextsOver, AreTold, IsGuestTold, IsTaken, IsTelling, IsTellingOver, life_texts}
+use Rattle.swim_events.specs.Telling.{AreTexts, AreTextsOver, AreTold, IsGuestTold, IsTaken, IsTelling, IsTellingOver}
+use Rattle.swim_events.specs.Telling.{life_texts}
 use Rattle.swim_events.proofs.Streaming.{put_streams, sent_streams}
 
-texts_both : (first second : List Change) → map change_text first ++ map change_text second ≡ map change_text (first ++ second)
+texts_both : (first second : List Change) →
+    map change_text first ++ map change_text second ≡ map change_text (first ++ second)
 texts_both [] second = refl
 texts_both (change ∷ first) second = ap (λ l. change_text change ∷ l) (texts_both first second)
 
@@ -60,12 +62,14 @@ told_then None w = w
 told_then (Some change) w = after_text (change_text change) w
 
 stream_next : (change : Option Change) (first : List ℕ) (texts : List (List ℕ)) (sent : List ℕ) (w : AtWatcher) →
-    IsStream first texts sent w → IsStream first (texts ++ map change_text (option_to_list change)) sent (told_then change w)
+    IsStream first texts sent w →
+    IsStream first (texts ++ map change_text (option_to_list change)) sent (told_then change w)
 stream_next None first texts sent w is =
     subst (λ (l : List (List ℕ)). IsStream first l sent w) (sym (append-nil texts)) is
 stream_next (Some change) first texts sent w is = put_streams first texts sent (change_text change) w is
 
-telling_next : (life : Lived) (older : List Lived) (e : Entry) (change : Option Change) (sent : List ℕ) (w : AtWatcher) →
+telling_next : (life : Lived) (older : List Lived) (e : Entry) (change : Option Change) (sent : List ℕ)
+    (w : AtWatcher) →
     change_by e.call e.reply (period_number life.opening life.past) ≡ change → IsTellingOver (life ∷ older) sent w →
     IsTellingOver (lived_on life e ∷ older) sent (told_then change w)
 telling_next life older e change sent w made is = by is.since is.cut is.are
@@ -81,8 +85,10 @@ telling_next life older e change sent w made is = by is.since is.cut is.are
           cut = ap (λ l. lived_on life e ∷ l) (cc cut);
           first = is.first;
           texts = is.texts ++ map change_text (option_to_list change);
-          are = subst (λ c. AreTextsOver (lived_on life e ∷ since) is.first (is.texts ++ map change_text (option_to_list c))) made
-              (texts_next life since e is.first is.texts (subst (λ (l : Lived). AreTextsOver (l ∷ since) is.first is.texts) same are));
+          are = subst (λ c. AreTextsOver (lived_on life e ∷ since) is.first
+              (is.texts ++ map change_text (option_to_list c))) made
+              (texts_next life since e is.first is.texts
+              (subst (λ (l : Lived). AreTextsOver (l ∷ since) is.first is.texts) same are));
           stream = stream_next change is.first is.texts sent w is.stream;
         }
 
@@ -101,7 +107,8 @@ told_next life older e (Some change) (g ∷ guests) made are = (
   told_next life older e (Some change) guests made are.1,
 )
 
-telling_life : (lives : List Lived) (number : ℕ) (o : Setting) (sent : List ℕ) (w : AtWatcher) → IsTellingOver lives sent w →
+telling_life : (lives : List Lived) (number : ℕ) (o : Setting) (sent : List ℕ) (w : AtWatcher) →
+    IsTellingOver lives sent w →
     IsTellingOver (record { number = number; opening = o; past = [] } ∷ lives) sent (after_text (life_text number) w)
 telling_life lives number o sent w is = record {
   since = begun ∷ is.since;
@@ -117,7 +124,8 @@ telling_life lives number o sent w is = record {
     begun = record { number = number; opening = o; past = [] }
 
     by : (since : List Lived) → AreTextsOver since is.first is.texts →
-        AreTextsOver (record { number = number; opening = o; past = [] } ∷ since) is.first (is.texts ++ life_text number ∷ [])
+        AreTextsOver (record { number = number; opening = o; past = [] } ∷ since) is.first
+        (is.texts ++ life_text number ∷ [])
     by [] are = absurd are
     by (before ∷ since) are = (is.texts, are, refl)
 
@@ -135,7 +143,8 @@ untaken : (taken : Option (List ℕ)) → IsUntaken taken → IsTaken taken []
 untaken None none = tt
 untaken (Some taken) none = sym none
 
-pub told_newcomer : (life : Lived) (older : List Lived) (rows : List Row) (taken : Option (List ℕ)) (offers : Option (List Offer)) →
+pub told_newcomer : (life : Lived) (older : List Lived) (rows : List Row) (taken : Option (List ℕ))
+    (offers : Option (List Offer)) →
     rows ≡ table life.opening life.past → IsUntaken taken → IsGuestTold (life ∷ older) (newcomer rows taken offers)
 told_newcomer life older rows taken offers are none = (
   [],
@@ -159,13 +168,15 @@ told_newcomer life older rows taken offers are none = (
   },
 )
 
-pub told_with : (lives : List Lived) (guests : List AtGuest) (g : AtGuest) → AreTold lives guests → IsGuestTold lives g →
+pub told_with : (lives : List Lived) (guests : List AtGuest) (g : AtGuest) → AreTold lives guests →
+    IsGuestTold lives g →
     AreTold lives (guests ++ g ∷ [])
 told_with lives [] g are is = (is, tt)
 told_with lives (first ∷ guests) g are is = (are.0, told_with lives guests g are.1 is)
 
 -- what an outlet took more
-taken_more : (old new : Option (List ℕ)) (sent more : List ℕ) → IsTaken old sent → Grows old new more → IsTaken new (sent ++ more)
+taken_more : (old new : Option (List ℕ)) (sent more : List ℕ) → IsTaken old sent → Grows old new more →
+    IsTaken new (sent ++ more)
 taken_more None None sent more is grows = tt
 taken_more None (Some new) sent more is grows = absurd grows
 taken_more (Some old) None sent more is grows = absurd grows
@@ -208,7 +219,8 @@ told_turn lives old new Gone goes_on turn is = (
   subst (λ (w : AtWatcher). IsTellingOver lives is.0 w) (sym turn.watcher) is.2,
 )
 
-told_kept : (lives : List Lived) (goes_on : Bool) (g : AtGuest) (rest : List AtGuest) → IsGuestTold lives g → AreTold lives rest →
+told_kept : (lives : List Lived) (goes_on : Bool) (g : AtGuest) (rest : List AtGuest) → IsGuestTold lives g →
+    AreTold lives rest →
     AreTold lives (kept_if goes_on g ++ rest)
 told_kept lives true g rest is are = (is, are)
 told_kept lives false g rest is are = are
@@ -242,11 +254,16 @@ watched_texts (life ∷ before ∷ older) first texts are = (
       ∙ sym (append_assoc first (concat are.0) (concat (life_texts life))),
 )
 
-pub told_all : (lives : List Lived) (sent : List ℕ) (w : AtWatcher) → IsTellingOver lives sent w → w.standing ≡ Following →
+pub told_all : (lives : List Lived) (sent : List ℕ) (w : AtWatcher) → IsTellingOver lives sent w →
+    w.standing ≡ Following →
     (since : List Lived) × (older : List Lived) × (lives ≡ since ++ older) × IsWatchedOver since (sent ++ w.pending)
 told_all lives sent w is keeps =
-    let stream : sent ++ w.pending ≡ is.first ++ concat is.texts = rw keeps at is.stream in
-    (is.since, is.older, is.cut, subst (λ (t : List ℕ). IsWatchedOver is.since t) (sym stream) (watched_texts is.since is.first is.texts is.are))
+    let stream : sent ++ w.pending ≡ is.first ++ concat is.texts = rw keeps at is.stream in (
+      is.since,
+      is.older,
+      is.cut,
+      subst (λ (t : List ℕ). IsWatchedOver is.since t) (sym stream) (watched_texts is.since is.first is.texts is.are),
+    )
 
 -- who came in the only life is told its history
 pub told_of_one : (life : Lived) (sent : List ℕ) (w : AtWatcher) → IsTellingOver (life ∷ []) sent w →

@@ -1,5 +1,6 @@
 -- What is known of a run, one entry on.
-use Rattle.std.proofs.Common.{◌≡◌, ℕ, ◌+◌, ◌-◌, ◌^◌, ◌<◌, ◌≤◌, min, Bool, true, false, cond, List, ◌∷◌, length, Option, Some, None, refl, sym, ap, subst, ◌∙◌, arith}
+use Rattle.std.proofs.Common.{◌≡◌, ℕ, ◌+◌, ◌-◌, ◌^◌, ◌<◌, ◌≤◌, min, Bool, true, false, cond, List, ◌∷◌, length, Option}
+use Rattle.std.proofs.Common.{Some, None, refl, sym, ap, subst, ◌∙◌, arith}
 use Rattle.std.proofs.lemmas.Bool.{le-leb}
 use Rattle.std.specs.Option.{option_to_list}
 use Rattle.swim_history.specs.declared.rows.Row.{Row}
@@ -42,9 +43,11 @@ known_next o h e s run =
     )
 
 -- the same, as a reader has it
-pub known_then : (o : Setting) (h : List Entry) (e : Entry) (call : Call) (reply : Reply) (change : Option Change) (old new : Known) →
+pub known_then : (o : Setting) (h : List Entry) (e : Entry) (call : Call) (reply : Reply) (change : Option Change)
+    (old new : Known) →
     IsSetting o → IsRun o (e ∷ h) → e.call ≡ call → e.reply ≡ reply → old ≡ known o h →
-    change ≡ change_by call reply old.number → new.rows ≡ rows_then change old.rows → new.number ≡ number_then reply old.number →
+    change ≡ change_by call reply old.number → new.rows ≡ rows_then change old.rows →
+    new.number ≡ number_then reply old.number →
     new ≡ known o (e ∷ h)
 known_then o h e call reply change old new s run calls replies is changed rows number =
     let next = known_next o h e s run in

@@ -1,5 +1,6 @@
 -- The table that is made of lines.
-use Rattle.std.proofs.Common.{◌≡◌, ℕ, Bool, true, false, cond, nat_lt, eqb, not, List, [], ◌∷◌, ◌++◌, map, refl, sym, ap, ◌∙◌}
+use Rattle.std.proofs.Common.{◌≡◌, ℕ, Bool, true, false, cond, nat_lt, eqb, not, List, [], ◌∷◌, ◌++◌, map, refl, sym}
+use Rattle.std.proofs.Common.{ap, ◌∙◌}
 use Rattle.std.proofs.lemmas.Bool.{lt-ltb}
 use Rattle.swim_history.specs.declared.rows.Row.{Row}
 use Rattle.swim_history.specs.declared.rows.RowState.{RowState}
@@ -23,7 +24,8 @@ names row = by row.state
     by states.Up = refl
     by (states.Failed number) = refl
 
-pub goes_on_rows : (o : Setting) (h before : List Entry) (later : List Change) → changes o h ≡ changes o before ++ later →
+pub goes_on_rows : (o : Setting) (h before : List Entry) (later : List Change) →
+    changes o h ≡ changes o before ++ later →
     table o h ≡ rows_after (table o before) later
 goes_on_rows o h before later goes_on =
     ap (rows_after (ascending o.rows)) goes_on ∙ rows_after-append (ascending o.rows) (changes o before) later
@@ -71,10 +73,12 @@ failed_shown id number (row ∷ rows) =
     shown_choice (eqb row.id id) (failed number row) row
     ∙ ap (λ (m : ℕ). cond (eqb m id) (Failed m number) (shown row)) (sym (names row)) in
     ap (λ (line : Change). line ∷ map shown (after_change (Failed id number) rows)) first
-    ∙ ap (λ (lines : List Change). cond (eqb (member_of (shown row)) id) (Failed (member_of (shown row)) number) (shown row) ∷ lines)
+    ∙ ap (λ (lines : List Change). cond (eqb (member_of (shown row)) id) (Failed (member_of (shown row)) number)
+    (shown row) ∷ lines)
     (failed_shown id number rows)
 
-gone_shown : (id : ℕ) (rows : List Row) → map shown (after_change (Gone id) rows) ≡ lines_then (Gone id) (map shown rows)
+gone_shown : (id : ℕ) (rows : List Row) →
+    map shown (after_change (Gone id) rows) ≡ lines_then (Gone id) (map shown rows)
 gone_shown id [] = refl
 gone_shown id (row ∷ rows) = rw (names row) (by (not (eqb row.id id)) (gone_shown id rows))
   where
@@ -84,13 +88,15 @@ gone_shown id (row ∷ rows) = rw (names row) (by (not (eqb row.id id)) (gone_sh
     by true again = ap (λ l. shown row ∷ l) again
     by false again = again
 
-change_shown : (change : Change) (rows : List Row) → map shown (after_change change rows) ≡ lines_then change (map shown rows)
+change_shown : (change : Change) (rows : List Row) →
+    map shown (after_change change rows) ≡ lines_then change (map shown rows)
 change_shown (Up id peer) rows = put_shown (up id peer) rows
 change_shown (Failed id number) rows = failed_shown id number rows
 change_shown (Gone id) rows = gone_shown id rows
 
 -- the table's lines are those that its changes make of the first ones
-pub lines_are : (rows : List Row) (later : List Change) → map shown (rows_after rows later) ≡ lines_after (map shown rows) later
+pub lines_are : (rows : List Row) (later : List Change) →
+    map shown (rows_after rows later) ≡ lines_after (map shown rows) later
 lines_are rows [] = refl
 lines_are rows (change ∷ later) =
     lines_are (after_change change rows) later ∙ ap (λ lines. lines_after lines later) (change_shown change rows)

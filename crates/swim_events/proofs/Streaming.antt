@@ -1,12 +1,14 @@
 -- The stream of what was sent and is to be sent, as texts are put and bytes are sent.
-use Rattle.std.proofs.Common.{◌≡◌, ℕ, Bool, true, false, cond, List, [], ◌∷◌, ◌++◌, take, drop, refl, sym, ap, subst, ◌∙◌, append_assoc, append-nil}
+use Rattle.std.proofs.Common.{◌≡◌, ℕ, Bool, true, false, cond, List, [], ◌∷◌, ◌++◌, take, drop, refl, sym, ap, subst}
+use Rattle.std.proofs.Common.{◌∙◌, append_assoc, append-nil}
 use Rattle.std.proofs.lemmas.List.{take-append-drop}
 use Rattle.std.proofs.lemmas.List.Folds.{concat-append}
 use Rattle.std.specs.List.{concat}
 use Rattle.swim_events.specs.declared.watchers.WatcherStanding.{WatcherStanding}
 use Rattle.swim_events.specs.declared.watchers.WatcherStanding.TheVariants.{Following, Losing, Lost}
 use Rattle.swim_events.specs.Texts.{lost_text}
-use Rattle.swim_events.specs.Watchers.{AtWatcher, fits, losing, text_then, after_text, left_then, after_sent, IsFront, Streams, IsStream}
+use Rattle.swim_events.specs.Watchers.{AtWatcher, fits, losing, text_then, after_text, left_then, after_sent, IsFront}
+use Rattle.swim_events.specs.Watchers.{Streams, IsStream}
 
 -- the first texts stay so where more texts come
 front_more : (first : List ℕ) (texts : List (List ℕ)) (text stream : List ℕ) → IsFront first texts stream →
@@ -20,17 +22,20 @@ front_more first texts text stream front = record {
 }
 
 -- who can't be told all any more
-losing_streams : (first : List ℕ) (texts : List (List ℕ)) (sent pending : List ℕ) → IsFront first texts (sent ++ pending) →
+losing_streams : (first : List ℕ) (texts : List (List ℕ)) (sent pending : List ℕ) →
+    IsFront first texts (sent ++ pending) →
     IsStream first texts sent (losing pending)
 losing_streams first texts sent pending front = by (fits pending lost_text)
   where
     by : (fit : Bool) → IsStream first texts sent
-        (cond fit (record { pending = pending ++ lost_text; standing = Lost }) (record { pending = pending; standing = Losing }))
+        (cond fit (record { pending = pending ++ lost_text; standing = Lost })
+        (record { pending = pending; standing = Losing }))
     by true = (sent ++ pending, front, sym (append_assoc sent pending lost_text))
     by false = front
 
 text_streams : (standing : WatcherStanding) (first : List ℕ) (texts : List (List ℕ)) (sent pending text : List ℕ) →
-    Streams standing first texts (sent ++ pending) → IsStream first (texts ++ text ∷ []) sent (text_then standing text pending)
+    Streams standing first texts (sent ++ pending) →
+    IsStream first (texts ++ text ∷ []) sent (text_then standing text pending)
 text_streams Following first texts sent pending text all = by (fits pending text)
   where
     more : concat texts ++ text ≡ concat (texts ++ text ∷ [])
@@ -51,7 +56,8 @@ text_streams Losing first texts sent pending text front = front_more first texts
 text_streams Lost first texts sent pending text lost = (lost.0, front_more first texts text lost.0 lost.1, lost.2)
 
 -- a text was put
-pub put_streams : (first : List ℕ) (texts : List (List ℕ)) (sent text : List ℕ) (w : AtWatcher) → IsStream first texts sent w →
+pub put_streams : (first : List ℕ) (texts : List (List ℕ)) (sent text : List ℕ) (w : AtWatcher) →
+    IsStream first texts sent w →
     IsStream first (texts ++ text ∷ []) sent (after_text text w)
 put_streams first texts sent text w is = text_streams w.standing first texts sent w.pending text is
 
@@ -77,19 +83,22 @@ lost_now : (pending : List ℕ) → (losing pending).standing ≡ Following → 
 lost_now pending = by (fits pending lost_text)
   where
     by : (fit : Bool) →
-        (cond {A = AtWatcher} fit (record { pending = pending ++ lost_text; standing = Lost }) (record { pending = pending; standing = Losing })).standing
+        (cond {A = AtWatcher} fit (record { pending = pending ++ lost_text; standing = Lost })
+        (record { pending = pending; standing = Losing })).standing
         ≡ Following → ⊥
     by true is = cc is
     by false is = cc is
 
-kept_text : (standing : WatcherStanding) (text pending : List ℕ) → (text_then standing text pending).standing ≡ Following →
+kept_text : (standing : WatcherStanding) (text pending : List ℕ) →
+    (text_then standing text pending).standing ≡ Following →
     (standing ≡ Following) × ((text_then standing text pending).pending ≡ pending ++ text)
 kept_text Following text pending keeps = by (fits pending text) keeps
   where
     after : Bool → AtWatcher
     after fit = cond fit (record { pending = pending ++ text; standing = Following }) (losing pending)
 
-    by : (fit : Bool) → (after fit).standing ≡ Following → (Following ≡ Following) × ((after fit).pending ≡ pending ++ text)
+    by : (fit : Bool) → (after fit).standing ≡ Following →
+        (Following ≡ Following) × ((after fit).pending ≡ pending ++ text)
     by true is = (refl, refl)
     by false is = absurd (lost_now pending is)
 kept_text Losing text pending is = absurd (cc is)

@@ -1,5 +1,6 @@
 -- What a watcher was told is the table of a beginning of a history, and changes of entries after it.
-use Rattle.std.proofs.Common.{◌≡◌, ◌⊎◌, ℕ, List, [], ◌∷◌, ◌++◌, length, map, Option, Some, None, refl, sym, ap, ◌∙◌, inl, inr, append_assoc, append-nil, length-append, arith}
+use Rattle.std.proofs.Common.{◌≡◌, ◌⊎◌, ℕ, List, [], ◌∷◌, ◌++◌, length, map, Option, Some, None, refl, sym, ap, ◌∙◌}
+use Rattle.std.proofs.Common.{inl, inr, append_assoc, append-nil, length-append, arith}
 use Rattle.std.specs.Option.{option_to_list}
 use Rattle.swim_history.specs.declared.rows.Change.{Change}
 use Rattle.swim_history.specs.declared.entries.Entry.{Entry}
@@ -59,17 +60,26 @@ record Until (o : Setting) (h before : List Entry) (told : List Change) : Type 0
   pub cut : h ≡ newer ++ (between ++ before)
   pub told_is : changes o (between ++ before) ≡ told
 
-until : (o : Setting) (newer before : List Entry) (told rest : List Change) (more : List Change) → told ≡ changes o before ++ more →
+until : (o : Setting) (newer before : List Entry) (told rest : List Change) (more : List Change) →
+    told ≡ changes o before ++ more →
     changes o (newer ++ before) ≡ told ++ rest → Until o (newer ++ before) before told
 until o [] before told rest more is all =
     record { newer = []; between = []; cut = refl; told_is = none more rest is all }
   where
-    none : (more rest : List Change) → told ≡ changes o before ++ more → changes o before ≡ told ++ rest → changes o before ≡ told
+    none : (more rest : List Change) → told ≡ changes o before ++ more → changes o before ≡ told ++ rest →
+        changes o before ≡ told
     none more [] is all = all ∙ append-nil told
     none more (x ∷ rest) is all =
-        absurd (omega (arith, ap length is, ap length all, length-append (changes o before) more, length-append told (x ∷ rest)))
+        absurd (omega (
+          arith,
+          ap length is,
+          ap length all,
+          length-append (changes o before) more,
+          length-append told (x ∷ rest),
+        ))
 until o (e ∷ newer) before told rest more is all =
-    by (change_by e.call e.reply (period_number o (newer ++ before))) all (λ left same. until o newer before told left more is same)
+    by (change_by e.call e.reply (period_number o (newer ++ before))) all
+    (λ left same. until o newer before told left more is same)
   where
     longer : Until o (newer ++ before) before told → Until o (e ∷ newer ++ before) before told
     longer u = record { newer = e ∷ u.newer; between = u.between; cut = ap (λ l. e ∷ l) u.cut; told_is = u.told_is }
@@ -89,7 +99,8 @@ until o (e ∷ newer) before told rest more is all =
           | inr found ↦ longer (again found.0 found.1)
         ]
 
-changes_texts : (first second : List Change) → changes_text first ++ changes_text second ≡ changes_text (first ++ second)
+changes_texts : (first second : List Change) →
+    changes_text first ++ changes_text second ≡ changes_text (first ++ second)
 changes_texts [] second = refl
 changes_texts (change ∷ first) second =
     append_assoc (change_text change) (changes_text first) (changes_text second)
@@ -135,7 +146,8 @@ cut_short : (o : Setting) (h newer before : List Entry) (later : List Change) (s
 cut_short o h newer before later stream cut goes_on front =
     by (part_of later front.whole (front.unfit ∷ front.rest) front.cut)
   where
-    told_until : (first : List Change) → map change_text first ≡ front.whole → Until o (newer ++ before) before (changes o before ++ first) →
+    told_until : (first : List Change) → map change_text first ≡ front.whole →
+        Until o (newer ++ before) before (changes o before ++ first) →
         IsCutShort o h stream
     told_until first texts u = record {
       newer = u.newer;
@@ -158,12 +170,14 @@ cut_short o h newer before later stream cut goes_on front =
         (part_after o h newer before later part.first part.more cut goes_on part.cut))
 
 -- what a watcher was told
-pub told : (o : Setting) (h newer before : List Entry) (later : List Change) (sent : List ℕ) (w : AtWatcher) → h ≡ newer ++ before →
+pub told : (o : Setting) (h newer before : List Entry) (later : List Change) (sent : List ℕ) (w : AtWatcher) →
+    h ≡ newer ++ before →
     changes o h ≡ changes o before ++ later → IsStream (table_text (table o before)) (map change_text later) sent w →
     IsTold w.standing o h (sent ++ w.pending)
 told o h newer before later sent w cut goes_on is = by w.standing (sent ++ w.pending) is
   where
-    by : (standing : WatcherStanding) (stream : List ℕ) → Streams standing (table_text (table o before)) (map change_text later) stream →
+    by : (standing : WatcherStanding) (stream : List ℕ) →
+        Streams standing (table_text (table o before)) (map change_text later) stream →
         IsTold standing o h stream
     by Following stream is =
         record { newer = newer; before = before; cut = cut; later = later; goes_on = goes_on; text_is = is }

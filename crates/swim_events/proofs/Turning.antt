@@ -1,5 +1,6 @@
 -- One after the other of those who watch, each of whom is the last then.
-use Rattle.std.proofs.Common.{◌≡◌, ℕ, zero, suc, ◌+◌, ◌<◌, Bool, List, [], ◌∷◌, ◌++◌, length, map, take, drop, refl, sym, ap, ◌∙◌, subst, arith, append_assoc, append-nil}
+use Rattle.std.proofs.Common.{◌≡◌, ℕ, zero, suc, ◌+◌, ◌<◌, Bool, List, [], ◌∷◌, ◌++◌, length, map, take, drop, refl}
+use Rattle.std.proofs.Common.{sym, ap, ◌∙◌, subst, arith, append_assoc, append-nil}
 use Rattle.swim_events.specs.declared.outlets.Offer.{Offer}
 use Rattle.swim_events.specs.Guests.{AreSent, AtGuest, IsTurn, TakesTurn, kept_if}
 
@@ -20,22 +21,30 @@ map_one f [] x = refl
 map_one f (y ∷ xs) x = ap (λ l. f y ∷ l) (map_one f xs x)
 
 -- one more was changed
-pub one_changed : {A : Type 0} (f : A → A) (old now new : List A) (i : ℕ) → i < length old → now ≡ drop i old ++ map f (take i old) →
+pub one_changed : {A : Type 0} (f : A → A) (old now new : List A) (i : ℕ) → i < length old →
+    now ≡ drop i old ++ map f (take i old) →
     ((first : A) (others : List A) → now ≡ first ∷ others → new ≡ others ++ f first ∷ []) →
     new ≡ drop (i + 1) old ++ map f (take (i + 1) old)
 one_changed {A} f old now new i within is changed =
     let e : suc i ≡ i + 1 = omega arith in
     let here = at_place old i within in
-    let there : now ≡ here.x ∷ (drop (suc i) old ++ map f (take i old)) = is ∙ ap (λ l. l ++ map f (take i old)) here.rest in
+    let there : now ≡ here.x ∷ (drop (suc i) old ++ map f (take i old)) = is ∙
+    ap (λ l. l ++ map f (take i old)) here.rest in
     subst (λ n. new ≡ drop n old ++ map f (take n old)) e
     (changed here.x (drop (suc i) old ++ map f (take i old)) there
     ∙ append_assoc (drop (suc i) old) (map f (take i old)) (f here.x ∷ [])
     ∙ ap (λ l. drop (suc i) old ++ l) (map_one f (take i old) here.x ∙ ap (map f) (sym here.front)))
 
-sent_more : (old done : List AtGuest) (first : AtGuest) (offer : Offer) (then_so : AtGuest) (goes_on : Bool) → AreSent old done →
+sent_more : (old done : List AtGuest) (first : AtGuest) (offer : Offer) (then_so : AtGuest) (goes_on : Bool) →
+    AreSent old done →
     IsTurn first offer then_so goes_on → AreSent (old ++ first ∷ []) (done ++ kept_if goes_on then_so)
-sent_more [] done first offer then_so goes_on are turn =
-    (offer, then_so, goes_on, turn, ([], refl, ap (λ l. l ++ kept_if goes_on then_so) are ∙ sym (append-nil (kept_if goes_on then_so))))
+sent_more [] done first offer then_so goes_on are turn = (
+  offer,
+  then_so,
+  goes_on,
+  turn,
+  ([], refl, ap (λ l. l ++ kept_if goes_on then_so) are ∙ sym (append-nil (kept_if goes_on then_so))),
+)
 sent_more (g ∷ old) done first offer then_so goes_on are turn = (
   are.0,
   are.1,
@@ -44,7 +53,8 @@ sent_more (g ∷ old) done first offer then_so goes_on are turn = (
   (
     are.4.0 ++ kept_if goes_on then_so,
     sent_more old are.4.0 first offer then_so goes_on are.4.1 turn,
-    ap (λ l. l ++ kept_if goes_on then_so) are.4.2 ∙ append_assoc (kept_if are.2 are.1) are.4.0 (kept_if goes_on then_so),
+    ap (λ l. l ++ kept_if goes_on then_so) are.4.2 ∙
+        append_assoc (kept_if are.2 are.1) are.4.0 (kept_if goes_on then_so),
   ),
 )
 

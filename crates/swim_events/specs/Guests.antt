@@ -1,5 +1,6 @@
 -- Those who watch, each with what its outlet took.
-use Rattle.std.specs.Prelude.{◌≡◌, ◌⊎◌, ◌↔◌, ℕ, ◌≤◌, Bool, true, false, List, [], ◌∷◌, ◌++◌, length, take, map, Option, Some, None}
+use Rattle.std.specs.Prelude.{◌≡◌, ◌⊎◌, ◌↔◌, ℕ, ◌≤◌, Bool, true, false, List, [], ◌∷◌, ◌++◌, length, take, map, Option}
+use Rattle.std.specs.Prelude.{Some, None}
 use Rattle.swim_history.specs.declared.rows.Row.{Row}
 use Rattle.swim_history.specs.declared.rows.Change.{Change}
 use Rattle.swim_events.specs.declared.outlets.Offer.{Offer}
@@ -54,7 +55,8 @@ after_offer (Took count) w = after_sent count w
 after_offer Full w = w
 after_offer Gone w = w
 
--- a turn: all that was to be sent was offered, and what was taken of it is to be sent no more. There is no other turn where
+-- a turn: all that was to be sent was offered, and what was taken of it is to be sent no more. There is no other turn
+-- where
 -- nobody takes it any more, and where the watcher was told of its loss
 pub record IsTurn (old : AtGuest) (offer : Offer) (new : AtGuest) (goes_on : Bool) : Type 0 where
   pub takes : Takes offer old.watcher.pending old.taken new.taken

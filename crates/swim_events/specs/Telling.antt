@@ -9,7 +9,8 @@ use Rattle.swim_events.specs.Texts.{change_text, life_text, table_text}
 use Rattle.swim_events.specs.Watched.{Lived}
 use Rattle.swim_events.specs.Watchers.{AtWatcher, IsStream}
 
--- a watcher who was put the table of a beginning of the history, and then the change of each entry after it, and to whom
+-- a watcher who was put the table of a beginning of the history, and then the change of each entry after it, and to
+-- whom
 -- these bytes were sent
 pub record IsTelling (o : Setting) (h : List Entry) (sent : List ℕ) (w : AtWatcher) : Type 0 where
   pub newer : List Entry
@@ -19,7 +20,8 @@ pub record IsTelling (o : Setting) (h : List Entry) (sent : List ℕ) (w : AtWat
   pub goes_on : changes o h ≡ changes o before ++ later
   pub stream : IsStream (table_text (table o before)) (map change_text later) sent w
 
--- the text that is told first, and those that follow, to who came in this life: the table of a beginning, and the changes after
+-- the text that is told first, and those that follow, to who came in this life: the table of a beginning, and the
+-- changes after
 -- it
 pub record AreTexts (life : Lived) (first : List ℕ) (texts : List (List ℕ)) : Type 0 where
   pub newer : List Entry
@@ -34,14 +36,16 @@ pub record AreTexts (life : Lived) (first : List ℕ) (texts : List (List ℕ)) 
 abbrev pub life_texts : Lived → List (List ℕ)
 life_texts life = life_text life.number ∷ map change_text (changes life.opening life.past)
 
--- the same over lives, the newest first, to who came in the oldest of them: of each later one its line and all its changes
+-- the same over lives, the newest first, to who came in the oldest of them: of each later one its line and all its
+-- changes
 abbrev pub AreTextsOver : List Lived → List ℕ → List (List ℕ) → Type 0
 AreTextsOver [] first texts = ⊥
 AreTextsOver (life ∷ []) first texts = AreTexts life first texts
 AreTextsOver (life ∷ before ∷ older) first texts =
     (earlier : List (List ℕ)) × AreTextsOver (before ∷ older) first earlier × (texts ≡ earlier ++ life_texts life)
 
--- a watcher who came in one of these lives, the newest first, and was put the texts from there on, and to whom these bytes were
+-- a watcher who came in one of these lives, the newest first, and was put the texts from there on, and to whom these
+-- bytes were
 -- sent
 pub record IsTellingOver (lives : List Lived) (sent : List ℕ) (w : AtWatcher) : Type 0 where
   pub since : List Lived

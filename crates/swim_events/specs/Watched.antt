@@ -42,7 +42,8 @@ pub record Lived : Type 0 where
   pub opening : Setting
   pub past : List Entry
 
--- what a watcher was told over lives, the newest first, who came in the oldest of them: there as above, and of each later one
+-- what a watcher was told over lives, the newest first, who came in the oldest of them: there as above, and of each
+-- later one
 -- its line and the changes of all its entries
 abbrev pub IsWatchedOver : List Lived → List ℕ → Type 0
 IsWatchedOver [] text = ⊥
@@ -71,7 +72,8 @@ put_line new (line ∷ lines) =
 
 abbrev pub lines_then : Change → List Change → List Change
 lines_then (Up id peer) lines = put_line (Up id peer) lines
-lines_then (Failed id number) lines = map (λ line. if member_of line == id then Failed (member_of line) number else line) lines
+lines_then (Failed id number) lines =
+    map (λ line. if member_of line == id then Failed (member_of line) number else line) lines
 lines_then (Gone id) lines = filter (λ line. not (member_of line == id)) lines
 
 -- after changes, the first of them first

@@ -60,14 +60,16 @@ pub record IsFront (first : List ℕ) (texts : List (List ℕ)) (stream : List �
   pub cut : texts ≡ whole ++ unfit ∷ rest
   pub stream_is : stream ≡ first ++ concat whole
 
--- a stream of a first text and others: all of them, or those before the one that didn't fit, and then `lost`, which may not
+-- a stream of a first text and others: all of them, or those before the one that didn't fit, and then `lost`, which may
+-- not
 -- have fitted yet
 abbrev pub Streams : WatcherStanding → List ℕ → List (List ℕ) → List ℕ → Type 0
 Streams Following first texts stream = stream ≡ first ++ concat texts
 Streams Losing first texts stream = IsFront first texts stream
 Streams Lost first texts stream = (front : List ℕ) × IsFront first texts front × (stream ≡ front ++ lost_text)
 
--- where these texts were put behind a first one, and these bytes were sent, what was sent and what is to be sent is a stream
+-- where these texts were put behind a first one, and these bytes were sent, what was sent and what is to be sent is a
+-- stream
 -- of the texts
 abbrev pub IsStream : List ℕ → List (List ℕ) → List ℕ → AtWatcher → Type 0
 IsStream first texts sent w = Streams w.standing first texts (sent ++ w.pending)

@@ -21,7 +21,8 @@ use swim_history::{KNOWN_MEMBERS, Row};
 /// How many may watch at a time.
 pub const MOST_WATCHERS: usize = 64;
 
-/// All who watch, each with its outlet. None of them waits for another. A contract sees them, in the order in which they came.
+/// All who watch, each with its outlet. None of them waits for another. A contract sees them, in the order in which
+/// they came.
 #[derive(Drop)]
 pub struct Gallery<E: Outlet + Drop> {
     queue: VecDeque<Guest<E>>,

@@ -8,8 +8,8 @@ use crate::outlets::{Offer, Outlet};
 use crate::watchers::Watcher;
 use std::marker::Model;
 
-/// One who watches: what is to be sent, and where it goes. The outlet stands in a box, since nothing is known of its size. A
-/// contract sees the watcher, what its outlet took, and what became of each offer to it.
+/// One who watches: what is to be sent, and where it goes. The outlet stands in a box, since nothing is known of its
+/// size. A contract sees the watcher, what its outlet took, and what became of each offer to it.
 #[derive(Drop)]
 pub(crate) struct Guest<E: Outlet + Drop> {
     watcher: Watcher,
@@ -55,8 +55,8 @@ impl<E: Outlet + Drop> Guest<E> {
         self.watcher.is_losing()
     }
 
-    /// Offers all that is to be sent, and answers whether there is to be another turn: not where nobody takes it any more,
-    /// and not where it was told of its loss.
+    /// Offers all that is to be sent, and answers whether there is to be another turn: not where nobody takes it any
+    /// more, and not where it was told of its loss.
     pub(crate) fn turn(&mut self) -> bool
         ensures { (offer : Offered) × IsTurn self.old offer self.new result }
     {

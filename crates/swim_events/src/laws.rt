@@ -16,8 +16,8 @@ ghost use Rattle.swim_events.specs.Telling.{IsTelling, IsTellingOver};
 ghost use Rattle.swim_events.specs.Watched.{IsTold, IsWatched, IsWatchedOver, Lived, lines_after, lived_on};
 
 /// Who is put the table first, and later the change of each entry, is told the table of a beginning of the history and
-/// then just these changes, while it keeps up, whatever was sent of it so far. Who doesn't keep up is told the same of a
-/// beginning of the history, and that it is lost.
+/// then just these changes, while it keeps up, whatever was sent of it so far. Who doesn't keep up is told the same of
+/// a beginning of the history, and that it is lost.
 pub fn watchers_are_told_the_changes()
     ensures begins { (o : Setting) (h : List Entry) →
         IsTelling o h [] (record { pending = table_text (table o h); standing = Following }) }
@@ -27,8 +27,8 @@ pub fn watchers_are_told_the_changes()
         IsTelling o h sent w → IsTold w.standing o h (sent ++ w.pending) }
 {}
 
-/// Who watches over lives and keeps up was told the table of a beginning of the life in which it came, the changes after it,
-/// and of each later life its line and all its changes; who came in the only life, is told its history.
+/// Who watches over lives and keeps up was told the table of a beginning of the life in which it came, the changes
+/// after it, and of each later life its line and all its changes; who came in the only life, is told its history.
 pub fn watchers_are_told_the_lives()
     ensures keeps_up { (lives : List Lived) (sent : List ℕ) (w : AtWatcher) → IsTellingOver lives sent w →
         w.standing ≡ Following →
@@ -45,7 +45,8 @@ pub fn a_watcher_goes_on_by_entries()
         (text ++ changes_text (option_to_list (change_by e.call e.reply (period_number o h)))) }
 {}
 
-/// So it does over lives: a life begins with its line, whatever it starts from, and goes on with the change of each entry.
+/// So it does over lives: a life begins with its line, whatever it starts from, and goes on with the change of each
+/// entry.
 pub fn a_watcher_goes_on_over_lives()
     ensures begins { (lives : List Lived) (number : ℕ) (o : Setting) (text : List ℕ) → IsWatchedOver lives text →
         IsWatchedOver (record { number = number; opening = o; past = [] } ∷ lives) (text ++ life_text number) }

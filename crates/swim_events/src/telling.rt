@@ -16,8 +16,8 @@ use crate::outlets::Outlet;
 use crate::watching::Watching;
 use swim_history::{Call, Change, Reply};
 
-/// Goes one entry on, and tells its change, if it makes one, to all who watch. Where the entries are those of a run, what is
-/// known is the run's with this entry, and all who were told the run are told it with this entry.
+/// Goes one entry on, and tells its change, if it makes one, to all who watch. Where the entries are those of a run,
+/// what is known is the run's with this entry, and all who were told the run are told it with this entry.
 pub fn tell_next<E: Outlet + Drop>(
     watching: &mut Watching,
     gallery: &mut Gallery<E>,

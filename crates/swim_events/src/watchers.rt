@@ -1,6 +1,7 @@
 //! What is to be sent to a watcher.
 
-ghost use Rattle.std.specs.Prelude.{◌≡◌, ◌≤◌, ◌+◌, ◌*◌, ◌++◌, ◌∷◌, [], ◌↔◌, ℕ, List, IsTrue, IfOk, OnOk, length, take, drop};
+ghost use Rattle.std.specs.Prelude.{◌≡◌, ◌≤◌, ◌+◌, ◌*◌, ◌++◌, ◌∷◌, [], ◌↔◌, ℕ, List, IsTrue, IfOk, OnOk, length, take};
+ghost use Rattle.std.specs.Prelude.{drop};
 ghost use Rattle.std.specs.Vec.{vec_capacity};
 ghost use Rattle.swim_events.specs.Texts.{rows_text, table_text};
 ghost use Rattle.swim_events.specs.Watchers.{after_text, after_sent, IsStream, is_behind, losing};
@@ -24,9 +25,9 @@ pub enum WatcherStanding {
     Lost,
 }
 
-/// What is to be sent to a watcher. It takes texts whole or not at all, and the first that doesn't fit is the end: then it
-/// takes nothing more but the line `lost`, as soon as that fits. A contract sees the bytes that are to be sent, and whether
-/// the watcher keeps up.
+/// What is to be sent to a watcher. It takes texts whole or not at all, and the first that doesn't fit is the end: then
+/// it takes nothing more but the line `lost`, as soon as that fits. A contract sees the bytes that are to be sent, and
+/// whether the watcher keeps up.
 #[derive(Drop)]
 pub struct Watcher {
     pending: Vec<u8>,

@@ -1,5 +1,6 @@
 -- The judgements that are told are those of the history.
-use Rattle.std.proofs.Common.{◌≡◌, ℕ, Bool, true, false, cond, List, [], ◌∷◌, ◌++◌, length, map, ◌-◌, Option, Some, None, refl, sym, ap, ap₂, subst, ◌∙◌, append_assoc}
+use Rattle.std.proofs.Common.{◌≡◌, ℕ, Bool, true, false, cond, List, [], ◌∷◌, ◌++◌, length, map, ◌-◌, Option, Some}
+use Rattle.std.proofs.Common.{None, refl, sym, ap, ap₂, subst, ◌∙◌, append_assoc}
 use Rattle.std.proofs.lemmas.Bool.{or_parts}
 use Rattle.std.specs.Prelude.{slice_get}
 use Rattle.std.specs.List.{list_any}
@@ -20,12 +21,14 @@ use Rattle.swim_evidence.specs.declared.findings.Finding.{Finding}
 use Rattle.swim_evidence.specs.declared.findings.Finding.TheVariants.{Late, Other}
 use Rattle.swim_evidence.specs.declared.findings.Stray.{Stray}
 use Rattle.swim_evidence.specs.declared.trails.Probing.{Probing}
-use Rattle.swim_evidence.specs.Evidence.{probing, strays, judged_by_starts, is_judged, stray_in, late, found_in, findings, told_in, judgements_told}
+use Rattle.swim_evidence.specs.Evidence.{probing, strays, judged_by_starts, is_judged, stray_in, late, found_in}
+use Rattle.swim_evidence.specs.Evidence.{findings, told_in, judgements_told}
 
 judgements_told-append : (xs ys : List Finding) → judgements_told (xs ++ ys) ≡ judgements_told xs ++ judgements_told ys
 judgements_told-append [] ys = refl
 judgements_told-append (x ∷ xs) ys =
-    ap (λ t. told_in x ++ t) (judgements_told-append xs ys) ∙ sym (append_assoc (told_in x) (judgements_told xs) (judgements_told ys))
+    ap (λ t. told_in x ++ t) (judgements_told-append xs ys) ∙
+    sym (append_assoc (told_in x) (judgements_told xs) (judgements_told ys))
 
 -- strays are no judgements
 none_of_strays : (xs : List Stray) → judgements_told (map Other xs) ≡ []
@@ -40,7 +43,8 @@ none_late judged last (Some stray) = by (is_judged (slice_get judged (stray.numb
   by false = refl
 
 -- the start of the period that runs
-probing_at : (period : List Entry) (start : Entry) (before : List Entry) (probe : Probe) → list_any is_start period ≡ false →
+probing_at : (period : List Entry) (start : Entry) (before : List Entry) (probe : Probe) →
+    list_any is_start period ≡ false →
     is_start start ≡ true → probe_in start.reply ≡ Some probe →
     probing (period ++ start ∷ before) ≡ Some (record { place = length before; probe = probe })
 probing_at [] start before probe none starts probes = rw (starts, probes) refl
@@ -75,9 +79,12 @@ told_of o h call (Started (Some m) probe) s run rule =
     rw (p.1, none_of_strays (strays h), p.2) refl
 told_of o h call reply s run rule = none_late (judged_by_starts h) o.last (stray_in (length h) call reply)
 
-pub judgements_are_told : (o : Setting) (h : List Entry) → IsSetting o → IsRun o h → judgements_told (findings o h) ≡ judgements o h
+pub judgements_are_told : (o : Setting) (h : List Entry) → IsSetting o → IsRun o h →
+    judgements_told (findings o h) ≡ judgements o h
 judgements_are_told o [] s run = refl
 judgements_are_told o (e ∷ before) s run =
-    let rule : (m : ℕ) → judged_in e.reply ≡ Some m → EndsUnheard o before m = λ m is. (judges_by_rule o (e ∷ before) s run [] e before refl (starts_where e.reply m is) m).0 is in
+    let rule : (m : ℕ) → judged_in e.reply ≡ Some m →
+    EndsUnheard o before m =
+    λ m is. (judges_by_rule o (e ∷ before) s run [] e before refl (starts_where e.reply m is) m).0 is in
     judgements_told-append (findings o before) (found_in o before e.call e.reply)
     ∙ ap₂ (λ x y. x ++ y) (judgements_are_told o before s run.1) (told_of o before e.call e.reply s run.1 rule)

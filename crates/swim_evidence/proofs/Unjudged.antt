@@ -1,5 +1,6 @@
 -- Histories that judge nobody.
-use Rattle.std.proofs.Common.{◌≡◌, ℕ, ◌+◌, ◌-◌, Bool, true, false, cond, List, [], ◌∷◌, ◌++◌, length, Option, Some, None, refl, sym, ap, ◌∙◌, length-append, inl, inr, arith, rules}
+use Rattle.std.proofs.Common.{◌≡◌, ℕ, ◌+◌, ◌-◌, Bool, true, false, cond, List, [], ◌∷◌, ◌++◌, length, Option, Some}
+use Rattle.std.proofs.Common.{None, refl, sym, ap, ◌∙◌, length-append, inl, inr, arith, rules}
 use Rattle.std.specs.Prelude.{slice_get}
 use Rattle.std.specs.List.{All}
 use Rattle.std.proofs.lemmas.List.{nil_from_length}
@@ -67,7 +68,8 @@ unjudged o [] is = (search rules, refl)
 unjudged o (e ∷ before) is =
     let newest = option_to_list (judgement (period_number o before) (judged_in e.reply)) in
     let count = length-append (judgements o before) newest in
-    let earlier : judgements o before ≡ [] = nil_from_length (judgements o before) (omega (arith, ap length is, count)) in
+    let earlier : judgements o before ≡ [] =
+    nil_from_length (judgements o before) (omega (arith, ap length is, count)) in
     let none : judged_in e.reply ≡ None =
     nobody (period_number o before) (judged_in e.reply) (nil_from_length newest (omega (arith, ap length is, count))) in
     let rest = unjudged o before earlier in (

@@ -1,5 +1,6 @@
 -- What is heard over a line is the texts of the datagrams of the line below.
-use Rattle.std.proofs.Common.{◌≡◌, ℕ, List, [], ◌∷◌, ◌++◌, length, take, drop, map, Option, Some, None, refl, sym, subst, ◌∙◌, ap, append_assoc, append-nil}
+use Rattle.std.proofs.Common.{◌≡◌, ℕ, List, [], ◌∷◌, ◌++◌, length, take, drop, map, Option, Some, None, refl, sym}
+use Rattle.std.proofs.Common.{subst, ◌∙◌, ap, append_assoc, append-nil}
 use Rattle.std.proofs.lemmas.Grind.{flat_map-append}
 use Rattle.std.specs.Option.{option_map, option_to_list}
 use Rattle.std.proofs.lemmas.List.{take-append-drop, length-take, take_min}
@@ -16,14 +17,17 @@ use Rattle.swim_guard.specs.Guarded.{text_by, with_text, given, handed_on, datag
 in_front : (text tag bytes : List ℕ) (count : ℕ) → take count bytes ≡ text ++ tag → take (length text) bytes ≡ text
 in_front text tag bytes count is =
     let whole : bytes ≡ text ++ (tag ++ drop count bytes) =
-    sym (take-append-drop count bytes) ∙ ap (λ front. front ++ drop count bytes) is ∙ append_assoc text tag (drop count bytes) in
+    sym (take-append-drop count bytes) ∙ ap (λ front. front ++ drop count bytes) is ∙
+    append_assoc text tag (drop count bytes) in
     ap (λ all. take (length text) all) whole ∙ take-append_seam text (tag ++ drop count bytes)
 
 -- a text stands in front of the buffer
-text_in_front : (keys : Option Keyring) (count : ℕ) (bytes text : List ℕ) → text_by keys (take count bytes) ≡ Some text →
+text_in_front : (keys : Option Keyring) (count : ℕ) (bytes text : List ℕ) →
+    text_by keys (take count bytes) ≡ Some text →
     take (length text) bytes ≡ text
 text_in_front None count bytes text is =
-    subst (λ (t : List ℕ). take (length t) bytes ≡ t) (cc is) (ap (λ n. take n bytes) (length-take count bytes) ∙ take_min count bytes)
+    subst (λ (t : List ℕ). take (length t) bytes ≡ t) (cc is)
+    (ap (λ n. take n bytes) (length-take count bytes) ∙ take_min count bytes)
 text_in_front (Some ring) count bytes text is =
     let was = sealed_when_opened ring (take count bytes) text is in
     in_front text (tag_of was.0 text) bytes count was.2
@@ -38,14 +42,17 @@ given_text source bytes (Some text) front = ap (λ x. Some (source, x)) (front t
 pub heard_as_text : (keys : Option Keyring) (got : Got) (bytes : List ℕ) →
     option_to_list (datagram_in (given keys got bytes) bytes) ≡ texts_of keys (option_to_list (datagram_in got bytes))
 heard_as_text keys (Datagram count source) bytes =
-    ap option_to_list (given_text source bytes (text_by keys (take count bytes)) (λ text is. text_in_front keys count bytes text is))
+    ap option_to_list (given_text source bytes (text_by keys (take count bytes))
+    (λ text is. text_in_front keys count bytes text is))
     ∙ sym (append-nil _)
 heard_as_text keys Idle bytes = refl
 heard_as_text keys Fault bytes = refl
 
-pub heard_are_the_texts : (keys : Option Keyring) (rs : List Received) → datagrams (map (handed_on keys) rs) ≡ texts_of keys (datagrams rs)
+pub heard_are_the_texts : (keys : Option Keyring) (rs : List Received) →
+    datagrams (map (handed_on keys) rs) ≡ texts_of keys (datagrams rs)
 heard_are_the_texts keys [] = refl
 heard_are_the_texts keys (r ∷ rs) =
     ap (λ front. front ++ datagrams (map (handed_on keys) rs)) (heard_as_text keys r.got r.bytes)
     ∙ ap (λ rest. texts_of keys (option_to_list (datagram_in r.got r.bytes)) ++ rest) (heard_are_the_texts keys rs)
-    ∙ sym (flat_map-append (λ d. option_to_list (text_of keys d)) (option_to_list (datagram_in r.got r.bytes)) (datagrams rs))
+    ∙ sym (flat_map-append (λ d. option_to_list (text_of keys d)) (option_to_list (datagram_in r.got r.bytes))
+    (datagrams rs))

@@ -1,5 +1,6 @@
 -- What passed over a fenced line is what passed by all that happened to its fence.
-use Rattle.std.proofs.Common.{◌≡◌, ℕ, ◌+◌, ◌-◌, ◌*◌, ◌<◌, ◌≤◌, Bool, ◌&&◌, List, [], ◌∷◌, ◌++◌, map, cond, refl, sym, ap, subst, ◌∙◌}
+use Rattle.std.proofs.Common.{◌≡◌, ℕ, ◌+◌, ◌-◌, ◌*◌, ◌<◌, ◌≤◌, Bool, ◌&&◌, List, [], ◌∷◌, ◌++◌, map, cond, refl, sym}
+use Rattle.std.proofs.Common.{ap, subst, ◌∙◌}
 use Rattle.swim_wire.specs.Address.{Address}
 use Rattle.swim_fence.specs.Buckets.{price}
 use Rattle.swim_fence.specs.Fences.{Kept, Follows}
@@ -14,7 +15,8 @@ record Stepped (old : Kept) (steps : List Step) (before : List Event) (new : Kep
   pub follows : Follows new (map event_of steps ++ before)
   pub passed : passed_from a steps ≡ passed_of_member a old.rate (map event_of steps) before
 
-stepped : (old new : Kept) (steps : List Step) (before : List Event) (a : Address) → Follows old before → AreSteps old steps new →
+stepped : (old new : Kept) (steps : List Step) (before : List Event) (a : Address) → Follows old before →
+    AreSteps old steps new →
     Stepped old steps before new a
 stepped old new [] before a follows are = record {
   rate = ap (λ k. k.rate) are;
@@ -25,7 +27,8 @@ stepped old new (Came from now passed ∷ steps) before a follows are =
     let so = stepped old are.0 steps before a follows are.1 in
     let is = are.2 in
     let h = map event_of steps ++ before in
-    let passes_so : passed ≡ passes old.rate h from now = is.passes h so.follows ∙ ap (λ rate. passes rate h from now) so.rate in
+    let passes_so : passed ≡ passes old.rate h from now = is.passes h so.follows ∙
+    ap (λ rate. passes rate h from now) so.rate in
     record {
       rate = is.happens.rate ∙ so.rate;
       follows = is.happens.follows h so.follows;
@@ -40,10 +43,12 @@ stepped old new (Shown members ∷ steps) before a follows are =
       passed = so.passed;
     }
 
-pub passed_within_a_span : (old new : Kept) (steps : List Step) (before : List Event) (a : Address) (start end : ℕ) → 0 < old.rate →
+pub passed_within_a_span : (old new : Kept) (steps : List Step) (before : List Event) (a : Address) (start end : ℕ) →
+    0 < old.rate →
     Follows old before → AreSteps old steps new →
     StaysListed a (map event_of steps) before → AreAskedWithin start end (map event_of steps) →
     passed_from a steps * price ≤ old.rate * price + old.rate * (end - start)
 passed_within_a_span old new steps before a start end some follows are listed within =
-    subst (λ n. n * price ≤ old.rate * price + old.rate * (end - start)) (sym (stepped old new steps before a follows are).passed)
+    subst (λ n. n * price ≤ old.rate * price + old.rate * (end - start))
+    (sym (stepped old new steps before a follows are).passed)
     (member_within old.rate start end a (map event_of steps) before some listed within)

@@ -1,5 +1,6 @@
 -- What is handed on over a fence.
-use Rattle.std.specs.Prelude.{◌≡◌, ℕ, ◌+◌, ◌≤◌, Bool, true, false, ◌&&◌, List, [], ◌∷◌, Option, Some, None, if◌then◌else◌}
+use Rattle.std.specs.Prelude.{◌≡◌, ℕ, ◌+◌, ◌≤◌, Bool, true, false, ◌&&◌, List, [], ◌∷◌, Option, Some, None}
+use Rattle.std.specs.Prelude.{if◌then◌else◌}
 use Rattle.swim_wire.specs.Address.{Address}
 use Rattle.swim_fence.specs.Fences.{Kept, Follows}
 use Rattle.swim_fence.specs.Histories.{Event, is_same, passes}
@@ -11,7 +12,8 @@ use Rattle.swim_life.specs.Posts.{Grows}
 use Rattle.swim_guard.specs.declared.thrown.Thrown.{Thrown}
 use Rattle.swim_guard.specs.Thrown.{one_thrown}
 
--- what a contract sees of a line over another with a fence between them: the line below, the time that it asked at last, the
+-- what a contract sees of a line over another with a fence between them: the line below, the time that it asked at
+-- last, the
 -- fence, and what was thrown away
 pub record AtFence (L : Type 0) : Type 0 where
   pub line : L
@@ -34,7 +36,8 @@ abbrev pub thrown_if : Bool → Address → Option Address
 thrown_if true source = None
 thrown_if false source = Some source
 
--- the line below got a datagram: it is handed on as it is where it passes at that time, and else nothing is, and it is counted
+-- the line below got a datagram: it is handed on as it is where it passes at that time, and else nothing is, and it is
+-- counted
 pub record AsksFence {L : Type 0} (old new : AtFence L) (below : Got) (source : Address) (got : Got) : Type 0 where
   pub passed : Bool
   pub later : old.time ≤ new.time
@@ -54,7 +57,8 @@ LetsIn old new (Datagram count source) got = AsksFence old new (Datagram count s
 LetsIn old new below got = TellsOn old new below got
 
 -- the line below was asked once: each datagram of it asks the fence, and what passes is handed on
-pub record LetsOn {L : Type 0} (received : L → Option (List Received)) (old new : AtFence L) (got : Got) (bytes : List ℕ)
+pub record LetsOn {L : Type 0} (received : L → Option (List Received)) (old new : AtFence L) (got : Got)
+    (bytes : List ℕ)
     : Type 0 where
   pub below : Got
   pub grows : Grows (received old.line) (received new.line) (record { got = below; bytes = bytes } ∷ [])
@@ -66,7 +70,8 @@ pub record IsShown {L : Type 0} (old new : AtFence L) (members : List Address) :
   pub time : new.time ≡ old.time
   pub fenced : new.fenced ≡ old.fenced
 
--- what happened at a fenced line: a datagram came from that address at that time, and passed or didn't; or it was shown members
+-- what happened at a fenced line: a datagram came from that address at that time, and passed or didn't; or it was shown
+-- members
 pub data Step : Type 0 where
   Came : (from : Address) → (now : ℕ) → (passed : Bool) → Step
   Shown : (members : List Address) → Step

@@ -60,7 +60,8 @@ pub record AtPost (O : Type 0) : Type 0 where
   pub keys : Option Keyring
 
 -- the line below was asked once: what it got is handed on, and counted where it is thrown away
-pub record HandsOn {L : Type 0} (received : L → Option (List Received)) (old new : AtLine L) (got : Got) (bytes : List ℕ)
+pub record HandsOn {L : Type 0} (received : L → Option (List Received)) (old new : AtLine L) (got : Got)
+    (bytes : List ℕ)
     : Type 0 where
   pub below : Got
   pub grows : Grows (received old.line) (received new.line) (record { got = below; bytes = bytes } ∷ [])

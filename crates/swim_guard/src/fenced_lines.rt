@@ -15,9 +15,9 @@ use swim_fence::Fence;
 use swim_life::{Got, Line};
 use swim_wire::{KNOWN_MEMBERS, Peer};
 
-/// A line over another, with a fence between them. It hands on each datagram that the fence lets in, as it is, and throws the
-/// others away, before anything is looked at but where they came from. A contract sees the line below, the time of the newest
-/// datagram, the fence, and what was thrown away.
+/// A line over another, with a fence between them. It hands on each datagram that the fence lets in, as it is, and
+/// throws the others away, before anything is looked at but where they came from. A contract sees the line below, the
+/// time of the newest datagram, the fence, and what was thrown away.
 #[derive(Drop)]
 pub struct FencedLine<L: Line, T: Timepiece> {
     line: L,

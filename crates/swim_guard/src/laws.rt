@@ -10,16 +10,16 @@ ghost use Rattle.swim_wire.specs.Address.{Address};
 ghost use Rattle.swim_guard.specs.Fenced.{AreSteps, Step, event_of, passed_from};
 ghost use Rattle.swim_guard.specs.Guarded.{datagrams, handed_on, texts_of};
 
-/// The datagrams that a line hands on are those of the line below that have a tag by one of the keys, in their order, each
-/// without its tag.
+/// The datagrams that a line hands on are those of the line below that have a tag by one of the keys, in their order,
+/// each without its tag.
 #[tactic(auto, using(crate::proofs::Heard::heard_are_the_texts))]
 pub fn who_is_heard_has_a_key()
     ensures { (keys : Option Keyring) (received : List Received) →
         datagrams (map (handed_on keys) received) ≡ texts_of keys (datagrams received) }
 {}
 
-/// Whatever comes over a fenced line, of the datagrams that come from a member's address within a span at most as many pass as
-/// the rate, and as many more as the rate says of the span.
+/// Whatever comes over a fenced line, of the datagrams that come from a member's address within a span at most as many
+/// pass as the rate, and as many more as the rate says of the span.
 #[tactic(auto, using(crate::proofs::Steps::passed_within_a_span))]
 pub fn a_span_lets_so_many_through()
     ensures { (old new : Kept) (steps : List Step) (before : List Event) (a : Address) (start end : ℕ) → 0 < old.rate

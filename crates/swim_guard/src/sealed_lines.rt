@@ -14,8 +14,8 @@ use swim_life::{Got, Line};
 use swim_wire::{KNOWN_MEMBERS, Peer};
 
 /// A line over another. Where there are keys, it hands on each datagram that has a tag by one of them, without its tag,
-/// and throws the others away, before anything is decoded; where there are none, it hands on all. A contract sees the line
-/// below, the keys, and what was thrown away.
+/// and throws the others away, before anything is decoded; where there are none, it hands on all. A contract sees the
+/// line below, the keys, and what was thrown away.
 #[derive(Drop)]
 pub struct SealedLine<'k, L: Line> {
     line: L,

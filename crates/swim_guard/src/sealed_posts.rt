@@ -11,8 +11,8 @@ use swim_keys::Keys;
 use swim_life::Post;
 use swim_wire::{LONGEST_DATAGRAM_BYTES, Peer};
 
-/// A post over another. Where there are keys, it hands on each datagram with its tag by the first of them; where there are
-/// none, as it is. Bytes that are longer than a datagram aren't taken. A contract sees the post below and the keys.
+/// A post over another. Where there are keys, it hands on each datagram with its tag by the first of them; where there
+/// are none, as it is. Bytes that are longer than a datagram aren't taken. A contract sees the post below and the keys.
 #[derive(Drop)]
 pub struct SealedPost<'k, O: Post + Drop> {
     post: O,

@@ -5,19 +5,27 @@ ghost use Rattle.swim_life.specs.Gates.{FitsInto};
 
 mod fences;
 
+use std::fmt::Debug;
+use std::process::Abort;
 use std::sync::Wait;
 use std::sync::atomic::{AtomicBool, Ordering};
 use std::test::Fail;
 use swim_guard::{SealedLine, SealedPost, Sieve};
-use swim_keys::{Key, Keys};
+use swim_keys::{GroupKey, Keys};
 use swim_life::{Got, Line, Post};
 use swim_wire::Peer;
+
+// The two are the same. A call of this is proved at once, and an `assert_eq!` in some seconds.
+fn assert_same<T: PartialEq + Debug, R: Abort>(rt: &R, left: &T, right: &T) {
+    assert_eq!(rt; *left, *right);
+}
 
 // A ping of member 2 for member 1, number 5.
 const PING: &[u8; 24] =
     b"SW\x01\x01\x00\x00\x00\x02\x00\x00\x00\x02\x00\x00\x00\x01\x00\x00\x00\x00\x00\x00\x00\x05";
 
-// The same with its tag by the key of the bytes 0 to 31, by that of the bytes 32 to 63, and by that of the bytes 64 to 95.
+// The same with its tag by the key of the bytes 0 to 31, by that of the bytes 32 to 63, and by that of the bytes 64 to
+// 95.
 const BY_FIRST: &[u8; 40] =
     b"SW\x01\x01\x00\x00\x00\x02\x00\x00\x00\x02\x00\x00\x00\x01\x00\x00\x00\x00\x00\x00\x00\x05\
     \xb4\x50\x87\x4f\xca\x11\xf1\xf2\x7a\x23\x73\x27\x8d\x86\x4c\x26";
@@ -39,8 +47,12 @@ fn at(last: u8) -> Peer {
 
 // The keys of the bytes 0 to 31 and 32 to 63.
 fn keys() -> Result<Keys, Fail> {
-    let first = Key::read(b"000102030405060708090a0b0c0d0e0f101112131415161718191a1b1c1d1e1f")?;
-    let second = Key::read(b"202122232425262728292a2b2c2d2e2f303132333435363738393a3b3c3d3e3f")?;
+    let first = GroupKey::read(
+        b"000102030405060708090a0b0c0d0e0f101112131415161718191a1b1c1d1e1f",
+    )?;
+    let second = GroupKey::read(
+        b"202122232425262728292a2b2c2d2e2f303132333435363738393a3b3c3d3e3f",
+    )?;
     Ok(Keys::of(&[first, second]).ok_or("two keys")?)
 }
 
@@ -93,10 +105,10 @@ fn who_has_a_key_is_heard(rt: HostRuntime) -> Result<(), Fail> {
     let keys = keys()?;
     for datagram in [BY_FIRST, BY_SECOND] {
         let (got, bytes, forged, newest) = heard(&rt, Some(&keys), datagram);
-        assert_eq!(rt; got, Got::Datagram(24, at(3)));
-        assert_eq!(rt; bytes.get(..24), Some(PING.as_slice()));
-        assert_eq!(rt; forged, 0);
-        assert_eq!(rt; newest, None);
+        assert_same(&rt, &got, &Got::Datagram(24, at(3)));
+        assert_same(&rt, &bytes.get(..24), &Some(PING.as_slice()));
+        assert_same(&rt, &forged, &0);
+        assert_same(&rt, &newest, &None);
     }
     Ok(())
 }
@@ -111,9 +123,9 @@ fn who_has_none_is_not_heard(rt: HostRuntime) -> Result<(), Fail> {
         &BY_FIRST[..0],
     ] {
         let (got, _, forged, newest) = heard(&rt, Some(&keys), datagram);
-        assert_eq!(rt; got, Got::Idle);
-        assert_eq!(rt; forged, 1);
-        assert_eq!(rt; newest, Some(at(3)));
+        assert_same(&rt, &got, &Got::Idle);
+        assert_same(&rt, &forged, &1);
+        assert_same(&rt, &newest, &Some(at(3)));
     }
     Ok(())
 }
@@ -121,9 +133,9 @@ fn who_has_none_is_not_heard(rt: HostRuntime) -> Result<(), Fail> {
 #[test]
 fn without_keys_all_are_heard(rt: HostRuntime) {
     let (got, bytes, forged, _) = heard(&rt, None, BY_THIRD);
-    assert_eq!(rt; got, Got::Datagram(40, at(3)));
-    assert_eq!(rt; bytes.get(..40), Some(BY_THIRD.as_slice()));
-    assert_eq!(rt; forged, 0);
+    assert_same(&rt, &got, &Got::Datagram(40, at(3)));
+    assert_same(&rt, &bytes.get(..40), &Some(BY_THIRD.as_slice()));
+    assert_same(&rt, &forged, &0);
 }
 
 // A post that tells whether it was handed just one datagram, and which one.

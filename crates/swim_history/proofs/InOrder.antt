@@ -1,5 +1,6 @@
 -- Entries at their places, oldest first, and what each begins.
-use Rattle.std.proofs.Common.{◌≡◌, ℕ, ◌+◌, ◌^◌, ◌<◌, true, false, List, length, get_or, Some, None, refl, sym, ap, arith}
+use Rattle.std.proofs.Common.{◌≡◌, ℕ, ◌+◌, ◌^◌, ◌<◌, true, false, List, length, get_or, Some, None, refl, sym, ap}
+use Rattle.std.proofs.Common.{arith}
 use Rattle.std.proofs.lemmas.Option.{same_Some}
 use Rattle.std.proofs.lemmas.List.{get_or_default}
 use Rattle.swim_history.specs.declared.calls.Call.TheVariants.{Tick}
@@ -22,11 +23,13 @@ no_entry = record { seat = 0; number = 0; call = Tick; choice = Nothing; reply =
 abbrev pub entry_at : List Entry → ℕ → Entry
 entry_at entries i = get_or entries i no_entry
 
-pub entry_there : (entries : List Entry) (i : ℕ) → i < length entries → entry_at entries i ≡ get_or entries i (entry_at entries i)
+pub entry_there : (entries : List Entry) (i : ℕ) → i < length entries →
+    entry_at entries i ≡ get_or entries i (entry_at entries i)
 entry_there entries i lt = get_or_default entries i _ _ lt
 
 -- a period begins only while numbers are left
-pub unspent_at : (o : Setting) (h : List Entry) (e : Entry) → Continues o h e → is_start e ≡ true → period_number o h + 1 < 2 ^ 64
+pub unspent_at : (o : Setting) (h : List Entry) (e : Entry) → Continues o h e → is_start e ≡ true →
+    period_number o h + 1 < 2 ^ 64
 unspent_at o h e c starts = let b = begins o h e.call e.reply e.choice c.answer starts in omega (arith, b.fits.unspent)
 
 -- ---- what an entry begins
@@ -40,7 +43,11 @@ pub record Begins (reply : Reply) (start : Start) : Type 0 where
 pub begins_it : (reply : Reply) (start : Start) → Some start ≡ start_in reply → Begins reply start
 begins_it (Started judged probe) start is =
     let same = same_Some start (record { judged = judged; probe = probe }) is in
-    record { starts = refl; judged = ap (λ (x : Start). x.judged) (sym same); probe = ap (λ (x : Start). x.probe) (sym same) }
+    record {
+      starts = refl;
+      judged = ap (λ (x : Start). x.judged) (sym same);
+      probe = ap (λ (x : Start). x.probe) (sym same);
+    }
 begins_it reply start is = absurd cc
 
 -- any other entry

@@ -1,5 +1,6 @@
 -- The last probe of a member since which it is listed, and its gaps, after one more entry.
-use Rattle.std.proofs.Common.{◌≡◌, ℕ, ◌+◌, ◌⊎◌, inl, inr, Bool, true, false, cond, nat_eq, List, [], ◌∷◌, ◌++◌, length, Option, Some, None, refl, sym, ap, ◌∙◌, arith}
+use Rattle.std.proofs.Common.{◌≡◌, ℕ, ◌+◌, ◌⊎◌, inl, inr, Bool, true, false, cond, nat_eq, List, [], ◌∷◌, ◌++◌, length}
+use Rattle.std.proofs.Common.{Option, Some, None, refl, sym, ap, ◌∙◌, arith}
 use Rattle.std.proofs.lemmas.Bool.{false≢true, or_parts, or_from, eqb-true, eq-eqb}
 use Rattle.std.proofs.lemmas.Option.{same_Some}
 use Rattle.std.specs.Prelude.{filter, option_and_then}
@@ -46,11 +47,15 @@ pub record ProbesIt (m : ℕ) (e : Entry) (b : ℕ) : Type 0 where
 pub probes_it : (m : ℕ) (e : Entry) (b : ℕ) → probed_at m e.reply ≡ Some b → ProbesIt m e b
 probes_it m e b at = by (probe_in e.reply) refl at
   where
-    here : (probe : Probe) → probe_in e.reply ≡ Some probe → (t : Bool) → nat_eq probe.target m ≡ t → cond t (Some probe.number) None ≡ Some b → ProbesIt m e b
-    here probe is true same at = record { probe = probe; is = is; member = eqb-true probe.target m same; number = same_Some probe.number b at }
+    here : (probe : Probe) → probe_in e.reply ≡ Some probe → (t : Bool) → nat_eq probe.target m ≡ t →
+        cond t (Some probe.number) None ≡ Some b → ProbesIt m e b
+    here probe is true same at =
+        record { probe = probe; is = is; member = eqb-true probe.target m same; number = same_Some probe.number b at }
     here probe is false same at = absurd cc
 
-    by : (found : Option Probe) → probe_in e.reply ≡ found → option_and_then (λ (probe : Probe). cond (nat_eq probe.target m) (Some probe.number) None) found ≡ Some b → ProbesIt m e b
+    by : (found : Option Probe) → probe_in e.reply ≡ found →
+        option_and_then (λ (probe : Probe). cond (nat_eq probe.target m) (Some probe.number) None) found ≡ Some b →
+        ProbesIt m e b
     by None is at = absurd cc
     by (Some probe) is at = here probe is (nat_eq probe.target m) refl at
 
@@ -61,16 +66,20 @@ probes_other m e at = by (probe_in e.reply) at
     here true number at = absurd cc
     here false number at = refl
 
-    by : (found : Option Probe) → option_and_then (λ (probe : Probe). cond (nat_eq probe.target m) (Some probe.number) None) found ≡ None → is_probe_of m found ≡ false
+    by : (found : Option Probe) →
+        option_and_then (λ (probe : Probe). cond (nat_eq probe.target m) (Some probe.number) None) found ≡ None →
+        is_probe_of m found ≡ false
     by None at = refl
     by (Some probe) at = here (nat_eq probe.target m) probe.number at
 
-pub probing : (m : ℕ) (e : Entry) (probe : Probe) → probe_in e.reply ≡ Some probe → probe.target ≡ m → (probes_member m e ≡ true) × (probed_at m e.reply ≡ Some probe.number)
+pub probing : (m : ℕ) (e : Entry) (probe : Probe) → probe_in e.reply ≡ Some probe → probe.target ≡ m →
+    (probes_member m e ≡ true) × (probed_at m e.reply ≡ Some probe.number)
 probing m e probe is same = let it = eq-eqb probe.target m same in (rw (is, it) refl, rw (is, it) refl)
 
 -- ---- the last probe after one more entry
 
-pub last_new : (o : Setting) (h : List Entry) (e : Entry) (m b : ℕ) → ProbesIt m e b → IsLast o (e ∷ h) m b (length (listed o (e ∷ h)))
+pub last_new : (o : Setting) (h : List Entry) (e : Entry) (m b : ℕ) → ProbesIt m e b →
+    IsLast o (e ∷ h) m b (length (listed o (e ∷ h)))
 last_new o h e m b it = record {
   between = [];
   first = e;
@@ -86,20 +95,28 @@ last_new o h e m b it = record {
 }
 
 -- a probe is the last until the next
-pub only_last : (o : Setting) (h : List Entry) (e : Entry) (m a b n : ℕ) → ProbesIt m e b → IsLast o (e ∷ h) m a n → (a ≡ b) × (n ≡ length (listed o (e ∷ h)))
+pub only_last : (o : Setting) (h : List Entry) (e : Entry) (m a b n : ℕ) → ProbesIt m e b → IsLast o (e ∷ h) m a n →
+    (a ≡ b) × (n ≡ length (listed o (e ∷ h)))
 only_last o h e m a b n it last = by last.between last.split last.none_between last.count
   where
-    by : (between : List Entry) → e ∷ h ≡ between ++ last.first ∷ last.before → list_any (probes_member m) between ≡ false → n ≡ length (listed o (last.first ∷ last.before)) + length (filter joins between)
+    by : (between : List Entry) → e ∷ h ≡ between ++ last.first ∷ last.before →
+        list_any (probes_member m) between ≡ false →
+        n ≡ length (listed o (last.first ∷ last.before)) + length (filter joins between)
         → (a ≡ b) × (n ≡ length (listed o (e ∷ h)))
     by [] split none count =
         let same : e ≡ last.first = cc in
         let members : n ≡ length (listed o (last.first ∷ last.before)) = omega (arith, count) in
-        let probe : it.probe ≡ last.from = same_Some it.probe last.from (sym it.is ∙ ap (λ (x : Entry). probe_in x.reply) same ∙ last.probed) in
-        (sym last.number ∙ ap (λ (p : Probe). p.number) (sym probe) ∙ it.number, members ∙ ap (λ (x : List Entry). length (listed o x)) (sym split))
+        let probe : it.probe ≡ last.from =
+        same_Some it.probe last.from (sym it.is ∙ ap (λ (x : Entry). probe_in x.reply) same ∙ last.probed) in (
+          sym last.number ∙ ap (λ (p : Probe). p.number) (sym probe) ∙ it.number,
+          members ∙
+              ap (λ (x : List Entry). length (listed o x)) (sym split),
+        )
     by (x ∷ between) split none count =
         let same : e ≡ x = cc in
         let probes = probing m e it.probe it.is it.member in
-        absurd (false≢true (sym (or_parts (probes_member m x) (list_any (probes_member m) between) none).0 ∙ ap (probes_member m) (sym same) ∙ probes.0))
+        absurd (false≢true (sym (or_parts (probes_member m x) (list_any (probes_member m) between) none).0 ∙
+        ap (probes_member m) (sym same) ∙ probes.0))
 
 -- what is the last after an entry that doesn't probe the member was the last before
 pub record WasLast (o : Setting) (h : List Entry) (e : Entry) (m a n : ℕ) : Type 0 where
@@ -108,10 +125,13 @@ pub record WasLast (o : Setting) (h : List Entry) (e : Entry) (m a n : ℕ) : Ty
   pub more : n ≡ members + cond (joins e) 1 0
   pub last : IsLast o h m a members
 
-pub was_last : (o : Setting) (h : List Entry) (e : Entry) (m a n : ℕ) → probes_member m e ≡ false → IsLast o (e ∷ h) m a n → WasLast o h e m a n
+pub was_last : (o : Setting) (h : List Entry) (e : Entry) (m a n : ℕ) → probes_member m e ≡ false →
+    IsLast o (e ∷ h) m a n → WasLast o h e m a n
 was_last o h e m a n other last = by last.between last.split last.none_between last.stays last.count
   where
-    by : (between : List Entry) → e ∷ h ≡ between ++ last.first ∷ last.before → list_any (probes_member m) between ≡ false → list_any (unlists m) between ≡ false → n ≡ length (listed o (last.first ∷ last.before)) + length (filter joins between)
+    by : (between : List Entry) → e ∷ h ≡ between ++ last.first ∷ last.before →
+        list_any (probes_member m) between ≡ false → list_any (unlists m) between ≡ false →
+        n ≡ length (listed o (last.first ∷ last.before)) + length (filter joins between)
         → WasLast o h e m a n
     by [] split none stays count =
         let same : e ≡ last.first = cc in
@@ -124,7 +144,8 @@ was_last o h e m a n other last = by last.between last.split last.none_between l
         record {
           stays = ap (unlists m) (sym same) ∙ stay.0;
           members = length (listed o (last.first ∷ last.before)) + length (filter joins between);
-          more = let one : length (filter joins (x ∷ between)) ≡ cond (joins e) 1 0 + length (filter joins between) = rw same (counted joins e between) in omega (arith, count, one);
+          more = let one : length (filter joins (x ∷ between)) ≡ cond (joins e) 1 0 + length (filter joins between) =
+              rw same (counted joins e between) in omega (arith, count, one);
           last = record {
             between = between;
             first = last.first;
@@ -140,7 +161,8 @@ was_last o h e m a n other last = by last.between last.split last.none_between l
           };
         }
 
-pub still_last : (o : Setting) (h : List Entry) (e : Entry) (m a n : ℕ) → probes_member m e ≡ false → unlists m e ≡ false → IsLast o h m a n → IsLast o (e ∷ h) m a (n + cond (joins e) 1 0)
+pub still_last : (o : Setting) (h : List Entry) (e : Entry) (m a n : ℕ) → probes_member m e ≡ false →
+    unlists m e ≡ false → IsLast o h m a n → IsLast o (e ∷ h) m a (n + cond (joins e) 1 0)
 still_last o h e m a n other stays last = record {
   between = e ∷ last.between;
   first = last.first;
@@ -158,7 +180,8 @@ still_last o h e m a n other stays last = record {
 -- ---- the gaps after one more entry
 
 -- a gap of one history is one of another that ends with the same entries
-gap_within : (o : Setting) (h other newer : List Entry) (m a b n : ℕ) (gap : IsGap o h m a b n) → other ≡ newer ++ gap.second ∷ (gap.between ++ gap.first ∷ gap.before) → IsGap o other m a b n
+gap_within : (o : Setting) (h other newer : List Entry) (m a b n : ℕ) (gap : IsGap o h m a b n) →
+    other ≡ newer ++ gap.second ∷ (gap.between ++ gap.first ∷ gap.before) → IsGap o other m a b n
 gap_within o h other newer m a b n gap split = record {
   newer = newer;
   second = gap.second;
@@ -178,9 +201,11 @@ gap_within o h other newer m a b n gap split = record {
 }
 
 pub gap_older : (o : Setting) (h : List Entry) (e : Entry) (m a b n : ℕ) → IsGap o h m a b n → IsGap o (e ∷ h) m a b n
-gap_older o h e m a b n gap = gap_within o h (e ∷ h) (e ∷ gap.newer) m a b n gap (ap (λ (x : List Entry). e ∷ x) gap.split)
+gap_older o h e m a b n gap =
+    gap_within o h (e ∷ h) (e ∷ gap.newer) m a b n gap (ap (λ (x : List Entry). e ∷ x) gap.split)
 
-pub gap_new : (o : Setting) (h : List Entry) (e : Entry) (m a b n : ℕ) → ProbesIt m e b → IsLast o h m a n → IsGap o (e ∷ h) m a b n
+pub gap_new : (o : Setting) (h : List Entry) (e : Entry) (m a b n : ℕ) → ProbesIt m e b → IsLast o h m a n →
+    IsGap o (e ∷ h) m a b n
 gap_new o h e m a b n it last = record {
   newer = [];
   second = e;
@@ -200,10 +225,12 @@ gap_new o h e m a b n it last = record {
 }
 
 -- a gap after an entry was one before, or the entry ends it
-pub gap_cases : (o : Setting) (h : List Entry) (e : Entry) (m a b n : ℕ) → IsGap o (e ∷ h) m a b n → IsGap o h m a b n ⊎ (IsLast o h m a n × (probed_at m e.reply ≡ Some b))
+pub gap_cases : (o : Setting) (h : List Entry) (e : Entry) (m a b n : ℕ) → IsGap o (e ∷ h) m a b n →
+    IsGap o h m a b n ⊎ (IsLast o h m a n × (probed_at m e.reply ≡ Some b))
 gap_cases o h e m a b n gap = by gap.newer gap.split
   where
-    by : (newer : List Entry) → e ∷ h ≡ newer ++ gap.second ∷ (gap.between ++ gap.first ∷ gap.before) → IsGap o h m a b n ⊎ (IsLast o h m a n × (probed_at m e.reply ≡ Some b))
+    by : (newer : List Entry) → e ∷ h ≡ newer ++ gap.second ∷ (gap.between ++ gap.first ∷ gap.before) →
+        IsGap o h m a b n ⊎ (IsLast o h m a n × (probed_at m e.reply ≡ Some b))
     by [] split =
         let same : e ≡ gap.second = cc in
         let rest : h ≡ gap.between ++ gap.first ∷ gap.before = cc in

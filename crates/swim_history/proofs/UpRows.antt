@@ -18,9 +18,11 @@ use Rattle.swim_history.specs.Laws.Listed.{has_row, listed_first, once_up, liste
 ascending_once : (rows : List Row) → IsAscending rows → has_twice (ids_of rows) ≡ false
 ascending_once [] ascends = refl
 ascending_once (row ∷ rows) ascends =
-    or_from (has (ids_of rows) row.id) (has_twice (ids_of rows)) (has_row rows row.id ∙ ap is_some (none_below row.id rows ascends.0)) (ascending_once rows ascends.1)
+    or_from (has (ids_of rows) row.id) (has_twice (ids_of rows))
+    (has_row rows row.id ∙ ap is_some (none_below row.id rows ascends.0)) (ascending_once rows ascends.1)
 
-pub up_rows : (o : Setting) (h : List Entry) → IsSetting o → IsRun o h → length (filter (λ row. is_state_up row.state) (table o h)) ≡ length (listed o h)
+pub up_rows : (o : Setting) (h : List Entry) → IsSetting o → IsRun o h →
+    length (filter (λ row. is_state_up row.state) (table o h)) ≡ length (listed o h)
 up_rows o h s run =
     let most = no_longer ids (listed o h) (once_up rows once) (λ id is. sym (same id) ∙ is) in
     let least = no_longer (listed o h) ids (listed_once o h s run) (λ id is. same id ∙ is) in

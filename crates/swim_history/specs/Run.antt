@@ -78,7 +78,8 @@ is_waiting o h m = waits (key_of m) (waiting o h)
 abbrev pub target_at : Setting → List Entry → Message → Option Address
 target_at o h m = option_or (where_listed (row_of o h m.target)) m.at
 
--- the replies to a message, by its kind. An ack to a ping has the version of the ping, a ping that is sent for a request
+-- the replies to a message, by its kind. An ack to a ping has the version of the ping, a ping that is sent for a
+-- request
 -- the version of the request, and an ack that is sent on the version of the request that waits for it.
 abbrev pub Hears : Setting → List Entry → Message → Address → Kind → Reply → Type 0
 Hears o h m source Ping (Dropped NotForMe) = m.target ≢ o.me

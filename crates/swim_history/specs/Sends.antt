@@ -1,5 +1,5 @@
 -- The messages that a reply sends, with their addresses (section 3.1 of the SWIM paper).
-use Rattle.std.specs.Prelude.{ℕ, ◌==◌, List, [], ◌∷◌, map, Some, None, if◌then◌else◌}
+use Rattle.std.specs.Prelude.{◌==◌, List, [], ◌∷◌, map, Some, None, if◌then◌else◌}
 use Rattle.swim_wire.specs.Address.{Address}
 use Rattle.swim_wire.specs.Messages.{Message, carries}
 use Rattle.swim_wire.specs.declared.messages.Kind.{Kind}
@@ -28,6 +28,7 @@ to_each o kind probe peers = if probe.number == 0 then [] else map (λ peer. (pe
 abbrev pub sends_of : Reply → Setting → List (Address × Message)
 sends_of (Started judged (Some probe)) o = to_each o Ping probe (probe.peer ∷ [])
 sends_of (Asked target peer number relays) o =
-    to_each o PingReq (record { target = target; peer = peer; number = number }) (map (λ relay. relay.peer) relays.items)
+    to_each o PingReq (record { target = target; peer = peer; number = number })
+    (map (λ relay. relay.peer) relays.items)
 sends_of (Send peer message) o = (peer, message) ∷ []
 sends_of reply o = []

@@ -1,5 +1,6 @@
 -- The requests that wait: pings that other members asked for, whose acks are to be forwarded
--- (section 3.1 of the SWIM paper). A request waits with its version and the address that it came from until an ack of its
+-- (section 3.1 of the SWIM paper). A request waits with its version and the address that it came from until an ack of
+-- its
 -- probe is forwarded, the probe is asked for again, or a whole period of ticks has passed.
 use Rattle.std.specs.Prelude.{ℕ, ◌-◌, Bool, false, List, [], ◌∷◌, ◌++◌, Option, Some, None, if◌then◌else◌, nat_lt}
 use Rattle.std.specs.Prelude.{option_and_then}

@@ -151,8 +151,8 @@ impl Opening {
         }
     }
 
-    /// The same opening, but that member failed in the period of that number, as it may have in an earlier life. None where it
-    /// isn't among the members, or no period of that number was used: it is from 1 to `last`.
+    /// The same opening, but that member failed in the period of that number, as it may have in an earlier life. None
+    /// where it isn't among the members, or no period of that number was used: it is from 1 to `last`.
     #[tactic(auto, using(crate::specs::Laws::Failing::failed_is))]
     pub fn with_failed(&self, id: Id, number: u64) -> Option<Opening>
         ensures { result ≡ (if has (ids_of self.now.rows) id && is_state_past self.now.last (Failed number)

@@ -30,8 +30,8 @@ enum Slot {
 
 const _: () = prove!(size_of::<Slot>() == 16);
 
-/// An entry, but for its seat and number, which its slot has, and for the ids that were drawn for it and the relays that
-/// it asks. It takes 104 bytes, where an `Entry` takes 704.
+/// An entry, but for its seat and number, which its slot has, and for the ids that were drawn for it and the relays
+/// that it asks. It takes 104 bytes, where an `Entry` takes 704.
 #[derive(Clone, Copy)]
 struct Stored {
     drawn: Drawn,

@@ -1,5 +1,6 @@
 ghost use Rattle.std.specs.Prelude.{◌≡◌, ◌<◌, [], ◌∷◌};
 
+use std::fmt::Debug;
 use std::process::Abort;
 use swim_history::*;
 use swim_wire::{Id, Peer, Version};
@@ -10,6 +11,11 @@ mod gaps;
 mod journals;
 mod openings;
 mod replies;
+
+// The two are the same. A call of this is proved at once, and an `assert_eq!` in some seconds.
+fn assert_same<T: PartialEq + Debug, R: Abort>(rt: &R, left: &T, right: &T) {
+    assert_eq!(rt; *left, *right);
+}
 
 fn id(value: u32) -> Id
     requires { 0 < value }

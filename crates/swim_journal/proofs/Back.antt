@@ -1,5 +1,6 @@
 -- The line of a call reads back as the call.
-use Rattle.std.proofs.Common.{◌≡◌, ℕ, false, List, [], ◌∷◌, ◌++◌, Some, None, Ok, codes, decimal, refl, sym, ap, ◌∙◌, arith, append_assoc, append-nil}
+use Rattle.std.proofs.Common.{◌≡◌, ℕ, false, List, [], ◌∷◌, ◌++◌, Some, None, Ok, codes, decimal, refl, sym, ap, ◌∙◌}
+use Rattle.std.proofs.Common.{arith, append_assoc, append-nil}
 use Rattle.hex.specs.Hex.{encode_lower}
 use Rattle.hex.proofs.HexLemmas.{decode_of-encode_lower}
 use Rattle.swim_wire.specs.Address.{Address, IsAddress, address_text}
@@ -34,17 +35,23 @@ words_last word none = words_cut 32 word ∙ rw (cut_none 32 word none) refl
 
 -- ---- calls
 
-tick_says : (stage : Stage) → fault_of_word stage words.Tick ≡ None → line_read Journal stage (call_text Tick) ≡ Ok (Some (command_of Tick))
+tick_says : (stage : Stage) → fault_of_word stage words.Tick ≡ None →
+    line_read Journal stage (call_text Tick) ≡ Ok (Some (command_of Tick))
 unfolding command_after
 tick_says stage may = rw may refl
 
-remove_says : (stage : Stage) (id : ℕ) → fault_of_word stage words.Remove ≡ None → IsId id → line_read Journal stage (call_text (Remove id)) ≡ Ok (Some (command_of (Remove id)))
+remove_says : (stage : Stage) (id : ℕ) → fault_of_word stage words.Remove ≡ None → IsId id →
+    line_read Journal stage (call_text (Remove id)) ≡ Ok (Some (command_of (Remove id)))
 unfolding command_after
 remove_says stage id may is =
-    let words : words_of (call_text (Remove id)) ≡ codes "remove" ∷ decimal id ∷ [] = words_at (codes "remove") (decimal id) refl ∙ ap (λ l. codes "remove" ∷ l) (words_last (decimal id) (number_without 32 id (omega arith))) in
-    ap (λ l. said_by (words_read Journal stage l)) words ∙ rw (may, positive_read 4294967295 id is.0 (omega (arith, is.1)) (omega (arith, is.1))) refl
+    let words : words_of (call_text (Remove id)) ≡ codes "remove" ∷ decimal id ∷ [] =
+    words_at (codes "remove") (decimal id) refl ∙
+    ap (λ l. codes "remove" ∷ l) (words_last (decimal id) (number_without 32 id (omega arith))) in
+    ap (λ l. said_by (words_read Journal stage l)) words ∙
+    rw (may, positive_read 4294967295 id is.0 (omega (arith, is.1)) (omega (arith, is.1))) refl
 
-join_says : (stage : Stage) (id : ℕ) (peer : Address) → fault_of_word stage words.Join ≡ None → IsId id → IsAddress peer → line_read Journal stage (call_text (Join id peer)) ≡ Ok (Some (command_of (Join id peer)))
+join_says : (stage : Stage) (id : ℕ) (peer : Address) → fault_of_word stage words.Join ≡ None → IsId id →
+    IsAddress peer → line_read Journal stage (call_text (Join id peer)) ≡ Ok (Some (command_of (Join id peer)))
 unfolding command_after
 join_says stage id peer may is address =
     let words : words_of (call_text (Join id peer)) ≡ codes "join" ∷ decimal id ∷ address_text peer ∷ [] =
@@ -52,9 +59,11 @@ join_says stage id peer may is address =
     ∙ ap (λ l. codes "join" ∷ l) (words_at (decimal id) (address_text peer) (number_without 32 id (omega arith))
     ∙ ap (λ l. decimal id ∷ l) (words_last (address_text peer) (address_without 32 peer (omega arith)))) in
     ap (λ l. said_by (words_read Journal stage l)) words
-    ∙ rw (may, positive_read 4294967295 id is.0 (omega (arith, is.1)) (omega (arith, is.1)), address_read peer address) refl
+    ∙ rw (may, positive_read 4294967295 id is.0 (omega (arith, is.1)) (omega (arith, is.1)), address_read peer address)
+    refl
 
-hear_says : (stage : Stage) (m : Message) (source : Address) → fault_of_word stage words.Hear ≡ None → IsDecoded m → IsAddress source → line_read Journal stage (call_text (Hear source m)) ≡ Ok (Some (command_of (Hear source m)))
+hear_says : (stage : Stage) (m : Message) (source : Address) → fault_of_word stage words.Hear ≡ None → IsDecoded m →
+    IsAddress source → line_read Journal stage (call_text (Hear source m)) ≡ Ok (Some (command_of (Hear source m)))
 unfolding command_after
 hear_says stage m source may is address =
     let digits = encode_lower (text_of m) in
@@ -66,7 +75,8 @@ hear_says stage m source may is address =
     ap (λ l. said_by (words_read Journal stage l)) words
     ∙ rw (may, address_read source address, read) refl
 
-says : (call : Call) → IsSpoken call → (stage : Stage) → fault_of_word stage (word_for (command_of call)) ≡ None → line_read Journal stage (call_text call) ≡ Ok (Some (command_of call))
+says : (call : Call) → IsSpoken call → (stage : Stage) → fault_of_word stage (word_for (command_of call)) ≡ None →
+    line_read Journal stage (call_text call) ≡ Ok (Some (command_of call))
 says Tick is stage may = tick_says stage may
 says (Hear source m) is stage may = hear_says stage m source may is.0 is.1
 says (Join id peer) is stage may = join_says stage id peer may is.0 is.1
@@ -76,13 +86,18 @@ says (Remove id) is stage may = remove_says stage id may is
 
 unfed : (call : Call) → IsSpoken call → has_feed (call_text call) ≡ false
 unfed Tick is = refl
-unfed (Hear source m) is = both_without 10 (address_text source) (codes " " ++ encode_lower (text_of m)) (address_without 10 source (omega arith)) (hex_without 10 (text_of m) (omega arith) is.0.1)
-unfed (Join id peer) is = both_without 10 (decimal id) (codes " " ++ address_text peer) (number_without 10 id (omega arith)) (address_without 10 peer (omega arith))
+unfed (Hear source m) is =
+    both_without 10 (address_text source) (codes " " ++ encode_lower (text_of m))
+    (address_without 10 source (omega arith)) (hex_without 10 (text_of m) (omega arith) is.0.1)
+unfed (Join id peer) is =
+    both_without 10 (decimal id) (codes " " ++ address_text peer) (number_without 10 id (omega arith))
+    (address_without 10 peer (omega arith))
 unfed (Remove id) is = number_without 10 id (omega arith)
 
 pub read_back : (call : Call) → IsSpoken call → IsReadBack call
 read_back call is = record {
-  line = λ rest. ap (λ l. pieces l) (append_assoc (call_text call) feed rest) ∙ pieces_at (call_text call) rest (unfed call is);
+  line = λ rest. ap (λ l. pieces l) (append_assoc (call_text call) feed rest) ∙
+      pieces_at (call_text call) rest (unfed call is);
   bare = bare_at (call_text call) (unfed call is);
   short = omega (arith, call_short call is);
   says = says call is;
@@ -90,11 +105,13 @@ read_back call is = record {
 
 -- ---- lines as code writes them
 
-pub join_line : (id : ℕ) (peer : Address) → codes "join " ++ (decimal id ++ (codes " " ++ (address_text peer ++ feed))) ≡ call_line (Join id peer)
+pub join_line : (id : ℕ) (peer : Address) →
+    codes "join " ++ (decimal id ++ (codes " " ++ (address_text peer ++ feed))) ≡ call_line (Join id peer)
 join_line id peer = ap (λ l. codes "join " ++ l) (sym (append_assoc (decimal id) (codes " " ++ address_text peer) feed))
 
 pub hear_line : (m : Message) (source : Address) →
     codes "hear " ++ (address_text source ++ (datagram_text m ++ [])) ≡ call_line (Hear source m)
 hear_line m source =
     ap (λ l. codes "hear " ++ (address_text source ++ l)) (append-nil (datagram_text m))
-    ∙ ap (λ l. codes "hear " ++ l) (sym (append_assoc (address_text source) (codes " " ++ encode_lower (text_of m)) feed))
+    ∙ ap (λ l. codes "hear " ++ l)
+    (sym (append_assoc (address_text source) (codes " " ++ encode_lower (text_of m)) feed))

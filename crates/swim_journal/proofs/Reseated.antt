@@ -29,24 +29,32 @@ length_reseated (e ∷ h) = ap suc (length_reseated h)
 pub run_reseated : (o : Setting) (h : List Entry) → IsRun o h → IsRun o (reseated h)
 run_reseated o [] run = tt
 run_reseated o (e ∷ h) run = (
-  record { seat = omega arith; number = length_reseated h; answer = answers_alike o h (reseated h) e.call e.reply e.choice (alike_reseated h) run.0.answer },
+  record {
+    seat = omega arith;
+    number = length_reseated h;
+    answer = answers_alike o h (reseated h) e.call e.reply e.choice (alike_reseated h) run.0.answer;
+  },
   run_reseated o h run.1,
 )
 
 -- and was drawn by the same chooser
-pub drawn_reseated : {S : Type 0} (orders : S → List ℕ → List ℕ → S → Type 0) (places : S → ℕ → ℕ → S → Type 0) (o : Setting) (start now : S) (h : List Entry) → IsDrawn orders places o start h now → IsDrawn orders places o start (reseated h) now
+pub drawn_reseated : {S : Type 0} (orders : S → List ℕ → List ℕ → S → Type 0) (places : S → ℕ → ℕ → S → Type 0)
+    (o : Setting) (start now : S) (h : List Entry) → IsDrawn orders places o start h now →
+    IsDrawn orders places o start (reseated h) now
 drawn_reseated orders places o start now [] d = d
 drawn_reseated orders places o start now (e ∷ h) d =
     (d.0, drawn_reseated orders places o start d.0 h d.1, by e.call e.reply e.choice d.2)
   where
-    by : (call : Call) (reply : Reply) (choice : Choice) → DrawsEntry orders places o h call reply choice d.0 now → DrawsEntry orders places o (reseated h) call reply choice d.0 now
+    by : (call : Call) (reply : Reply) (choice : Choice) → DrawsEntry orders places o h call reply choice d.0 now →
+        DrawsEntry orders places o (reseated h) call reply choice d.0 now
     by Tick (Started judged probe) (Round order) given = rw (← lists_alike o h (reseated h) (alike_reseated h)) given
     by Tick (Asked m peer number relays) choice given = rw (← lists_alike o h (reseated h) (alike_reseated h)) given
     by (Join id peer) (Joined place) choice given = rw (← lists_alike o h (reseated h) (alike_reseated h)) given
     by call reply choice given = given
 
 -- the calls of one caller
-same_calls : (r h : List Entry) → has_one_seat r ≡ true → map (λ e. e.call) r ≡ map (λ e. e.call) h → calls_in r ≡ calls_in (reseated h)
+same_calls : (r h : List Entry) → has_one_seat r ≡ true → map (λ e. e.call) r ≡ map (λ e. e.call) h →
+    calls_in r ≡ calls_in (reseated h)
 same_calls [] [] one calls = refl
 same_calls [] (e' ∷ h) one calls = absurd cc
 same_calls (e ∷ r) [] one calls = absurd cc
@@ -57,9 +65,13 @@ same_calls (e ∷ r) (e' ∷ h) one calls =
     let rest = same_calls r h parts.1 (cc calls) in
     rw (seat, call, rest) refl
 
--- a run of one caller that is drawn by the same chooser for the same calls is the run, whoever called in it: its replies
+-- a run of one caller that is drawn by the same chooser for the same calls is the run, whoever called in it: its
+-- replies
 -- and its choices are the same
-pub replayed : {S : Type 0} (orders : S → List ℕ → List ℕ → S → Type 0) (places : S → ℕ → ℕ → S → Type 0) (same : S → S → Type 0) →
+pub replayed : {S : Type 0} (orders : S → List ℕ → List ℕ → S → Type 0) (places : S → ℕ → ℕ → S → Type 0)
+    (same : S → S → Type 0) →
     IsFunctional orders places same → (o : Setting) → IsSetting o → IsReplayed orders places same o
 replayed orders places same functional o setting start start' now now' h replay self run drawn run' drawn' one calls =
-    (drawn_once orders places same o functional setting start' start now' now replay (reseated h) self run' (run_reseated o h run) (same_calls replay h one calls) drawn' (drawn_reseated orders places o start now h drawn)).0
+    (drawn_once orders places same o functional setting start' start now' now replay (reseated h) self run'
+    (run_reseated o h run) (same_calls replay h one calls) drawn'
+    (drawn_reseated orders places o start now h drawn)).0

@@ -24,9 +24,11 @@ onto_is : (words : List (List ℕ)) (after : List ℕ) → join_with_byte 32 wor
 onto_is [] after = refl
 onto_is (word ∷ []) after = refl
 onto_is (word ∷ next ∷ words) after =
-    append_assoc word (32 ∷ join_with_byte 32 (next ∷ words)) after ∙ ap (λ l. word ++ (32 ∷ l)) (onto_is (next ∷ words) after)
+    append_assoc word (32 ∷ join_with_byte 32 (next ∷ words)) after ∙
+    ap (λ l. word ++ (32 ∷ l)) (onto_is (next ∷ words) after)
 
-pub words_again : (word : List ℕ) (words : List (List ℕ)) → ArePlain (word ∷ words) → words_of (join_with_byte 32 (word ∷ words)) ≡ word ∷ words
+pub words_again : (word : List ℕ) (words : List (List ℕ)) → ArePlain (word ∷ words) →
+    words_of (join_with_byte 32 (word ∷ words)) ≡ word ∷ words
 words_again word [] plain = words_last word plain.0
 words_again word (next ∷ words) plain =
     words_at word (join_with_byte 32 (next ∷ words)) plain.0 ∙ ap (λ l. word ∷ l) (words_again next words plain.2)
@@ -37,7 +39,8 @@ no_feed (word ∷ []) plain = plain.1
 no_feed (word ∷ next ∷ words) plain =
     both_without 10 word (32 ∷ join_with_byte 32 (next ∷ words)) plain.1 (no_feed (next ∷ words) plain.2)
 
-pub line_piece : (words : List (List ℕ)) (rest : List ℕ) → ArePlain words → pieces (words_onto words feed ++ rest) ≡ words_onto words feed ∷ pieces rest
+pub line_piece : (words : List (List ℕ)) (rest : List ℕ) → ArePlain words →
+    pieces (words_onto words feed ++ rest) ≡ words_onto words feed ∷ pieces rest
 line_piece words rest plain =
     ap (λ l. pieces (l ++ rest)) (sym (onto_is words feed))
     ∙ ap (λ l. pieces l) (append_assoc (join_with_byte 32 words) feed rest)
@@ -45,4 +48,5 @@ line_piece words rest plain =
     ∙ ap (λ l. l ∷ pieces rest) (onto_is words feed)
 
 pub line_bare : (words : List (List ℕ)) → ArePlain words → bare (words_onto words feed) ≡ join_with_byte 32 words
-line_bare words plain = ap (λ l. bare l) (sym (onto_is words feed)) ∙ bare_at (join_with_byte 32 words) (no_feed words plain)
+line_bare words plain = ap (λ l. bare l) (sym (onto_is words feed)) ∙
+    bare_at (join_with_byte 32 words) (no_feed words plain)

@@ -36,7 +36,8 @@ lines_in text = reverse (pieces text)
 abbrev pub told_by : List ℕ → Told
 told_by header = (head_of (lines_in header)).told
 
--- the header of a journal file: whole lines that tell this opening, how many entries there may be, and a seed, from which
+-- the header of a journal file: whole lines that tell this opening, how many entries there may be, and a seed, from
+-- which
 -- this generator draws; event lines may stand behind it, and there are none in it
 pub record IsHeader (header : List ℕ) (o : Setting) (limit : ℕ) (start : ChaCha) : Type 0 where
   pub lines : (rest : List ℕ) → pieces (header ++ rest) ≡ pieces header ++ pieces rest
@@ -102,6 +103,7 @@ IsFromOutside (Some kind) = ⊥
 -- where its header has no fault, and it is no longer than a journal file may be, no line of it has one
 abbrev pub PlaysWell : List ℕ → List Entry → Type 0
 PlaysWell header h =
-    fault_of header ≡ None → length (file_text header h) ≤ most_bytes Journal → (left : List ℕ) (old new : Option (List ℕ))
+    fault_of header ≡ None → length (file_text header h) ≤ most_bytes Journal →
+    (left : List ℕ) (old new : Option (List ℕ))
     (result : Result (Unit {0}) ScriptFault) → Runs (file_text header h) left old new result →
     IsFromOutside (result_kind result)

@@ -15,9 +15,9 @@ use swim_history::{Opening, Row, RowState};
 use swim_text::Sink;
 use swim_wire::{Id, Peer, Piece, Version, put_pieces};
 
-/// The header of the journal file of a detector's life: its opening, how many entries the journal may have, and the seed
-/// with the number of the life, from whose stream it draws. The row of a member that failed tells the number of that
-/// period. The header tells what it was given.
+/// The header of the journal file of a detector's life: its opening, how many entries the journal may have, and the
+/// seed with the number of the life, from whose stream it draws. The row of a member that failed tells the number of
+/// that period. The header tells what it was given.
 pub fn put_header<W: Sink>(
     writer: &mut W,
     opening: &Opening,

@@ -3,8 +3,8 @@
 use std::marker::Brand;
 use swim_node::Naming;
 
-/// Which node, and into what its journal is written. A `Scribe` carries both in its type, by a parameter with this bound.
-/// It exists in the proofs alone, as `Naming` does: a program passes `Brand`.
+/// Which node, and into what its journal is written. A `Scribe` carries both in its type, by a parameter with this
+/// bound. It exists in the proofs alone, as `Naming` does: a program passes `Brand`.
 pub trait PageNaming: Naming {
     ghost use Rattle.std.specs.Prelude.{ℕ, List, Option};
 

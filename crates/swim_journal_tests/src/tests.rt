@@ -15,8 +15,8 @@ use swim_targets::Seeded;
 use swim_text::Page;
 use swim_wire::{Id, Kind, Message, Peer, PeriodNumber, Version, encode};
 
-// Member 1 knows member 2, and member 3, which failed in period 4 of 9. It has a timeout of one tick and a period of three, and
-// draws from life 5 of a seed of sevens.
+// Member 1 knows member 2, and member 3, which failed in period 4 of 9. It has a timeout of one tick and a period of
+// three, and draws from life 5 of a seed of sevens.
 const HEADER: &[u8] =
     b"journal 1\nopen 1 1 1 3 9 2000\nrow 2 10.0.0.2:7000\nrow 3 10.0.0.3:7000 failed 4\n\
     seed 0707070707070707070707070707070707070707070707070707070707070707 5\n";
@@ -57,7 +57,8 @@ fn header(alloc: Global) -> Result<Page, Fail> {
     Ok(page)
 }
 
-// Calls that are written behind a header while a node runs are those that were made, and are played without a difference.
+// Calls that are written behind a header while a node runs are those that were made, and are played without a
+// difference.
 #[test]
 fn what_is_written_is_played(rt: HostRuntime) -> Result<(), Fail> {
     let alloc = rt.alloc();

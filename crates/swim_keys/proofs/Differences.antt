@@ -1,5 +1,6 @@
 -- Bytes that are masked, and bytes that differ.
-use Rattle.std.proofs.Common.{◌≡◌, ℕ, ◌+◌, ◌<◌, List, length, get_or, sym, ◌∙◌, ap, arith, bit_xor, bit_or, nat_eq, below_more}
+use Rattle.std.proofs.Common.{◌≡◌, ℕ, ◌+◌, ◌<◌, List, length, get_or, sym, ◌∙◌, ap, arith, bit_xor, bit_or, nat_eq}
+use Rattle.std.proofs.Common.{below_more}
 use Rattle.std.specs.Bool.{Decides}
 use Rattle.std.specs.Int.{bit_at}
 use Rattle.std.specs.Int.Bits.{xor_self}
@@ -39,7 +40,8 @@ AreSame xs ys i = (k : ℕ) → k < i → get_or xs k 0 ≡ get_or ys k 0
 pub same_more : (xs ys : List ℕ) (i difference : ℕ) → (difference ≡ 0 → AreSame xs ys i) →
     bit_or difference (bit_xor (get_or xs i 0) (get_or ys i 0)) ≡ 0 → AreSame xs ys (i + 1)
 same_more xs ys i difference before none =
-    below_more (λ k. get_or xs k 0 ≡ get_or ys k 0) i (before (or_zero_l _ _ none)) (same_from_xor _ _ (or_zero_r _ _ none))
+    below_more (λ k. get_or xs k 0 ≡ get_or ys k 0) i (before (or_zero_l _ _ none))
+    (same_from_xor _ _ (or_zero_r _ _ none))
 
 pub none_more : (xs ys : List ℕ) (i difference : ℕ) → (AreSame xs ys i → difference ≡ 0) → AreSame xs ys (i + 1) →
     bit_or difference (bit_xor (get_or xs i 0) (get_or ys i 0)) ≡ 0
@@ -47,11 +49,13 @@ none_more xs ys i difference before same =
     or_of_zeros _ _ (before (λ k below. same k (omega arith))) (xor_same _ _ (same i (omega arith)))
 
 -- no difference in all bytes is what a comparison of lists tells
-pub same_by_bytes : (xs ys : List ℕ) (n difference : ℕ) → length xs ≡ n → length ys ≡ n → (difference ≡ 0 → AreSame xs ys n) →
+pub same_by_bytes : (xs ys : List ℕ) (n difference : ℕ) → length xs ≡ n → length ys ≡ n →
+    (difference ≡ 0 → AreSame xs ys n) →
     (AreSame xs ys n → difference ≡ 0) → nat_eq difference 0 ≡ bytes_eq xs ys
 same_by_bytes xs ys n difference long short same none =
     let by_bytes : Decides (bytes_eq xs ys) (difference ≡ 0) = (
       λ yes. none (λ k below. ap (λ zs. get_or zs k 0) ((bytes_eq-Decides xs ys).0 yes)),
-      λ zero. (bytes_eq-Decides xs ys).1 (same_number_lists xs ys (long ∙ sym short) (λ k below. same zero k (omega arith))),
+      λ zero. (bytes_eq-Decides xs ys).1
+          (same_number_lists xs ys (long ∙ sym short) (λ k below. same zero k (omega arith))),
     ) in
     same_from_decides _ _ (Decides-eqb difference 0) by_bytes

@@ -36,11 +36,11 @@ fn told(fault: FromHexError) -> KeyFault
 
 /// A key of a group: 32 bytes, which only its members know.
 #[derive(Clone, Copy)]
-pub struct Key {
+pub struct GroupKey {
     bytes: [u8; KEY_BYTES],
 }
 
-impl Model for Key {
+impl Model for GroupKey {
     ghost use Rattle.std.specs.Prelude.{ℕ, List};
 
     ghost Value = { List ℕ };
@@ -50,21 +50,21 @@ impl Model for Key {
     ghost inverse = { λ bytes. record { bytes = bytes } };
 }
 
-impl Key {
+impl GroupKey {
     /// The key of these bytes.
-    pub fn new(bytes: [u8; KEY_BYTES]) -> Key
+    pub fn new(bytes: [u8; KEY_BYTES]) -> GroupKey
         ensures { result ≡ bytes }
     {
-        Key { bytes }
+        GroupKey { bytes }
     }
 
     /// The key that 64 hex digits spell, of either case.
-    pub fn read(text: &[u8]) -> Result<Key, KeyFault>
+    pub fn read(text: &[u8]) -> Result<GroupKey, KeyFault>
         ensures { result ≡ key_of text.now }
     {
         let mut bytes = [0; KEY_BYTES];
         match hex::decode_to_slice(text, &mut bytes) {
-            Ok(()) => Ok(Key { bytes }),
+            Ok(()) => Ok(GroupKey { bytes }),
             Err(fault) => Err(told(fault)),
         }
     }
@@ -78,15 +78,15 @@ impl Key {
 }
 
 /// Some key, so that keys can stand in an array of a fixed capacity. Everybody knows it: no group is to have it.
-impl Default for Key {
-    fn default() -> Key {
-        Key::new([0; KEY_BYTES])
+impl Default for GroupKey {
+    fn default() -> GroupKey {
+        GroupKey::new([0; KEY_BYTES])
     }
 }
 
 /// A key isn't shown.
-impl fmt::Debug for Key {
+impl fmt::Debug for GroupKey {
     fn fmt<W: fmt::Write>(&self, f: &mut fmt::Formatter<W>) -> fmt::Result {
-        f.write_str("Key { .. }")
+        f.write_str("GroupKey { .. }")
     }
 }

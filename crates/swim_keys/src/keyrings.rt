@@ -6,7 +6,7 @@ ghost use Rattle.std.specs.List.{list_any};
 ghost use Rattle.std.specs.Option.{option_map};
 ghost use Rattle.swim_keys.specs.Sealing.{keys_of, ring_of, sealed, fits, opened, IsSealed};
 
-use crate::key_texts::Key;
+use crate::key_texts::GroupKey;
 use crate::signers::{Signer, TAG_BYTES};
 use arrayvec::ArrayVec;
 use std::marker::Model;
@@ -49,7 +49,7 @@ impl Model for Keys {
 
 impl Keys {
     /// One key, by which texts are signed.
-    pub fn new(signing: &Key) -> Keys
+    pub fn new(signing: &GroupKey) -> Keys
         ensures { result ≡ record { signing = signing.now; others = [] } }
     {
         Keys {
@@ -59,7 +59,7 @@ impl Keys {
     }
 
     /// These keys, of which the first signs; `None` where there are none.
-    pub fn of(keys: &[Key]) -> Option<Keys>
+    pub fn of(keys: &[GroupKey]) -> Option<Keys>
         requires { length keys.now ≤ MOST_KEYS }
         ensures { result ≡ ring_of keys.now }
     {
@@ -71,7 +71,7 @@ impl Keys {
     }
 
     /// One more key, by which texts are taken, too. An `Err` changes nothing.
-    pub fn add(&mut self, key: &Key) -> Result<(), KeysFull>
+    pub fn add(&mut self, key: &GroupKey) -> Result<(), KeysFull>
         ensures ok { OnOk result (self.new ≡ record self.old { others = self.old.others ++ key.now ∷ [] }) }
         ensures full { IsErr result ↔ (length (keys_of self.old) ≡ MOST_KEYS) }
         ensures err { OnErr result (self.new ≡ self.old) }
@@ -133,7 +133,7 @@ impl Keys {
 }
 
 /// The signers of these keys.
-fn signers_of(keys: &[Key]) -> ArrayVec<Signer, MOST_OTHERS>
+fn signers_of(keys: &[GroupKey]) -> ArrayVec<Signer, MOST_OTHERS>
     requires { length keys.now ≤ MOST_OTHERS }
     ensures { result.items ≡ keys.now }
 {

@@ -7,6 +7,6 @@ mod keyrings;
 mod signers;
 
 pub use hmacs::Hmac;
-pub use key_texts::{KEY_BYTES, Key, KeyFault};
+pub use key_texts::{GroupKey, KEY_BYTES, KeyFault};
 pub use keyrings::{Keys, KeysFull, LONGEST_SEALED_BYTES, MOST_KEYS};
 pub use signers::TAG_BYTES;

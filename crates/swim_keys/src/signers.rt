@@ -5,7 +5,7 @@ ghost use Rattle.std.specs.Str.{bytes_eq};
 ghost use Rattle.swim_keys.specs.Sealing.{tag_of, fits};
 
 use crate::hmacs::Hmac;
-use crate::key_texts::{KEY_BYTES, Key};
+use crate::key_texts::{GroupKey, KEY_BYTES};
 use std::marker::Model;
 
 /// The bytes of a tag: the first of an HMAC.
@@ -14,7 +14,7 @@ pub const TAG_BYTES: usize = 16;
 /// A key, and the HMAC by it.
 #[derive(Drop)]
 pub(crate) struct Signer {
-    key: Key,
+    key: GroupKey,
     hmac: Hmac,
 }
 
@@ -30,7 +30,7 @@ impl Model for Signer {
 }
 
 impl Signer {
-    pub(crate) fn new(key: &Key) -> Signer
+    pub(crate) fn new(key: &GroupKey) -> Signer
         ensures { result ≡ key.now }
     {
         Signer {
@@ -61,7 +61,7 @@ impl Signer {
 /// Some key, so that signers can stand in an array of a fixed capacity. Nothing rests on which one.
 impl Default for Signer {
     fn default() -> Signer {
-        Signer::new(&Key::new([0; KEY_BYTES]))
+        Signer::new(&GroupKey::new([0; KEY_BYTES]))
     }
 }
 

@@ -21,8 +21,10 @@ use Rattle.swim_life.specs.Posts.{AtSender, Posted}
 abbrev pub at_sender : {O : Type 0} → Seated → O → Counts → AtSender O
 at_sender seat post counts = record { seat = seat; post = post; counts = counts }
 
-pub refused_so : {O N : Type 0} (posted : O → Option (List Posted)) (messages : Receipt N → List (Address × Message)) (old new : Seated)
-    (fault : CallFault) (boxed post after : O) (counts next : Counts) (end : Option Why) → post ≡ boxed → new ≡ refused fault old →
+pub refused_so : {O N : Type 0} (posted : O → Option (List Posted)) (messages : Receipt N → List (Address × Message))
+    (old new : Seated)
+    (fault : CallFault) (boxed post after : O) (counts next : Counts) (end : Option Why) → post ≡ boxed →
+    new ≡ refused fault old →
     IsFinished posted (Err fault) messages post counts end after next →
     IsRefused fault (at_sender old boxed counts) end (at_sender new after next)
 refused_so posted messages old new (faults.Wire f) boxed post after counts next end in_box seat done =
@@ -33,20 +35,24 @@ refused_so posted messages old new faults.JournalFull boxed post after counts ne
     record { same = rw (seat, done.1, in_box, done.2) refl; ends = done.0 }
 
 -- only what couldn't be sent was counted
-pub count_kept : {O : Type 0} (posted : O → Option (List Posted)) (messages : List (Address × Message)) (post after : O) (counts next : Counts) →
+pub count_kept : {O : Type 0} (posted : O → Option (List Posted)) (messages : List (Address × Message)) (post after : O)
+    (counts next : Counts) →
     AreSent messages (posted post) (posted after) counts next → next ≡ record counts { unsent = next.unsent }
 count_kept posted messages post after counts next sent =
     subst (λ (c : Counts). c ≡ record counts { unsent = c.unsent }) (sym sent.2) refl
 
-pub heard_so : {O N : Type 0} (posted : O → Option (List Posted)) (messages : Receipt N → List (Address × Message)) (o : Setting)
-    (limit : ℕ) (bytes : List ℕ) (source : Address) (old new : Seated) (answer : Result (Receipt N) CallFault) (boxed post after : O)
+pub heard_so : {O N : Type 0} (posted : O → Option (List Posted)) (messages : Receipt N → List (Address × Message))
+    (o : Setting)
+    (limit : ℕ) (bytes : List ℕ) (source : Address) (old new : Seated) (answer : Result (Receipt N) CallFault)
+    (boxed post after : O)
     (counts next : Counts) (end : Option Why) → post ≡ boxed →
     IfOk answer (λ r. (m : Message) × IsTextOf bytes m
     × IsAnswered o old new (Hear source m) (kept r.position r.number r.call r.reply) r.news) →
     IfErr answer (λ fault. new ≡ refused fault old) → IfErr answer (MayRefuseBytes bytes o limit old) →
     IsFinished posted answer messages post counts end after next →
     Hears o limit bytes source (at_sender old boxed counts) end (at_sender new after next)
-heard_so posted messages o limit bytes source old new (Ok r) boxed post after counts next end in_box ok err refuses done =
+heard_so posted messages o limit bytes source old new (Ok r) boxed post after counts next end in_box ok err refuses
+    done =
     inl (
       Hear source ok.0,
       (ok.0, ok.1, refl),
@@ -58,10 +64,12 @@ heard_so posted messages o limit bytes source old new (Ok r) boxed post after co
         goes_on = done.0;
       },
     )
-heard_so posted messages o limit bytes source old new (Err f) boxed post after counts next end in_box ok err refuses done =
+heard_so posted messages o limit bytes source old new (Err f) boxed post after counts next end in_box ok err refuses
+    done =
     inr (f, refuses, refused_so posted messages old new f boxed post after counts next end in_box err done)
 
-pub ticked_so : {O N : Type 0} (posted : O → Option (List Posted)) (messages : Receipt N → List (Address × Message)) (o : Setting)
+pub ticked_so : {O N : Type 0} (posted : O → Option (List Posted)) (messages : Receipt N → List (Address × Message))
+    (o : Setting)
     (limit : ℕ) (old new : Seated) (answer : Result (Receipt N) CallFault) (boxed post after : O)
     (counts next : Counts) (end : Option Why) → post ≡ boxed →
     IfOk answer (λ r. IsAnswered o old new Tick (kept r.position r.number r.call r.reply) r.news) →

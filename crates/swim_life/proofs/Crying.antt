@@ -1,5 +1,6 @@
 -- Those who watch a life, as its journal is read and as bytes are sent, and the reporter who hears of it.
-use Rattle.std.proofs.Common.{◌≡◌, ◌⊎◌, inl, inr, ℕ, ◌==◌, Bool, true, false, List, [], ◌∷◌, ◌++◌, length, MatchBool, Option, refl, sym}
+use Rattle.std.proofs.Common.{◌≡◌, ◌⊎◌, inl, inr, ℕ, ◌==◌, Bool, true, false, List, [], ◌∷◌, ◌++◌, length, MatchBool}
+use Rattle.std.proofs.Common.{Option, refl, sym}
 use Rattle.std.proofs.Common.{ap, subst, ◌∙◌, eqb-true}
 use Rattle.std.proofs.lemmas.List.{same_from_push}
 use mathlib.Core.List.{IsPrefix}
@@ -26,7 +27,8 @@ not_empty [] x is = cc is
 not_empty (y ∷ xs) x is = cc is
 
 -- what begins a list with one more at its end begins the list, or is all of it
-begins_push : {A : Type 0} (read xs : List A) (x : A) → IsPrefix read (xs ++ x ∷ []) → IsPrefix read xs ⊎ (read ≡ xs ++ x ∷ [])
+begins_push : {A : Type 0} (read xs : List A) (x : A) → IsPrefix read (xs ++ x ∷ []) →
+    IsPrefix read xs ⊎ (read ≡ xs ++ x ∷ [])
 begins_push [] xs x p = inl (xs, refl)
 begins_push (y ∷ []) [] x p = inr (cc (p.1))
 begins_push (y ∷ z ∷ read) [] x p = absurd (cc (p.1))
@@ -64,7 +66,8 @@ run_before o [] before run = run
 run_before o (e ∷ newer) before run = run_before o newer before run.1
 
 -- nothing was read
-pub none_told : (o : Setting) (guests : List AtGuest) (heard hears : Option (List Report)) (read : List Filing) (w : Known)
+pub none_told : (o : Setting) (guests : List AtGuest) (heard hears : Option (List Report)) (read : List Filing)
+    (w : Known)
     (now : List AtGuest) → read ≡ [] → w ≡ known o [] → now ≡ guests → Grows heard hears (Began o ∷ []) →
     TellsAll o guests heard read w now hears
 none_told o guests heard hears read w now nothing knows same begins [] s run are = record {
@@ -76,8 +79,10 @@ none_told o guests heard hears read w now nothing knows same begins (e ∷ h) s 
     absurd (not_empty (filings_of h) (filing_of h e) (sym (are ∙ nothing)))
 
 -- the same was read
-pub same_told : (o : Setting) (guests : List AtGuest) (heard hears : Option (List Report)) (read new : List Filing) (w : Known)
-    (now : List AtGuest) → new ≡ read → TellsAll o guests heard read w now hears → TellsAll o guests heard new w now hears
+pub same_told : (o : Setting) (guests : List AtGuest) (heard hears : Option (List Report)) (read new : List Filing)
+    (w : Known)
+    (now : List AtGuest) → new ≡ read → TellsAll o guests heard read w now hears →
+    TellsAll o guests heard new w now hears
 same_told o guests heard hears read new w now same tells =
     subst (λ (l : List Filing). TellsAll o guests heard l w now hears) (sym same) tells
 
@@ -92,7 +97,8 @@ rested_told o guests heard hears rests read w now same tells =
 pub next_told : (o : Setting) (guests : List AtGuest) (heard hears more : Option (List Report)) (read new : List Filing)
     (f : Filing) (change : Option Change) (old w : Known) (were now : List AtGuest) →
     TellsAll o guests heard read old were hears → new ≡ read ++ f ∷ [] →
-    ((s : Setting) (h : List Entry) (e : Entry) → IsSetting s → IsRun s (e ∷ h) → e.call ≡ f.kept.call → e.reply ≡ f.kept.reply →
+    ((s : Setting) (h : List Entry) (e : Entry) → IsSetting s → IsRun s (e ∷ h) → e.call ≡ f.kept.call →
+    e.reply ≡ f.kept.reply →
     old ≡ known s h → w ≡ known s (e ∷ h)) →
     ((life : Lived) (older : List Lived) (e : Entry) → e.call ≡ f.kept.call → e.reply ≡ f.kept.reply →
     old ≡ known life.opening life.past → AreTold (life ∷ older) were → AreTold (lived_on life e ∷ older) now) →
@@ -113,13 +119,16 @@ next_told o guests heard hears more read new f change old w were now tells is kn
         let report : Called (filing_of h e) (change_by e.call e.reply (period_number o h)) ≡ Called f change =
         rw (same.1, made) refl in record {
           knows = knows o h e s run call reply was.knows;
-          told = λ number older first. told (lived number o h) older e call reply was.knows (was.told number older first);
-          reported = grows_both heard hears more (life_reports o h) (Called (filing_of h e) (change_by e.call e.reply (period_number o h)) ∷ []) was.reported
+          told = λ number older first.
+              told (lived number o h) older e call reply was.knows (was.told number older first);
+          reported = grows_both heard hears more (life_reports o h)
+              (Called (filing_of h e) (change_by e.call e.reply (period_number o h)) ∷ []) was.reported
               (subst (λ (r : Report). Grows hears more (r ∷ [])) (sym report) grows);
         }
 
 -- one has come, who is told what is known
-pub newcomer_told : (o : Setting) (guests : List AtGuest) (heard hears : Option (List Report)) (read : List Filing) (w : Known)
+pub newcomer_told : (o : Setting) (guests : List AtGuest) (heard hears : Option (List Report)) (read : List Filing)
+    (w : Known)
     (were now : List AtGuest) (rows : List Row) → rows ≡ w.rows →
     ((life : Lived) (older : List Lived) → rows ≡ table life.opening life.past → AreTold (life ∷ older) were →
     AreTold (life ∷ older) now) →
@@ -134,7 +143,8 @@ newcomer_told o guests heard hears read w were now rows are told tells =
     }
 
 -- bytes were sent
-pub sent_told : (o : Setting) (guests : List AtGuest) (heard hears : Option (List Report)) (read : List Filing) (w : Known)
+pub sent_told : (o : Setting) (guests : List AtGuest) (heard hears : Option (List Report)) (read : List Filing)
+    (w : Known)
     (were now : List AtGuest) → ((lives : List Lived) → AreTold lives were → AreTold lives now) →
     TellsAll o guests heard read w were hears → TellsAll o guests heard read w now hears
 sent_told o guests heard hears read w were now told tells =
@@ -146,7 +156,8 @@ sent_told o guests heard hears read w were now told tells =
     }
 
 -- all was read of a life that is over; or else nobody watches any more
-pub whole_told : (all : Bool) (o : Setting) (guests : List AtGuest) (heard hears : Option (List Report)) (read : List Filing)
+pub whole_told : (all : Bool) (o : Setting) (guests : List AtGuest) (heard hears : Option (List Report))
+    (read : List Filing)
     (w : Known) (were now : List AtGuest) (h : List Entry) → TellsAll o guests heard read w were hears → IsSetting o →
     IsRun o h → (length read ≡ length h → read ≡ filings_of h) → all ≡ (length read == length h) →
     MatchBool all (now ≡ were) (now ≡ []) → AreToldOn o guests h now
@@ -156,7 +167,8 @@ whole_told true o guests heard hears read w were now h tells s run whole all are
     rw are ((tells h s run (sym (whole (eqb-true (length read) (length h) (sym all))))).told number older first)
 
 -- what the reporter heard of a life of which so much was read
-pub whole_heard : (all : Bool) (o : Setting) (guests : List AtGuest) (heard hears : Option (List Report)) (read : List Filing)
+pub whole_heard : (all : Bool) (o : Setting) (guests : List AtGuest) (heard hears : Option (List Report))
+    (read : List Filing)
     (w : Known) (were : List AtGuest) (h : List Entry) → TellsAll o guests heard read w were hears → IsSetting o →
     IsRun o h → IsPrefix read (filings_of h) → (length read ≡ length h → read ≡ filings_of h) →
     all ≡ (length read == length h) → HearsOf all o h heard hears
@@ -165,11 +177,13 @@ whole_heard true o guests heard hears read w were h tells s run front whole all 
 whole_heard false o guests heard hears read w were h tells s run front whole all =
     let part = part_of h read front in
     let was =
-    tells part.before s (run_before o part.newer part.before (subst (λ (l : List Entry). IsRun o l) part.cut run)) part.are in
+    tells part.before s (run_before o part.newer part.before (subst (λ (l : List Entry). IsRun o l) part.cut run))
+    part.are in
     record { newer = part.newer; before = part.before; cut = part.cut; heard = was.reported }
 
 -- a life that began with its line
-pub life_told : (number : ℕ) (o opening : Setting) (old put named now : List AtGuest) (h : List Entry) → opening ≡ o → put ≡ named →
+pub life_told : (number : ℕ) (o opening : Setting) (old put named now : List AtGuest) (h : List Entry) → opening ≡ o →
+    put ≡ named →
     ((lives : List Lived) → AreTold lives old → AreTold (lived number o [] ∷ lives) put) → AreToldOn o named h now →
     AreToldLife number opening old h now
 life_told number o opening old put named now h same is begins told =

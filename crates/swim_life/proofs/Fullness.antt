@@ -1,5 +1,6 @@
 -- Who ends for a full journal has a seat that knows of it.
-use Rattle.std.proofs.Common.{◌≡◌, ◌⊎◌, ℕ, ◌<◌, Bool, true, false, List, [], ◌∷◌, length, Option, Some, None, Result, Ok, Err, sym, subst, ◌∙◌, inl, inr, arith}
+use Rattle.std.proofs.Common.{◌≡◌, ◌⊎◌, ℕ, ◌<◌, Bool, true, false, List, [], ◌∷◌, length, Option, Some, None, Result}
+use Rattle.std.proofs.Common.{Ok, Err, sym, subst, ◌∙◌, inl, inr, arith}
 use Rattle.std.specs.Prelude.{IfErr, MatchOption, nat_lt, if◌then◌else◌}
 use Rattle.std.specs.Option.{unwrap_or}
 use Rattle.swim_wire.specs.Address.{Address}
@@ -14,8 +15,8 @@ use Rattle.swim_history.specs.Setting.{Setting}
 use Rattle.swim_control.specs.declared.connections.Stand.{Stand}
 use Rattle.swim_control.specs.declared.connections.Stand.TheVariants as stands
 use Rattle.swim_control.specs.declared.desks.Answer.TheVariants as answers
-use Rattle.swim_control.specs.declared.desks.Command.{Command}
-use Rattle.swim_control.specs.declared.desks.Command.TheVariants as commands
+use Rattle.swim_control.specs.declared.desks.DeskCommand.{DeskCommand}
+use Rattle.swim_control.specs.declared.desks.DeskCommand.TheVariants as commands
 use Rattle.swim_control.specs.declared.commands.Said.{Said}
 use Rattle.swim_control.specs.declared.commands.Said.TheVariants as saids
 use Rattle.swim_control.specs.declared.faults.Fault.{Fault}
@@ -44,14 +45,18 @@ use Rattle.swim_life.specs.Posts.{Posted}
 
 -- ---- the receiver and the ticker
 
-pub finished_full : {O N : Type 0} (posted : O → Option (List Posted)) (messages : Receipt N → List (Address × Message)) (old new : Seated)
+pub finished_full : {O N : Type 0} (posted : O → Option (List Posted)) (messages : Receipt N → List (Address × Message))
+    (old new : Seated)
     (answer : Result (Receipt N) CallFault) (post after : O) (counts next : Counts) (end : Option Why) →
     IfErr answer (λ fault. new ≡ refused fault old) → IsFinished posted answer messages post counts end after next →
     end ≡ Some JournalFull → 0 < new.full
 finished_full posted messages old new (Ok receipt) post after counts next end err done ends = absurd (cc (done.0, ends))
-finished_full posted messages old new (Err (faults.Wire f)) post after counts next end err done ends = absurd (cc (done.0, ends))
-finished_full posted messages old new (Err faults.NoMemory) post after counts next end err done ends = absurd (cc (done.0, ends))
-finished_full posted messages old new (Err faults.JournalFull) post after counts next end err done ends = rw err (omega arith)
+finished_full posted messages old new (Err (faults.Wire f)) post after counts next end err done ends =
+    absurd (cc (done.0, ends))
+finished_full posted messages old new (Err faults.NoMemory) post after counts next end err done ends =
+    absurd (cc (done.0, ends))
+finished_full posted messages old new (Err faults.JournalFull) post after counts next end err done ends =
+    rw err (omega arith)
 
 -- ---- the controller
 
@@ -66,12 +71,13 @@ told_full replies.Heard is = is
 told_full (replies.Send to message) is = is
 told_full (replies.Dropped why) is = is
 
-called_full : (o : Setting) (limit : ℕ) (call : Call) (desk after : AtDesk) → Calls o limit desk call answers.JournalFull after →
+called_full : (o : Setting) (limit : ℕ) (call : Call) (desk after : AtDesk) →
+    Calls o limit desk call answers.JournalFull after →
     0 < after.seat.full
 called_full o limit call desk after (inl done) = absurd (told_full done.kept.reply done.told)
 called_full o limit call desk after (inr refused) = rw (refused.1) (omega arith)
 
-asked_full : (o : Setting) (limit : ℕ) (command : Command) (desk after : AtDesk) →
+asked_full : (o : Setting) (limit : ℕ) (command : DeskCommand) (desk after : AtDesk) →
     Asks o limit desk command (Answers answers.JournalFull) after → 0 < after.seat.full
 asked_full o limit commands.List desk after is = absurd is
 asked_full o limit (commands.Gap member) desk after is = absurd is
@@ -79,7 +85,8 @@ asked_full o limit commands.Stats desk after is = absurd is
 asked_full o limit (commands.Join id peer) desk after is = called_full o limit _ desk after is
 asked_full o limit (commands.Remove id) desk after is = called_full o limit _ desk after is
 
-answer_full : (o : Setting) (limit : ℕ) (command : Command) (told : Told) (desk after : AtDesk) → Asks o limit desk command told after →
+answer_full : (o : Setting) (limit : ℕ) (command : DeskCommand) (told : Told) (desk after : AtDesk) →
+    Asks o limit desk command told after →
     end_at (Ok (saids.Asks command)) (told ∷ []) ≡ Some served.JournalFull → 0 < after.seat.full
 answer_full o limit command (Shows table) desk after is ends = absurd (cc ends)
 answer_full o limit command (Measures gap) desk after is ends = absurd (cc ends)
@@ -97,20 +104,24 @@ line_full o limit (Err line_faults.Unended) told desk after is ends = absurd (cc
 line_full o limit (Err (line_faults.Words fault)) told desk after is ends = absurd (cc ends)
 line_full o limit (Ok saids.Stop) told desk after is ends = absurd (cc ends)
 line_full o limit (Ok (saids.Asks command)) [] desk after is ends = absurd (cc ends)
-line_full o limit (Ok (saids.Asks command)) (told ∷ []) desk after is ends = answer_full o limit command told desk after is ends
+line_full o limit (Ok (saids.Asks command)) (told ∷ []) desk after is ends =
+    answer_full o limit command told desk after is ends
 line_full o limit (Ok (saids.Asks command)) (told ∷ more ∷ before) desk after is ends = absurd is
 
 -- what was told ends serving only where it was written
-written_full : (done : Bool) (end : Option Served) → Some served.JournalFull ≡ closed done end → end ≡ Some served.JournalFull
+written_full : (done : Bool) (end : Option Served) → Some served.JournalFull ≡ closed done end →
+    end ≡ Some served.JournalFull
 written_full true end is = sym is
 written_full false end is = absurd (cc is)
 
 met_full : (o : Setting) (limit : ℕ) (met : LineEnd) (line : List ℕ) (desk after : AtDesk) (old new : Option (List ℕ)) →
     Meets (Asks o limit) met line desk after old new (Some served.JournalFull) → 0 < after.seat.full
 met_full o limit lines.Feed line desk after old new is =
-    line_full o limit (said_by (line_said line)) is.told desk after is.asked (written_full is.done (end_at (said_by (line_said line)) is.told) is.is)
+    line_full o limit (said_by (line_said line)) is.told desk after is.asked
+    (written_full is.done (end_at (said_by (line_said line)) is.told) is.is)
 met_full o limit lines.Long line desk after old new is = absurd (cc (written_full is.1.0 (Some served.TooLong) is.1.2))
-met_full o limit lines.Unended line desk after old new is = absurd (cc (written_full is.1.0 (Some served.Unended) is.1.2))
+met_full o limit lines.Unended line desk after old new is =
+    absurd (cc (written_full is.1.0 (Some served.Unended) is.1.2))
 met_full o limit lines.Over line desk after old new is = absurd (cc is.2)
 met_full o limit lines.Spent line desk after old new is = absurd (cc is.2)
 met_full o limit lines.Failed line desk after old new is = absurd (cc is.2)
@@ -130,21 +141,25 @@ ended_full o limit now served.WriteFault old new desk after is ends = absurd (cc
 
 stood_full : (o : Setting) (limit now : ℕ) (stand : Stand) (old new : List Talk) (desk after : AtDesk) →
     TakesTurn (Asks o limit) now stand old new desk after → why_at stand ≡ Some JournalFull → 0 < after.seat.full
-stood_full o limit now (stands.Ended end) old new desk after is ends = ended_full o limit now end old new desk after is ends
+stood_full o limit now (stands.Ended end) old new desk after is ends =
+    ended_full o limit now end old new desk after is ends
 stood_full o limit now stands.Idle old new desk after is ends = absurd (cc ends)
 stood_full o limit now stands.Busy old new desk after is ends = absurd (cc ends)
 stood_full o limit now (stands.Closed why) old new desk after is ends = absurd (cc ends)
 
 -- of a turn of a connection, if there is one
 pub turned_full : (o : Setting) (limit now : ℕ) (turn : Option Stand) (old new : List Talk) (desk after : AtDesk) →
-    MatchOption turn ((old ≡ []) × (new ≡ []) × (after ≡ desk)) (λ stand. TakesTurn (Asks o limit) now stand old new desk after) →
+    MatchOption turn ((old ≡ []) × (new ≡ []) × (after ≡ desk))
+    (λ stand. TakesTurn (Asks o limit) now stand old new desk after) →
     why_at (unwrap_or turn stands.Idle) ≡ Some JournalFull → 0 < after.seat.full
 turned_full o limit now None old new desk after is ends = absurd (cc ends)
-turned_full o limit now (Some stand) old new desk after is ends = stood_full o limit now stand old new desk after is ends
+turned_full o limit now (Some stand) old new desk after is ends =
+    stood_full o limit now stand old new desk after is ends
 
 -- ---- the life
 
-either : {A : Type 0} (which : Bool) (one other it : A) → (if which then one else other) ≡ it → (one ≡ it) ⊎ (other ≡ it)
+either : {A : Type 0} (which : Bool) (one other it : A) → (if which then one else other) ≡ it →
+    (one ≡ it) ⊎ (other ≡ it)
 either true one other it is = inl is
 either false one other it is = inr is
 
@@ -156,7 +171,8 @@ of_began true is = cc is
 of_began false is = cc is
 
 -- a life that ends for a full journal has one
-pub life_full : (limit : ℕ) (past : List Entry) (seats : List Seated) (first second third fourth : Seated) (a b c : Why) (all_began : Bool)
+pub life_full : (limit : ℕ) (past : List Entry) (seats : List Seated) (first second third fourth : Seated) (a b c : Why)
+    (all_began : Bool)
     (why : Why) → AreFullWhereMet limit past seats → seats ≡ first ∷ second ∷ third ∷ fourth ∷ [] →
     (a ≡ JournalFull → 0 < first.full) → (b ≡ JournalFull → 0 < second.full) → (c ≡ JournalFull → 0 < third.full) →
     why ≡ why_of a b c all_began → why ≡ JournalFull → length past ≡ limit

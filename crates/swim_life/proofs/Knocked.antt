@@ -15,15 +15,17 @@ use Rattle.swim_history.specs.Seats.{kept_of}
 use Rattle.swim_history.specs.Setting.{Setting}
 use Rattle.swim_node.specs.OneHistory.{HoldsCalls}
 use Rattle.swim_node.specs.Seats.{Seated}
-use Rattle.swim_rejoin.specs.declared.knockers.Knock.{Knock}
+use Rattle.swim_rejoin.specs.declared.knockers.KnockPing.{KnockPing}
 use Rattle.swim_rejoin.specs.Knockers.{Kept, Follows, knock_at}
 use Rattle.swim_rejoin.specs.Knocking.{knocked_by}
-use Rattle.swim_life.specs.Knocking.{AreKnocks, AtKnocking, HaveKnocked, IsInStep, starts_in, HasKnocked, IsKnocking, IsLook, knock_of, knocks_of, number_after, sent_as}
+use Rattle.swim_life.specs.Knocking.{AreKnocks, AtKnocking, HaveKnocked, IsInStep, starts_in, HasKnocked, IsKnocking}
+use Rattle.swim_life.specs.Knocking.{IsLook, knock_of, knocks_of, number_after, sent_as}
 use Rattle.swim_life.specs.Posts.{ArePosted, AtSender, Grows, IsFresh, Posted, datagram, handed}
 use Rattle.swim_life.proofs.Posting.{none_posted, one_more_posted}
 use Rattle.swim_life.proofs.Sent.{are_both}
 
-pub none_knocked : (o : Setting) (rejoin : ℕ) (k : Kept) (now : Option (List Posted)) → k.rejoin ≡ rejoin → k.me ≡ o.me →
+pub none_knocked : (o : Setting) (rejoin : ℕ) (k : Kept) (now : Option (List Posted)) → k.rejoin ≡ rejoin →
+    k.me ≡ o.me →
     k.version ≡ o.version → Follows k [] → IsFresh now → o.last ≡ min (o.last + 0) (2 ^ 64 - 1) →
     IsKnocking o rejoin k o.last now 0
 none_knocked o rejoin k now rejoin_is me version follows fresh within = record {
@@ -50,14 +52,17 @@ sent_is o k number None me version = refl
 sent_is o k number (Some row) me version = rw (me, version) refl
 
 -- a period more started
-pub one_more_knocked : (o : Setting) (rejoin : ℕ) (old new : Kept) (rows : List Row) (number next : ℕ) (knock : Option Knock)
-    (before after : Option (List Posted)) (knocks count more : ℕ) → IsKnocking o rejoin old number before knocks → IsLook o rows →
+pub one_more_knocked : (o : Setting) (rejoin : ℕ) (old new : Kept) (rows : List Row) (number next : ℕ)
+    (knock : Option KnockPing)
+    (before after : Option (List Posted)) (knocks count more : ℕ) → IsKnocking o rejoin old number before knocks →
+    IsLook o rows →
     next ≡ min (number + 1) (2 ^ 64 - 1) → new.rejoin ≡ old.rejoin → new.me ≡ old.me → new.version ≡ old.version →
     ((h : List (List Row)) → Follows old h →
     knock ≡ option_map (knock_at old.me old.version next) (knocked_by old.rejoin h rows)) →
     ((h : List (List Row)) → Follows old h → Follows new (rows ∷ h)) → AreKnocks (sent_as knock) before after count →
     more ≡ min (knocks + count) (2 ^ 64 - 1) → IsKnocking o rejoin new next after more
-one_more_knocked o rejoin old new rows number next knock before after knocks count more is look next_is rejoin_same me_same version_same knock_is follows sent more_is =
+one_more_knocked o rejoin old new rows number next knock before after knocks count more is look next_is rejoin_same
+    me_same version_same knock_is follows sent more_is =
     let has = is.has in
     let looks = has.looks in
     let counts : next ≡ number_after o (length looks + 1) =
@@ -90,25 +95,31 @@ one_more_knocked o rejoin old new rows number next knock before after knocks cou
       follows = follows looks is.follows;
     }
 
-pub no_knock : (knock : Option Knock) (now : Option (List Posted)) → knock ≡ None → AreKnocks (sent_as knock) now now 0
+pub no_knock : (knock : Option KnockPing) (now : Option (List Posted)) → knock ≡ None →
+    AreKnocks (sent_as knock) now now 0
 no_knock knock now none = rw none (0, none_posted now, refl)
 
-pub one_knock : (knock : Option Knock) (k : Knock) (old new : Option (List Posted)) (bytes : List ℕ) (is_taken : Bool) →
-    knock ≡ Some k → Grows old new (record { bytes = bytes; to = k.peer; is_taken = is_taken } ∷ []) → bytes ≡ text_of k.message →
+pub one_knock : (knock : Option KnockPing) (k : KnockPing) (old new : Option (List Posted)) (bytes : List ℕ)
+    (is_taken : Bool) →
+    knock ≡ Some k → Grows old new (record { bytes = bytes; to = k.peer; is_taken = is_taken } ∷ []) →
+    bytes ≡ text_of k.message →
     AreKnocks (sent_as knock) old new 1
 one_knock knock k old new bytes is_taken is grows text =
     rw is (
       from_bool (not is_taken),
-      one_more_posted ((k.peer, k.message) ∷ []) old old new 0 (from_bool (not is_taken)) 0 (k.peer, k.message) bytes is_taken
+      one_more_posted ((k.peer, k.message) ∷ []) old old new 0 (from_bool (not is_taken)) 0 (k.peer, k.message) bytes
+          is_taken
           (none_posted old) (omega arith) refl grows text (omega arith),
       refl,
     )
 
 -- ---- the calls that began periods
 
-pub stays_in_step : {O : Type 0} (o : Setting) (sender after : AtSender O) (knocking next : AtKnocking O) (is_started : Bool) →
+pub stays_in_step : {O : Type 0} (o : Setting) (sender after : AtSender O) (knocking next : AtKnocking O)
+    (is_started : Bool) →
     IsInStep o sender knocking → starts_in after.seat.calls ≡ starts_in sender.seat.calls + from_bool is_started →
-    MatchBool is_started (next.number ≡ min (knocking.number + 1) (2 ^ 64 - 1)) (next ≡ knocking) → IsInStep o after next
+    MatchBool is_started (next.number ≡ min (knocking.number + 1) (2 ^ 64 - 1)) (next ≡ knocking) →
+    IsInStep o after next
 stays_in_step o sender after knocking next true step counted number =
     let was : knocking.number ≡ min (o.last + starts_in sender.seat.calls) (2 ^ 64 - 1) = step in
     omega (arith, was, counted, number)
@@ -117,13 +128,16 @@ stays_in_step o sender after knocking next false step counted same =
     let number : next.number ≡ knocking.number = ap (λ (k : AtKnocking _). k.number) same in
     omega (arith, was, counted, number)
 
-pub begins_in_step : {O : Type 0} (o : Setting) (sender : AtSender O) (knocking : AtKnocking O) → sender.seat.calls ≡ [] →
+pub begins_in_step : {O : Type 0} (o : Setting) (sender : AtSender O) (knocking : AtKnocking O) →
+    sender.seat.calls ≡ [] →
     knocking.number ≡ o.last → o.last ≡ min (o.last + 0) (2 ^ 64 - 1) → IsInStep o sender knocking
 begins_in_step o sender knocking none number within = number ∙ (within ∙ sym (rw none refl))
 
 -- what was knocked in a life whose journal holds the calls of the ticker's seat
-pub closed_knocked : (o : Setting) (rejoin : ℕ) (past : List Entry) (seats : List Seated) (first second third fourth : Seated)
-    (number : ℕ) (now : Option (List Posted)) (knocks : ℕ) → HoldsCalls past seats → seats ≡ first ∷ second ∷ third ∷ fourth ∷ [] →
+pub closed_knocked : (o : Setting) (rejoin : ℕ) (past : List Entry) (seats : List Seated)
+    (first second third fourth : Seated)
+    (number : ℕ) (now : Option (List Posted)) (knocks : ℕ) → HoldsCalls past seats →
+    seats ≡ first ∷ second ∷ third ∷ fourth ∷ [] →
     second.number ≡ 1 → number ≡ number_after o (starts_in second.calls) → HasKnocked o rejoin number now knocks →
     HaveKnocked o rejoin past now knocks
 closed_knocked o rejoin past seats first second third fourth number now knocks all are one step has =
@@ -139,7 +153,8 @@ no_knocks : (o : Setting) (looks : List (List Row)) → knocks_of o 0 looks ≡ 
 no_knocks o [] = refl
 no_knocks o (rows ∷ before) = rw (no_knocks o before) refl
 
-fresh_after : (start now : Option (List Posted)) (posted : List Posted) → IsFresh start → posted ≡ [] → Grows start now posted → IsFresh now
+fresh_after : (start now : Option (List Posted)) (posted : List Posted) → IsFresh start → posted ≡ [] →
+    Grows start now posted → IsFresh now
 fresh_after None None posted fresh none grows = tt
 fresh_after None (Some now) posted fresh none grows = absurd grows
 fresh_after (Some start) None posted fresh none grows = absurd grows
@@ -149,7 +164,8 @@ map_to_none : (posted : List Posted) → map handed posted ≡ [] → posted ≡
 map_to_none [] is = refl
 map_to_none (p ∷ posted) is = absurd (cc is)
 
-pub none_knocked_with_0 : (o : Setting) (past : List Entry) (now : Option (List Posted)) (knocks : ℕ) → HaveKnocked o 0 past now knocks →
+pub none_knocked_with_0 : (o : Setting) (past : List Entry) (now : Option (List Posted)) (knocks : ℕ) →
+    HaveKnocked o 0 past now knocks →
     IsFresh now × (knocks ≡ 0)
 none_knocked_with_0 o past now knocks have =
     let has = have.knocked in

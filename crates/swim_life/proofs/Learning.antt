@@ -35,9 +35,11 @@ more_learnt o old mid new first then = λ h is.
 
 -- ---- what the receiver is told
 
-pub looked_learnt : (o : Setting) (old new : Returning) (rows : List Row) (log : List Change) → rows ≡ table_after o log →
+pub looked_learnt : (o : Setting) (old new : Returning) (rows : List Row) (log : List Change) →
+    rows ≡ table_after o log →
     ((h : List Event) → IsReturning old h → IsReturning new (Looked rows ∷ h)) → Learns o old new
-looked_learnt o old new rows log table told = λ h is. (Looked rows ∷ h, one_on o (Looked rows) h (log, table), told h is)
+looked_learnt o old new rows log table told =
+    λ h is. (Looked rows ∷ h, one_on o (Looked rows) h (log, table), told h is)
 
 -- ---- knocks that the ticker told of
 
@@ -56,7 +58,8 @@ one_more_on first old new id number on grows = λ o h follows.
     let one : LearnsOn o a.0 (Knocked id number ∷ a.0) = one_on o (Knocked id number) a.0 tt in
     (Knocked id number ∷ a.0, more_on o h a.0 (Knocked id number ∷ a.0) a.1 one, grows a.0 a.2, a.3)
 
-pub taken_learnt : (o : Setting) (old new : Returning) → KnocksOn old.rejoiner new.rejoiner → new.rows.items ≡ old.rows.items → Learns o old new
+pub taken_learnt : (o : Setting) (old new : Returning) → KnocksOn old.rejoiner new.rejoiner →
+    new.rows.items ≡ old.rows.items → Learns o old new
 taken_learnt o old new on same = λ h is.
     let a = on o h is.0 in
     (a.0, a.1, (a.2, same ∙ (is.1 ∙ sym a.3)))

@@ -8,12 +8,14 @@ use Rattle.swim_life.specs.declared.counts.Why.{Why}
 use Rattle.swim_life.specs.declared.counts.Why.TheVariants.{JournalFull, NoMemory, Socket, Stopped}
 use Rattle.swim_life.specs.declared.lives.LivesEnd.{LivesEnd}
 use Rattle.swim_life.specs.declared.lives.LivesEnd.TheVariants as life_ends
-use Rattle.swim_life.specs.declared.lives.Past.{Past}
+use Rattle.swim_life.specs.declared.pasts.Past.{Past}
 use Rattle.swim_life.specs.Endings.{TellsLife, TellsText, Written, stopped_text}
-use Rattle.swim_life.specs.Lives.{AreLived, AreLives, AreFull, AreTold, IsDrawnLife, end_after, end_without, number_after, opening_after}
+use Rattle.swim_life.specs.Lives.{AreLived, AreLives, AreFull, AreTold, IsDrawnLife, end_after, end_without}
+use Rattle.swim_life.specs.Lives.{number_after, opening_after}
 
 -- all lives so far were ended by a full journal; the next one begins so, and has this number
-pub record HaveLived (first : Setting) (limit : ℕ) (seed : List ℕ) (next : Setting) (number : ℕ) (old new : Written) : Type 0 where
+pub record HaveLived (first : Setting) (limit : ℕ) (seed : List ℕ) (next : Setting) (number : ℕ)
+    (old new : Written) : Type 0 where
   pub lives : List Past
   pub lived : AreLives first limit seed lives
   pub full : AreFull lives
@@ -21,11 +23,14 @@ pub record HaveLived (first : Setting) (limit : ℕ) (seed : List ℕ) (next : S
   pub number_is : number ≡ number_after lives
   pub told : AreTold old new lives
 
-unfoldable pub none_lived : (first : Setting) (limit : ℕ) (seed : List ℕ) (old : Written) → HaveLived first limit seed first 0 old old
-none_lived first limit seed old = record { lives = []; lived = tt; full = tt; next_is = refl; number_is = refl; told = refl }
+unfoldable pub none_lived : (first : Setting) (limit : ℕ) (seed : List ℕ) (old : Written) →
+    HaveLived first limit seed first 0 old old
+none_lived first limit seed old =
+    record { lives = []; lived = tt; full = tt; next_is = refl; number_is = refl; told = refl }
 
 -- a life more
-pub lives_with : (first : Setting) (limit : ℕ) (seed : List ℕ) (next : Setting) (number : ℕ) (old mid : Written) (past : Past)
+pub lives_with : (first : Setting) (limit : ℕ) (seed : List ℕ) (next : Setting) (number : ℕ) (old mid : Written)
+    (past : Past)
     (so : HaveLived first limit seed next number old mid) → IsDrawnLife next limit seed number past →
     AreLives first limit seed (past ∷ so.lives)
 lives_with first limit seed next number old mid past so is = (
@@ -34,8 +39,10 @@ lives_with first limit seed next number old mid past so is = (
   so.lived,
 )
 
-pub told_with : (first : Setting) (limit : ℕ) (seed : List ℕ) (next : Setting) (number : ℕ) (old mid new : Written) (past : Past)
-    (so : HaveLived first limit seed next number old mid) → TellsLife number past mid new → AreTold old new (past ∷ so.lives)
+pub told_with : (first : Setting) (limit : ℕ) (seed : List ℕ) (next : Setting) (number : ℕ) (old mid new : Written)
+    (past : Past)
+    (so : HaveLived first limit seed next number old mid) → TellsLife number past mid new →
+    AreTold old new (past ∷ so.lives)
 told_with first limit seed next number old mid new past so line =
     (mid, so.told, subst (λ n. TellsLife n past mid new) so.number_is line)
 
@@ -46,23 +53,26 @@ full_where_none NoMemory is = absurd cc
 full_where_none Socket is = absurd cc
 full_where_none Stopped is = absurd cc
 
-unfoldable pub one_more_lived : (first : Setting) (limit : ℕ) (seed : List ℕ) (next after : Setting) (number count : ℕ) (old mid new : Written)
+unfoldable pub one_more_lived : (first : Setting) (limit : ℕ) (seed : List ℕ) (next after : Setting) (number count : ℕ)
+    (old mid new : Written)
     (past : Past) → HaveLived first limit seed next number old mid → IsDrawnLife next limit seed number past →
     end_after past.why ≡ None →
     past.is_stopped ≡ false → TellsLife number past mid new →
     after ≡ setting_after past.journal.opening past.journal.past → count ≡ min (number + 1) (2 ^ 64 - 1) →
     HaveLived first limit seed after count old new
-one_more_lived first limit seed next after number count old mid new past so is goes_on unstopped line after_is count_is = record {
-  lives = past ∷ so.lives;
-  lived = lives_with first limit seed next number old mid past so is;
-  full = ((full_where_none past.why goes_on, unstopped), so.full);
-  next_is = after_is;
-  number_is = let was : number ≡ min (length so.lives) (2 ^ 64 - 1) = so.number_is in omega arith;
-  told = told_with first limit seed next number old mid new past so line;
-}
+one_more_lived first limit seed next after number count old mid new past so is goes_on unstopped line after_is
+    count_is = record {
+      lives = past ∷ so.lives;
+      lived = lives_with first limit seed next number old mid past so is;
+      full = ((full_where_none past.why goes_on, unstopped), so.full);
+      next_is = after_is;
+      number_is = let was : number ≡ min (length so.lives) (2 ^ 64 - 1) = so.number_is in omega arith;
+      told = told_with first limit seed next number old mid new past so line;
+    }
 
 -- the last one
-unfoldable pub last_lived : (first : Setting) (limit : ℕ) (seed : List ℕ) (next : Setting) (number : ℕ) (old mid new : Written) (past : Past)
+unfoldable pub last_lived : (first : Setting) (limit : ℕ) (seed : List ℕ) (next : Setting) (number : ℕ)
+    (old mid new : Written) (past : Past)
     (end : LivesEnd) → HaveLived first limit seed next number old mid → IsDrawnLife next limit seed number past →
     end_after past.why ≡ Some end →
     TellsLife number past mid new → AreLived first limit seed old new end
@@ -75,10 +85,12 @@ last_lived first limit seed next number old mid new past end so is ends line = r
 }
 
 -- the last one, which was told to stop while its journal was full
-unfoldable pub last_stopped : (first : Setting) (limit : ℕ) (seed : List ℕ) (next : Setting) (number : ℕ) (old mid told new : Written) (past : Past) →
+unfoldable pub last_stopped : (first : Setting) (limit : ℕ) (seed : List ℕ) (next : Setting) (number : ℕ)
+    (old mid told new : Written) (past : Past) →
     HaveLived first limit seed next number old mid → IsDrawnLife next limit seed number past →
     end_after past.why ≡ None → past.is_stopped ≡ true →
-    TellsLife number past mid told → TellsText stopped_text told new → AreLived first limit seed old new life_ends.Stopped
+    TellsLife number past mid told → TellsText stopped_text told new →
+    AreLived first limit seed old new life_ends.Stopped
 last_stopped first limit seed next number old mid told new past so is goes_on stopped line text = record {
   lives = past ∷ so.lives;
   lived = lives_with first limit seed next number old mid past so is;
@@ -88,7 +100,8 @@ last_stopped first limit seed next number old mid told new past so is goes_on st
 }
 
 -- and none more, as it got no node
-unfoldable pub last_opened : (first : Setting) (limit : ℕ) (seed : List ℕ) (next : Setting) (number : ℕ) (old new : Written) (fault : OpenFault)
+unfoldable pub last_opened : (first : Setting) (limit : ℕ) (seed : List ℕ) (next : Setting) (number : ℕ)
+    (old new : Written) (fault : OpenFault)
     (end : LivesEnd) → HaveLived first limit seed next number old new → end ≡ end_without fault →
     AreLived first limit seed old new end
 last_opened first limit seed next number old new fault end so is = record {
@@ -100,7 +113,8 @@ last_opened first limit seed next number old new fault end so is = record {
 }
 
 -- no end was found
-pub none_where : (why : Why) (found : Option LivesEnd) → found ≡ end_after why → ((end : LivesEnd) → found ≡ Some end → ⊥) →
+pub none_where : (why : Why) (found : Option LivesEnd) → found ≡ end_after why →
+    ((end : LivesEnd) → found ≡ Some end → ⊥) →
     end_after why ≡ None
 none_where why None is none = sym is
 none_where why (Some end) is none = absurd (none end refl)

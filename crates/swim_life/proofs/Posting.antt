@@ -34,7 +34,8 @@ take_more xs i x within at =
     ap (λ n. take n xs) e ∙ take-suc xs i x within ∙ ap (λ y. take i xs ++ y ∷ []) (sym at)
 
 count_more : (posted : List Posted) (p : Posted) →
-    count_by (λ q. not q.is_taken) (posted ++ p ∷ []) ≡ count_by (λ q. not q.is_taken) posted + from_bool (not p.is_taken)
+    count_by (λ q. not q.is_taken) (posted ++ p ∷ []) ≡
+    count_by (λ q. not q.is_taken) posted + from_bool (not p.is_taken)
 count_more posted p =
     sum_by-append (λ (q : Posted). cond (not q.is_taken) 1 0) posted (p ∷ [])
     ∙ ap (λ n. count_by (λ (q : Posted). not q.is_taken) posted + n) (one (not p.is_taken))

@@ -33,18 +33,21 @@ are_both xs ys a b c m n p q = record {
   posted = p.posted ++ q.posted;
   grows = grows_both a b c p.posted q.posted p.grows q.grows;
   each = map-append handed p.posted q.posted
-      ∙ (ap (λ l. l ++ map handed q.posted) p.each ∙ (ap (λ l. map datagram xs ++ l) q.each ∙ sym (map-append datagram xs ys)));
+      ∙ (ap (λ l. l ++ map handed q.posted) p.each ∙
+      (ap (λ l. map datagram xs ++ l) q.each ∙ sym (map-append datagram xs ys)));
   unsent =
       let s = sum_by-append (λ (r : Posted). cond (not r.is_taken) 1 0) p.posted q.posted in
       ap (λ k. k + n) p.unsent ∙ (ap (λ k. count_by (λ (r : Posted). not r.is_taken) p.posted + k) q.unsent ∙ sym s);
 }
 
-pub none_sent : (o : Setting) (calls : List Kept) (post : Option (List Posted)) → calls ≡ [] → IsFresh post → HasSent o calls post 0
+pub none_sent : (o : Setting) (calls : List Kept) (post : Option (List Posted)) → calls ≡ [] → IsFresh post →
+    HasSent o calls post 0
 none_sent o calls post none fresh =
     rw none (record { start = post; fresh = fresh; count = 0; posted = none_posted post; counted = omega arith })
 
 -- a call more, the messages of whose reply were handed over
-one_more_sent : (o : Setting) (calls more : List Kept) (k : Kept) (reply : Reply) (before after : Option (List Posted)) (u n v : ℕ) →
+one_more_sent : (o : Setting) (calls more : List Kept) (k : Kept) (reply : Reply) (before after : Option (List Posted))
+    (u n v : ℕ) →
     HasSent o calls before u → more ≡ calls ++ k ∷ [] → k.reply ≡ reply → ArePosted (sends_of reply o) before after n →
     v ≡ both u n → HasSent o more after v
 one_more_sent o calls more k reply before after u n v are grown is sent counted =
@@ -55,18 +58,22 @@ one_more_sent o calls more k reply before after u n v are grown is sent counted 
       start = are.start;
       fresh = are.fresh;
       count = are.count + n;
-      posted = rw all (are_both (messages_of o calls) (sends_of reply o) are.start before after are.count n are.posted sent);
+      posted = rw all (are_both (messages_of o calls) (sends_of reply o) are.start before after are.count n are.posted
+          sent);
       counted = omega (arith, are.counted, counted);
     })
 
 -- no call more
-still : {O : Type 0} (posted : O → Option (List Posted)) (o : Setting) (old new : Seated) (post after : O) (counts next : Counts) →
-    HasSent o old.calls (posted post) counts.unsent → new.calls ≡ old.calls → after ≡ post → next.unsent ≡ counts.unsent →
+still : {O : Type 0} (posted : O → Option (List Posted)) (o : Setting) (old new : Seated) (post after : O)
+    (counts next : Counts) →
+    HasSent o old.calls (posted post) counts.unsent → new.calls ≡ old.calls → after ≡ post →
+    next.unsent ≡ counts.unsent →
     HasSent o new.calls (posted after) next.unsent
 still posted o old new post after counts next are seat same count = rw (seat, same, count) are
 
 -- what was sent, after the answer to a call was dealt with
-pub finished_sent : {O : Type 0} {N : Type 0} (posted : O → Option (List Posted)) (o opening : Setting) (old new : Seated)
+pub finished_sent : {O : Type 0} {N : Type 0} (posted : O → Option (List Posted)) (o opening : Setting)
+    (old new : Seated)
     (answer : Result (Receipt N) CallFault) (boxed post after : O) (counts next : Counts) (end : Option Why) →
     HasSent o old.calls (posted boxed) counts.unsent → post ≡ boxed → opening ≡ o →
     ((r : Receipt N) → answer ≡ Ok r → (k : Kept) × (new.calls ≡ old.calls ++ k ∷ []) × (k.reply ≡ r.reply)) →
@@ -76,18 +83,25 @@ pub finished_sent : {O : Type 0} {N : Type 0} (posted : O → Option (List Poste
 finished_sent posted o opening old new (Ok r) boxed post after counts next end sent in_box is ok err done =
     let are : HasSent o old.calls (posted post) counts.unsent = rw in_box sent in
     let k = ok r refl in
-    one_more_sent o old.calls new.calls k.0 r.reply (posted post) (posted after) counts.unsent done.1.0 next.unsent are k.1 k.2
+    one_more_sent o old.calls new.calls k.0 r.reply (posted post) (posted after) counts.unsent done.1.0 next.unsent are
+    k.1 k.2
     (subst (λ s. ArePosted (sends_of r.reply s) (posted post) (posted after) done.1.0) is done.1.1)
     (ap (λ (c : Counts). c.unsent) done.1.2)
-finished_sent posted o opening old new (Err (faults.Wire f)) boxed post after counts next end sent in_box is ok err done =
+finished_sent posted o opening old new (Err (faults.Wire f)) boxed post after counts next end sent in_box is ok err
+    done =
     let are : HasSent o old.calls (posted post) counts.unsent = rw in_box sent in
-    still posted o old new post after counts next are (ap (λ (s : Seated). s.calls) err) done.1 (ap (λ (c : Counts). c.unsent) done.2)
-finished_sent posted o opening old new (Err faults.NoMemory) boxed post after counts next end sent in_box is ok err done =
+    still posted o old new post after counts next are (ap (λ (s : Seated). s.calls) err) done.1
+    (ap (λ (c : Counts). c.unsent) done.2)
+finished_sent posted o opening old new (Err faults.NoMemory) boxed post after counts next end sent in_box is ok err
+    done =
     let are : HasSent o old.calls (posted post) counts.unsent = rw in_box sent in
-    still posted o old new post after counts next are (ap (λ (s : Seated). s.calls) err) done.1 (ap (λ (c : Counts). c.unsent) done.2)
-finished_sent posted o opening old new (Err faults.JournalFull) boxed post after counts next end sent in_box is ok err done =
+    still posted o old new post after counts next are (ap (λ (s : Seated). s.calls) err) done.1
+    (ap (λ (c : Counts). c.unsent) done.2)
+finished_sent posted o opening old new (Err faults.JournalFull) boxed post after counts next end sent in_box is ok err
+    done =
     let are : HasSent o old.calls (posted post) counts.unsent = rw in_box sent in
-    still posted o old new post after counts next are (ap (λ (s : Seated). s.calls) err) done.1 (ap (λ (c : Counts). c.unsent) done.2)
+    still posted o old new post after counts next are (ap (λ (s : Seated). s.calls) err) done.1
+    (ap (λ (c : Counts). c.unsent) done.2)
 
 -- what two of the seats sent whose calls a journal holds
 pub closed_posted : (o : Setting) (past : List Entry) (seats : List Seated) (first second third fourth : Seated)

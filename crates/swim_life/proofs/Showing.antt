@@ -26,14 +26,16 @@ none_shown o seen now = record {
   each = All-nil (AreMembers o seen);
 }
 
-pub one_shown : (o : Setting) (old_seen new_seen : List Change) (old new : Option (List (List Address))) (addresses : List Address) →
+pub one_shown : (o : Setting) (old_seen new_seen : List Change) (old new : Option (List (List Address)))
+    (addresses : List Address) →
     IsPrefix old_seen new_seen → Grows old new (addresses ∷ []) → addresses ≡ addresses_in (table_after o new_seen) →
     AreShown o old_seen new_seen old new
 one_shown o old_seen new_seen old new addresses later grows is = record {
   shown = addresses ∷ [];
   grows = grows;
   later = later;
-  each = All-cons (AreMembers o new_seen) addresses [] (new_seen, begins_itself new_seen, is) (All-nil (AreMembers o new_seen));
+  each = All-cons (AreMembers o new_seen) addresses [] (new_seen, begins_itself new_seen, is)
+      (All-nil (AreMembers o new_seen));
 }
 
 pub more_shown : (o : Setting) (first mid last : List Change) (old now new : Option (List (List Address))) →

@@ -14,8 +14,10 @@ pub none_turned : {A S : Type 0} (turn : A → S → Option Why → S → Type 0
 none_turned turn before old = record { given = []; grown = grows_none before; ends = refl }
 
 -- a turn more
-pub one_more_turned : {A S : Type 0} (turn : A → S → Option Why → S → Type 0) (before now after : Option (List A)) (old mid new : S) →
-    HasWorked turn before now old None mid → IsTurn turn now after mid None new → HasWorked turn before after old None new
+pub one_more_turned : {A S : Type 0} (turn : A → S → Option Why → S → Type 0) (before now after : Option (List A))
+    (old mid new : S) →
+    HasWorked turn before now old None mid → IsTurn turn now after mid None new →
+    HasWorked turn before after old None new
 one_more_turned turn before now after old mid new are is = record {
   given = are.given ++ is.given ∷ [];
   grown = grows_both before now after are.given (is.given ∷ []) are.grown is.grown;
@@ -23,8 +25,10 @@ one_more_turned turn before now after old mid new are is = record {
 }
 
 -- the last one
-pub last_turned : {A S : Type 0} (turn : A → S → Option Why → S → Type 0) (before now after : Option (List A)) (old mid new : S) (why : Why) →
-    HasWorked turn before now old None mid → IsTurn turn now after mid (Some why) new → HasWorked turn before after old (Some why) new
+pub last_turned : {A S : Type 0} (turn : A → S → Option Why → S → Type 0) (before now after : Option (List A))
+    (old mid new : S) (why : Why) →
+    HasWorked turn before now old None mid → IsTurn turn now after mid (Some why) new →
+    HasWorked turn before after old (Some why) new
 last_turned turn before now after old mid new why are is = record {
   given = are.given ++ is.given ∷ [];
   grown = grows_both before now after are.given (is.given ∷ []) are.grown is.grown;

@@ -17,9 +17,11 @@ use Rattle.swim_life.specs.declared.counts.Why.TheVariants.{JournalFull}
 use Rattle.swim_life.specs.Ends.{both}
 use Rattle.swim_life.specs.Posts.{AtSender}
 
--- the node answered: the call is the next one of the seat, nothing was counted but what couldn't be sent, and the worker goes
+-- the node answered: the call is the next one of the seat, nothing was counted but what couldn't be sent, and the
+-- worker goes
 -- on
-pub record IsMade {O : Type 0} (o : Setting) (call : Call) (old : AtSender O) (end : Option Why) (new : AtSender O) : Type 0 where
+pub record IsMade {O : Type 0} (o : Setting) (call : Call) (old : AtSender O) (end : Option Why)
+    (new : AtSender O) : Type 0 where
   pub kept : Kept
   pub news : List Change
   pub answered : IsAnswered o old.seat new.seat call kept news
@@ -38,12 +40,14 @@ end_with faults.JournalFull = Some JournalFull
 end_with fault = None
 
 -- the node refused: nothing changed but the counts, and what the seat knows of a full journal
-pub record IsRefused {O : Type 0} (fault : CallFault) (old : AtSender O) (end : Option Why) (new : AtSender O) : Type 0 where
+pub record IsRefused {O : Type 0} (fault : CallFault) (old : AtSender O) (end : Option Why) (new : AtSender O) : Type
+    0 where
   pub same : new ≡ record old { seat = refused fault old.seat; counts = counts_with fault old.counts }
   pub ends : end ≡ end_with fault
 
 -- a call was made, of those that may be, or got a refusal, of those that it may get
-abbrev pub Calls : {O : Type 0} → Setting → (Call → Type 0) → (CallFault → Type 0) → AtSender O → Option Why → AtSender O →
+abbrev pub Calls : {O : Type 0} → Setting → (Call → Type 0) → (CallFault → Type 0) → AtSender O → Option Why →
+    AtSender O →
     Type 0
 Calls o may_ask may_refuse old end new =
     ((call : Call) × may_ask call × IsMade o call old end new)
@@ -52,7 +56,8 @@ Calls o may_ask may_refuse old end new =
 -- bytes came from this address: the node was called with their message, or told why it wasn't
 abbrev pub Hears : {O : Type 0} → Setting → ℕ → List ℕ → Address → AtSender O → Option Why → AtSender O → Type 0
 Hears o limit bytes source old end new =
-    Calls o (λ call. (m : Message) × IsTextOf bytes m × (call ≡ Hear source m)) (MayRefuseBytes bytes o limit old.seat) old end new
+    Calls o (λ call. (m : Message) × IsTextOf bytes m × (call ≡ Hear source m)) (MayRefuseBytes bytes o limit old.seat)
+    old end new
 
 -- one tick of time passed
 abbrev pub Ticks : {O : Type 0} → Setting → ℕ → AtSender O → Option Why → AtSender O → Type 0

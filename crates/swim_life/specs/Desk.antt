@@ -12,8 +12,8 @@ use Rattle.swim_history.specs.Changes.{table_after}
 use Rattle.swim_history.specs.Reasons.{refusal_number}
 use Rattle.swim_control.specs.declared.desks.Answer.{Answer}
 use Rattle.swim_control.specs.declared.desks.Answer.TheVariants.{Joined, Removed, Refused, JournalFull, NoMemory}
-use Rattle.swim_control.specs.declared.desks.Command.{Command}
-use Rattle.swim_control.specs.declared.desks.Command.TheVariants.{List as Lists, Join, Remove, Gap, Stats}
+use Rattle.swim_control.specs.declared.desks.DeskCommand.{DeskCommand}
+use Rattle.swim_control.specs.declared.desks.DeskCommand.TheVariants.{List as Lists, Join, Remove, Gap, Stats}
 use Rattle.swim_control.specs.Desks.{Told, Shows, Measures, Answers, Counts}
 use Rattle.swim_node.specs.declared.receipts.CallFault.{CallFault}
 use Rattle.swim_node.specs.declared.receipts.CallFault.TheVariants as faults
@@ -52,7 +52,8 @@ pub record IsDone (o : Setting) (old : AtDesk) (call : Call) (answer : Answer) (
   pub learnt : IsLongerOf old.seen news new.seen
   pub refused : new.refused ≡ old.refused
 
--- a call was refused: where the journal had as many entries as it may have, which the seat knows then, or for want of memory,
+-- a call was refused: where the journal had as many entries as it may have, which the seat knows then, or for want of
+-- memory,
 -- which is counted
 abbrev pub IsRefused : Setting → ℕ → AtDesk → Answer → AtDesk → Type 0
 IsRefused o limit old JournalFull new =
@@ -72,7 +73,7 @@ abbrev pub Calls : Setting → ℕ → AtDesk → Call → Answer → AtDesk →
 Calls o limit old call answer new = IsDone o old call answer new ⊎ IsRefused o limit old answer new
 
 -- what a command does, and what it is told
-abbrev pub Asks : Setting → ℕ → AtDesk → Command → Told → AtDesk → Type 0
+abbrev pub Asks : Setting → ℕ → AtDesk → DeskCommand → Told → AtDesk → Type 0
 Asks o limit old Lists (Shows table) new =
     (new ≡ record old { seen = new.seen }) × IsPrefix old.seen new.seen
     × IfSome table (λ rows. rows.items ≡ table_after o new.seen)

@@ -4,7 +4,7 @@ use Rattle.swim_text.specs.Streams.{Puts, failures_if}
 use Rattle.swim_history.specs.Judgement.{judgements}
 use Rattle.swim_life.specs.declared.counts.Why.{Why}
 use Rattle.swim_life.specs.declared.counts.Why.TheVariants.{JournalFull}
-use Rattle.swim_life.specs.declared.lives.Past.{Past}
+use Rattle.swim_life.specs.declared.pasts.Past.{Past}
 use Rattle.swim_life.specs.Ends.{why_text}
 
 -- that the journal was to be written, and wasn't, or not all of it

@@ -28,7 +28,8 @@ Knocks connections false old end new = (new ≡ 0) × (end ≡ None)
 -- a turn at the door: it is asked once, but where there is no place for a connection
 abbrev pub AsksDoor : Talks → Option (List Bool) → ℕ → Option Why → Option (List Bool) → ℕ → Type 0
 AsksDoor connections before old end after new =
-    (((64 ≤ length connections.talks) ⊎ (connections.count ≡ 2 ^ 64 - 1)) × (after ≡ before) × (new ≡ old) × (end ≡ None))
+    (((64 ≤ length connections.talks) ⊎ (connections.count ≡ 2 ^ 64 - 1)) × (after ≡ before) × (new ≡ old) ×
+    (end ≡ None))
     ⊎ ((fault : Bool) × Grows before after (fault ∷ []) × Knocks (length connections.talks) fault old end new)
 
 -- the controller ends for its door's reason, and where there is none perhaps for one of a connection
@@ -38,7 +39,8 @@ EndsFor None (Some why) = IsOfConnection why
 EndsFor None None = Unit {0}
 
 -- a turn of the controller, beside which stands how many faults its door gave in a row
-pub record ServesNext (connections : Talks) (before : Option (List Bool)) (old : ℕ) (end : Option Why) (after : Option (List Bool))
+pub record ServesNext (connections : Talks) (before : Option (List Bool)) (old : ℕ) (end : Option Why)
+    (after : Option (List Bool))
     (new : ℕ) : Type 0 where
   pub by_door : Option Why
   pub door : AsksDoor connections before old by_door after new

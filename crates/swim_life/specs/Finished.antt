@@ -15,9 +15,11 @@ abbrev pub AreSent : List (Address × Message) → Option (List Posted) → Opti
 AreSent messages before after old new =
     (unsent : ℕ) × ArePosted messages before after unsent × (new ≡ record old { unsent = both old.unsent unsent })
 
--- what a worker does about the answer to a call: it sends these messages of the reply, counts what couldn't be sent and what
+-- what a worker does about the answer to a call: it sends these messages of the reply, counts what couldn't be sent and
+-- what
 -- got no reply, and ends where the journal is full, but for nothing else. Where there is no reply nothing is sent
-abbrev pub IsFinished : {A O : Type 0} → (O → Option (List Posted)) → Result A CallFault → (A → List (Address × Message)) →
+abbrev pub IsFinished : {A O : Type 0} → (O → Option (List Posted)) → Result A CallFault →
+    (A → List (Address × Message)) →
     O → Counts → Option Why → O → Counts → Type 0
 IsFinished posted (Ok receipt) messages post old end after new =
     (end ≡ None) × AreSent (messages receipt) (posted post) (posted after) old new

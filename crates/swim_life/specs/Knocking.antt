@@ -11,7 +11,7 @@ use Rattle.swim_history.specs.Changes.{table_after}
 use Rattle.swim_history.specs.Events.{is_starting}
 use Rattle.swim_history.specs.Seats.{kept_of}
 use Rattle.swim_history.specs.Setting.{Setting}
-use Rattle.swim_rejoin.specs.declared.knockers.Knock.{Knock}
+use Rattle.swim_rejoin.specs.declared.knockers.KnockPing.{KnockPing}
 use Rattle.swim_rejoin.specs.Knockers.{Kept, Follows}
 use Rattle.swim_rejoin.specs.Knocking.{knocked_by, ping_of}
 use Rattle.swim_life.specs.Posts.{ArePosted, AtSender, IsFresh, Posted}
@@ -39,7 +39,8 @@ knocks_of o rejoin (rows ∷ before) =
 abbrev pub starts_in : List KeptCall → ℕ
 starts_in calls = count_by (λ k. is_starting k.reply) calls
 
--- all that was handed over are the knocks at so many starts, each once, in order: as many as were counted, and the count
+-- all that was handed over are the knocks at so many starts, each once, in order: as many as were counted, and the
+-- count
 -- stops at 2^64-1. The period with that number runs
 pub record HasKnocked (o : Setting) (rejoin number : ℕ) (now : Option (List Posted)) (knocks : ℕ) : Type 0 where
   pub looks : List (List Row)
@@ -52,7 +53,8 @@ pub record HasKnocked (o : Setting) (rejoin number : ℕ) (now : Option (List Po
   pub counted : knocks ≡ min (length (knocks_of o rejoin looks)) (2 ^ 64 - 1)
 
 -- of a knocker of this node, and what it keeps is what these starts come to
-pub record IsKnocking (o : Setting) (rejoin : ℕ) (k : Kept) (number : ℕ) (now : Option (List Posted)) (knocks : ℕ) : Type 0 where
+pub record IsKnocking (o : Setting) (rejoin : ℕ) (k : Kept) (number : ℕ) (now : Option (List Posted))
+    (knocks : ℕ) : Type 0 where
   pub has : HasKnocked o rejoin number now knocks
   pub rejoin_is : k.rejoin ≡ rejoin
   pub me : k.me ≡ o.me
@@ -75,7 +77,7 @@ abbrev pub IsInStep : {O : Type 0} → Setting → AtSender O → AtKnocking O �
 IsInStep o sender knocking = knocking.number ≡ number_after o (starts_in sender.seat.calls)
 
 -- a knock as it is handed over
-abbrev pub sent_as : Option Knock → List (Address × Message)
+abbrev pub sent_as : Option KnockPing → List (Address × Message)
 sent_as None = []
 sent_as (Some knock) = (knock.peer, knock.message) ∷ []
 
@@ -83,9 +85,11 @@ sent_as (Some knock) = (knock.peer, knock.message) ∷ []
 abbrev pub AreKnocks : List (Address × Message) → Option (List Posted) → Option (List Posted) → ℕ → Type 0
 AreKnocks messages old new count = (unsent : ℕ) × ArePosted messages old new unsent × (count ≡ length messages)
 
--- all that the third post of a life was handed are the knocks at the starts of periods that stand in the journal's calls
+-- all that the third post of a life was handed are the knocks at the starts of periods that stand in the journal's
+-- calls
 -- of the second seat, and they were counted
-pub record HaveKnocked (o : Setting) (rejoin : ℕ) (past : List Entry) (now : Option (List Posted)) (knocks : ℕ) : Type 0 where
+pub record HaveKnocked (o : Setting) (rejoin : ℕ) (past : List Entry) (now : Option (List Posted)) (knocks : ℕ) : Type
+    0 where
   pub number : ℕ
   pub starts : number ≡ number_after o (starts_in (kept_of 1 past))
   pub knocked : HasKnocked o rejoin number now knocks

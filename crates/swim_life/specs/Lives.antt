@@ -13,7 +13,7 @@ use Rattle.swim_life.specs.declared.counts.Why.{Why}
 use Rattle.swim_life.specs.declared.counts.Why.TheVariants as whys
 use Rattle.swim_life.specs.declared.lives.LivesEnd.{LivesEnd}
 use Rattle.swim_life.specs.declared.lives.LivesEnd.TheVariants.{Stopped, Socket, NoMemory, NoPlace}
-use Rattle.swim_life.specs.declared.lives.Past.{Past}
+use Rattle.swim_life.specs.declared.pasts.Past.{Past}
 use Rattle.swim_life.specs.Draws.{WasDrawn}
 use Rattle.swim_life.specs.Endings.{TellsLife, TellsText, Written, stopped_text}
 

@@ -26,7 +26,8 @@ Notices old new = (lines : List (List ℕ)) × AreNoticed old new lines
 pub no_notices : (old : Written) → Notices old old
 no_notices old = ([], refl)
 
-noticed_both : (old mid new : Written) (first then : List (List ℕ)) → AreNoticed old mid first → AreNoticed mid new then →
+noticed_both : (old mid new : Written) (first then : List (List ℕ)) → AreNoticed old mid first →
+    AreNoticed mid new then →
     AreNoticed old new (then ++ first)
 noticed_both old mid new first [] is more = subst (λ w. AreNoticed old w first) (sym more) is
 noticed_both old mid new first (line ∷ before) is more =

@@ -3,7 +3,8 @@ use Rattle.std.specs.Prelude.{◌≡◌, ℕ, ◌+◌, ◌-◌, ◌<◌, ◌≤�
 use Rattle.swim_life.specs.declared.gates.Beat.{Beat}
 use Rattle.swim_life.specs.declared.gates.Beat.TheVariants.{Tick, Idle, Stop}
 
--- how many milliseconds a tick has, how many of the present one are left, and for how many its sleeper slept so far, where
+-- how many milliseconds a tick has, how many of the present one are left, and for how many its sleeper slept so far,
+-- where
 -- that is known
 pub record Pacing : Type 0 where
   pub tick : ℕ
@@ -19,6 +20,8 @@ HasSlept (Some old) time (Some new) = new ≡ old + time
 
 -- a beat: a tick is given when all its milliseconds were slept, no more than 100 at once; a stop never is
 abbrev pub Beats : Pacing → Beat → Pacing → Type 0
-Beats old Tick new = (old.left ≤ 100) × HasSlept old.slept old.left new.slept × (new.tick ≡ old.tick) × (new.left ≡ old.tick)
-Beats old Idle new = (100 < old.left) × HasSlept old.slept 100 new.slept × (new.tick ≡ old.tick) × (new.left ≡ old.left - 100)
+Beats old Tick new = (old.left ≤ 100) × HasSlept old.slept old.left new.slept × (new.tick ≡ old.tick) ×
+    (new.left ≡ old.tick)
+Beats old Idle new = (100 < old.left) × HasSlept old.slept 100 new.slept × (new.tick ≡ old.tick) ×
+    (new.left ≡ old.left - 100)
 Beats old Stop new = ⊥

@@ -33,7 +33,8 @@ handed p = (p.to, p.bytes)
 abbrev pub datagram : Address × Message → Address × List ℕ
 datagram m = (m.0, text_of m.1)
 
--- each of these messages was handed over once, in order, as its own bytes and to its own address; so many of them were not
+-- each of these messages was handed over once, in order, as its own bytes and to its own address; so many of them were
+-- not
 -- taken
 pub record ArePosted (messages : List (Address × Message)) (old new : Option (List Posted)) (count : ℕ) : Type 0 where
   pub posted : List Posted
@@ -50,7 +51,8 @@ IsFresh (Some posted) = posted ≡ []
 abbrev pub messages_of : Setting → List Kept → List (Address × Message)
 messages_of o calls = flat_map (λ k. sends_of k.reply o) calls
 
--- all that was handed over are the messages of the replies to these calls, each once, in order; so many were not taken, a
+-- all that was handed over are the messages of the replies to these calls, each once, in order; so many were not taken,
+-- a
 -- count that stops at 2^64-1
 pub record HasSent (o : Setting) (calls : List Kept) (now : Option (List Posted)) (unsent : ℕ) : Type 0 where
   pub start : Option (List Posted)
@@ -67,7 +69,8 @@ pub record AtSender (O : Type 0) : Type 0 where
 
 -- all that the two posts of a life were handed are the messages of the replies to the calls of the journal's first two
 -- seats, each once, in order; and those that were not taken were counted together
-pub record HavePosted (o : Setting) (past : List Entry) (hearing ticking : Option (List Posted)) (unsent : ℕ) : Type 0 where
+pub record HavePosted (o : Setting) (past : List Entry) (hearing ticking : Option (List Posted)) (unsent : ℕ) : Type
+    0 where
   pub by_hearing : ℕ
   pub by_ticking : ℕ
   pub heard : HasSent o (kept_of 0 past) hearing by_hearing

@@ -30,7 +30,8 @@ IsNews o (Joined id period) = ⊥
 abbrev pub LearnsOn : Setting → List Event → List Event → Type 0
 LearnsOn o h now = (more : List Event) × (now ≡ more ++ h) × All (IsNews o) more
 
--- what is remembered is what all that happened comes to, newest first, with the rows of the table that was last looked at
+-- what is remembered is what all that happened comes to, newest first, with the rows of the table that was last looked
+-- at
 abbrev pub IsReturning : Returning → List Event → Type 0
 IsReturning r h = Follows r.rejoiner h × (r.rows.items ≡ table_in h)
 
@@ -63,20 +64,24 @@ IsJoinTold row true h told = (period : ℕ) × (told ≡ Joined row.id period �
 IsJoinTold row false h told = told ≡ h
 
 -- a member is joined again, and that is remembered, or nothing is
-abbrev pub JoinsAgain : {O : Type 0} → Setting → ℕ → Row → Returning → AtSender O → Option Why → AtSender O → Returning → Type 0
+abbrev pub JoinsAgain : {O : Type 0} → Setting → ℕ → Row → Returning → AtSender O → Option Why → AtSender O →
+    Returning → Type 0
 JoinsAgain o limit row before old end new after =
     (is_joined : Bool) × Joins o limit row old end new is_joined
-    × ((h : List Event) → IsReturning before h → (told : List Event) × IsReturning after told × IsJoinTold row is_joined h told)
+    × ((h : List Event) → IsReturning before h →
+    (told : List Event) × IsReturning after told × IsJoinTold row is_joined h told)
 
 -- what follows the call for a datagram: nothing where nobody is to be joined again, and else the call that joins it
-abbrev pub JoinsThen : {O : Type 0} → Setting → ℕ → Option Row → List Event → AtSender O → Option Why → Option Why → AtSender O →
+abbrev pub JoinsThen : {O : Type 0} → Setting → ℕ → Option Row → List Event → AtSender O → Option Why → Option Why →
+    AtSender O →
     List Event → Type 0
 JoinsThen o limit None h mid heard end new told = (new ≡ mid) × (end ≡ heard) × (told ≡ h)
 JoinsThen o limit (Some row) h mid heard end new told =
     (is_joined : Bool) × Joins o limit row mid end new is_joined × IsJoinTold row is_joined h told
 
 -- a datagram was heard, and then whoever it shows to be there again was joined
-pub record HearsAndJoins {O : Type 0} (o : Setting) (limit rejoin me : ℕ) (h : List Event) (bytes : List ℕ) (source : Address)
+pub record HearsAndJoins {O : Type 0} (o : Setting) (limit rejoin me : ℕ) (h : List Event) (bytes : List ℕ)
+    (source : Address)
     (old : AtSender O) (end : Option Why) (new : AtSender O) (told : List Event) : Type 0 where
   pub mid : AtSender O
   pub heard : Option Why

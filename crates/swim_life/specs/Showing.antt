@@ -17,7 +17,8 @@ abbrev pub AreMembers : Setting → List Change → List Address → Type 0
 AreMembers o seen addresses = (log : List Change) × IsPrefix log seen × (addresses ≡ addresses_in (table_after o log))
 
 -- whatever a line was shown by a viewer, meanwhile, are the addresses in a table of the node
-pub record AreShown (o : Setting) (old_seen new_seen : List Change) (old new : Option (List (List Address))) : Type 0 where
+pub record AreShown (o : Setting) (old_seen new_seen : List Change) (old new : Option (List (List Address))) : Type
+    0 where
   pub shown : List (List Address)
   pub grows : Grows old new shown
   pub later : IsPrefix old_seen new_seen

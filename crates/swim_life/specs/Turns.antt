@@ -14,7 +14,8 @@ use Rattle.swim_life.specs.Gates.{Received}
 use Rattle.swim_life.specs.Posts.{AtSender, Grows}
 use Rattle.swim_life.specs.Rejoining.{HearsAndJoins, LearnsOn}
 
--- what a contract sees of the receiver between its turns: the caller that sends, how many faults the line gave in a row, and
+-- what a contract sees of the receiver between its turns: the caller that sends, how many faults the line gave in a
+-- row, and
 -- what happened to members that come back
 pub record AtReceiver (O : Type 0) : Type 0 where
   pub sender : AtSender O
@@ -26,7 +27,8 @@ at_receiver sender row told = record { sender = sender; row = row; told = told }
 
 -- what comes of an answer of the line: a datagram is heard, and whoever it shows to be there again is joined; a fault
 -- counts, and any other answer ends the row
-abbrev pub HearsGot : {O : Type 0} → Setting → ℕ → ℕ → ℕ → List Event → Got → List ℕ → AtReceiver O → Option Why → AtReceiver O →
+abbrev pub HearsGot : {O : Type 0} → Setting → ℕ → ℕ → ℕ → List Event → Got → List ℕ → AtReceiver O → Option Why →
+    AtReceiver O →
     Type 0
 HearsGot o limit rejoin me h (Datagram count source) bytes old end new =
     HearsAndJoins o limit rejoin me h (take count bytes) source old.sender end new.sender new.told × (new.row ≡ 0)
@@ -62,7 +64,8 @@ Turns {A} {S} turn (given ∷ rest) old new = (mid : S) × turn given old None m
 abbrev pub EndsSo : {A S : Type 0} → (A → S → Option Why → S → Type 0) → List A → S → Option Why → S → Type 0
 EndsSo {A} {S} turn given old None new = Turns turn given old new
 EndsSo {A} {S} turn given old (Some why) new =
-    (front : List A) × (last : A) × (mid : S) × (given ≡ front ++ last ∷ []) × Turns turn front old mid × turn last mid (Some why) new
+    (front : List A) × (last : A) × (mid : S) × (given ≡ front ++ last ∷ []) × Turns turn front old mid ×
+    turn last mid (Some why) new
 
 -- a worker's whole work: a turn for each answer of its gate
 pub record HasWorked {A S : Type 0} (turn : A → S → Option Why → S → Type 0) (before after : Option (List A)) (old : S)
@@ -72,10 +75,12 @@ pub record HasWorked {A S : Type 0} (turn : A → S → Option Why → S → Typ
   pub ends : EndsSo turn given old end new
 
 -- the receiver's: it begins with no fault, and with what happened before
-abbrev pub HasHeard : {O : Type 0} → Setting → ℕ → ℕ → ℕ → List Event → Option (List Received) → Option (List Received) →
+abbrev pub HasHeard : {O : Type 0} → Setting → ℕ → ℕ → ℕ → List Event → Option (List Received) →
+    Option (List Received) →
     AtSender O → Option Why → AtSender O → List Event → Type 0
 HasHeard o limit rejoin me h before after old end new told =
-    (row : ℕ) × HasWorked (HearsNext o limit rejoin me) before after (at_receiver old 0 h) end (at_receiver new row told)
+    (row : ℕ) × HasWorked (HearsNext o limit rejoin me) before after (at_receiver old 0 h) end
+    (at_receiver new row told)
 
 -- the ticker's
 abbrev pub HasTicked : {O : Type 0} → Setting → ℕ → Option (List Beat) → Option (List Beat) → AtSender O → Option Why →

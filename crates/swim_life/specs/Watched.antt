@@ -20,14 +20,16 @@ lived number o h = record { number = number; opening = o; past = h }
 -- until then is told the history, too; and who has come since is told a beginning of it, and what followed
 abbrev pub AreToldOn : Setting → List AtGuest → List Entry → List AtGuest → Type 0
 AreToldOn o before h after =
-    (number : ℕ) (older : List Lived) → AreTold (lived number o [] ∷ older) before → AreTold (lived number o h ∷ older) after
+    (number : ℕ) (older : List Lived) → AreTold (lived number o [] ∷ older) before →
+    AreTold (lived number o h ∷ older) after
 
 -- the same, and that the life of this number begins
 abbrev pub AreToldLife : ℕ → Setting → List AtGuest → List Entry → List AtGuest → Type 0
 AreToldLife number o before h after =
     (older : List Lived) → AreTold older before → AreTold (lived number o h ∷ older) after
 
--- of each history with the calls that were read: what is known is the history's, those who watch are told it, and the reporter
+-- of each history with the calls that were read: what is known is the history's, those who watch are told it, and the
+-- reporter
 -- has heard of its calls
 pub record Tells (o : Setting) (h : List Entry) (guests : List AtGuest) (heard : Option (List Report)) (w : Known)
     (now : List AtGuest) (hears : Option (List Report)) : Type 0 where

@@ -66,7 +66,8 @@ fn serve_on<N: Naming, H: Wait + Drop, R: Wait, D: Door + Drop, K: Speaker>(
     unreachable!()
 }
 
-/// What the controller hands back that ended so, or whose life was over: it was told to stop where that is why it ended.
+/// What the controller hands back that ended so, or whose life was over: it was told to stop where that is why it
+/// ended.
 fn left<N: Naming, H: Wait + Drop, K>(desk: NodeDesk<N, H, K, 2>, end: Option<Why>) -> Left<N, 2>
     requires { end ≡ Some Why.JournalFull → 0 < desk.seat.full }
     ensures why { result.why ≡ unwrap_or end Why.Stopped }

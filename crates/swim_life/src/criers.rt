@@ -1,5 +1,5 @@
-//! Who reads a node's journal while the node runs: it writes it down, tells its changes to those who watch, and its calls to
-//! a reporter.
+//! Who reads a node's journal while the node runs: it writes it down, tells its changes to those who watch, and its
+//! calls to a reporter.
 
 ghost use Rattle.std.specs.Prelude.{◌≡◌, false, true};
 ghost use Rattle.swim_events.specs.Watching.{Known};

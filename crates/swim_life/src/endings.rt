@@ -2,10 +2,11 @@
 
 ghost use Rattle.std.specs.Prelude.{◌≡◌, ◌++◌};
 ghost use Rattle.swim_text.specs.Streams.{Puts, failures_if};
-ghost use Rattle.swim_life.specs.Endings.{TellsLife, TellsText, cut_text, ended_text, life_text, past_text, stopped_text};
+ghost use Rattle.swim_life.specs.Endings.{TellsLife, TellsText, cut_text, ended_text, life_text, past_text};
+ghost use Rattle.swim_life.specs.Endings.{stopped_text};
 
 use crate::counts::Why;
-use crate::lives::Past;
+use crate::pasts::Past;
 use itoa::Buffer;
 use swim_text::Sink;
 use swim_wire::{Piece, put_pieces};
@@ -63,7 +64,7 @@ fn cut_text(is_cut: bool) -> &'static [u8]
 }
 
 /// Writes how a life ended. That it can't be written changes nothing.
-pub(crate) fn tell<W: Sink>(writer: &mut W, number: u64, past: &Past)
+pub(crate) fn tell_life<W: Sink>(writer: &mut W, number: u64, past: &Past)
     ensures { TellsLife number past.now (W.written writer.old, W.failures writer.old)
         (W.written writer.new, W.failures writer.new) }
 {

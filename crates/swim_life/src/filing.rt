@@ -10,8 +10,9 @@ ghost use Rattle.swim_life.specs.Written.{IsFile};
 
 use crate::gates::{Door, Line, Pace, Post, Shelf};
 use crate::halls::Hall;
-use crate::lives::{Lived, Past, Terms, live_recorded};
+use crate::lives::{Lived, Terms, live_recorded};
 use crate::nowhere::Nowhere;
+use crate::pasts::{Past, with_cut};
 use crate::rejoining::Returning;
 use crate::reporters::{Reporter, Speaker};
 use std::alloc::Global;
@@ -257,14 +258,4 @@ fn chooser_of(terms: Terms, number: u64) -> Seeded
     ensures { result ≡ record (of_seed terms.seed) { stream = number } }
 {
     Seeded::life(terms.seed, number)
-}
-
-/// A life whose journal is told as cut, or isn't.
-pub(crate) fn with_cut(past: Past, is_cut: bool) -> Past
-    ensures past { result ≡ record past { is_cut = is_cut } }
-    ensures cut { result.is_cut ≡ is_cut }
-{
-    let mut past = past;
-    past.is_cut = is_cut;
-    past
 }

@@ -1,6 +1,6 @@
 //! The gates of a life: where its datagrams, its ticks and its operators' connections come from. A worker asks its gate
-//! once a turn, so a gate that has nothing waits a moment, but not long, before it answers that it is idle; a door is told
-//! when to wait. A herald tells people that a life begins, and a shelf has the files of the lives' journals.
+//! once a turn, so a gate that has nothing waits a moment, but not long, before it answers that it is idle; a door is
+//! told when to wait. A herald tells people that a life begins, and a shelf has the files of the lives' journals.
 
 ghost use Rattle.std.specs.Prelude.{◌≡◌, ◌≤◌, ℕ, [], ◌∷◌, List, Option, IfSome, length};
 ghost use Rattle.swim_life.specs.Gates.{FitsInto, is_fault};
@@ -9,7 +9,8 @@ ghost use Rattle.swim_life.specs.Posts.{Grows, IsFresh};
 ghost use Rattle.swim_life.specs.Written.{IsFile};
 ghost use Rattle.swim_text.specs.Streams.{one_more};
 
-use crate::lives::{Past, Terms};
+use crate::lives::Terms;
+use crate::pasts::Past;
 use std::sync::Wait;
 use swim_text::{Polled, Sink};
 use swim_wire::{KNOWN_MEMBERS, Peer};
@@ -44,8 +45,8 @@ pub trait Line {
             (record { got = result; bytes = bytes.new } ∷ []) }
         ensures listed { listed self.new ≡ listed self.old };
 
-    /// Shows it the addresses of the members: of all that stood in the member table when the receiver looked at it last,
-    /// whether they are up or failed. A line to which all are alike does nothing.
+    /// Shows it the addresses of the members: of all that stood in the member table when the receiver looked at it
+    /// last, whether they are up or failed. A line to which all are alike does nothing.
     fn list(&mut self, members: &[Peer])
         requires { length members.now ≤ KNOWN_MEMBERS }
         ensures received { received self.new ≡ received self.old }
@@ -150,8 +151,8 @@ pub trait Shelf<W: Sink> {
     // what the sink of a new file was given, where that is known
     ghost fresh: { Option (List ℕ) };
 
-    /// Opens a new file for the life of this number; `None` where lives have no files. The sink of a file that could not
-    /// be made takes nothing.
+    /// Opens a new file for the life of this number; `None` where lives have no files. The sink of a file that could
+    /// not be made takes nothing.
     fn open<F: Sink>(&mut self, number: u64, notices: &mut F) -> Option<W>
         ensures fresh { IfSome result (λ writer. W.written writer ≡ fresh) }
         ensures notices { Notices (F.written notices.old, F.failures notices.old)

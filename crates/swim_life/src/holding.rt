@@ -1,4 +1,5 @@
-//! Seats on their way: a worker's, with its number in its type, into a thread and back, and the four of a node behind its close.
+//! Seats on their way: a worker's, with its number in its type, into a thread and back, and the four of a node behind
+//! its close.
 
 ghost use Rattle.std.specs.Prelude.{◌≡◌, ◌<◌, [], ◌∷◌};
 ghost use Rattle.swim_life.specs.declared.counts.Why.TheVariants.{JournalFull};
@@ -58,8 +59,8 @@ pub(crate) struct Ticked<N: KnockNaming, O: Post + Drop> {
     pub(crate) ghost full: { why ≡ JournalFull → 0 < ticker.sender.seat.full },
 }
 
-/// What the controller hands back: its seat, why it ended, whether it was told to stop, and how many of its calls were refused
-/// for want of memory. Where it ended for a full journal its seat knows of that.
+/// What the controller hands back: its seat, why it ended, whether it was told to stop, and how many of its calls were
+/// refused for want of memory. Where it ended for a full journal its seat knows of that.
 #[derive(Drop)]
 pub(crate) struct Left<N: Naming, const SEAT: u8> {
     pub(crate) held: Held<N, SEAT>,

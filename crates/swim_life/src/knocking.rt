@@ -7,13 +7,13 @@ ghost use Rattle.swim_life.specs.Knocking.{AreKnocks, HasKnocked, HaveKnocked, I
 ghost use Rattle.swim_life.specs.Posts.{IsFresh, Posted};
 
 use crate::gates::Post;
-use crate::tidings::Board;
+use crate::tidings::TidingsBoard;
 use std::marker::{Brand, Model};
 use std::sync::Wait;
 use swim_history::{Opening, Table};
 use swim_journal::PageNaming;
 use swim_node::Viewer;
-use swim_rejoin::{Knock, Knocker};
+use swim_rejoin::{KnockPing, Knocker};
 use swim_wire::{PeriodNumber, encode};
 
 /// Which node, and how often it knocks. It exists in the proofs alone, as `Naming` does: a program passes `Brand`.
@@ -79,13 +79,13 @@ impl<N: KnockNaming, O: Post + Drop> Knocking<N, O> {
 
     /// A period starts: the receiver is told that it's time to look, and of the knock that is due, if one is, before
     /// that is sent.
-    fn start<R: Wait>(&mut self, rt: &R, board: &Board)
+    fn start<R: Wait>(&mut self, rt: &R, board: &TidingsBoard)
         ensures { self.new.number ≡ min (self.old.number + 1) (2 ^ 64 - 1) }
     {
         let rows = look(&mut self.viewer, self.is_open);
         let number = self.number.saturating_add(1);
         let knock = self.knocker.start(rows.as_slice(), period_of(number));
-        tell(rt, board, self.is_open, number, &knock);
+        leave_tidings(rt, board, self.is_open, number, &knock);
         let count = send(rt, &mut *self.post, &knock);
         let knocks = self.knocks.saturating_add(count);
         self.number = number;
@@ -93,7 +93,7 @@ impl<N: KnockNaming, O: Post + Drop> Knocking<N, O> {
     }
 
     /// A tick passed, with which a period starts, or doesn't. In any case it's time for the receiver to look.
-    pub(crate) fn pass<R: Wait>(&mut self, rt: &R, board: &Board, is_started: bool)
+    pub(crate) fn pass<R: Wait>(&mut self, rt: &R, board: &TidingsBoard, is_started: bool)
         ensures { MatchBool is_started (self.new.number ≡ min (self.old.number + 1) (2 ^ 64 - 1))
             (self.new ≡ self.old) }
     {
@@ -144,16 +144,23 @@ fn period_of(number: u64) -> PeriodNumber
 }
 
 /// Tells the receiver that it's time to look, and where somebody knocks, of the period and of the knock.
-fn tell<R: Wait>(rt: &R, board: &Board, is_open: bool, number: u64, knock: &Option<Knock>) {
+fn leave_tidings<R: Wait>(
+    rt: &R,
+    board: &TidingsBoard,
+    is_open: bool,
+    number: u64,
+    knock: &Option<KnockPing>,
+) {
     if is_open {
         board.leave(rt, number, knock);
     }
     board.make_due();
 }
 
-/// Sends a knock, if there is one. How many there were. That it can't be sent changes nothing: the next one is due soon.
+/// Sends a knock, if there is one. How many there were. That it can't be sent changes nothing: the next one is due
+/// soon.
 #[tactic(auto, using(crate::proofs::Knocked::no_knock, crate::proofs::Knocked::one_knock))]
-fn send<R: Wait, O: Post>(rt: &R, post: &mut O, knock: &Option<Knock>) -> u64
+fn send<R: Wait, O: Post>(rt: &R, post: &mut O, knock: &Option<KnockPing>) -> u64
     ensures { AreKnocks (sent_as knock.now) (O.posted post.old) (O.posted post.new) result }
 {
     match knock {

@@ -1,17 +1,15 @@
 //! A life: a node with its workers, from its opening to its close.
 
-ghost use Rattle.std.specs.Prelude.{◌≡◌, ◌≤◌, ◌||◌, [], ◌∷◌, length, true, box_value};
-ghost use Rattle.swim_text.specs.Streams.{Puts};
+ghost use Rattle.std.specs.Prelude.{◌≡◌, ◌≤◌, ◌||◌, [], ◌∷◌, length, false, true, box_value};
 ghost use Rattle.swim_history.specs.Changes.{changes};
-ghost use Rattle.swim_node.specs.Following.{filings_of};
 ghost use Rattle.swim_node.specs.Seats.{AreNew, AreTheSeats};
 ghost use Rattle.swim_node.specs.OneHistory.{IsOneHistory};
-ghost use Rattle.swim_journal.specs.Journals.{calls_text, AreReadBack};
 ghost use Rattle.swim_life.specs.Ends.{both, why_of};
 ghost use Rattle.swim_life.specs.Knocking.{HaveKnocked};
 ghost use Rattle.swim_life.specs.Posts.{HavePosted, IsFresh};
 ghost use Rattle.swim_life.specs.Reports.{HearsOf};
 ghost use Rattle.swim_life.specs.Watched.{AreToldOn};
+ghost use Rattle.swim_life.specs.Written.{IsWritten};
 
 use crate::counts::Why;
 use crate::crews::{Workers, apart, held};
@@ -22,18 +20,18 @@ use crate::holding::{Held, Seats};
 use crate::lookouts::Lookout;
 use crate::meters::Meters;
 use crate::naming::GuestNaming;
+use crate::pasts::Past;
 use crate::posts::Posts;
-use crate::recording::{Recorded, close_recorded};
+use crate::recording::close_recorded;
 use crate::rejoining::Returning;
 use crate::reporters::{Reporter, Speaker};
 use crate::threads::{Controlling, Hearing, Over, Recording, Ticking, work_at_once};
-use crate::tidings::Board;
+use crate::tidings::TidingsBoard;
 use std::alloc::Global;
 use std::sync::Wait;
 use std::sync::atomic::AtomicBool;
 use std::thread::Threads;
 use swim_events::{Entrance, Gallery, Outlet};
-use swim_history::Journal;
 use swim_node::{Naming, Node, Seat, Viewer};
 use swim_targets::Seeded;
 use swim_text::Sink;
@@ -47,46 +45,32 @@ pub struct Life<
     E: Outlet + Drop,
     Y: Reporter + Drop,
 > {
-    /// Why it ended: the gravest reason of its workers.
-    pub why: Why,
-    /// Whether a worker was told to stop, whatever else it ended for.
-    pub is_stopped: bool,
-    /// Everything that happened, in one order.
-    pub journal: Journal,
+    /// What stays of it, told as cut where the sink of its journal didn't take all of that, or didn't hand it on.
+    pub past: Past,
     /// The node's four seats, in order.
     pub seats: Seats<N>,
     /// What its receiver and its ticker sent by, and what its knocks were sent by.
     pub posts: Posts<O>,
-    /// Datagrams that couldn't be sent. The counts stop at 2^64-1.
-    pub unsent: u64,
-    /// Datagrams that came and were none of this protocol.
-    pub wire: u64,
-    /// Calls that were refused for want of memory.
-    pub refused: u64,
     /// Knocks at members that were judged. The count stops at 2^64-1.
     pub knocks: u64,
     /// The sink of its journal.
     pub writer: W,
-    /// Whether that took all of the journal's text, and handed it on.
-    pub is_whole: bool,
-    /// Whether all of the journal was read.
-    pub is_read: bool,
     /// Those who watch.
     pub gallery: Gallery<E>,
     /// Who heard of the calls.
     pub reporter: Y,
 }
 
-/// Runs a node over its gates until a worker ends: the receiver with the first seat and the second viewer, the ticker with
-/// the second seat and the third viewer, and the controller with the third and the first viewer, all at the same time. The
-/// receiver shows the line who stands in the member table, before the first datagram and then once a tick at most, and
-/// once more after a join of its own. A worker ends, and the others with it, where it is told to, where the journal is
-/// full, and after 16 faults in a row of its line or door. Each sends the datagrams of its own replies after the node's
-/// lock was given back.
+/// Runs a node over its gates until a worker ends: the receiver with the first seat and the second viewer, the ticker
+/// with the second seat and the third viewer, and the controller with the third and the first viewer, all at the same
+/// time. The receiver shows the line who stands in the member table, before the first datagram and then once a tick at
+/// most, and once more after a join of its own. A worker ends, and the others with it, where it is told to, where the
+/// journal is full, and after 16 faults in a row of its line or door. Each sends the datagrams of its own replies after
+/// the node's lock was given back.
 ///
 /// At the starts of periods the ticker knocks at members that were judged, and whoever shows that it is there again the
-/// receiver joins, as what is remembered of members that come back says how often. What was remembered goes on from life
-/// to life.
+/// receiver joins, as what is remembered of members that come back says how often. What was remembered goes on from
+/// life to life.
 ///
 /// Beside them a writer writes the journal into a sink, at each tick of a pace of its own, and what is left once the
 /// others have ended. Where the sink fails nothing more is written, and the life goes on. It tells those who watch what
@@ -140,25 +124,23 @@ pub fn run_life<
     requires page { W.written writer ≡ N.page }
     requires guests { gallery ≡ N.guests }
     requires heard { Y.heard reporter ≡ N.heard }
-    ensures opening { result.journal.opening ≡ N.opening }
-    ensures within { length result.journal.past ≤ N.limit }
+    ensures opening { result.past.journal.opening ≡ N.opening }
+    ensures within { length result.past.journal.past ≤ N.limit }
     ensures seats { let s = result.seats in AreTheSeats (s.first ∷ s.second ∷ s.third ∷ s.fourth ∷ []) }
-    ensures history { let s = result.seats in IsOneHistory N.opening result.journal.past
+    ensures history { let s = result.seats in IsOneHistory N.opening result.past.journal.past
         (s.first ∷ s.second ∷ s.third ∷ s.fourth ∷ [])
-        (changes N.opening result.journal.past) }
-    ensures drawn { N.drawn result.journal.past }
-    ensures written { Puts N.page (W.written result.writer)
-        (calls_text (filings_of result.journal.past)) result.is_whole }
-    ensures back { result.is_whole ≡ true → AreReadBack (filings_of result.journal.past) }
-    ensures sent { result.is_whole ≡ true → W.held result.writer ≡ 0 }
-    ensures full { result.why ≡ Why.JournalFull → length result.journal.past ≡ N.limit }
-    ensures posted { HavePosted N.opening result.journal.past (O.posted (box_value result.posts.hearing))
-        (O.posted (box_value result.posts.ticking)) result.unsent }
-    ensures knocked { HaveKnocked N.opening N.rejoin result.journal.past (O.posted (box_value result.posts.knocking))
+        (changes N.opening result.past.journal.past) }
+    ensures drawn { N.drawn result.past.journal.past }
+    ensures written { IsWritten N.page (W.written result.writer) result.past }
+    ensures sent { result.past.is_cut ≡ false → W.held result.writer ≡ 0 }
+    ensures full { result.past.why ≡ Why.JournalFull → length result.past.journal.past ≡ N.limit }
+    ensures posted { HavePosted N.opening result.past.journal.past (O.posted (box_value result.posts.hearing))
+        (O.posted (box_value result.posts.ticking)) result.past.unsent }
+    ensures knocked { HaveKnocked N.opening N.rejoin result.past.journal.past (O.posted (box_value result.posts.knocking))
         result.knocks }
-    ensures watched { AreToldOn N.opening N.guests result.journal.past result.gallery }
-    ensures reported { HearsOf result.is_read N.opening result.journal.past N.heard (Y.heard result.reporter) }
-    ensures read { result.is_whole ≡ true → result.is_read ≡ true }
+    ensures watched { AreToldOn N.opening N.guests result.past.journal.past result.gallery }
+    ensures reported { HearsOf result.past.is_read N.opening result.past.journal.past N.heard (Y.heard result.reporter) }
+    ensures read { result.past.is_cut ≡ false → result.past.is_read ≡ true }
 {
     let (viewers, _fourth) = apart(viewers);
     let (workers, fourth) = held(returning.rejoin(), node.opening(), seats, viewers, posts);
@@ -202,7 +184,7 @@ fn work<
     entrance: &mut I,
 ) -> Over<N, O, W, E, Y> {
     let over = AtomicBool::new(false);
-    let board = Board::new(node.opening().last());
+    let board = TidingsBoard::new(node.opening().last());
     let hearing = Hearing {
         node,
         over: &over,
@@ -272,31 +254,29 @@ fn closed<
     ended: Over<N, O, W, E, Y>,
     fourth: Held<N, 3>,
 ) -> Life<N, O, W, E, Y>
-    ensures opening { result.journal.opening ≡ N.opening }
-    ensures within { length result.journal.past ≤ N.limit }
+    ensures opening { result.past.journal.opening ≡ N.opening }
+    ensures within { length result.past.journal.past ≤ N.limit }
     ensures seats { let s = result.seats in AreTheSeats (s.first ∷ s.second ∷ s.third ∷ s.fourth ∷ []) }
-    ensures history { let s = result.seats in IsOneHistory N.opening result.journal.past
+    ensures history { let s = result.seats in IsOneHistory N.opening result.past.journal.past
         (s.first ∷ s.second ∷ s.third ∷ s.fourth ∷ [])
-        (changes N.opening result.journal.past) }
-    ensures drawn { N.drawn result.journal.past }
-    ensures written { Puts N.page (W.written result.writer)
-        (calls_text (filings_of result.journal.past)) result.is_whole }
-    ensures back { result.is_whole ≡ true → AreReadBack (filings_of result.journal.past) }
-    ensures sent { result.is_whole ≡ true → W.held result.writer ≡ 0 }
-    ensures posted { HavePosted N.opening result.journal.past (O.posted (box_value result.posts.hearing))
-        (O.posted (box_value result.posts.ticking)) result.unsent }
-    ensures knocked { HaveKnocked N.opening N.rejoin result.journal.past (O.posted (box_value result.posts.knocking))
+        (changes N.opening result.past.journal.past) }
+    ensures drawn { N.drawn result.past.journal.past }
+    ensures written { IsWritten N.page (W.written result.writer) result.past }
+    ensures sent { result.past.is_cut ≡ false → W.held result.writer ≡ 0 }
+    ensures posted { HavePosted N.opening result.past.journal.past (O.posted (box_value result.posts.hearing))
+        (O.posted (box_value result.posts.ticking)) result.past.unsent }
+    ensures knocked { HaveKnocked N.opening N.rejoin result.past.journal.past (O.posted (box_value result.posts.knocking))
         result.knocks }
-    ensures full { result.why ≡ Why.JournalFull → length result.journal.past ≡ N.limit }
-    ensures watched { AreToldOn N.opening N.guests result.journal.past result.gallery }
-    ensures reported { HearsOf result.is_read N.opening result.journal.past N.heard (Y.heard result.reporter) }
-    ensures read { result.is_whole ≡ true → result.is_read ≡ true }
-    ensures why { result.why ≡ why_of ended.first.why ended.second.why ended.third.why ended.all_began }
-    ensures stopped { result.is_stopped
+    ensures full { result.past.why ≡ Why.JournalFull → length result.past.journal.past ≡ N.limit }
+    ensures watched { AreToldOn N.opening N.guests result.past.journal.past result.gallery }
+    ensures reported { HearsOf result.past.is_read N.opening result.past.journal.past N.heard (Y.heard result.reporter) }
+    ensures read { result.past.is_cut ≡ false → result.past.is_read ≡ true }
+    ensures why { result.past.why ≡ why_of ended.first.why ended.second.why ended.third.why ended.all_began }
+    ensures stopped { result.past.is_stopped
         ≡ (ended.first.is_stopped || ended.second.is_stopped || ended.third.is_stopped) }
-    ensures unsent { result.unsent ≡ both ended.first.sender.counts.unsent ended.second.ticker.sender.counts.unsent }
-    ensures wire { result.wire ≡ both ended.first.sender.counts.wire ended.second.ticker.sender.counts.wire }
-    ensures refused { result.refused
+    ensures unsent { result.past.unsent ≡ both ended.first.sender.counts.unsent ended.second.ticker.sender.counts.unsent }
+    ensures wire { result.past.wire ≡ both ended.first.sender.counts.wire ended.second.ticker.sender.counts.wire }
+    ensures refused { result.past.refused
         ≡ both (both ended.first.sender.counts.refused ended.second.ticker.sender.counts.refused)
         ended.third.refused }
 {
@@ -320,33 +300,27 @@ fn closed<
     let (knocking, knocks) = knocking.leave();
     let counts = heard.and(ticked);
     let seats = given_back(hearer, giver, third.held, fourth);
-    let Recorded {
-        journal,
-        seats,
-        writer,
-        is_whole,
-        is_read,
-        gallery,
-        reporter,
-    } = close_recorded(rt, node, seats, meters, crier);
+    let recorded = close_recorded(rt, node, seats, meters, crier);
     Life {
-        why,
-        is_stopped,
-        journal,
-        seats,
+        past: Past {
+            why,
+            is_stopped,
+            journal: recorded.journal,
+            unsent: counts.unsent,
+            wire: counts.wire,
+            refused: counts.refused.saturating_add(third.refused),
+            is_cut: !recorded.is_whole,
+            is_read: recorded.is_read,
+        },
+        seats: recorded.seats,
         posts: Posts {
             hearing,
             ticking,
             knocking,
         },
-        unsent: counts.unsent,
-        wire: counts.wire,
-        refused: counts.refused.saturating_add(third.refused),
         knocks,
-        writer,
-        is_whole,
-        is_read,
-        gallery,
-        reporter,
+        writer: recorded.writer,
+        gallery: recorded.gallery,
+        reporter: recorded.reporter,
     }
 }

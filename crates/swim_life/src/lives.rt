@@ -14,13 +14,14 @@ ghost use Rattle.swim_life.specs.Watching.{AreWatched};
 ghost use Rattle.swim_life.specs.Written.{IsWritten};
 
 use crate::counts::Why;
-use crate::endings::{tell, tell_stopped};
-use crate::filing::{live_next, with_cut};
+use crate::endings::{tell_life, tell_stopped};
+use crate::filing::live_next;
 use crate::gates::{Door, Herald, Line, Pace, Post, Shelf};
 use crate::halls::Hall;
 use crate::life::run_life;
 use crate::naming::GuestNaming;
 use crate::nowhere::{Never, NoEntrance, NoOutlet, NoReporter, Nowhere};
+use crate::pasts::{Past, with_cut};
 use crate::posts::Posts;
 use crate::rejoining::Returning;
 use crate::reporters::{Reporter, Speaker};
@@ -30,31 +31,10 @@ use std::mem;
 use std::sync::Wait;
 use std::thread::Threads;
 use swim_events::{Entrance, Event, Gallery, Outlet};
-use swim_history::{Journal, Opening};
+use swim_history::Opening;
 use swim_node::{Node, OpenFault, Parts};
 use swim_targets::Seeded;
 use swim_text::Sink;
-
-/// What stays of a life: why it ended, its journal, and its counts.
-#[derive(Drop)]
-pub struct Past {
-    /// The gravest reason of its workers.
-    pub why: Why,
-    /// Whether it was told to stop, whatever else it ended for.
-    pub is_stopped: bool,
-    /// Everything that happened, in one order.
-    pub journal: Journal,
-    /// Datagrams that couldn't be sent. The counts stop at 2^64-1.
-    pub unsent: u64,
-    /// Datagrams that came and were none of this protocol.
-    pub wire: u64,
-    /// Calls that were refused for want of memory.
-    pub refused: u64,
-    /// Whether its journal was to be written and wasn't, or not all of it.
-    pub is_cut: bool,
-    /// Whether all of its journal was read, by those who watch and the reporter.
-    pub is_read: bool,
-}
 
 /// What a life leaves behind whose journal was written: the sink that was to take it, too.
 #[derive(Drop)]
@@ -155,7 +135,7 @@ pub fn run_lives<
             Ok(past) => past,
             Err(fault) => return end_without(fault),
         };
-        tell(writer, number, &past);
+        tell_life(writer, number, &past);
         if let Some(end) = end_of(past.why) {
             return end;
         }
@@ -249,8 +229,8 @@ pub fn live<
 /// As `live`; and a writer writes the journal into a sink while the life goes on, at each tick of a pace of its own,
 /// and what is left once the life is over. Where the sink fails the life goes on, and is told as cut: what was written
 /// is then a front of the text of the journal's calls. Those who watch are told that the life of this number begins,
-/// and then its changes; who comes by the entrance is told the table first. The reporter hears that it begins, and of its
-/// calls. Where there is no life they are told nothing.
+/// and then its changes; who comes by the entrance is told the table first. The reporter hears that it begins, and of
+/// its calls. Where there is no life they are told nothing.
 pub fn live_recorded<
     R: Threads + Wait + Sync,
     O: Post + Drop + Send,
@@ -304,7 +284,6 @@ pub fn live_recorded<
 }
 
 /// The same, of a node that its types know by a name.
-#[tactic(auto, using(crate::proofs::LifeFiles::is_left))]
 fn live_so<
     N: GuestNaming + Send + Sync,
     R: Threads + Wait + Sync,
@@ -375,18 +354,8 @@ fn live_so<
             *gallery = life.gallery;
             *reporter = life.reporter;
             returning.add_knocks(life.knocks);
-            let past = Past {
-                why: life.why,
-                is_stopped: life.is_stopped,
-                journal: life.journal,
-                unsent: life.unsent,
-                wire: life.wire,
-                refused: life.refused,
-                is_cut: !life.is_whole,
-                is_read: life.is_read,
-            };
             Ok(Lived {
-                past,
+                past: life.past,
                 writer: life.writer,
             })
         }

@@ -6,7 +6,7 @@ ghost use Rattle.swim_life.specs.Showing.{AreShown, addresses_in};
 
 use crate::gates::Line;
 use crate::rejoining::Returning;
-use crate::tidings::Board;
+use crate::tidings::TidingsBoard;
 use arrayvec::ArrayVec;
 use std::marker::Model;
 use std::sync::Wait;
@@ -14,12 +14,12 @@ use swim_history::Row;
 use swim_node::{Naming, Viewer};
 use swim_wire::{KNOWN_MEMBERS, Peer};
 
-/// A viewer of the member table, and the board, which says when it is time to look. So a turn costs no more than a look at
-/// the board's flag.
+/// A viewer of the member table, and the board, which says when it is time to look. So a turn costs no more than a look
+/// at the board's flag.
 #[derive(Drop)]
 pub(crate) struct Lookout<'f, N: Naming> {
     viewer: Viewer<N>,
-    board: &'f Board,
+    board: &'f TidingsBoard,
 }
 
 // A contract sees the changes that the viewer has seen.
@@ -33,7 +33,7 @@ impl<'f, N: Naming> Model for Lookout<'f, N> {
 }
 
 impl<'f, N: Naming> Lookout<'f, N> {
-    pub(crate) fn new(viewer: Viewer<N>, board: &'f Board) -> Lookout<'f, N>
+    pub(crate) fn new(viewer: Viewer<N>, board: &'f TidingsBoard) -> Lookout<'f, N>
         ensures { result ≡ viewer }
     {
         Lookout { viewer, board }
@@ -69,7 +69,7 @@ impl<'f, N: Naming> Lookout<'f, N> {
     }
 
     /// Where the ticker leaves tidings.
-    pub(crate) fn board(&self) -> &'f Board {
+    pub(crate) fn board(&self) -> &'f TidingsBoard {
         self.board
     }
 }

@@ -2,7 +2,7 @@
 
 ghost use Rattle.std.specs.Prelude.{◌≡◌};
 ghost use Rattle.swim_history.specs.declared.calls.Call.TheVariants as calls;
-ghost use Rattle.swim_control.specs.declared.desks.Command.{Command as Asked};
+ghost use Rattle.swim_control.specs.declared.desks.DeskCommand.{DeskCommand as Asked};
 ghost use Rattle.swim_control.specs.Desks.{Shows, Measures, Answers, Counts as Counted};
 ghost use Rattle.swim_node.specs.Answered.{MayRefuse};
 ghost use Rattle.swim_node.specs.News.{IsLongerOf};

@@ -5,7 +5,8 @@ ghost use Rattle.std.specs.Prelude.{◌≡◌, None, false};
 ghost use Rattle.swim_text.specs.Streams.{failures_if};
 
 use crate::gates::{Beat, Pace, Shelf};
-use crate::lives::{Past, Terms};
+use crate::lives::Terms;
+use crate::pasts::Past;
 use crate::reporters::{Reporter, Speaker, Standing};
 use std::sync::Wait;
 use swim_control::StatsText;

@@ -33,7 +33,7 @@ pub enum Found {
 
 /// Whom a connection to a path met.
 #[derive(Clone, Copy, Debug, PartialEq, Eq)]
-pub enum Met {
+pub enum Presence {
     /// Somebody who listens there, also where too many wait already.
     Somebody,
     /// Nobody: the system refused the connection.
@@ -76,9 +76,9 @@ impl Model for Place {
 }
 
 impl Place {
-    /// Takes a path, and removes what stands there if it is a stale socket. That is done under a lock of its folder,
-    /// so that no other daemon binds a socket there between the look and the removal. Without the lock, as where the folder
-    /// can't be read or somebody else has it for a second, nothing is removed.
+    /// Takes a path, and removes what stands there if it is a stale socket. That is done under a lock of its folder, so
+    /// that no other daemon binds a socket there between the look and the removal. Without the lock, as where the
+    /// folder can't be read or somebody else has it for a second, nothing is removed.
     pub fn take<R: Files<File = File> + Net + Clock>(rt: &R, path: &str) -> Place
         ensures { result.is_cleared ≡ true → (result.sight ≡ Sight.Stale) × (result.is_locked ≡ true) }
     {
@@ -133,7 +133,7 @@ fn lock_of<R: Files<File = File> + Clock>(rt: &R, folder: &str) -> Option<File> 
 fn look<R: Files + Net>(rt: &R, path: &str) -> Sight {
     match found_at(rt, path) {
         Found::Socket => sight_of(Found::Socket, met_at(rt, path)),
-        found => sight_of(found, Met::Unknown),
+        found => sight_of(found, Presence::Unknown),
     }
 }
 
@@ -146,36 +146,36 @@ fn found_at<R: Files>(rt: &R, path: &str) -> Found {
     }
 }
 
-fn met_at<R: Net>(rt: &R, path: &str) -> Met {
+fn met_at<R: Net>(rt: &R, path: &str) -> Presence {
     match UnixStream::connect(rt, path) {
-        Ok(_) => Met::Somebody,
+        Ok(_) => Presence::Somebody,
         Err(fault) => met_by(fault.kind()),
     }
 }
 
 /// Whom a connection met that failed so.
-fn met_by(kind: ErrorKind) -> Met
-    ensures { (result ≡ Met.Nobody) ↔ (kind ≡ ErrorKind.ConnectionRefused) }
+fn met_by(kind: ErrorKind) -> Presence
+    ensures { (result ≡ Presence.Nobody) ↔ (kind ≡ ErrorKind.ConnectionRefused) }
 {
     match kind {
-        ErrorKind::ConnectionRefused => Met::Nobody,
-        ErrorKind::WouldBlock => Met::Somebody,
-        _ => Met::Unknown,
+        ErrorKind::ConnectionRefused => Presence::Nobody,
+        ErrorKind::WouldBlock => Presence::Somebody,
+        _ => Presence::Unknown,
     }
 }
 
 /// What is known of a path at which that was found, and whose socket, if it is one, was connected to so.
-pub fn sight_of(found: Found, met: Met) -> Sight
+pub fn sight_of(found: Found, met: Presence) -> Sight
     ensures exact { result ≡ sight_of found met }
-    ensures stale { (result ≡ Sight.Stale) ↔ ((found ≡ Found.Socket) × (met ≡ Met.Nobody)) }
+    ensures stale { (result ≡ Sight.Stale) ↔ ((found ≡ Found.Socket) × (met ≡ Presence.Nobody)) }
 {
     match (found, met) {
         (Found::Nothing, _) => Sight::Free,
         (Found::Other, _) => Sight::NoSocket,
         (Found::Unknown, _) => Sight::Unclear,
-        (Found::Socket, Met::Somebody) => Sight::Served,
-        (Found::Socket, Met::Nobody) => Sight::Stale,
-        (Found::Socket, Met::Unknown) => Sight::Unclear,
+        (Found::Socket, Presence::Somebody) => Sight::Served,
+        (Found::Socket, Presence::Nobody) => Sight::Stale,
+        (Found::Socket, Presence::Unknown) => Sight::Unclear,
     }
 }
 

@@ -6,8 +6,8 @@ ghost use Rattle.swim_life.specs.Posts.{IsFresh};
 use crate::gates::Post;
 use std::alloc::{AllocError, Global};
 
-/// The posts of a life's receiver and ticker, each of which sends by one of its own, and of its knocks. They stand in boxes,
-/// since nothing is known of their size.
+/// The posts of a life's receiver and ticker, each of which sends by one of its own, and of its knocks. They stand in
+/// boxes, since nothing is known of their size.
 #[derive(Drop)]
 pub struct Posts<O: Post + Drop> {
     pub hearing: Box<O>,

@@ -1,5 +1,5 @@
-//! The writer, the fourth of a life's workers: it writes the journal down while the life goes on, tells those who watch,
-//! and has the reporter hear of each call.
+//! The writer, the fourth of a life's workers: it writes the journal down while the life goes on, tells those who
+//! watch, and has the reporter hear of each call.
 
 ghost use Rattle.std.specs.Prelude.{◌≡◌, ◌≤◌, ◌&&◌, ◌==◌, [], ◌∷◌, MatchBool, length, true};
 ghost use Rattle.swim_text.specs.Streams.{Puts};
@@ -26,9 +26,9 @@ use swim_node::{Node, Seat};
 use swim_targets::Chooser;
 use swim_text::Sink;
 
-/// The writer: at each tick of its pace it reads what was added to the journal, writes it, and tells those who watch and
-/// the reporter; at each beat it takes in who has come, and sends. It ends with the life, or where its pace tells it to,
-/// and ends no other worker.
+/// The writer: at each tick of its pace it reads what was added to the journal, writes it, and tells those who watch
+/// and the reporter; at each beat it takes in who has come, and sends. It ends with the life, or where its pace tells
+/// it to, and ends no other worker.
 pub(crate) fn write_along<
     N: GuestNaming,
     C: Chooser,

@@ -13,7 +13,7 @@ ghost use Rattle.swim_life.specs.Rejoining.{HearsAndJoins, IsOfSame, IsReturning
 use crate::counts::Why;
 use crate::gates::Post;
 use crate::senders::Sender;
-use crate::tidings::{Board, Note};
+use crate::tidings::{Note, TidingsBoard};
 use std::sync::Wait;
 use swim_history::{Row, Table, copy_table};
 use swim_node::{Naming, Node};
@@ -93,7 +93,7 @@ impl Returning {
     }
 
     /// Takes over what the ticker left.
-    pub(crate) fn take_over<R: Wait>(&mut self, rt: &R, board: &Board)
+    pub(crate) fn take_over<R: Wait>(&mut self, rt: &R, board: &TidingsBoard)
         ensures same { IsOfSame self.old self.new }
         ensures learns { (o : Setting) → Learns o self.old self.new }
     {
@@ -159,7 +159,7 @@ pub(crate) fn hear_and_join<N: Naming, O: Post + Drop, C: Chooser, H: Wait + Dro
     node: &Node<N, C, H>,
     sender: &mut Sender<N, O, 0>,
     returning: &mut Returning,
-    board: &Board,
+    board: &TidingsBoard,
     bytes: &[u8],
     source: Peer,
 ) -> Option<Why>
@@ -184,7 +184,7 @@ fn join_again<N: Naming, O: Post + Drop, C: Chooser, H: Wait + Drop, R: Wait>(
     node: &Node<N, C, H>,
     sender: &mut Sender<N, O, 0>,
     returning: &mut Returning,
-    board: &Board,
+    board: &TidingsBoard,
     row: &Row,
 ) -> Option<Why>
     ensures same { IsOfSame returning.old returning.new }

@@ -16,8 +16,8 @@ use swim_node::Followed;
 pub struct Standing {
     /// How many calls were read.
     pub read: u64,
-    /// What the workers that call the node counted. Of the calls that were accepted some may be read already, and not be
-    /// counted yet.
+    /// What the workers that call the node counted. Of the calls that were accepted some may be read already, and not
+    /// be counted yet.
     pub metered: Metered,
     /// How many watch.
     pub watchers: u64,

@@ -80,8 +80,8 @@ impl<N: Naming, O: Post + Drop, const SEAT: u8> Sender<N, O, SEAT> {
         (end, message)
     }
 
-    /// Joins the member with this row at its address, and sends the datagrams of the reply, of which there are none. Why
-    /// the worker ends, if it does; and whether the member was joined.
+    /// Joins the member with this row at its address, and sends the datagrams of the reply, of which there are none.
+    /// Why the worker ends, if it does; and whether the member was joined.
     pub(crate) fn join<C: Chooser, H: Wait + Drop, R: Wait>(
         &mut self,
         rt: &R,
@@ -98,7 +98,8 @@ impl<N: Naming, O: Post + Drop, const SEAT: u8> Sender<N, O, SEAT> {
         (end, is_joined)
     }
 
-    /// Gives a tick, and sends the datagrams of the reply. Why the worker ends, if it does; and whether a period started.
+    /// Gives a tick, and sends the datagrams of the reply. Why the worker ends, if it does; and whether a period
+    /// started.
     pub(crate) fn tick<C: Chooser, H: Wait + Drop, R: Wait>(
         &mut self,
         rt: &R,

@@ -17,7 +17,7 @@ use crate::rejoining::Returning;
 use crate::reporters::{Reporter, Speaker};
 use crate::senders::Sender;
 use crate::tickers::Ticker;
-use crate::tidings::Board;
+use crate::tidings::TidingsBoard;
 use crate::workers::{receive, tick};
 use std::alloc::Global;
 use std::sync::Wait;
@@ -69,7 +69,7 @@ pub(crate) struct Ticking<
     pub(crate) over: &'o AtomicBool,
     pub(crate) ticker: Ticker<N, O>,
     pub(crate) pace: &'p mut P,
-    pub(crate) board: &'o Board,
+    pub(crate) board: &'o TidingsBoard,
     pub(crate) meter: &'m Meter,
 }
 
@@ -230,7 +230,7 @@ fn run_recording<
 }
 
 /// Tells the workers that run to end, where one could not be started.
-fn tell(over: &AtomicBool, is_missing: bool) {
+fn end_others(over: &AtomicBool, is_missing: bool) {
     if is_missing {
         over.store(true, Ordering::SeqCst);
     }
@@ -269,9 +269,9 @@ pub(crate) fn work_at_once<
                 × IsSend H.row × IsSend W.row × IsSend Q.row × IsSend E.row × IsSend Y.row × IsSend I.row }
         {
             let first = scope.spawn(move || run_hearing(rt, hearing));
-            tell(over, first.is_err());
+            end_others(over, first.is_err());
             let second = scope.spawn(move || run_ticking(rt, ticking));
-            tell(over, second.is_err());
+            end_others(over, second.is_err());
             let fourth = scope.spawn(move || run_recording(rt, recording));
             let all_began = first.is_ok() && second.is_ok();
             let third = run_controlling(rt, controlling);

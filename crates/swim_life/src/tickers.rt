@@ -9,7 +9,7 @@ use crate::gates::Post;
 use crate::knocking::{KnockNaming, Knocking};
 use crate::meters::Meter;
 use crate::senders::Sender;
-use crate::tidings::Board;
+use crate::tidings::TidingsBoard;
 use std::marker::Model;
 use std::sync::Wait;
 use swim_node::Node;
@@ -42,14 +42,14 @@ impl<N: KnockNaming, O: Post + Drop> Ticker<N, O> {
         Ticker { sender, knocking }
     }
 
-    /// Gives a tick, sends the datagrams of the reply, and knocks where a period starts. Then it's time for the receiver to
-    /// look. Why the ticker ends, if it does.
+    /// Gives a tick, sends the datagrams of the reply, and knocks where a period starts. Then it's time for the
+    /// receiver to look. Why the ticker ends, if it does.
     #[tactic(auto, using(crate::proofs::Knocked::stays_in_step))]
     pub(crate) fn tick<C: Chooser, H: Wait + Drop, R: Wait>(
         &mut self,
         rt: &R,
         node: &Node<N, C, H>,
-        board: &Board,
+        board: &TidingsBoard,
     ) -> Option<Why>
         ensures ticks { Ticks N.opening N.limit self.old.sender result self.new.sender }
         ensures full { result ≡ Some Why.JournalFull → 0 < self.new.sender.seat.full }

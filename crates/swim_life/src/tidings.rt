@@ -3,10 +3,11 @@
 use arrayvec::ArrayVec;
 use std::sync::atomic::{AtomicBool, Ordering};
 use std::sync::{Mutex, Wait};
-use swim_rejoin::Knock;
+use swim_rejoin::KnockPing;
 use swim_wire::{Id, PeriodNumber};
 
-/// How many knocks may wait for the receiver. It takes them over at least once a tick, and one comes in a period at most.
+/// How many knocks may wait for the receiver. It takes them over at least once a tick, and one comes in a period at
+/// most.
 const MOST_NOTES: usize = 64;
 
 /// A knock: at whom, and with which number.
@@ -32,7 +33,7 @@ impl Tidings {
     }
 
     /// A knock more. Where too many wait, it is forgotten: then its ack isn't believed.
-    fn add(&mut self, period: u64, knock: &Option<Knock>) {
+    fn add(&mut self, period: u64, knock: &Option<KnockPing>) {
         self.period = period;
         if let Some(knock) = knock {
             let message = &knock.message;
@@ -47,15 +48,15 @@ impl Tidings {
 /// Where the ticker leaves tidings, and the receiver takes them. A flag says that it's time to look: before the first
 /// datagram, and after each tick.
 #[derive(Drop)]
-pub(crate) struct Board {
+pub(crate) struct TidingsBoard {
     is_due: AtomicBool,
     tidings: Mutex<Tidings>,
 }
 
-impl Board {
+impl TidingsBoard {
     /// It's time to look. The period with that number runs.
-    pub(crate) fn new(period: u64) -> Board {
-        Board {
+    pub(crate) fn new(period: u64) -> TidingsBoard {
+        TidingsBoard {
             is_due: AtomicBool::new(true),
             tidings: Mutex::new(Tidings::none(period)),
         }
@@ -77,7 +78,7 @@ impl Board {
     }
 
     /// Leaves word of the period that runs, and of the knock that is to be sent in it, if one is.
-    pub(crate) fn leave<R: Wait>(&self, rt: &R, period: u64, knock: &Option<Knock>) {
+    pub(crate) fn leave<R: Wait>(&self, rt: &R, period: u64, knock: &Option<KnockPing>) {
         self.tidings.lock(rt).add(period, knock);
     }
 

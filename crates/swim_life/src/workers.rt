@@ -1,5 +1,5 @@
-//! The receiver and the ticker, two of the workers of a life. Each worker has a seat of the node for itself. It
-//! reads the shared flag once a turn, then asks its gate once, and sets the flag when it ends. At each tick the ticker tells
+//! The receiver and the ticker, two of the workers of a life. Each worker has a seat of the node for itself. It reads
+//! the shared flag once a turn, then asks its gate once, and sets the flag when it ends. At each tick the ticker tells
 //! the receiver that it's time to look at the member table, and where a period starts it knocks.
 
 ghost use Rattle.std.specs.Prelude.{◌≡◌, ◌↔◌, ◌<◌, ℕ, List, true, Option, Some};
@@ -20,7 +20,7 @@ use crate::meters::Meter;
 use crate::rejoining::{Returning, hear_and_join};
 use crate::senders::Sender;
 use crate::tickers::Ticker;
-use crate::tidings::Board;
+use crate::tidings::TidingsBoard;
 use std::sync::Wait;
 use std::sync::atomic::{AtomicBool, Ordering};
 use swim_node::{Naming, Node};
@@ -161,7 +161,7 @@ pub(crate) fn tick<N: KnockNaming, O: Post + Drop, C: Chooser, H: Wait + Drop, R
     over: &AtomicBool,
     ticker: Ticker<N, O>,
     pace: &mut P,
-    board: &Board,
+    board: &TidingsBoard,
     meter: &Meter,
 ) -> Ticked<N, O>
     ensures { (end : Option Reason) × (result.why ≡ unwrap_or end Why.Stopped)
@@ -182,7 +182,7 @@ fn tick_on<N: KnockNaming, O: Post + Drop, C: Chooser, H: Wait + Drop, R: Wait, 
     over: &AtomicBool,
     ticker: &mut Ticker<N, O>,
     pace: &mut P,
-    board: &Board,
+    board: &TidingsBoard,
     meter: &Meter,
 ) -> Option<Why>
     ensures ticked { HasTicked N.opening N.limit (P.beats pace.old) (P.beats pace.new) ticker.old.sender result
@@ -207,7 +207,7 @@ fn tick_next<N: KnockNaming, O: Post + Drop, C: Chooser, H: Wait + Drop, R: Wait
     node: &Node<N, C, H>,
     ticker: &mut Ticker<N, O>,
     pace: &mut P,
-    board: &Board,
+    board: &TidingsBoard,
 ) -> Option<Why>
     ensures turn { IsTurn (TicksNext N.opening N.limit) (P.beats pace.old) (P.beats pace.new) ticker.old.sender result
         ticker.new.sender }

@@ -17,6 +17,7 @@ mod watching;
 
 use crate::tests::gates::NoDoor;
 use std::alloc::Global;
+use std::fmt::Debug;
 use std::process::Abort;
 use std::rt::Clock;
 use std::sync::Wait;
@@ -26,6 +27,11 @@ use swim_history::{Journal, Opening, Probe, Reply};
 use swim_life::{Hall, Line, Pace, Past, Post, Returning, Why, live};
 use swim_targets::Seeded;
 use swim_wire::{Id, Peer, Version};
+
+// The two are the same. A call of this is proved at once, and an `assert_eq!` in some seconds.
+fn assert_same<T: PartialEq + Debug, R: Abort>(rt: &R, left: &T, right: &T) {
+    assert_eq!(rt; *left, *right);
+}
 
 fn id(number: u32) -> Id {
     Id::new(number).unwrap_or_default()

@@ -1,5 +1,5 @@
 -- Counts, one entry on.
-use Rattle.std.proofs.Common.{◌≡◌, ℕ, ◌+◌, ◌-◌, ◌^◌, min, Bool, cond, List, ◌∷◌, ◌++◌, refl, sym, ap, ◌∙◌, arith}
+use Rattle.std.proofs.Common.{◌≡◌, ℕ, ◌+◌, Bool, cond, List, ◌∷◌, ◌++◌, refl, sym, ap, ◌∙◌, arith}
 use Rattle.std.specs.List.{count_by}
 use Rattle.std.proofs.lemmas.List.Sums.{sum_by-append, sum_by-cons}
 use Rattle.swim_history.specs.declared.replies.DropReason.{DropReason}
@@ -20,7 +20,8 @@ counted_if test x xs old new is_so is held adds =
     capped_on (count_by test xs) bit new added ∙ ap capped (sym step)
 
 -- some more, of which so many are counted
-pub counted_of : {X : Type 0} (test : X → Bool) (more xs all : List X) (old new times : ℕ) → times ≡ count_by test more →
+pub counted_of : {X : Type 0} (test : X → Bool) (more xs all : List X) (old new times : ℕ) →
+    times ≡ count_by test more →
     all ≡ more ++ xs → old ≡ capped (count_by test xs) → new ≡ capped (old + times) → new ≡ capped (count_by test all)
 counted_of test more xs all old new times is whole held adds =
     let step : count_by test all ≡ count_by test more + count_by test xs =
@@ -29,7 +30,8 @@ counted_of test more xs all old new times is whole held adds =
     capped_on (count_by test xs) (count_by test more) new added ∙ ap capped (sym step)
 
 -- what holds for each reason holds for all
-pub each_reason : (P : DropReason → Type 0) → P NotForMe → P Borrowed → P AboutMe → P Unlisted → P TableFull → P Stray → P NoRequest →
+pub each_reason : (P : DropReason → Type 0) → P NotForMe → P Borrowed → P AboutMe → P Unlisted → P TableFull → P Stray →
+    P NoRequest →
     (why : DropReason) → P why
 each_reason P a b c d e f g NotForMe = a
 each_reason P a b c d e f g Borrowed = b

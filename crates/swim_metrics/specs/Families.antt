@@ -1,6 +1,5 @@
 -- The metrics, as one table: of each its name, what it tells, its type and its samples.
 use Rattle.std.specs.Prelude.{ℕ, ◌==◌, if◌then◌else◌, ◌*◌, ◌/◌, ◌%◌, List, [], ◌∷◌, ◌++◌, map, codes, decimal}
-use Rattle.swim_metrics.specs.declared.entry_counts.EntryCounts.{EntryCounts}
 use Rattle.swim_metrics.specs.declared.dropped.Dropped.{Dropped}
 use Rattle.swim_metrics.specs.declared.wait_histograms.HistogramBucket.{HistogramBucket}
 use Rattle.swim_metrics.specs.declared.wait_histograms.Waits.{Waits}

@@ -1,5 +1,5 @@
 -- Worked rows: the definitions, evaluated on two small lives of which each count was worked out by hand.
-use Rattle.std.specs.Prelude.{◌≡◌, ℕ, false, List, [], ◌∷◌, ◌++◌, length, count_by, drop, Some, None, codes, refl}
+use Rattle.std.specs.Prelude.{◌≡◌, ℕ, List, [], ◌∷◌, ◌++◌, count_by, drop, Some, None, codes, refl}
 use Rattle.std.specs.Fmt.{digits}
 use Rattle.swim_wire.specs.Address.{Address}
 use Rattle.swim_wire.specs.Messages.{Message}
@@ -125,7 +125,8 @@ waits_for_acks : waits node ≡ 2 ∷ 1 ∷ []
 unfolding node first_life second_life entry message
 waits_for_acks = refl
 
--- member 2 was last heard in period 1 until it was removed, and in the second life, which goes on with the numbers of the
+-- member 2 was last heard in period 1 until it was removed, and in the second life, which goes on with the numbers of
+-- the
 -- first, in period 4. Member 3, which sent acks for it, was never heard itself
 first_entries : List Entry
 first_entries = drop 1 first_life

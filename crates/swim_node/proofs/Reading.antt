@@ -1,14 +1,14 @@
 -- From a follower's notes to what it has read: a beginning of the journal's calls.
-use Rattle.std.proofs.Common.{◌≡◌, inl, inr, ℕ, ◌<◌, suc, List, [], ◌∷◌, ◌++◌, length, map, reverse, Option, Some, None, IsSome}
+use Rattle.std.proofs.Common.{◌≡◌, inl, inr, ℕ, suc, List, [], ◌∷◌, ◌++◌, length, map, reverse, Option, Some, None}
+use Rattle.std.proofs.Common.{IsSome}
 use Rattle.std.proofs.Common.{refl, sym, ap, ◌∙◌, arith, slice_get, append_assoc}
 use Rattle.std.specs.Option.{option_to_list}
 use Rattle.std.proofs.lemmas.List.{map-append, length-append, length-reverse}
-use Rattle.std.proofs.lemmas.Option.{slice_get_within, slice_get_read}
 use mathlib.Core.List.{IsPrefix, reverse-cons}
 use Rattle.swim_history.specs.declared.entries.Entry.{Entry}
 use Rattle.swim_node.specs.Answered.{kept}
 use Rattle.swim_node.specs.Cells.{Filing, Noted, noted, notes_of, ArePlaced}
-use Rattle.swim_node.specs.Following.{filing_of, filings_of, note_in, known_of, StandAmong}
+use Rattle.swim_node.specs.Following.{filing_of, filings_of, note_in, known_of}
 use Rattle.swim_node.proofs.Filing.{last_or_before, last_there, still_there, notes_length}
 use Rattle.swim_node.proofs.Prefixes.{prefix_whole}
 
@@ -84,7 +84,8 @@ note_there cells (x ∷ before) place e is =
     let is = rw (reverse-cons x before) at is in
     elim (last_or_before (reverse before) x place e is) [
       | inl earlier ↦
-          still_there (notes_of cells before) (note_in cells (filing_of before x)) place _ (note_there cells before place e earlier)
+          still_there (notes_of cells before) (note_in cells (filing_of before x)) place _
+          (note_there cells before place e earlier)
       | inr last ↦
           let here : place ≡ length before = last.0 ∙ length-reverse before in
           let at : length (notes_of cells before) ≡ length before = notes_length cells before in

@@ -34,7 +34,8 @@ pub record EndsARun (o : Setting) (seat : ℕ) (k : Kept) (news : List Change) :
   pub position : length before ≡ k.position
   pub told : news ≡ changes o (entry_of seat k choice ∷ before)
 
--- the call was answered: it is the next one of the seat, which keeps its number. None of the seat's calls had met a full
+-- the call was answered: it is the next one of the seat, which keeps its number. None of the seat's calls had met a
+-- full
 -- journal
 pub record IsAnswered (o : Setting) (old new : Seated) (call : Call) (k : Kept) (news : List Change) : Type 0 where
   pub seat : new.number ≡ old.number

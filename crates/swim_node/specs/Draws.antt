@@ -1,5 +1,5 @@
 -- That what a node draws is drawn from the chooser that it was opened with.
-use Rattle.std.specs.Prelude.{◌≡◌, ℕ, List, [], ◌∷◌}
+use Rattle.std.specs.Prelude.{ℕ, List}
 use Rattle.swim_history.specs.declared.entries.Entry.{Entry}
 use Rattle.swim_history.specs.Setting.{Setting}
 use Rattle.swim_history.specs.Drawn.{IsDrawn}

@@ -4,7 +4,8 @@ use Rattle.logbook.specs.Pages.{Book}
 use Rattle.swim_history.specs.declared.entries.Entry.{Entry}
 use Rattle.swim_history.specs.Run.{calls_of}
 
--- the parts of a node: how many entries its journal may have, its ledgers, one for each seat's calls and one for the calls
+-- the parts of a node: how many entries its journal may have, its ledgers, one for each seat's calls and one for the
+-- calls
 -- that met a full journal, its list of changes, and its cells
 pub record PartNames : Type 0 where
   pub limit : ℕ

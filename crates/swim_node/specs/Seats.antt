@@ -3,7 +3,8 @@ use Rattle.std.specs.Prelude.{◌≡◌, ℕ, List, [], ◌∷◌, map}
 use Rattle.std.specs.List.{AllByRecursion}
 use Rattle.swim_history.specs.declared.seats.Kept.{Kept}
 
--- what contracts see of a seat: its number, its answered calls, oldest first, and how many of its calls met a full journal
+-- what contracts see of a seat: its number, its answered calls, oldest first, and how many of its calls met a full
+-- journal
 pub record Seated : Type 0 where
   pub number : ℕ
   pub calls : List Kept

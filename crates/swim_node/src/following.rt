@@ -37,8 +37,8 @@ pub(crate) struct ReadCall {
     pub(crate) note: CellNote,
 }
 
-/// Who reads a node's journal while the node runs, call by call from the first one on. A contract sees the calls that it
-/// has read, oldest first, each with its seat. It keeps a note of each of them, which has no bytes.
+/// Who reads a node's journal while the node runs, call by call from the first one on. A contract sees the calls that
+/// it has read, oldest first, each with its seat. It keeps a note of each of them, which has no bytes.
 #[derive(Drop)]
 pub struct Follower<N: Naming> {
     // One of each call: that it stands in the cell of its place.

@@ -91,8 +91,8 @@ impl<N: Naming> Model for Books<N> {
     } };
 }
 
-/// The counts in a seat: its number, how many calls it was answered, and how many of its calls met a full journal. It has
-/// the only part of its seat's ledger.
+/// The counts in a seat: its number, how many calls it was answered, and how many of its calls met a full journal. It
+/// has the only part of its seat's ledger.
 #[derive(Drop)]
 pub(crate) struct Tally<N: Naming> {
     seat: u8,
@@ -173,8 +173,8 @@ impl<N: Naming> Books<N> {
         self.met_full.add(&mut tally.met_full, 1)
     }
 
-    /// Changes nothing, and shows that the seat's count is the one under the lock, and that no more of its calls met a full
-    /// journal than of all.
+    /// Changes nothing, and shows that the seat's count is the one under the lock, and that no more of its calls met a
+    /// full journal than of all.
     pub(crate) fn audit(&mut self, tally: &mut Tally<N>)
         ensures books { self.new ≡ self.old }
         ensures tally { tally.new ≡ tally.old }

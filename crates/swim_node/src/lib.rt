@@ -10,13 +10,13 @@ mod ledgers;
 mod locked;
 mod naming;
 mod news;
+mod node_openings;
 mod nodes;
 mod parts;
 mod receipts;
 mod remembered;
 mod seats;
 mod shown;
-mod start;
 mod viewers;
 
 pub use following::{Followed, Follower};

@@ -182,8 +182,8 @@ impl<N: Naming, C: Chooser, H: Wait + Drop> Locked<N, C, H> {
         CallFault::JournalFull
     }
 
-    /// Shows that the journal holds a seat's calls, by the notes of them and by the counts, and that it is full if a call
-    /// of the seat met a full one.
+    /// Shows that the journal holds a seat's calls, by the notes of them and by the counts, and that it is full if a
+    /// call of the seat met a full one.
     #[tactic(auto, using(crate::proofs::Filing::placed_notes, crate::proofs::Filing::hold_calls))]
     fn compare<R: Wait>(&mut self, rt: &R, seat: &mut Seat<N>)
         ensures locked { self.new ≡ self.old }

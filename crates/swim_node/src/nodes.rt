@@ -18,10 +18,10 @@ use crate::following::{Followed, Follower, ReadCall};
 use crate::locked::{Answered, Locked};
 use crate::naming::Naming;
 use crate::news::News;
+use crate::node_openings::NodeOpening;
 use crate::parts::Parts;
 use crate::receipts::{CallFault, OpenFault, Receipt};
 use crate::seats::Seat;
-use crate::start::Start;
 use crate::viewers::Viewer;
 use std::alloc::Global;
 use std::sync::{Mutex, Wait};
@@ -36,7 +36,7 @@ use swim_wire::{Id, Peer, decode};
 /// `H` is with what it waits for readers that look at an old table, also where it is closed or dropped.
 #[derive(Drop)]
 pub struct Node<N: Naming, C: Chooser, H: Wait + Drop> {
-    start: Start<N>,
+    start: NodeOpening<N>,
     cells: Cells<N>,
     locked: Mutex<Locked<N, C, H>>,
 }
@@ -60,7 +60,7 @@ impl<N: Naming, C: Chooser, H: Wait + Drop> Node<N, C, H> {
         ensures seats { IfOk result (λ opened. AreNew opened.1) }
         ensures viewers { IfOk result (λ opened. SawNothing opened.2) }
     {
-        let start = Start::new(opening.copy());
+        let start = NodeOpening::new(opening.copy());
         let opened = Locked::open(alloc, rt, parts, opening, chooser, limit)?;
         let (locked, cells, seats, viewers) = opened;
         let node = Node {
@@ -171,17 +171,17 @@ impl<N: Naming, C: Chooser, H: Wait + Drop> Node<N, C, H> {
         self.locked.into_inner().close(rt, seats)
     }
 
-    /// Someone who is to read its journal while it runs, and has read nothing yet. There may be several; what one of them
-    /// has read is compared where it is given to `close_followed`.
+    /// Someone who is to read its journal while it runs, and has read nothing yet. There may be several; what one of
+    /// them has read is compared where it is given to `close_followed`.
     pub fn follower(&self, alloc: Global) -> Follower<N>
         ensures { result ≡ [] }
     {
         Follower::new(alloc)
     }
 
-    /// The next call of the journal that the follower hasn't read. There is none where it has read all that were made up
-    /// to now; asked again, it may be given one. It holds the lock while it copies the call, and its cost doesn't grow
-    /// with the journal. A note has no bytes; were room for it refused, there would be none, too.
+    /// The next call of the journal that the follower hasn't read. There is none where it has read all that were made
+    /// up to now; asked again, it may be given one. It holds the lock while it copies the call, and its cost doesn't
+    /// grow with the journal. A note has no bytes; were room for it refused, there would be none, too.
     pub fn follow<R: Wait>(&self, rt: &R, follower: &mut Follower<N>) -> Option<Followed>
         ensures some { IfSome result (λ f. follower.new ≡ follower.old ++ f ∷ []) }
         ensures place { IfSome result (λ f. f.kept.position ≡ length follower.old) }
@@ -200,8 +200,8 @@ impl<N: Naming, C: Chooser, H: Wait + Drop> Node<N, C, H> {
         Some(followed)
     }
 
-    /// As `close`; and what the follower has read is a beginning of the journal that is handed back, and all of it where
-    /// it has read as many calls as that has entries.
+    /// As `close`; and what the follower has read is a beginning of the journal that is handed back, and all of it
+    /// where it has read as many calls as that has entries.
     pub fn close_followed<R: Wait>(
         self,
         rt: &R,

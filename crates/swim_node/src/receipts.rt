@@ -27,8 +27,8 @@ pub enum CallFault {
     /// The bytes are no datagram. Only `hear` answers so, before it takes the lock.
     #[error("no datagram: {0}")]
     Wire(WireFault),
-    /// The journal has as many entries as it may have, as the one will that is handed back when the node is closed: the seat
-    /// counts this answer, and the contract of `Node::close` says so of each seat that has one.
+    /// The journal has as many entries as it may have, as the one will that is handed back when the node is closed: the
+    /// seat counts this answer, and the contract of `Node::close` says so of each seat that has one.
     #[error("the journal is full")]
     JournalFull,
     /// Memory was refused.

@@ -1,5 +1,6 @@
-//! Two nodes in one program: each is closed with its own seats, and each viewer learns the news of its own node. Here it is seen
-//! that nobody can mix them up: tests/edits plants what does so, and the compiler or the prover has to refuse it.
+//! Two nodes in one program: each is closed with its own seats, and each viewer learns the news of its own node. Here
+//! it is seen that nobody can mix them up: tests/edits plants what does so, and the compiler or the prover has to
+//! refuse it.
 #![tactic(auto)]
 
 ghost use Rattle.std.specs.Prelude.{◌≡◌};

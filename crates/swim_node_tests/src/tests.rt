@@ -18,6 +18,7 @@ mod threads;
 mod views;
 
 use std::alloc::Global;
+use std::fmt::Debug;
 use std::marker::Brand;
 use std::process::Abort;
 use std::sync::Wait;
@@ -27,6 +28,11 @@ use swim_history::{Call, Journal, Kept, Opening, Probe, Reply, Row, RowState, Ta
 use swim_node::*;
 use swim_targets::{Chooser, Order, Scripted};
 use swim_wire::{Id, Kind, Message, Peer, PeriodNumber, Version, encode};
+
+// The two are the same. A call of this is proved at once, and an `assert_eq!` in some seconds.
+fn assert_same<T: PartialEq + Debug, R: Abort>(rt: &R, left: &T, right: &T) {
+    assert_eq!(rt; *left, *right);
+}
 
 fn id(number: u32) -> Id {
     Id::new(number).unwrap_or_default()

@@ -1,5 +1,6 @@
 -- Numbers with zeros behind them, where they are fewer than there is room for.
-use Rattle.std.proofs.Common.{◌≡◌, ℕ, ◌+◌, ◌<◌, zero, suc, false, cond, ◌||◌, nat_eq, nat_lt, List, [], ◌∷◌, take, replicate, refl, sym, ap, ◌∙◌, arith}
+use Rattle.std.proofs.Common.{◌≡◌, ℕ, ◌+◌, ◌<◌, zero, suc, false, cond, ◌||◌, nat_eq, nat_lt, List, [], ◌∷◌, take}
+use Rattle.std.proofs.Common.{replicate, refl, sym, ap, ◌∙◌, arith}
 use Rattle.std.specs.List.{list_any, count_by}
 use Rattle.std.proofs.lemmas.List.Sums.{sum_by-cons}
 use Rattle.swim_rejoin.specs.Knowing.{padded}

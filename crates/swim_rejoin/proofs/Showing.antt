@@ -1,5 +1,6 @@
 -- Whom a datagram shows to be there again, by what is kept and by the history.
-use Rattle.std.proofs.Common.{◌≡◌, ℕ, ◌<◌, Bool, true, false, cond, ◌&&◌, ◌||◌, nat_eq, nat_le, suc, List, [], ◌∷◌, take, Option, Some, None, refl, sym, ap, ◌∙◌, arith}
+use Rattle.std.proofs.Common.{◌≡◌, ℕ, ◌<◌, Bool, true, false, cond, ◌&&◌, ◌||◌, nat_eq, nat_le, suc, List, [], ◌∷◌}
+use Rattle.std.proofs.Common.{take, Option, Some, None, refl, sym, ap, ◌∙◌, arith}
 use Rattle.std.specs.Option.{is_some, option_and_then, option_map}
 use Rattle.swim_wire.specs.Address.{Address}
 use Rattle.swim_wire.specs.Messages.{Message}
@@ -18,24 +19,32 @@ use Rattle.swim_rejoin.proofs.Finding.{row_id, same_number, some_is}
 use Rattle.swim_rejoin.proofs.Padding.{count_by-padded, list_any-padded}
 
 -- the zeros behind the last knocks change nothing
-tells-padded : (kind : Kind) (me : ℕ) (knocks : List ℕ) (m : Message) → 0 < m.number → tells kind me (padded 64 knocks) m ≡ tells kind me (take 64 knocks) m
+tells-padded : (kind : Kind) (me : ℕ) (knocks : List ℕ) (m : Message) → 0 < m.number →
+    tells kind me (padded 64 knocks) m ≡ tells kind me (take 64 knocks) m
 tells-padded Ping me knocks m positive = refl
 tells-padded PingReq me knocks m positive = refl
-tells-padded Ack me knocks m positive = ap (λ b. nat_eq m.initiator me && nat_eq m.target m.sender && b) (list_any-padded m.number 64 knocks positive)
+tells-padded Ack me knocks m positive =
+    ap (λ b. nat_eq m.initiator me && nat_eq m.target m.sender && b) (list_any-padded m.number 64 knocks positive)
 
-is_ready-padded : (state : RowState) (times : ℕ) (knocks : List ℕ) → is_ready state times (padded 64 knocks) ≡ is_ready state times (take 64 knocks)
+is_ready-padded : (state : RowState) (times : ℕ) (knocks : List ℕ) →
+    is_ready state times (padded 64 knocks) ≡ is_ready state times (take 64 knocks)
 is_ready-padded Up times knocks = refl
-is_ready-padded (Failed number) times knocks = ap (λ n. nat_eq times 1 || nat_le times n) (count_by-padded number 64 knocks)
+is_ready-padded (Failed number) times knocks =
+    ap (λ n. nat_eq times 1 || nat_le times n) (count_by-padded number 64 knocks)
 
 is_believed-padded : (me : ℕ) (row : Row) (knocks : List ℕ) (times : ℕ) (m : Message) (from : Address) → 0 < m.number →
     is_believed me row (padded 64 knocks) times m from ≡ is_believed me row (take 64 knocks) times m from
 is_believed-padded me row knocks times m from positive =
-    ap (λ b. b && is_same row.peer from && tells m.kind me (padded 64 knocks) m) (is_ready-padded row.state times knocks)
-    ∙ ap (λ b. is_ready row.state times (take 64 knocks) && is_same row.peer from && b) (tells-padded m.kind me knocks m positive)
+    ap (λ b. b && is_same row.peer from && tells m.kind me (padded 64 knocks) m)
+    (is_ready-padded row.state times knocks)
+    ∙ ap (λ b. is_ready row.state times (take 64 knocks) && is_same row.peer from && b)
+    (tells-padded m.kind me knocks m positive)
 
 -- the row of the sender, where the history believes it
 abbrev pub by_history : ℕ → List Event → Message → Address → Option Row → Option Row
-by_history me h m from o = option_and_then (λ row. cond (is_believed me row (last_knocks m.sender h) (times m.sender h) m from) (Some row) None) o
+by_history me h m from o =
+    option_and_then (λ row. cond (is_believed me row (last_knocks m.sender h) (times m.sender h) m from) (Some row)
+    None) o
 
 pub shown-is : (k : Kept) (h : List Event) (m : Message) (from : Address) → 0 < k.rejoin → 0 < m.number → Follows k h →
     shown_by k m from ≡ by_history k.me h m from (row_at (table_in h) m.sender)
@@ -47,8 +56,10 @@ shown-is k h m from positive number f =
           ≡ by_history k.me h m from o
       by_row None e = refl
       by_row (Some row) e =
-          ap (λ b. cond b (Some row) None) (is_believed-padded k.me row (knocks_at row.id h) (times row.id h) m from number)
-          ∙ ap (λ id. cond (is_believed k.me row (last_knocks id h) (times id h) m from) (Some row) None) (row_id (table_in h) m.sender row e)
+          ap (λ b. cond b (Some row) None)
+          (is_believed-padded k.me row (knocks_at row.id h) (times row.id h) m from number)
+          ∙ ap (λ id. cond (is_believed k.me row (last_knocks id h) (times id h) m from) (Some row) None)
+          (row_id (table_in h) m.sender row e)
 
 -- believed, where rejoin isn't 0
 pub believed-some : (rejoin me : ℕ) (h : List Event) (m : Message) (from : Address) → 0 < rejoin →
@@ -59,10 +70,12 @@ believed-some rejoin me h m from positive =
       differs n p = grind arith
 
 -- a member without a mark isn't failed
-not_failed : (rows : List Row) (marks : List Bool) (id : ℕ) (row : Row) → AreMarked rows marks → row_at rows id ≡ Some row → is_marked marks id ≡ false → is_failed row ≡ false
+not_failed : (rows : List Row) (marks : List Bool) (id : ℕ) (row : Row) → AreMarked rows marks →
+    row_at rows id ≡ Some row → is_marked marks id ≡ false → is_failed row ≡ false
 not_failed [] marks id row marked found mark = cc
 not_failed (first ∷ rows) marks id row marked found mark =
-    by_test (nat_eq first.id id) refl found (not_failed rows marks id row (λ place d within. marked (suc place) d (omega arith))) where
+    by_test (nat_eq first.id id) refl found
+    (not_failed rows marks id row (λ place d within. marked (suc place) d (omega arith))) where
       by_failed : (b : Bool) → is_failed first ≡ b → is_marked marks first.id ≡ false → b ≡ false
       by_failed true e none = let yes = marked 0 first (omega arith) e in cc
       by_failed false e none = refl
@@ -74,20 +87,25 @@ not_failed (first ∷ rows) marks id row marked found mark =
           ∙ by_failed (is_failed first) refl (ap (is_marked marks) (same_number first.id id e) ∙ mark)
       by_test false e h rest = rest h mark
 
-not_ready : (state : RowState) (times : ℕ) (knocks : List ℕ) → is_some (verdict_of state) ≡ false → is_ready state times knocks ≡ false
+not_ready : (state : RowState) (times : ℕ) (knocks : List ℕ) → is_some (verdict_of state) ≡ false →
+    is_ready state times knocks ≡ false
 not_ready Up times knocks e = refl
 not_ready (Failed number) times knocks e = cc
 
 -- so a message of a sender without a mark isn't believed
-pub unmarked : (k : Kept) (h : List Event) (m : Message) (from : Address) → 0 < k.rejoin → Follows k h → is_marked k.marks m.sender ≡ false →
+pub unmarked : (k : Kept) (h : List Event) (m : Message) (from : Address) → 0 < k.rejoin → Follows k h →
+    is_marked k.marks m.sender ≡ false →
     by_history k.me h m from (row_at (table_in h) m.sender) ≡ None
 unmarked k h m from positive f mark = by_row (row_at (table_in h) m.sender) refl where
   by_row : (o : Option Row) → row_at (table_in h) m.sender ≡ o → by_history k.me h m from o ≡ None
   by_row None e = refl
   by_row (Some row) e =
       ap (λ b. cond (b && is_same row.peer from && tells m.kind k.me (last_knocks m.sender h) m) (Some row) None)
-      (not_ready row.state (times m.sender h) (last_knocks m.sender h) (not_failed (table_in h) k.marks m.sender row (f.marked positive) e mark))
+      (not_ready row.state (times m.sender h) (last_knocks m.sender h)
+      (not_failed (table_in h) k.marks m.sender row (f.marked positive) e mark))
 
 -- nobody is believed where rejoin is 0
-pub believed-none : (rejoin me : ℕ) (h : List Event) (m : Message) (from : Address) → rejoin ≡ 0 → believed rejoin me h m from ≡ None
-believed-none rejoin me h m from e = ap (λ n. cond (nat_eq n 0) None (by_history me h m from (row_at (table_in h) m.sender))) e
+pub believed-none : (rejoin me : ℕ) (h : List Event) (m : Message) (from : Address) → rejoin ≡ 0 →
+    believed rejoin me h m from ≡ None
+believed-none rejoin me h m from e =
+    ap (λ n. cond (nat_eq n 0) None (by_history me h m from (row_at (table_in h) m.sender))) e

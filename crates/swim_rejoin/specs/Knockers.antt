@@ -4,7 +4,7 @@ use Rattle.std.specs.Option.{option_map, option_or}
 use Rattle.swim_wire.specs.declared.messages.Version.{Version}
 use Rattle.swim_history.specs.declared.rows.Row.{Row}
 use Rattle.swim_rejoin.specs.Knocking.{last_knocked, ping_of, whose_turn}
-use Rattle.swim_rejoin.specs.declared.knockers.Knock.{Knock}
+use Rattle.swim_rejoin.specs.declared.knockers.KnockPing.{KnockPing}
 
 -- every how many periods is knocked, this member, the version of its pings, how many periods started since the last
 -- knock was due, and which member was knocked at last
@@ -21,7 +21,7 @@ pub record Follows (k : Kept) (h : List (List Row)) : Type 0 where
   pub last : 0 < k.rejoin → k.last ≡ last_knocked k.rejoin h
 
 -- the knock at a member with that row, in the period with that number
-abbrev pub knock_at : ℕ → Version → ℕ → Row → Knock
+abbrev pub knock_at : ℕ → Version → ℕ → Row → KnockPing
 knock_at me version number row = record { peer = row.peer; message = ping_of me version row.id number }
 
 -- a knock is due at the next start

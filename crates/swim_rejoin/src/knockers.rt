@@ -13,7 +13,7 @@ use swim_wire::{Id, Kind, Message, Peer, PeriodNumber, Version};
 
 /// A knock: a ping of this member's own at a failed member, and where it is sent.
 #[derive(Clone, Copy, Debug, PartialEq, Eq)]
-pub struct Knock {
+pub struct KnockPing {
     pub peer: Peer,
     pub message: Message,
 }
@@ -67,7 +67,7 @@ impl Knocker {
     /// The period with that number starts, and these are the rows of the member table, ascending by id: the knock that
     /// is due, if one is and a member is failed. It is at the next failed member by id after the one that was knocked
     /// at last, and behind the highest again at the lowest.
-    pub fn start(&mut self, rows: &[Row], number: PeriodNumber) -> Option<Knock>
+    pub fn start(&mut self, rows: &[Row], number: PeriodNumber) -> Option<KnockPing>
         ensures rejoin { self.new.rejoin ≡ self.old.rejoin }
         ensures me { self.new.me ≡ self.old.me }
         ensures version { self.new.version ≡ self.old.version }
@@ -100,10 +100,10 @@ impl Knocker {
     }
 
     /// The knock at a member in that period.
-    fn knock_at(&self, row: &Row, number: PeriodNumber) -> Knock
+    fn knock_at(&self, row: &Row, number: PeriodNumber) -> KnockPing
         ensures { result ≡ knock_at self.now.me self.now.version number row.now }
     {
-        Knock {
+        KnockPing {
             peer: row.peer,
             message: Message {
                 version: self.version,

@@ -10,5 +10,5 @@ mod marks;
 mod rejoiners;
 mod waits;
 
-pub use knockers::{Knock, Knocker};
+pub use knockers::{KnockPing, Knocker};
 pub use rejoiners::Rejoiner;

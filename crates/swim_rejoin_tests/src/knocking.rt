@@ -1,4 +1,5 @@
-use crate::rows::{failed, id, peer, period, up};
+use crate::rows::{assert_same, failed, id, peer, period, up};
+use std::process::Abort;
 use swim_history::Row;
 use swim_rejoin::Knocker;
 use swim_wire::{Kind, Message, Version};
@@ -11,6 +12,10 @@ fn knocked(knocker: &mut Knocker, rows: &[Row], number: u64) -> u32 {
     }
 }
 
+fn assert_knocked<R: Abort>(rt: &R, knocker: &mut Knocker, rows: &[Row], number: u64, whom: u32) {
+    assert_eq!(rt; knocked(knocker, rows, number), whom, "at {number}");
+}
+
 #[test]
 fn each_third_start_knocks_in_turn(rt: HostRuntime) {
     let rows = [failed(2, 9), failed(4, 8), up(5), failed(7, 3)];
@@ -18,7 +23,7 @@ fn each_third_start_knocks_in_turn(rt: HostRuntime) {
     let expected = [0, 0, 2, 0, 0, 4, 0, 0, 7, 0, 0, 2, 0, 0, 4];
     let mut number = 10u64;
     for whom in expected {
-        assert_eq!(rt; knocked(&mut knocker, &rows, number), whom, "{number}");
+        assert_knocked(&rt, &mut knocker, &rows, number, whom);
         number = number.saturating_add(1);
     }
 }
@@ -27,9 +32,9 @@ fn each_third_start_knocks_in_turn(rt: HostRuntime) {
 fn each_start_knocks(rt: HostRuntime) {
     let rows = [failed(2, 9), failed(4, 8)];
     let mut knocker = Knocker::new(1, id(1), Version::One);
-    assert_eq!(rt; knocked(&mut knocker, &rows, 10), 2);
-    assert_eq!(rt; knocked(&mut knocker, &rows, 11), 4);
-    assert_eq!(rt; knocked(&mut knocker, &rows, 12), 2);
+    assert_knocked(&rt, &mut knocker, &rows, 10, 2);
+    assert_knocked(&rt, &mut knocker, &rows, 11, 4);
+    assert_knocked(&rt, &mut knocker, &rows, 12, 2);
 }
 
 #[test]
@@ -37,7 +42,7 @@ fn no_start_knocks_where_rejoin_is_0(rt: HostRuntime) {
     let rows = [failed(2, 9), failed(4, 8)];
     let mut knocker = Knocker::new(0, id(1), Version::One);
     for number in 10..30u64 {
-        assert_eq!(rt; knocked(&mut knocker, &rows, number), 0, "{number}");
+        assert_knocked(&rt, &mut knocker, &rows, number, 0);
     }
 }
 
@@ -46,30 +51,30 @@ fn nobody_is_knocked_at_where_all_are_up(rt: HostRuntime) {
     let mut knocker = Knocker::new(2, id(1), Version::One);
     let rows = [up(2), up(4)];
     for number in 10..14u64 {
-        assert_eq!(rt; knocked(&mut knocker, &rows, number), 0, "{number}");
+        assert_knocked(&rt, &mut knocker, &rows, number, 0);
     }
     // The starts 5 and 6: the count went on.
     let rows = [up(2), failed(4, 13)];
-    assert_eq!(rt; knocked(&mut knocker, &rows, 14), 0);
-    assert_eq!(rt; knocked(&mut knocker, &rows, 15), 4);
+    assert_knocked(&rt, &mut knocker, &rows, 14, 0);
+    assert_knocked(&rt, &mut knocker, &rows, 15, 4);
 }
 
 #[test]
 fn the_turn_goes_on_in_another_table(rt: HostRuntime) {
     let mut knocker = Knocker::new(1, id(1), Version::One);
     let rows = [failed(2, 9), failed(4, 8), failed(7, 3)];
-    assert_eq!(rt; knocked(&mut knocker, &rows, 10), 2);
-    assert_eq!(rt; knocked(&mut knocker, &rows, 11), 4);
+    assert_knocked(&rt, &mut knocker, &rows, 10, 2);
+    assert_knocked(&rt, &mut knocker, &rows, 11, 4);
     // Member 4 is gone, and 3 and 6 failed: 6 comes next.
     let rows = [failed(2, 9), failed(3, 11), failed(6, 10), failed(7, 3)];
-    assert_eq!(rt; knocked(&mut knocker, &rows, 12), 6);
-    assert_eq!(rt; knocked(&mut knocker, &rows, 13), 7);
-    assert_eq!(rt; knocked(&mut knocker, &rows, 14), 2);
-    assert_eq!(rt; knocked(&mut knocker, &rows, 15), 3);
+    assert_knocked(&rt, &mut knocker, &rows, 12, 6);
+    assert_knocked(&rt, &mut knocker, &rows, 13, 7);
+    assert_knocked(&rt, &mut knocker, &rows, 14, 2);
+    assert_knocked(&rt, &mut knocker, &rows, 15, 3);
     // All but 2 are up.
     let rows = [failed(2, 9), up(3), up(6), up(7)];
-    assert_eq!(rt; knocked(&mut knocker, &rows, 16), 2);
-    assert_eq!(rt; knocked(&mut knocker, &rows, 17), 2);
+    assert_knocked(&rt, &mut knocker, &rows, 16, 2);
+    assert_knocked(&rt, &mut knocker, &rows, 17, 2);
 }
 
 #[test]
@@ -87,9 +92,9 @@ fn a_knock_is_a_ping_of_its_own(rt: HostRuntime) {
     };
     match knock {
         Some(knock) => {
-            assert_eq!(rt; knock.peer, peer(4));
-            assert_eq!(rt; knock.message, expected);
+            assert_same(&rt, &knock.peer, &peer(4));
+            assert_same(&rt, &knock.message, &expected);
         }
-        None => assert!(rt; false),
+        None => panic!(rt; "a knock"),
     }
 }

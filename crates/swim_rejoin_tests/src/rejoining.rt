@@ -1,4 +1,5 @@
-use crate::rows::{ack, failed, id, message, peer, period, ping, up};
+use crate::rows::{ack, assert_same, failed, id, message, peer, period, ping, up};
+use std::process::Abort;
 use swim_history::Row;
 use swim_rejoin::Rejoiner;
 use swim_wire::{Kind, Message, Peer};
@@ -21,20 +22,24 @@ fn joined(rejoiner: &Rejoiner, message: &Message, from: Peer) -> u32 {
     }
 }
 
+fn assert_joined<R: Abort>(rt: &R, rejoiner: &Rejoiner, message: &Message, from: Peer, whom: u32) {
+    assert_same(rt, &joined(rejoiner, message, from), &whom);
+}
+
 #[test]
 fn an_ack_of_a_knock_is_believed(rt: HostRuntime) {
     let rejoiner = waiting();
     let believed: Option<Row> = rejoiner.believes(&ack(3, 24), &peer(3));
-    assert_eq!(rt; believed, Some(failed(3, 20)));
-    assert_eq!(rt; joined(&rejoiner, &ack(3, 21), peer(3)), 3);
+    assert_same(&rt, &believed, &Some(failed(3, 20)));
+    assert_joined(&rt, &rejoiner, &ack(3, 21), peer(3), 3);
 }
 
 #[test]
 fn an_ack_of_no_knock_is_not(rt: HostRuntime) {
     let rejoiner = waiting();
-    assert_eq!(rt; joined(&rejoiner, &ack(3, 20), peer(3)), 0);
-    assert_eq!(rt; joined(&rejoiner, &ack(3, 22), peer(3)), 0);
-    assert_eq!(rt; joined(&rejoiner, &ack(3, 25), peer(3)), 0);
+    assert_joined(&rt, &rejoiner, &ack(3, 20), peer(3), 0);
+    assert_joined(&rt, &rejoiner, &ack(3, 22), peer(3), 0);
+    assert_joined(&rt, &rejoiner, &ack(3, 25), peer(3), 0);
 }
 
 #[test]
@@ -42,9 +47,9 @@ fn an_ack_of_a_knock_at_another_is_not(rt: HostRuntime) {
     let mut rejoiner = waiting();
     rejoiner.looked_at(&[failed(2, 24), failed(3, 20)]);
     rejoiner.knocked(id(2), period(27));
-    assert_eq!(rt; joined(&rejoiner, &ack(3, 27), peer(3)), 0);
-    assert_eq!(rt; joined(&rejoiner, &ack(2, 24), peer(2)), 0);
-    assert_eq!(rt; joined(&rejoiner, &ack(2, 27), peer(2)), 2);
+    assert_joined(&rt, &rejoiner, &ack(3, 27), peer(3), 0);
+    assert_joined(&rt, &rejoiner, &ack(2, 24), peer(2), 0);
+    assert_joined(&rt, &rejoiner, &ack(2, 27), peer(2), 2);
 }
 
 #[test]
@@ -54,18 +59,18 @@ fn an_ack_of_anothers_probe_is_not(rt: HostRuntime) {
     let others = message(Kind::Ack, 3, 2, 3, 24);
     let relayed = message(Kind::Ack, 2, 1, 3, 24);
     let of_another = message(Kind::Ack, 3, 1, 2, 24);
-    assert_eq!(rt; joined(&rejoiner, &others, peer(3)), 0);
-    assert_eq!(rt; joined(&rejoiner, &relayed, peer(3)), 0);
-    assert_eq!(rt; joined(&rejoiner, &of_another, peer(3)), 0);
+    assert_joined(&rt, &rejoiner, &others, peer(3), 0);
+    assert_joined(&rt, &rejoiner, &relayed, peer(3), 0);
+    assert_joined(&rt, &rejoiner, &of_another, peer(3), 0);
 }
 
 #[test]
 fn a_ping_of_its_own_is_believed(rt: HostRuntime) {
     let rejoiner = waiting();
-    assert_eq!(rt; joined(&rejoiner, &ping(3), peer(3)), 3);
+    assert_joined(&rt, &rejoiner, &ping(3), peer(3), 3);
     // Of whichever target, and in whichever of its periods.
     let of_another = message(Kind::Ping, 3, 3, 2, 999);
-    assert_eq!(rt; joined(&rejoiner, &of_another, peer(3)), 3);
+    assert_joined(&rt, &rejoiner, &of_another, peer(3), 3);
 }
 
 #[test]
@@ -73,37 +78,37 @@ fn a_ping_for_another_is_not(rt: HostRuntime) {
     let rejoiner = waiting();
     let for_another = message(Kind::Ping, 3, 2, 1, 24);
     let by_another = message(Kind::Ping, 2, 3, 1, 24);
-    assert_eq!(rt; joined(&rejoiner, &for_another, peer(3)), 0);
-    assert_eq!(rt; joined(&rejoiner, &by_another, peer(3)), 0);
+    assert_joined(&rt, &rejoiner, &for_another, peer(3), 0);
+    assert_joined(&rt, &rejoiner, &by_another, peer(3), 0);
 }
 
 #[test]
 fn a_request_is_not(rt: HostRuntime) {
     let rejoiner = waiting();
     let request = message(Kind::PingReq, 3, 3, 2, 24);
-    assert_eq!(rt; joined(&rejoiner, &request, peer(3)), 0);
+    assert_joined(&rt, &rejoiner, &request, peer(3), 0);
 }
 
 #[test]
 fn a_stranger_is_not_believed(rt: HostRuntime) {
     let rejoiner = waiting();
-    assert_eq!(rt; joined(&rejoiner, &ack(3, 24), peer(4)), 0);
-    assert_eq!(rt; joined(&rejoiner, &ping(3), peer(2)), 0);
+    assert_joined(&rt, &rejoiner, &ack(3, 24), peer(4), 0);
+    assert_joined(&rt, &rejoiner, &ping(3), peer(2), 0);
     let other_port = Peer {
         ip: [10, 0, 0, 3],
         port: 7001,
     };
-    assert_eq!(rt; joined(&rejoiner, &ping(3), other_port), 0);
+    assert_joined(&rt, &rejoiner, &ping(3), other_port, 0);
 }
 
 #[test]
 fn who_is_up_or_unknown_is_not_joined(rt: HostRuntime) {
     let mut rejoiner = waiting();
-    assert_eq!(rt; joined(&rejoiner, &ping(2), peer(2)), 0);
-    assert_eq!(rt; joined(&rejoiner, &ping(4), peer(4)), 0);
+    assert_joined(&rt, &rejoiner, &ping(2), peer(2), 0);
+    assert_joined(&rt, &rejoiner, &ping(4), peer(4), 0);
     rejoiner.looked_at(&[up(2), up(3)]);
-    assert_eq!(rt; joined(&rejoiner, &ack(3, 24), peer(3)), 0);
-    assert_eq!(rt; joined(&rejoiner, &ping(3), peer(3)), 0);
+    assert_joined(&rt, &rejoiner, &ack(3, 24), peer(3), 0);
+    assert_joined(&rt, &rejoiner, &ping(3), peer(3), 0);
     // The ids 3 and 259 leave the same rest.
     let ping = message(Kind::Ping, 259, 259, 1, 1);
     rejoiner.looked_at(&[
@@ -113,7 +118,7 @@ fn who_is_up_or_unknown_is_not_joined(rt: HostRuntime) {
             ..up(9)
         },
     ]);
-    assert_eq!(rt; joined(&rejoiner, &ping, peer(9)), 0);
+    assert_joined(&rt, &rejoiner, &ping, peer(9), 0);
 }
 
 #[test]
@@ -123,11 +128,11 @@ fn the_last_64_knocks_are_remembered(rt: HostRuntime) {
     for number in 21..85u64 {
         rejoiner.knocked(id(3), period(number));
     }
-    assert_eq!(rt; joined(&rejoiner, &ack(3, 21), peer(3)), 3);
+    assert_joined(&rt, &rejoiner, &ack(3, 21), peer(3), 3);
     rejoiner.knocked(id(3), period(85));
-    assert_eq!(rt; joined(&rejoiner, &ack(3, 21), peer(3)), 0);
-    assert_eq!(rt; joined(&rejoiner, &ack(3, 22), peer(3)), 3);
-    assert_eq!(rt; joined(&rejoiner, &ack(3, 85), peer(3)), 3);
+    assert_joined(&rt, &rejoiner, &ack(3, 21), peer(3), 0);
+    assert_joined(&rt, &rejoiner, &ack(3, 22), peer(3), 3);
+    assert_joined(&rt, &rejoiner, &ack(3, 85), peer(3), 3);
 }
 
 #[test]
@@ -136,10 +141,10 @@ fn knocks_at_who_is_not_in_the_table_are_not_remembered(rt: HostRuntime) {
     rejoiner.looked_at(&[up(2)]);
     rejoiner.knocked(id(3), period(27));
     rejoiner.looked_at(&[up(2), failed(3, 29)]);
-    assert_eq!(rt; joined(&rejoiner, &ack(3, 24), peer(3)), 0);
-    assert_eq!(rt; joined(&rejoiner, &ack(3, 27), peer(3)), 0);
+    assert_joined(&rt, &rejoiner, &ack(3, 24), peer(3), 0);
+    assert_joined(&rt, &rejoiner, &ack(3, 27), peer(3), 0);
     rejoiner.knocked(id(3), period(30));
-    assert_eq!(rt; joined(&rejoiner, &ack(3, 30), peer(3)), 3);
+    assert_joined(&rt, &rejoiner, &ack(3, 30), peer(3), 3);
 }
 
 #[test]
@@ -147,6 +152,6 @@ fn nobody_is_joined_where_rejoin_is_0(rt: HostRuntime) {
     let mut rejoiner = Rejoiner::new(0, id(1));
     rejoiner.looked_at(&[failed(3, 20)]);
     rejoiner.knocked(id(3), period(21));
-    assert_eq!(rt; joined(&rejoiner, &ack(3, 21), peer(3)), 0);
-    assert_eq!(rt; joined(&rejoiner, &ping(3), peer(3)), 0);
+    assert_joined(&rt, &rejoiner, &ack(3, 21), peer(3), 0);
+    assert_joined(&rt, &rejoiner, &ping(3), peer(3), 0);
 }

@@ -1,7 +1,14 @@
-//! Members, their rows and their messages, as the tests tell them.
+//! Members, their rows and their messages, as the tests tell them, and what compares two values.
 
+use std::fmt::Debug;
+use std::process::Abort;
 use swim_history::{Row, RowState};
 use swim_wire::{Id, Kind, Message, Peer, PeriodNumber, Version};
+
+/// The two are the same. A call of this is proved at once, and an `assert_eq!` in some seconds.
+pub(crate) fn assert_same<T: PartialEq + Debug, R: Abort>(rt: &R, left: &T, right: &T) {
+    assert_eq!(rt; *left, *right);
+}
 
 /// The member with that id.
 pub(crate) fn id(number: u32) -> Id {

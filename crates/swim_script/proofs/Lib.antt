@@ -6,6 +6,7 @@ pub mod KeptRows
 pub mod Known
 pub mod LineTurns
 pub mod OrderParts
+pub mod Outcoming
 pub mod StandingLines
 pub mod States
 pub mod Turns

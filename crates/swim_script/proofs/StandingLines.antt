@@ -1,5 +1,6 @@
 -- What a line says may stand where it stands.
-use Rattle.std.proofs.Common.{◌≡◌, ℕ, Bool, true, false, cond, List, [], ◌∷◌, Option, Some, None, Result, Ok, Err, refl, subst}
+use Rattle.std.proofs.Common.{◌≡◌, ℕ, Bool, true, false, cond, List, [], ◌∷◌, Option, Some, None, Result, Ok, Err, refl}
+use Rattle.std.proofs.Common.{subst}
 use Rattle.swim_text.specs.Words.{words_of}
 use Rattle.swim_script.specs.declared.commands.LineFault.{LineFault}
 use Rattle.swim_script.specs.declared.commands.Stage.{Stage}
@@ -8,13 +9,18 @@ use Rattle.swim_script.specs.declared.commands.Word.{Word}
 use Rattle.swim_script.specs.declared.forms.Form.{Form}
 use Rattle.swim_script.specs.declared.commands.Word.TheVariants as words
 use Rattle.swim_script.specs.declared.commands.Command.{Command}
-use Rattle.swim_script.specs.declared.commands.Command.TheVariants.{Open, Row as RowLine, Order, Place, Seed, Wire, Tick, Hear, Join, Remove, Table, Gap}
+use Rattle.swim_script.specs.declared.commands.Command.TheVariants.{Open, Row as RowLine, Order, Place, Seed, Wire}
+use Rattle.swim_script.specs.declared.commands.Command.TheVariants.{Tick, Hear, Join, Remove, Table, Gap}
 use Rattle.swim_wire.specs.Arguments.{◌>>=◌}
-use Rattle.swim_script.specs.Arguments.{take_version, take_id, take_number, take_peer, take_order, take_seed, take_life, take_state, take_datagram, open_arguments}
-use Rattle.swim_script.specs.Commands.{alone, command_after, word_of, fault_of_word, word_read, known_read, words_read, said_by, is_skipped, answer_in, answer_read, unskipped_read, line_read, word_for, LineStandsAt}
+use Rattle.swim_script.specs.Arguments.{take_version, take_id, take_number, take_peer, take_order, take_seed, take_life}
+use Rattle.swim_script.specs.Arguments.{take_state, take_datagram, open_arguments}
+use Rattle.swim_script.specs.Commands.{alone, command_after, word_of, fault_of_word, word_read, known_read, words_read}
+use Rattle.swim_script.specs.Commands.{said_by, is_skipped, answer_in, answer_read, unskipped_read, line_read, word_for}
+use Rattle.swim_script.specs.Commands.{LineStandsAt}
 
 -- the value of a step that did not fail
-bind_ok : {A B : Type 0} (r : Result A LineFault) (f : A → Result B LineFault) (y : B) → (r >>= f) ≡ Ok y → (x : A) × (r ≡ Ok x) × (f x ≡ Ok y)
+bind_ok : {A B : Type 0} (r : Result A LineFault) (f : A → Result B LineFault) (y : B) → (r >>= f) ≡ Ok y →
+    (x : A) × (r ≡ Ok x) × (f x ≡ Ok y)
 bind_ok (Ok x) f y e = (x, refl, e)
 bind_ok (Err fault) f y e = absurd cc
 
@@ -24,19 +30,27 @@ alone_ok command other [] e = cc
 alone_ok command other (word ∷ after) e = absurd cc
 
 -- so the first word is that of the command
-word_alone : (command other : Command) (after : List (List ℕ)) → alone command after ≡ Ok other → word_for other ≡ word_for command
-word_alone command other after e = subst (λ (c : Command). word_for c ≡ word_for command) (alone_ok command other after e) refl
+word_alone : (command other : Command) (after : List (List ℕ)) → alone command after ≡ Ok other →
+    word_for other ≡ word_for command
+word_alone command other after e =
+    subst (λ (c : Command). word_for c ≡ word_for command) (alone_ok command other after e) refl
 
 -- the command that the words after a first word say begins with that word
-word_after : (form : Form) (word : Word) (after : List (List ℕ)) (command : Command) → command_after form word after ≡ Ok command → word_for command ≡ word
+word_after : (form : Form) (word : Word) (after : List (List ℕ)) (command : Command) →
+    command_after form word after ≡ Ok command → word_for command ≡ word
 unfolding command_after
 word_after form words.Open after command e =
     let arguments = bind_ok (open_arguments after) (λ a. alone (Open a.0) a.1) command e in
     word_alone (Open arguments.0.0) command arguments.0.1 arguments.2
 word_after form words.Row after command e =
-    let id = bind_ok (take_id after) (λ i. take_peer i.1 >>= λ p. take_state form p.1 >>= λ s. alone (RowLine (record { id = i.0; peer = p.0; state = s.0 })) s.1) command e in
-    let peer = bind_ok (take_peer id.0.1) (λ p. take_state form p.1 >>= λ s. alone (RowLine (record { id = id.0.0; peer = p.0; state = s.0 })) s.1) command id.2 in
-    let state = bind_ok (take_state form peer.0.1) (λ s. alone (RowLine (record { id = id.0.0; peer = peer.0.0; state = s.0 })) s.1) command peer.2 in
+    let id = bind_ok (take_id after)
+    (λ i. take_peer i.1 >>= λ p. take_state form p.1 >>= λ s.
+    alone (RowLine (record { id = i.0; peer = p.0; state = s.0 })) s.1) command e in
+    let peer = bind_ok (take_peer id.0.1)
+    (λ p. take_state form p.1 >>= λ s. alone (RowLine (record { id = id.0.0; peer = p.0; state = s.0 })) s.1)
+    command id.2 in
+    let state = bind_ok (take_state form peer.0.1)
+    (λ s. alone (RowLine (record { id = id.0.0; peer = peer.0.0; state = s.0 })) s.1) command peer.2 in
     word_alone (RowLine (record { id = id.0.0; peer = peer.0.0; state = state.0.0 })) command state.0.1 state.2
 word_after form words.Order after command e =
     let order = bind_ok (take_order after) (λ o. alone (Order o.0) o.1) command e in
@@ -69,31 +83,37 @@ word_after form words.Gap after command e =
     word_alone (Gap id.0.0) command id.0.1 id.2
 word_after form words.Answer after command e = absurd cc
 
-word_stands : (form : Form) (stage : Stage) (word : Word) (after : List (List ℕ)) (fault : Option LineFault) (read : Result Command LineFault) → fault_of_word stage word ≡ fault → word_read form fault word after ≡ read → LineStandsAt stage (said_by read)
+word_stands : (form : Form) (stage : Stage) (word : Word) (after : List (List ℕ)) (fault : Option LineFault)
+    (read : Result Command LineFault) → fault_of_word stage word ≡ fault → word_read form fault word after ≡ read →
+    LineStandsAt stage (said_by read)
 word_stands form stage word after fault (Err wrong) stands is = tt
 word_stands form stage word after (Some fault) (Ok command) stands is = absurd cc
 word_stands form stage word after None (Ok command) stands is = rw (word_after form word after command is) stands
 
-words_stand : (form : Form) (stage : Stage) (given : List (List ℕ)) → LineStandsAt stage (said_by (words_read form stage given))
+words_stand : (form : Form) (stage : Stage) (given : List (List ℕ)) →
+    LineStandsAt stage (said_by (words_read form stage given))
 words_stand form stage [] = tt
 words_stand form stage (word ∷ after) = by (word_of word)
   where
     by : (found : Option Word) → LineStandsAt stage (said_by (known_read form stage found after))
     by None = tt
-    by (Some word) = word_stands form stage word after (fault_of_word stage word) (word_read form (fault_of_word stage word) word after) refl refl
+    by (Some word) = word_stands form stage word after (fault_of_word stage word)
+        (word_read form (fault_of_word stage word) word after) refl refl
 
 answer_stands : (stage : Stage) (text : List ℕ) → LineStandsAt stage (answer_read stage text)
 answer_stands Blank text = tt
 answer_stands (Header draws wired) text = tt
 answer_stands Events text = refl
 
-unskipped_stands : (form : Form) (stage : Stage) (line : List ℕ) (answer : Option (List ℕ)) → LineStandsAt stage (unskipped_read form stage line answer)
+unskipped_stands : (form : Form) (stage : Stage) (line : List ℕ) (answer : Option (List ℕ)) →
+    LineStandsAt stage (unskipped_read form stage line answer)
 unskipped_stands form stage line None = words_stand form stage (words_of line)
 unskipped_stands form stage line (Some text) = answer_stands stage text
 
 pub line_stands : (form : Form) (stage : Stage) (line : List ℕ) → LineStandsAt stage (line_read form stage line)
 line_stands form stage line = by (is_skipped line)
   where
-    by : (skipped : Bool) → LineStandsAt stage (cond skipped (Ok None) (unskipped_read form stage line (answer_in form line)))
+    by : (skipped : Bool) →
+        LineStandsAt stage (cond skipped (Ok None) (unskipped_read form stage line (answer_in form line)))
     by true = tt
     by false = unskipped_stands form stage line (answer_in form line)

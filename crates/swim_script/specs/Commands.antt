@@ -12,9 +12,11 @@ use Rattle.swim_script.specs.declared.commands.Stage.TheVariants.{Blank, Header,
 use Rattle.swim_script.specs.declared.commands.Word.{Word}
 use Rattle.swim_script.specs.declared.commands.Word.TheVariants as words
 use Rattle.swim_script.specs.declared.commands.Command.{Command}
-use Rattle.swim_script.specs.declared.commands.Command.TheVariants.{Open, Row as RowLine, Order, Place, Seed, Wire, Tick, Hear, Join}
+use Rattle.swim_script.specs.declared.commands.Command.TheVariants.{Open, Row as RowLine, Order, Place, Seed, Wire}
+use Rattle.swim_script.specs.declared.commands.Command.TheVariants.{Tick, Hear, Join}
 use Rattle.swim_script.specs.declared.commands.Command.TheVariants.{Remove, Table, Gap, Answer}
-use Rattle.swim_script.specs.Arguments.{take_id, take_number, take_peer, take_order, take_seed, take_life, take_state, take_datagram}
+use Rattle.swim_script.specs.Arguments.{take_id, take_number, take_peer, take_order, take_seed, take_life, take_state}
+use Rattle.swim_script.specs.Arguments.{take_datagram}
 use Rattle.swim_script.specs.Arguments.{open_arguments, take_version}
 use Rattle.swim_script.specs.declared.forms.Form.{Form}
 use Rattle.swim_script.specs.declared.forms.Form.TheVariants.{Script, Journal}

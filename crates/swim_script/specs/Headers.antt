@@ -18,7 +18,8 @@ use Rattle.swim_script.specs.declared.commands.Draws.TheVariants.{Unsaid, Script
 use Rattle.swim_script.specs.declared.commands.Stage.{Stage}
 use Rattle.swim_script.specs.declared.commands.Stage.TheVariants.{Blank, Header, Events}
 use Rattle.swim_script.specs.declared.commands.Command.{Command}
-use Rattle.swim_script.specs.declared.commands.Command.TheVariants.{Open, Row as RowLine, Order, Place, Seed, Wire, Answer}
+use Rattle.swim_script.specs.declared.commands.Command.TheVariants.{Open, Row as RowLine, Order, Place, Seed, Wire}
+use Rattle.swim_script.specs.declared.commands.Command.TheVariants.{Answer}
 use Rattle.swim_script.specs.declared.forms.Form.{Form}
 use Rattle.swim_script.specs.Commands.{line_read}
 use Rattle.swim_script.specs.Forms.{is_mark, form_of}
@@ -99,7 +100,8 @@ abbrev pub head_of : List (List ℕ) → Head
 head_of [] = record { told = nothing_told; begun = false }
 head_of (line ∷ before) =
     head_then (length before + 1)
-    (command_in (read_with (is_mark (length before) (bare line)) (form_of before) (head_of before) line)) (head_of before)
+    (command_in (read_with (is_mark (length before) (bare line)) (form_of before) (head_of before) line))
+    (head_of before)
 
 -- what a line says after those before it
 abbrev pub read_after : List (List ℕ) → List ℕ → Result (Option Command) LineFault

@@ -18,7 +18,8 @@ use Rattle.swim_detector.specs.Recording.{Recording, IsKept, Records}
 use Rattle.swim_script.specs.declared.arguments.Opened.{Opened}
 use Rattle.swim_script.specs.declared.choosers.Drawer.{Drawer}
 use Rattle.swim_script.specs.declared.commands.Command.{Command}
-use Rattle.swim_script.specs.declared.commands.Command.TheVariants.{Open, Row as RowLine, Order, Place, Seed, Wire, Tick, Hear, Join}
+use Rattle.swim_script.specs.declared.commands.Command.TheVariants.{Open, Row as RowLine, Order, Place, Seed, Wire}
+use Rattle.swim_script.specs.declared.commands.Command.TheVariants.{Tick, Hear, Join}
 use Rattle.swim_script.specs.declared.commands.Command.TheVariants.{Remove, Table, Gap, Answer}
 use Rattle.swim_script.specs.declared.commands.Stage.{Stage}
 use Rattle.swim_script.specs.declared.commands.Stage.TheVariants.{Events}
@@ -31,8 +32,10 @@ use Rattle.swim_script.specs.Headers.{Told, told_then, stage_told, read_after, s
 use Rattle.swim_script.specs.Headers.{chooser_in}
 use Rattle.swim_history.specs.Texts.{table_text, gap_text}
 use Rattle.swim_script.specs.Texts.{newest_text, answer_text, wire_text, full_text, no_memory_text}
-use Rattle.swim_script.specs.Script.{Turn, lines_of, calls_in, output_of, AreConfirmed, IsContrary, IsRunOf, takes_memory}
-use Rattle.swim_script.specs.Script.{is_answered, fault_of, fault_from, fault_of_read, fault_of_header, at_line, bytes_of}
+use Rattle.swim_script.specs.Script.{Turn, lines_of, calls_in, output_of, AreConfirmed, IsContrary, IsRunOf}
+use Rattle.swim_script.specs.Script.{takes_memory}
+use Rattle.swim_script.specs.Script.{is_answered, fault_of, fault_from, fault_of_read, fault_of_header, at_line}
+use Rattle.swim_script.specs.Script.{bytes_of}
 
 -- what contracts see of a session: how many lines it was given, what those of the header told, and the recorder,
 -- once an event line was met
@@ -119,12 +122,6 @@ Called (Some a) (Some b) call before after done = Answers a b call before after 
 Called (Some a) None call before after done = ⊥
 Called None new call before after done = Unit {0}
 
--- what the recorder shows was written
-abbrev pub Showed : Option (Recording Drawer) → (Recording Drawer → List ℕ) → Option (List ℕ) → Option (List ℕ) → Bool →
-    Type 0
-Showed (Some a) text before after done = Puts before after (text a) done
-Showed None text before after done = Unit {0}
-
 -- the member table of a recorder, and the widest gap of a member
 abbrev pub table_of : Recording Drawer → List ℕ
 table_of a = table_text (table a.opening a.past)
@@ -200,7 +197,8 @@ TellsOther None text = Unit {0}
 TellsOther (Some a) text = newest_text a.past ≢ Some text
 
 -- what was told of an answer was confirmed; or it wasn't answered so, or there was no memory to compare it
-abbrev pub Confirms : Played → Played → List ℕ → Option (List ℕ) → Option (List ℕ) → Result (Unit {0}) ScriptFault → Type 0
+abbrev pub Confirms : Played → Played → List ℕ → Option (List ℕ) → Option (List ℕ) → Result (Unit {0}) ScriptFault →
+    Type 0
 Confirms old new text before after (Ok done) =
     Tells old.recorded text × IsNoted old new old.header before after
 Confirms old new text before after (Err fault) =
@@ -262,7 +260,8 @@ FindsDifference turns run piece fault before after =
 -- it has a fault and nothing was written, or there was no memory, or it differs, or the writer failed
 abbrev pub TurnFails : List Turn → List Entry → List ℕ → ScriptFault → Option (List ℕ) → Option (List ℕ) → Type 0
 TurnFails turns run piece fault before after =
-    ((fault_of_read (length (lines_of turns) + 1) (head_of (lines_of turns)) (read_after (lines_of turns) piece) ≡ Some fault)
+    ((fault_of_read (length (lines_of turns) + 1) (head_of (lines_of turns)) (read_after (lines_of turns) piece) ≡
+    Some fault)
     × Keeps before after)
     ⊎ (FindsNoMemory turns piece fault before after
     ⊎ (FailsToAnswer turns piece fault before after ⊎ FindsDifference turns run piece fault before after))
@@ -273,7 +272,8 @@ Turned turns run text piece new before after (Ok done) = TurnDone turns text pie
 Turned turns run text piece new before after (Err fault) = TurnFails turns run piece fault before after
 
 -- where the lines lead that were read of a script, of that form so far
-pub record Course (script rest : List ℕ) (old new : Option (List ℕ)) (form : Form) (budget : ℕ) (s : Played) : Type 0 where
+pub record Course (script rest : List ℕ) (old new : Option (List ℕ)) (form : Form) (budget : ℕ) (s : Played) : Type
+    0 where
   pub turns : List Turn
   pub run : List Entry
   pub text : List ℕ

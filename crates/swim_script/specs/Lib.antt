@@ -4,6 +4,7 @@ pub mod Commands
 pub mod Forms
 pub mod Headers
 pub mod Holds
+pub mod Outcomes
 pub mod Script
 pub mod Texts
 pub mod FaultTexts

@@ -23,7 +23,8 @@ use Rattle.swim_script.specs.declared.choosers.Drawer.{Drawer}
 use Rattle.swim_script.specs.declared.commands.LineFault.{LineFault}
 use Rattle.swim_script.specs.declared.commands.LineFault.TheVariants.{Word}
 use Rattle.swim_script.specs.declared.commands.Command.{Command}
-use Rattle.swim_script.specs.declared.commands.Command.TheVariants.{Order, Place, Tick, Hear, Join, Remove, Table, Gap, Answer}
+use Rattle.swim_script.specs.declared.commands.Command.TheVariants.{Order, Place, Tick, Hear, Join, Remove, Table, Gap}
+use Rattle.swim_script.specs.declared.commands.Command.TheVariants.{Answer}
 use Rattle.swim_script.specs.declared.faults.FaultKind.{FaultKind}
 use Rattle.swim_script.specs.declared.faults.FaultKind.TheVariants.{Size, Long, Words, Opening, Unused, Memory}
 use Rattle.swim_script.specs.declared.faults.FaultKind.TheVariants.{Differs, Read, Write}
@@ -255,7 +256,8 @@ pub record WantsMemory (script : List ℕ) (n : ℕ) : Type 0 where
   pub cut : pieces script ≡ reverse (lines_before n script) ++ piece ∷ more
   pub takes : takes_memory (said (lines_before n script) piece) ≡ true
 
--- line n of a script tells an answer otherwise than it was: this text is written for the lines before it, by a run whose
+-- line n of a script tells an answer otherwise than it was: this text is written for the lines before it, by a run
+-- whose
 -- newest entry, if it has one, stands elsewhere or was answered something else
 pub record IsDifferent (script : List ℕ) (n : ℕ) (text : List ℕ) : Type 0 where
   pub turns : List Turn

@@ -2,14 +2,16 @@
 
 ghost use Rattle.std.specs.Prelude.{◌≡◌, ◌++◌, codes, decimal};
 ghost use Rattle.swim_wire.specs.Pieces.{piece_text};
+ghost use Rattle.swim_history.specs.Sends.{sends_of};
 ghost use Rattle.swim_text.specs.Streams.{Puts, failures_if};
 ghost use Rattle.swim_script.specs.Texts.{placed_text, answer_text, reply_text, id_text, probe_text, relays_text};
-ghost use Rattle.swim_script.specs.Texts.{more_relays_text, send_text, sends_text, wire_text};
+ghost use Rattle.swim_script.specs.Texts.{datagram_text, more_relays_text, send_text, sends_text, wire_text};
+ghost use Rattle.swim_wire.specs.Address.{address_text};
 
 use crate::datagrams::datagram_line;
 use swim_history::{Opening, Probe, Relay, Reply, sends};
 use swim_text::{Sink, put_number, put_numbered};
-use swim_wire::{Id, Message, Peer, Piece, WireFault, put_pieces};
+use swim_wire::{Id, Message, Peer, Piece, WireFault, put_address, put_pieces};
 
 /// The lines of a reply: its text, and a line for each message that it sends.
 pub fn put_answer<W: Sink>(writer: &mut W, reply: &Reply, opening: &Opening) -> bool
@@ -22,7 +24,21 @@ pub fn put_answer<W: Sink>(writer: &mut W, reply: &Reply, opening: &Opening) -> 
     if !writer.put(b"\n") {
         return false;
     }
-    put_sends(writer, sends(reply, opening).as_slice())
+    put_messages(writer, reply, opening)
+}
+
+/// The lines of the messages that a reply sends. Most replies send none, and no list is made for them.
+fn put_messages<W: Sink>(writer: &mut W, reply: &Reply, opening: &Opening) -> bool
+    ensures bytes { Puts (W.written writer.old) (W.written writer.new)
+        (sends_text (sends_of reply.now opening.now)) result }
+    ensures failures { W.failures writer.new ≡ failures_if (W.failures writer.old) result }
+{
+    match reply {
+        Reply::Started { probe: Some(_), .. } | Reply::Asked { .. } | Reply::Send { .. } => {
+            put_sends(writer, sends(reply, opening).as_slice())
+        }
+        _ => true,
+    }
 }
 
 /// What is told of an entry: its place, and the text of what was answered, without a line feed.
@@ -50,7 +66,8 @@ pub fn put_wire_fault<W: Sink>(writer: &mut W, fault: WireFault) -> bool
     put_pieces(writer, &pieces)
 }
 
-fn put_reply<W: Sink>(writer: &mut W, reply: &Reply) -> bool
+/// The text of a reply, without a line feed.
+pub fn put_reply<W: Sink>(writer: &mut W, reply: &Reply) -> bool
     ensures bytes { Puts (W.written writer.old) (W.written writer.new) (reply_text reply.now) result }
     ensures failures { W.failures writer.new ≡ failures_if (W.failures writer.old) result }
 {
@@ -153,7 +170,8 @@ fn put_more_relays<W: Sink>(writer: &mut W, relays: &[Relay]) -> bool
     put_more_relays(writer, others)
 }
 
-/// A line for each message that is sent.
+/// A line for each message that is sent. The requests of a probe are alike but for their addresses, so the digits of
+/// the first are spelled once for all.
 fn put_sends<W: Sink>(writer: &mut W, sent: &[(Peer, Message)]) -> bool
     ensures bytes { Puts (W.written writer.old) (W.written writer.new) (sends_text sent.now) result }
     ensures failures { W.failures writer.new ≡ failures_if (W.failures writer.old) result }
@@ -161,22 +179,67 @@ fn put_sends<W: Sink>(writer: &mut W, sent: &[(Peer, Message)]) -> bool
     let [first, others @ ..] = sent else {
         return true;
     };
-    if !put_send(writer, first.0, &first.1) {
+    let line = datagram_line(&first.1);
+    if !put_spelled(writer, first.0, line.as_slice()) {
         return false;
     }
-    put_sends(writer, others)
+    put_alike(writer, others, &first.1, line.as_slice())
 }
 
-/// The line of a message: its address and its datagram.
-fn put_send<W: Sink>(writer: &mut W, peer: Peer, message: &Message) -> bool
+/// The same, where some are likely to be that message, which is spelled so.
+fn put_alike<W: Sink>(
+    writer: &mut W,
+    sent: &[(Peer, Message)],
+    message: &Message,
+    spelled: &[u8],
+) -> bool
+    requires { spelled.now ≡ datagram_text message.now }
+    ensures bytes { Puts (W.written writer.old) (W.written writer.new) (sends_text sent.now) result }
+    ensures failures { W.failures writer.new ≡ failures_if (W.failures writer.old) result }
+{
+    let [first, others @ ..] = sent else {
+        return true;
+    };
+    if !put_likely(writer, first, message, spelled) {
+        return false;
+    }
+    put_alike(writer, others, message, spelled)
+}
+
+/// One of them.
+fn put_likely<W: Sink>(
+    writer: &mut W,
+    sent: &(Peer, Message),
+    message: &Message,
+    spelled: &[u8],
+) -> bool
+    requires { spelled.now ≡ datagram_text message.now }
+    ensures bytes { Puts (W.written writer.old) (W.written writer.new) (send_text sent.now) result }
+    ensures failures { W.failures writer.new ≡ failures_if (W.failures writer.old) result }
+{
+    if sent.1 == *message {
+        put_spelled(writer, sent.0, spelled)
+    } else {
+        put_send(writer, sent.0, &sent.1)
+    }
+}
+
+/// The line of a message that is sent: its address and its datagram.
+pub fn put_send<W: Sink>(writer: &mut W, peer: Peer, message: &Message) -> bool
     ensures bytes { Puts (W.written writer.old) (W.written writer.new) (send_text (peer, message.now)) result }
     ensures failures { W.failures writer.new ≡ failures_if (W.failures writer.old) result }
 {
-    let datagram = datagram_line(message);
-    let pieces = [
-        Piece::Text(b"> "),
-        Piece::Address(peer),
-        Piece::Text(datagram.as_slice()),
-    ];
-    put_pieces(writer, &pieces)
+    put_spelled(writer, peer, datagram_line(message).as_slice())
+}
+
+/// The line of a message whose datagram is spelled so.
+fn put_spelled<W: Sink>(writer: &mut W, peer: Peer, spelled: &[u8]) -> bool
+    ensures bytes { Puts (W.written writer.old) (W.written writer.new)
+        (codes "> " ++ (address_text peer ++ spelled.now)) result }
+    ensures failures { W.failures writer.new ≡ failures_if (W.failures writer.old) result }
+{
+    if !put_address(writer, b"> ", &peer) {
+        return false;
+    }
+    writer.put(spelled)
 }

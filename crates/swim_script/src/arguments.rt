@@ -76,7 +76,8 @@ impl<'a> OrderText<'a> {
     }
 }
 
-/// What a line of a journal file tells of the newest entry: its place, and what was answered. A contract sees the bytes.
+/// What a line of a journal file tells of the newest entry: its place, and what was answered. A contract sees the
+/// bytes.
 #[derive(Debug, Drop)]
 pub struct AnswerText<'a> {
     pub(crate) text: &'a [u8],
@@ -167,8 +168,9 @@ fn read_version(text: &[u8]) -> Option<Version>
     }
 }
 
-/// Takes the next word, if one is left and the script is of a form that may tell it: it is to be a decimal number from 0
-/// to 18446744073709551615, the life of a detector; else the fault is `LineFault::Number`. Where none is told it is 0.
+/// Takes the next word, if one is left and the script is of a form that may tell it: it is to be a decimal number from
+/// 0 to 18446744073709551615, the life of a detector; else the fault is `LineFault::Number`. Where none is told it is
+/// 0.
 pub fn take_life(form: Form, words: &mut Words<'_>) -> Result<u64, LineFault>
     ensures { TakesFrom result words.new (take_life form words.old) }
 {
@@ -181,8 +183,8 @@ pub fn take_life(form: Form, words: &mut Words<'_>) -> Result<u64, LineFault>
     }
 }
 
-/// Takes the state of a row's member: up where no word is left, and in a script of a form that can't tell it. Else the next
-/// word is to be `failed`, or the fault is `LineFault::Extra`; and the word behind it a decimal number from 0 to
+/// Takes the state of a row's member: up where no word is left, and in a script of a form that can't tell it. Else the
+/// next word is to be `failed`, or the fault is `LineFault::Extra`; and the word behind it a decimal number from 0 to
 /// 18446744073709551615, that of the period at whose end the member was judged, or the fault is `LineFault::Number`.
 pub fn take_state(form: Form, words: &mut Words<'_>) -> Result<RowState, LineFault>
     ensures { TakesFrom result words.new (take_state form words.old) }

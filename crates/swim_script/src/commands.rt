@@ -2,7 +2,8 @@
 
 ghost use Rattle.std.specs.Prelude.{◌≡◌, Some, None, MatchOption};
 ghost use Rattle.swim_script.specs.Commands.{fault_name, LineStandsAt, word_of, fault_of_word, command_after};
-ghost use Rattle.swim_script.specs.Commands.{line_read, is_skipped, behind_sign, answer_in, answer_read, words_read, said_by};
+ghost use Rattle.swim_script.specs.Commands.{line_read, is_skipped, behind_sign, answer_in, answer_read, words_read};
+ghost use Rattle.swim_script.specs.Commands.{said_by};
 
 use crate::arguments::{
     AnswerText, OpenArguments, OrderText, SEED_BYTES, take_datagram, take_life, take_number,
@@ -74,8 +75,8 @@ pub enum Stage {
     Events,
 }
 
-/// The first word of a line, which says what the line is. The first six stand in header lines, and the next six in event
-/// lines. The last begins a line of a journal file that tells an answer; no other text than `= ` does.
+/// The first word of a line, which says what the line is. The first six stand in header lines, and the next six in
+/// event lines. The last begins a line of a journal file that tells an answer; no other text than `= ` does.
 #[derive(Clone, Copy, Debug, PartialEq, Eq)]
 pub enum Word {
     Open,
@@ -126,6 +127,7 @@ pub enum Command<'a> {
 
 /// What a line says at that stage of a script of that form: nothing where it is skipped, else a command, or the first
 /// fault of its words.
+#[inline(always)]
 pub fn read_line<'a>(
     form: Form,
     stage: Stage,
@@ -137,6 +139,7 @@ pub fn read_line<'a>(
     read_any(form, stage, line)
 }
 
+#[inline(always)]
 fn read_any<'a>(form: Form, stage: Stage, line: &'a [u8]) -> Result<Option<Command<'a>>, LineFault>
     ensures { result ≡ line_read form stage line.now }
 {
@@ -194,6 +197,7 @@ fn is_skipped(line: &[u8]) -> bool
 }
 
 /// What the words of a line say.
+#[inline(always)]
 fn read_words<'a>(
     form: Form,
     stage: Stage,

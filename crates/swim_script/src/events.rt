@@ -1,30 +1,37 @@
 //! The event lines of a script.
 
-ghost use Rattle.std.specs.Prelude.{◌≡◌, ◌≢◌, ◌+◌, ◌<◌, Some, None, not, false, MatchResult, ◌⊎◌, IfSome, MatchBool};
-ghost use Rattle.swim_text.specs.Streams.{failures_if};
-ghost use Rattle.swim_script.specs.Texts.{wire_text, newest_text};
+ghost use Rattle.std.specs.Prelude.{◌≡◌, ◌≢◌, ◌+◌, ◌<◌, Bool, ℕ, List, Option, Some, None, false, not, MatchResult};
+ghost use Rattle.std.specs.Prelude.{◌⊎◌};
+ghost use Rattle.std.specs.Prelude.{OnOk, IfSome, MatchBool, MatchOption};
+ghost use Rattle.swim_text.specs.Streams.{Puts, failures_if};
+ghost use Rattle.swim_detector.specs.Recording.{IsLatest};
+ghost use Rattle.swim_script.specs.Texts.{newest_text};
 ghost use Rattle.swim_script.specs.Script.{is_write, result_kind};
-ghost use Rattle.swim_script.specs.Holds.{Started, Called, Showed, table_of, gap_of, PlaysLine, ShowsLine, HearsLine};
-ghost use Rattle.swim_script.specs.Holds.{Tells, TellsOther};
+ghost use Rattle.swim_script.specs.Holds.{Started, Called, PlaysLine, ShowsLine, HearsLine, Tells, TellsOther};
+ghost use Rattle.swim_script.specs.Outcomes.{asked_of, outcome_text, text_with};
+ghost use Rattle.swim_script.specs.Script.Asked.{Calls};
 
-use crate::answers::{put_placed, put_wire_fault};
+use crate::answers::put_placed;
 use crate::arguments::AnswerText;
 use crate::choosers::Drawer;
 use crate::faults::{FaultKind, ScriptFault};
 use crate::headers::Header;
-use crate::playing::play;
+use crate::outcomes::{LineOutcome, put_outcome};
+use crate::playing::make_call;
 use crate::session::Session;
+use crate::tellers::Teller;
 use std::alloc::Global;
 use std::mem;
 use swim_detector::Recorder;
-use swim_history::{Call, put_gap, put_table};
+use swim_history::{Call, Opening, Reply};
 use swim_text::{Page, Sink};
-use swim_wire::{Id, Message, Peer, WireFault};
+use swim_wire::{Message, Peer, WireFault};
 
 impl Session {
     /// At the first event line, checks the opening and opens the recorder.
     fn start(&mut self) -> Result<(), ScriptFault>
         ensures started { Started self.old self.new result }
+        ensures open { OnOk result (self.new.recorded ≢ None) }
         ensures same { self.new.lines ≡ self.old.lines }
         ensures unread { result_kind result ≢ Some FaultKind.Read }
         ensures written { is_write result ≡ false }
@@ -40,6 +47,7 @@ impl Session {
     fn open_recorder(&mut self) -> Result<(), ScriptFault>
         requires { self.old.recorded ≡ None }
         ensures started { Started self.old self.new result }
+        ensures open { OnOk result (self.new.recorded ≢ None) }
         ensures same { self.new.lines ≡ self.old.lines }
         ensures unread { result_kind result ≢ Some FaultKind.Read }
         ensures written { is_write result ≡ false }
@@ -53,11 +61,12 @@ impl Session {
     }
 
     /// A message, or bytes that are none, came.
-    pub(crate) fn hear<W: Sink>(
+    pub(crate) fn hear<W: Sink, T: Teller<W>>(
         &mut self,
         source: Peer,
         read: Result<Message, WireFault>,
         writer: &mut W,
+        teller: &mut T,
     ) -> Result<(), ScriptFault>
         requires { self.old.lines < u32.MAX }
         ensures done { HearsLine self.old self.new source read (W.written writer.old) (W.written writer.new) result }
@@ -65,99 +74,100 @@ impl Session {
         ensures failures { W.failures writer.new ≡ failures_if (W.failures writer.old) (not (is_write result)) }
     {
         match read {
-            Ok(message) => self.call(Call::Hear(source, message), writer),
-            Err(fault) => self.tell_fault(fault, writer),
+            Ok(message) => self.call(Call::Hear(source, message), writer, teller),
+            Err(fault) => self.show(LineOutcome::Unread(fault), writer, teller),
         }
     }
 
     /// A call of the detector.
-    pub(crate) fn call<W: Sink>(&mut self, call: Call, writer: &mut W) -> Result<(), ScriptFault>
+    #[tactic(auto, using(crate::proofs::Outcoming::played_by))]
+    #[inline(always)]
+    pub(crate) fn call<W: Sink, T: Teller<W>>(
+        &mut self,
+        call: Call,
+        writer: &mut W,
+        teller: &mut T,
+    ) -> Result<(), ScriptFault>
         requires { self.old.lines < u32.MAX }
         ensures done { PlaysLine self.old self.new call (W.written writer.old) (W.written writer.new) result }
         ensures unread { result_kind result ≢ Some FaultKind.Read }
         ensures failures { W.failures writer.new ≡ failures_if (W.failures writer.old) (not (is_write result)) }
     {
         self.start()?;
-        let done = self.apply(call, writer);
+        let outcome = self.apply(call);
+        let done = teller.put(self, &outcome, writer);
         self.written(done)
     }
 
-    fn apply<W: Sink>(&mut self, call: Call, writer: &mut W) -> bool
-        requires { self.old.lines < u32.MAX }
-        ensures called { Called self.old.recorded self.new.recorded call (W.written writer.old)
-            (W.written writer.new) result }
+    #[inline(always)]
+    fn apply(&mut self, call: Call) -> LineOutcome
+        requires lines { self.old.lines < u32.MAX }
+        requires open { self.old.recorded ≢ None }
+        ensures called { (before after : Option (List ℕ)) (done : Bool) →
+            Puts before after (outcome_text self.new.recorded result) done →
+            Called self.old.recorded self.new.recorded call before after done }
+        ensures asked { asked_of result ≡ Calls call }
         ensures count { self.new.lines ≡ self.old.lines + 1 }
-        ensures failures { W.failures writer.new ≡ failures_if (W.failures writer.old) result }
     {
         self.lines += 1;
         match &mut self.recorder {
-            Some(recorder) => play(recorder, call, writer),
-            None => true,
+            Some(recorder) => make_call(recorder, &call),
+            None => unreachable!(),
         }
     }
 
-    /// A datagram that is none.
-    fn tell_fault<W: Sink>(&mut self, fault: WireFault, writer: &mut W) -> Result<(), ScriptFault>
-        requires { self.old.lines < u32.MAX }
-        ensures done { ShowsLine self.old self.new (λ a. wire_text fault) (W.written writer.old)
-            (W.written writer.new) result }
-        ensures unread { result_kind result ≢ Some FaultKind.Read }
-        ensures failures { W.failures writer.new ≡ failures_if (W.failures writer.old) (not (is_write result)) }
-    {
-        self.start()?;
-        self.lines += 1;
-        let done = put_wire_fault(writer, fault);
-        self.written(done)
-    }
-
-    /// The member table.
-    pub(crate) fn show_table<W: Sink>(&mut self, writer: &mut W) -> Result<(), ScriptFault>
-        requires { self.old.lines < u32.MAX }
-        ensures done { ShowsLine self.old self.new table_of (W.written writer.old) (W.written writer.new) result }
-        ensures unread { result_kind result ≢ Some FaultKind.Read }
-        ensures failures { W.failures writer.new ≡ failures_if (W.failures writer.old) (not (is_write result)) }
-    {
-        self.start()?;
-        self.lines += 1;
-        let done = self.put_rows(writer);
-        self.written(done)
-    }
-
-    fn put_rows<W: Sink>(&self, writer: &mut W) -> bool
-        ensures showed { Showed self.now.recorded table_of (W.written writer.old) (W.written writer.new) result }
-        ensures failures { W.failures writer.new ≡ failures_if (W.failures writer.old) result }
-    {
-        match &self.recorder {
-            Some(recorder) => put_table(writer, recorder.table().as_slice()),
-            None => true,
-        }
-    }
-
-    /// The widest gap of a member.
-    pub(crate) fn show_gap<W: Sink>(
+    /// A line that makes no call, and is answered by what was recorded so far.
+    #[tactic(auto, using(crate::proofs::Outcoming::shown_by))]
+    pub(crate) fn show<W: Sink, T: Teller<W>>(
         &mut self,
-        member: Id,
+        outcome: LineOutcome,
         writer: &mut W,
+        teller: &mut T,
     ) -> Result<(), ScriptFault>
         requires { self.old.lines < u32.MAX }
-        ensures done { ShowsLine self.old self.new (gap_of member) (W.written writer.old)
+        ensures done { ShowsLine self.old self.new (λ a. text_with a outcome) (W.written writer.old)
             (W.written writer.new) result }
         ensures unread { result_kind result ≢ Some FaultKind.Read }
         ensures failures { W.failures writer.new ≡ failures_if (W.failures writer.old) (not (is_write result)) }
     {
         self.start()?;
-        self.lines += 1;
-        let done = self.put_gap_of(member, writer);
+        self.skip();
+        let done = teller.put(self, &outcome, writer);
         self.written(done)
     }
 
-    fn put_gap_of<W: Sink>(&self, member: Id, writer: &mut W) -> bool
-        ensures showed { Showed self.now.recorded (gap_of member) (W.written writer.old) (W.written writer.new) result }
+    /// Writes what came of the newest line. It answers whether the sink took all of it.
+    #[inline(always)]
+    pub fn put<W: Sink>(&self, outcome: &LineOutcome, writer: &mut W) -> bool
+        ensures bytes { Puts (W.written writer.old) (W.written writer.new)
+            (outcome_text self.now.recorded outcome.now) result }
         ensures failures { W.failures writer.new ≡ failures_if (W.failures writer.old) result }
     {
         match &self.recorder {
-            Some(recorder) => put_gap(writer, recorder.journal().widest_gap(member)),
+            Some(recorder) => put_outcome(recorder, outcome, writer),
             None => true,
+        }
+    }
+
+    /// The newest reply, and `Quiet` where no call was made. `None` before the first event line.
+    pub fn reply(&self) -> Option<&Reply>
+        ensures { MatchOption result (self.now.recorded ≡ None)
+            (λ reply. IfSome self.now.recorded (λ a. IsLatest a.past reply.now)) }
+    {
+        match &self.recorder {
+            Some(recorder) => Some(recorder.reply()),
+            None => None,
+        }
+    }
+
+    /// The opening, once an event line was met.
+    pub fn opening(&self) -> Option<&Opening>
+        ensures { MatchOption result (self.now.recorded ≡ None)
+            (λ opening. IfSome self.now.recorded (λ a. opening.now ≡ a.opening)) }
+    {
+        match &self.recorder {
+            Some(recorder) => Some(recorder.journal().opening()),
+            None => None,
         }
     }
 

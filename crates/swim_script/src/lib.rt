@@ -11,11 +11,13 @@ mod faults;
 mod forms;
 mod headers;
 mod openings;
+mod outcomes;
 mod playing;
 mod session;
 mod simulator;
+mod tellers;
 
-pub use answers::put_placed;
+pub use answers::{put_placed, put_reply, put_send};
 pub use arguments::{
     OpenArguments, OrderText, SEED_BYTES, take_datagram, take_life, take_long_number, take_number,
     take_order, take_seed, take_version,
@@ -24,5 +26,7 @@ pub use commands::{Command, LINE_BYTES, LineFault, Word, first_word, read_comman
 pub use datagrams::{LONGEST_DATAGRAM_LINE, datagram_line};
 pub use faults::{FaultKind, ScriptFault};
 pub use forms::{Form, JOURNAL_BYTES, SCRIPT_BYTES};
+pub use outcomes::LineOutcome;
 pub use session::Session;
-pub use simulator::run;
+pub use simulator::{play, run};
+pub use tellers::Teller;

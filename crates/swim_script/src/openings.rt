@@ -71,7 +71,8 @@ fn members_of(rows: &[Row]) -> ArrayVec<(Id, Peer), KEPT_ROWS>
     members
 }
 
-/// The opening, whose members are up, with the states of their rows. None where one failed in a period that wasn't used.
+/// The opening, whose members are up, with the states of their rows. None where one failed in a period that wasn't
+/// used.
 fn with_states(opening: Opening, rows: &[Row]) -> Option<Opening>
     requires up { opening.rows ≡ rows_up (members_of rows.now) }
     requires once { has_twice (ids_of rows.now) ≡ false }

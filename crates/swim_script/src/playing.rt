@@ -1,23 +1,27 @@
-//! Calls of the detector, with their answers.
+//! Calls of the detector, and what comes of them.
 
-ghost use Rattle.swim_text.specs.Streams.{Puts, failures_if};
-ghost use Rattle.std.specs.Prelude.{◌≡◌};
+ghost use Rattle.std.specs.Prelude.{◌≡◌, Bool, ℕ, List, Option};
+ghost use Rattle.swim_text.specs.Streams.{Puts};
 ghost use Rattle.swim_script.specs.Holds.{Answers};
+ghost use Rattle.swim_script.specs.Outcomes.{asked_of, text_with};
+ghost use Rattle.swim_script.specs.Script.Asked.{Calls};
 
-use crate::answers::put_answer;
 use crate::choosers::Drawer;
+use crate::outcomes::LineOutcome;
 use swim_detector::{ApplyFault, Recorder};
 use swim_history::Call;
-use swim_text::Sink;
 
-/// Makes a call, and writes its answer. It answers whether the sink took all of it.
-pub fn play<W: Sink>(recorder: &mut Recorder<Drawer>, call: Call, writer: &mut W) -> bool
-    ensures told { Answers recorder.old recorder.new call (W.written writer.old) (W.written writer.new) result }
-    ensures failures { W.failures writer.new ≡ failures_if (W.failures writer.old) result }
+/// Makes a call, and answers what came of it. Once that is written, or its writer failed at it, the call is answered.
+#[tactic(auto, using(crate::proofs::Outcoming::made_by))]
+#[inline(always)]
+pub fn make_call(recorder: &mut Recorder<Drawer>, call: &Call) -> LineOutcome
+    ensures told { (before after : Option (List ℕ)) (done : Bool) → Puts before after (text_with recorder.new result) done →
+        Answers recorder.old recorder.new call.now before after done }
+    ensures asked { asked_of result ≡ Calls call.now }
 {
-    match recorder.record(0, call) {
-        Ok(()) => put_answer(writer, recorder.reply(), recorder.journal().opening()),
-        Err(ApplyFault::JournalFull) => writer.put(b"journal full\n"),
-        Err(ApplyFault::NoMemory) => writer.put(b"no memory\n"),
+    match recorder.record(0, *call) {
+        Ok(()) => LineOutcome::Made(*call),
+        Err(ApplyFault::JournalFull) => LineOutcome::Full(*call),
+        Err(ApplyFault::NoMemory) => LineOutcome::NoMemory(*call),
     }
 }

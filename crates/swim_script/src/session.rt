@@ -18,6 +18,8 @@ use crate::commands::{Command, Stage, read_line};
 use crate::faults::{FaultKind, ScriptFault};
 use crate::forms::{Form, JOURNAL_BYTES, is_mark};
 use crate::headers::Header;
+use crate::outcomes::LineOutcome;
+use crate::tellers::Teller;
 use std::alloc::Global;
 use std::marker::Model;
 use swim_detector::Recorder;
@@ -75,12 +77,14 @@ impl Session {
         form.after(self.lines, line)
     }
 
-    /// Plays the next line of the script, which has that form with it, and writes its answer.
-    pub(crate) fn turn<W: Sink>(
+    /// Plays the next line of the script, which has that form with it, and has its answer written.
+    #[inline(always)]
+    pub(crate) fn turn<W: Sink, T: Teller<W>>(
         &mut self,
         form: Form,
         line: &[u8],
         writer: &mut W,
+        teller: &mut T,
     ) -> Result<(), ScriptFault>
         requires { self.old.lines < u32.MAX }
         ensures turned { (turns : List Turn) (run : List Entry) (text piece : List ℕ) → Holds turns run text self.old →
@@ -100,7 +104,7 @@ impl Session {
                 self.skip();
                 Ok(())
             }
-            Ok(Some(command)) => self.carry_out(command, writer),
+            Ok(Some(command)) => self.carry_out(command, writer, teller),
         }
     }
 
@@ -131,10 +135,12 @@ impl Session {
     }
 
     /// Does what a line says.
-    fn carry_out<W: Sink>(
+    #[inline(always)]
+    fn carry_out<W: Sink, T: Teller<W>>(
         &mut self,
         command: Command<'_>,
         writer: &mut W,
+        teller: &mut T,
     ) -> Result<(), ScriptFault>
         requires { self.old.lines < u32.MAX }
         ensures done { Done self.old self.new command.entry (W.written writer.old) (W.written writer.new) result }
@@ -161,18 +167,18 @@ impl Session {
                 self.set_wire(version);
                 Ok(())
             }
-            Command::Tick => self.call(Call::Tick, writer),
-            Command::Hear(source, read) => self.hear(source, read, writer),
-            Command::Join(id, peer) => self.call(Call::Join(id, peer), writer),
-            Command::Remove(id) => self.call(Call::Remove(id), writer),
-            Command::Table => self.show_table(writer),
-            Command::Gap(id) => self.show_gap(id, writer),
+            Command::Tick => self.call(Call::Tick, writer, teller),
+            Command::Hear(source, read) => self.hear(source, read, writer, teller),
+            Command::Join(id, peer) => self.call(Call::Join(id, peer), writer, teller),
+            Command::Remove(id) => self.call(Call::Remove(id), writer, teller),
+            Command::Table => self.show(LineOutcome::Table, writer, teller),
+            Command::Gap(id) => self.show(LineOutcome::Gap(id), writer, teller),
             Command::Answer(answer) => self.confirm(answer),
         }
     }
 
     /// A line that says nothing.
-    fn skip(&mut self)
+    pub(crate) fn skip(&mut self)
         requires { self.old.lines < u32.MAX }
         ensures { self.new ≡ record self.old { lines = self.old.lines + 1 } }
     {

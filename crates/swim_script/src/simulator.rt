@@ -9,6 +9,7 @@ use crate::commands::LINE_BYTES;
 use crate::faults::{FaultKind, ScriptFault};
 use crate::forms::Form;
 use crate::session::Session;
+use crate::tellers::{PlainTeller, Teller};
 use arrayvec::ArrayVec;
 use swim_text::{Sink, Source, Taken, next_line};
 
@@ -31,6 +32,26 @@ pub fn run<R: Source, W: Sink>(
     ensures leaves { LeavesKnown result (R.left reader.old) (W.written writer.old) (W.written writer.new) session.new }
     ensures sent { OnOk result (W.held writer.new ≡ 0) }
 {
+    play(session, reader, writer, &mut PlainTeller {})
+}
+
+/// Plays the script that the reader gives, as `run` does, and has somebody write its answers.
+pub fn play<R: Source, W: Sink, T: Teller<W>>(
+    session: &mut Session,
+    reader: &mut R,
+    writer: &mut W,
+    teller: &mut T,
+) -> Result<(), ScriptFault>
+    requires { session.old ≡ unplayed }
+    ensures told { RunsKnown (R.left reader.old) (R.left reader.new)
+        (W.written writer.old) (W.written writer.new) result }
+    ensures reads { R.failures reader.new ≡
+        (if is_read result then one_more (R.failures reader.old) else R.failures reader.old) }
+    ensures writes { W.failures writer.new ≡
+        (if is_write result then one_more (W.failures writer.old) else W.failures writer.old) }
+    ensures leaves { LeavesKnown result (R.left reader.old) (W.written writer.old) (W.written writer.new) session.new }
+    ensures sent { OnOk result (W.held writer.new ≡ 0) }
+{
     let mut line = ArrayVec::<u8, LINE_BYTES>::new();
     let mut form = Form::Script;
     let mut budget = form.bytes();
@@ -40,7 +61,7 @@ pub fn run<R: Source, W: Sink>(
                 let told = session.form_with(form, line.as_slice());
                 budget += told.bytes() - form.bytes();
                 form = told;
-                session.turn(form, line.as_slice(), writer)?;
+                session.turn(form, line.as_slice(), writer, teller)?;
             }
             Taken::Over => return session.end(),
             Taken::Long => return Err(session.fault(FaultKind::Long)),

@@ -23,8 +23,10 @@ is_left ids order other = by (is_order_of ids order) refl where
   by false e = refl
 
 -- the next order is the first of those to come
-pub is_first : (orders : List (ArrayVec ℕ)) (used : ℕ) (next : ArrayVec ℕ) (order : List ℕ) → used < length orders → next ≡ get_or orders used next
+pub is_first : (orders : List (ArrayVec ℕ)) (used : ℕ) (next : ArrayVec ℕ) (order : List ℕ) → used < length orders →
+    next ≡ get_or orders used next
     → slice_get (map (λ o. o.items) (drop used orders)) 0 ≡ Some order → order ≡ next.items
 is_first orders used next order lt here first =
-    let head : slice_get (map (λ o. o.items) (drop used orders)) 0 ≡ Some next.items = rw (drop_more orders used next lt, ← here) refl in
+    let head : slice_get (map (λ o. o.items) (drop used orders)) 0 ≡ Some next.items =
+    rw (drop_more orders used next lt, ← here) refl in
     cc

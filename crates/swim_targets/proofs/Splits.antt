@@ -1,5 +1,6 @@
 -- A list of ids in two parts, and what an insertion and a removal do to each.
-use Rattle.std.specs.Prelude.{◌≡◌, ◌≢◌, ℕ, ◌+◌, ◌-◌, ◌<◌, ◌≤◌, true, false, not, List, [], ◌∷◌, length, take, drop, insert, remove, IsPermutation, zero, suc}
+use Rattle.std.specs.Prelude.{◌≡◌, ◌≢◌, ℕ, ◌+◌, ◌-◌, ◌<◌, ◌≤◌, true, false, not, List, [], ◌∷◌, length, take, drop}
+use Rattle.std.specs.Prelude.{insert, remove, IsPermutation, zero, suc}
 use Rattle.std.specs.List.{refill}
 use Rattle.std.proofs.Common.{eqb, ltb, refl, sym, ap, subst, ◌∙◌, arith, add-one, get_or, take-append-drop}
 use Rattle.std.proofs.lemmas.Bool.{or_parts, or_from, eq-eqb, eqb-false, ne_eqb, lt-ltb, le-ltb, both_ways}
@@ -38,7 +39,8 @@ head_gone x id same ids none =
 -- the head stands nowhere else
 apart : (x id i : ℕ) (ids : List ℕ) → has ids x ≡ false → i < length ids → get_or ids i 0 ≡ id → eqb x id ≡ false
 apart x id i ids none lt here =
-    ne_eqb x id (λ same. both_ways (has ids x) none (list_any_at (eqb x) ids i 0 lt (eq-eqb x (get_or ids i 0) (same ∙ sym here))))
+    ne_eqb x id (λ same. both_ways (has ids x) none
+    (list_any_at (eqb x) ids i 0 lt (eq-eqb x (get_or ids i 0) (same ∙ sym here))))
 
 -- one of those probed is removed
 gone_before : (ids : List ℕ) (i c id : ℕ) → i < length ids → get_or ids i 0 ≡ id → has_twice ids ≡ false → i ≤ c
@@ -46,8 +48,10 @@ gone_before : (ids : List ℕ) (i c id : ℕ) → i < length ids → get_or ids 
 gone_before [] i c id lt here once le = absurd (omega arith)
 gone_before (x ∷ ids) zero c id lt here once le =
     let none = (or_parts (has ids x) (has_twice ids) once).0 in
-    let gone : has ids id ≡ false = subst (λ y. has ids y ≡ false) here none in
-    (sym (head_gone x id here (take c ids) (none_of x c ids none).0), sym (without_none id (drop c ids) (none_of id c ids gone).1))
+    let gone : has ids id ≡ false = subst (λ y. has ids y ≡ false) here none in (
+      sym (head_gone x id here (take c ids) (none_of x c ids none).0),
+      sym (without_none id (drop c ids) (none_of id c ids gone).1),
+    )
 gone_before (x ∷ ids) (suc i) zero id lt here once le = absurd (omega arith)
 gone_before (x ∷ ids) (suc i) (suc c) id lt here once le =
     let parts = or_parts (has ids x) (has_twice ids) once in
@@ -93,15 +97,18 @@ came_after (x ∷ ids) (suc p) (suc c) k id e fits =
 
 -- ---- what is kept
 
-once_insert : (ids : List ℕ) (p id : ℕ) → has ids id ≡ false → has_twice ids ≡ false → has_twice (insert ids p id) ≡ false
+once_insert : (ids : List ℕ) (p id : ℕ) → has ids id ≡ false → has_twice ids ≡ false →
+    has_twice (insert ids p id) ≡ false
 once_insert ids p id none once =
-    once-IsPermutation (id ∷ ids) (insert ids p id) (IsPermutation-insert ids p id) (or_from (has ids id) (has_twice ids) none once)
+    once-IsPermutation (id ∷ ids) (insert ids p id) (IsPermutation-insert ids p id)
+    (or_from (has ids id) (has_twice ids) none once)
 
 once_without : (ids : List ℕ) (id : ℕ) → has_twice ids ≡ false → has_twice (without id ids) ≡ false
 once_without ids id once = once_part (λ other. not (eqb other id)) ids once
 
 pub listing : (ids : List ℕ) (c : ℕ) → IsKept ids c → IsListing (split c ids)
-listing ids c kept = record { once = rw (take-append-drop c ids) kept.once; bound = rw (take-append-drop c ids) kept.bound }
+listing ids c kept = record
+    { once = rw (take-append-drop c ids) kept.once; bound = rw (take-append-drop c ids) kept.bound }
 
 -- those probed and the others together are the list
 pub all_split : (ids : List ℕ) (c : ℕ) (lists : Lists) → split c ids ≡ lists → all_of lists ≡ ids
@@ -111,28 +118,33 @@ pub room_left : (n : ℕ) → n ≤ 128 → eqb n 128 ≡ false → n < 128
 room_left n most e = let other = eqb-false n 128 e in omega arith
 
 -- a joiner waits among those probed
-pub joins_before : (ids : List ℕ) (p c id : ℕ) → p < c → IsKept ids c → has ids id ≡ false → length ids < 128 → IsKept (insert ids p id) (c + 1)
+pub joins_before : (ids : List ℕ) (p c id : ℕ) → p < c → IsKept ids c → has ids id ≡ false → length ids < 128 →
+    IsKept (insert ids p id) (c + 1)
 joins_before ids p c id before kept none room = record {
   once = once_insert ids p id none kept.once;
   bound = omega (arith, length-insert ids p id);
   within = omega (arith, length-insert ids p id, kept.within);
 }
 
-pub joined_before : (ids : List ℕ) (p c id : ℕ) → p < c → c ≤ length ids → split (c + 1) (insert ids p id) ≡ join_at id p (split c ids)
+pub joined_before : (ids : List ℕ) (p c id : ℕ) → p < c → c ≤ length ids →
+    split (c + 1) (insert ids p id) ≡ join_at id p (split c ids)
 joined_before ids p c id before fits =
     let parts = came_before ids p c id (omega arith) fits in
-    let test : ltb p (length (take c ids)) ≡ true = lt-ltb p (length (take c ids)) (omega (arith, length-take-le c ids fits)) in
+    let test : ltb p (length (take c ids)) ≡ true =
+    lt-ltb p (length (take c ids)) (omega (arith, length-take-le c ids fits)) in
     rw (test, add-one, parts.0, parts.1) refl
 
 -- a joiner is among those to be probed
-pub joins_after : (ids : List ℕ) (p c id : ℕ) → p ≤ length ids → IsKept ids c → has ids id ≡ false → length ids < 128 → IsKept (insert ids p id) c
+pub joins_after : (ids : List ℕ) (p c id : ℕ) → p ≤ length ids → IsKept ids c → has ids id ≡ false → length ids < 128 →
+    IsKept (insert ids p id) c
 joins_after ids p c id fits kept none room = record {
   once = once_insert ids p id none kept.once;
   bound = omega (arith, length-insert ids p id);
   within = omega (arith, length-insert ids p id, kept.within);
 }
 
-pub joined_after : (ids : List ℕ) (p c id : ℕ) → c ≤ p → p ≤ length ids → split c (insert ids p id) ≡ join_at id p (split c ids)
+pub joined_after : (ids : List ℕ) (p c id : ℕ) → c ≤ p → p ≤ length ids →
+    split c (insert ids p id) ≡ join_at id p (split c ids)
 joined_after ids p c id after fits =
     let size : length (take c ids) ≡ c = length-take-le c ids (omega arith) in
     let parts = came_after ids p c (p - c) id (omega arith) fits in
@@ -140,7 +152,8 @@ joined_after ids p c id after fits =
     rw (test, size, parts.0, parts.1) refl
 
 -- one of those probed leaves
-pub leaves_before : (ids : List ℕ) (i c id : ℕ) → i < c → IsKept ids c → get_or ids i 0 ≡ id → IsKept (remove ids i) (c - 1)
+pub leaves_before : (ids : List ℕ) (i c id : ℕ) → i < c → IsKept ids c → get_or ids i 0 ≡ id →
+    IsKept (remove ids i) (c - 1)
 leaves_before ids i c id before kept here =
     let lt : i < length ids = omega (arith, kept.within) in
     let size = length-remove ids i lt in
@@ -150,7 +163,8 @@ leaves_before ids i c id before kept here =
       within = omega (arith, size, kept.within);
     }
 
-pub left_before : (ids : List ℕ) (i c id : ℕ) → i < c → IsKept ids c → get_or ids i 0 ≡ id → split (c - 1) (remove ids i) ≡ leave id (split c ids)
+pub left_before : (ids : List ℕ) (i c id : ℕ) → i < c → IsKept ids c → get_or ids i 0 ≡ id →
+    split (c - 1) (remove ids i) ≡ leave id (split c ids)
 left_before ids i zero id before kept here = absurd (omega arith)
 left_before ids i (suc c) id before kept here =
     let parts = gone_before ids i c id (omega (arith, kept.within)) here kept.once (omega arith) in
@@ -158,7 +172,8 @@ left_before ids i (suc c) id before kept here =
     rw (same, parts.0, parts.1) refl
 
 -- one of those to be probed leaves
-pub leaves_after : (ids : List ℕ) (i c id : ℕ) → c ≤ i → i < length ids → IsKept ids c → get_or ids i 0 ≡ id → IsKept (remove ids i) c
+pub leaves_after : (ids : List ℕ) (i c id : ℕ) → c ≤ i → i < length ids → IsKept ids c → get_or ids i 0 ≡ id →
+    IsKept (remove ids i) c
 leaves_after ids i c id after lt kept here =
     let size = length-remove ids i lt in
     record {
@@ -167,7 +182,8 @@ leaves_after ids i c id after lt kept here =
       within = omega (arith, size);
     }
 
-pub left_after : (ids : List ℕ) (i c id : ℕ) → c ≤ i → i < length ids → has_twice ids ≡ false → get_or ids i 0 ≡ id → split c (remove ids i) ≡ leave id (split c ids)
+pub left_after : (ids : List ℕ) (i c id : ℕ) → c ≤ i → i < length ids → has_twice ids ≡ false → get_or ids i 0 ≡ id →
+    split c (remove ids i) ≡ leave id (split c ids)
 left_after ids i c id after lt once here =
     let parts = gone_after ids i c id lt here once after in
     rw (parts.0, parts.1) refl
@@ -189,7 +205,8 @@ pub no_rest : (ids : List ℕ) (c : ℕ) → length ids ≤ c → split c ids �
 no_rest ids c le = rw (take_all c ids le, drop_all c ids le) refl
 
 -- the members are put into an order, of which none was probed
-pub kept_refilled : (ids order : List ℕ) (c : ℕ) → IsKept ids c → IsPermutation ids order → IsKept (refill (length ids) ids order) 0
+pub kept_refilled : (ids order : List ℕ) (c : ℕ) → IsKept ids c → IsPermutation ids order →
+    IsKept (refill (length ids) ids order) 0
 kept_refilled ids order c kept p =
     let size : length order ≡ length ids = length_permutation ids order p in
     rw (take_at order (drop (length order) ids) (length ids) size) (record {

@@ -9,7 +9,8 @@ use Rattle.swim_history.specs.Laws.UntilProbed.{length-filter-le}
 use Rattle.swim_timeline.specs.Spans.{first_tick}
 
 -- the first tick of a period that started came
-started : (o : Setting) (number t : ℕ) → o.last < number → number ≤ number_at o.last o.period t → first_tick o number ≤ t
+started : (o : Setting) (number t : ℕ) → o.last < number → number ≤ number_at o.last o.period t →
+    first_tick o number ≤ t
 started o number zero later used = absurd (omega (arith, used, later))
 started o number (suc t) later used =
     let most : number - (o.last + 1) ≤ t / o.period = omega (arith, used) in
@@ -22,8 +23,10 @@ first_tick_came o h number later used =
     omega (arith, started o number (ticks h) later used, length-filter-le is_tick h)
 
 -- so its number fits where that of the entries does
-pub first_tick_fits : (o p : Setting) (h : List Entry) (number last period used count : ℕ) → p ≡ o → last ≡ p.last → period ≡ p.period →
-    used ≡ period_number o h → count ≡ length h → last < number → number ≤ used → (number - (last + 1)) * period + 1 ≤ count
+pub first_tick_fits : (o p : Setting) (h : List Entry) (number last period used count : ℕ) → p ≡ o → last ≡ p.last →
+    period ≡ p.period →
+    used ≡ period_number o h → count ≡ length h → last < number → number ≤ used →
+    (number - (last + 1)) * period + 1 ≤ count
 first_tick_fits o p h number last period used count same last_is period_is used_is count_is later most =
     let later_too : o.last < number = omega (arith, later, last_is, ap (λ (s : Setting). s.last) same) in
     let used_too : number ≤ period_number o h = omega (arith, most, used_is) in

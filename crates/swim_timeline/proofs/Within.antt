@@ -1,5 +1,6 @@
 -- What is shown within so many ticks.
-use Rattle.std.proofs.Common.{◌≡◌, ℕ, ◌+◌, ◌^◌, ◌<◌, ◌≤◌, Bool, true, false, cond, List, [], ◌∷◌, ◌++◌, length, append-nil, filter, nat_le, Some, None, refl, sym, ap, subst, ◌∙◌, arith}
+use Rattle.std.proofs.Common.{◌≡◌, ℕ, ◌+◌, ◌^◌, ◌<◌, ◌≤◌, Bool, true, false, cond, List, [], ◌∷◌, ◌++◌, length}
+use Rattle.std.proofs.Common.{append-nil, filter, nat_le, Some, None, refl, sym, ap, subst, ◌∙◌, arith}
 use Rattle.std.proofs.lemmas.Bool.{le-leb, lt-leb, le-ltb, lt-ltb}
 use Rattle.std.proofs.lemmas.List.Elements.{filter-append}
 use Rattle.swim_history.specs.declared.entries.Entry.{Entry}
@@ -68,7 +69,9 @@ marks_hidden first t ended call reply before = refl
 -- the marks from a tick on, of one entry more
 marks_of_more : (o : Setting) (h : List Entry) (e : Entry) (first : ℕ) → from_tick first (marks o (e ∷ h)) ≡
     from_tick first (marks o h) ++ from_tick first (marks_by (ticks (e ∷ h)) (period_number o h) e.call e.reply)
-marks_of_more o h e first = filter-append (λ mark. nat_le first mark.tick) (marks o h) (marks_by (ticks (e ∷ h)) (period_number o h) e.call e.reply)
+marks_of_more o h e first =
+    filter-append (λ mark. nat_le first mark.tick) (marks o h)
+    (marks_by (ticks (e ∷ h)) (period_number o h) e.call e.reply)
 
 -- before that tick no lane is added
 lanes_hidden : (first : ℕ) (lanes : Lanes) (h : List Entry) → ticks h < first → lanes_from first lanes h ≡ lanes
@@ -76,9 +79,12 @@ lanes_hidden first lanes [] few = refl
 lanes_hidden first lanes (e ∷ before) few = rw (lt-ltb (ticks (e ∷ before)) first few) refl
 
 -- what is drawn of one entry more that is shown
-pub draws_more : (o : Setting) (h : List Entry) (e : Entry) (first until : ℕ) (old new : Picture) (ended : ℕ) → Draws o h first until old →
-    new.ticks ≡ ticks (e ∷ h) → new.ticks ≤ until → first ≤ new.ticks → new.before ≡ old.before → new.entries ≡ old.entries + 1 →
-    ended ≡ number_at o.last o.period old.ticks → new.marks.items ≡ old.marks.items ++ marks_by new.ticks ended e.call e.reply →
+pub draws_more : (o : Setting) (h : List Entry) (e : Entry) (first until : ℕ) (old new : Picture) (ended : ℕ) →
+    Draws o h first until old →
+    new.ticks ≡ ticks (e ∷ h) → new.ticks ≤ until → first ≤ new.ticks → new.before ≡ old.before →
+    new.entries ≡ old.entries + 1 →
+    ended ≡ number_at o.last o.period old.ticks →
+    new.marks.items ≡ old.marks.items ++ marks_by new.ticks ended e.call e.reply →
     new.lanes.entries ≡ lanes_then old.lanes.entries e.call e.reply → Draws o (e ∷ h) first until new
 draws_more o h e first until old new ended draws now fits from before one_more last marked laned =
     let all : ticks (e ∷ h) ≤ until = subst (λ (n : ℕ). n ≤ until) now fits in
@@ -86,24 +92,29 @@ draws_more o h e first until old new ended draws now fits from before one_more l
     let whole = within_all until (e ∷ h) all in
     let older : within until h ≡ h = within_all until h (omega (arith, ticks_more e h, all)) in
     let count : old.entries ≡ length h = draws.entries ∙ ap length older in
-    let drawn : old.marks.items ≡ from_tick first (marks o h) = draws.marks ∙ ap (λ (l : List Entry). from_tick first (marks o l)) older in
+    let drawn : old.marks.items ≡ from_tick first (marks o h) = draws.marks ∙
+    ap (λ (l : List Entry). from_tick first (marks o l)) older in
     let shown = marks_shown first (ticks (e ∷ h)) (period_number o h) e.call e.reply later in
     let lanes_old : old.lanes.entries ≡ lanes_from first (with_rows [] old.before.rows.items) h
     = draws.lanes ∙ ap (λ (l : List Entry). lanes_from first (with_rows [] old.before.rows.items) l) older in
     let lanes_new : lanes_from first (with_rows [] old.before.rows.items) (e ∷ h) ≡
-    lanes_then (lanes_from first (with_rows [] old.before.rows.items) h) e.call e.reply = rw (le-ltb (ticks (e ∷ h)) first later) refl in
+    lanes_then (lanes_from first (with_rows [] old.before.rows.items) h) e.call e.reply =
+    rw (le-ltb (ticks (e ∷ h)) first later) refl in
     let laned_from : new.lanes.entries ≡ lanes_from first (with_rows [] old.before.rows.items) (e ∷ h)
     = laned ∙ (ap (λ (l : Lanes). lanes_then l e.call e.reply) lanes_old ∙ sym lanes_new) in
     record {
       ticks = now;
       entries = rw whole (omega (arith, one_more, count));
       marks = rw (whole, marks_of_more o h e first, shown) (rw (marked, drawn, now, last, draws.ticks) refl);
-      lanes = rw whole (laned_from ∙ ap (λ (b : EarlierRun). lanes_from first (with_rows [] b.rows.items) (e ∷ h)) (sym before));
+      lanes = rw whole (laned_from ∙
+          ap (λ (b : EarlierRun). lanes_from first (with_rows [] b.rows.items) (e ∷ h)) (sym before));
     }
 
 -- of one more that lies before what is shown
-pub draws_before : (o : Setting) (h : List Entry) (e : Entry) (first until : ℕ) (old new : Picture) → Draws o h first until old →
-    new.ticks ≡ ticks (e ∷ h) → new.ticks ≤ until → new.ticks < first → new.before ≡ old.before → new.entries ≡ old.entries + 1 →
+pub draws_before : (o : Setting) (h : List Entry) (e : Entry) (first until : ℕ) (old new : Picture) →
+    Draws o h first until old →
+    new.ticks ≡ ticks (e ∷ h) → new.ticks ≤ until → new.ticks < first → new.before ≡ old.before →
+    new.entries ≡ old.entries + 1 →
     new.marks.items ≡ old.marks.items → new.lanes.entries ≡ old.lanes.entries → Draws o (e ∷ h) first until new
 draws_before o h e first until old new draws now fits less before one_more marked laned =
     let all : ticks (e ∷ h) ≤ until = subst (λ (n : ℕ). n ≤ until) now fits in
@@ -112,7 +123,8 @@ draws_before o h e first until old new draws now fits less before one_more marke
     let whole = within_all until (e ∷ h) all in
     let older : within until h ≡ h = within_all until h (omega (arith, ticks_more e h, all)) in
     let count : old.entries ≡ length h = draws.entries ∙ ap length older in
-    let drawn : old.marks.items ≡ from_tick first (marks o h) = draws.marks ∙ ap (λ (l : List Entry). from_tick first (marks o l)) older in
+    let drawn : old.marks.items ≡ from_tick first (marks o h) = draws.marks ∙
+    ap (λ (l : List Entry). from_tick first (marks o l)) older in
     let hidden = marks_hidden first (ticks (e ∷ h)) (period_number o h) e.call e.reply few in
     let lanes_old : old.lanes.entries ≡ with_rows [] old.before.rows.items
     = draws.lanes ∙ (ap (λ (l : List Entry). lanes_from first (with_rows [] old.before.rows.items) l) older
@@ -125,7 +137,8 @@ draws_before o h e first until old new draws now fits less before one_more marke
     }
 
 -- of one more that lies behind it
-pub draws_behind : (o : Setting) (h : List Entry) (e : Entry) (first until : ℕ) (old new : Picture) → Draws o h first until old →
+pub draws_behind : (o : Setting) (h : List Entry) (e : Entry) (first until : ℕ) (old new : Picture) →
+    Draws o h first until old →
     new.ticks ≡ ticks (e ∷ h) → until < new.ticks → new.before ≡ old.before → new.entries ≡ old.entries →
     new.marks.items ≡ old.marks.items → new.lanes.entries ≡ old.lanes.entries → Draws o (e ∷ h) first until new
 draws_behind o h e first until old new draws now past before entries marked laned =
@@ -139,9 +152,11 @@ draws_behind o h e first until old new draws now past before entries marked lane
     }
 
 -- the last number used in the first entries of a run fits
-pub number_fits : (o : Setting) (h : List Entry) (i : ℕ) → IsSetting o → IsRun o h → period_number o (oldest i h) < 2 ^ 64
+pub number_fits : (o : Setting) (h : List Entry) (i : ℕ) → IsSetting o → IsRun o h →
+    period_number o (oldest i h) < 2 ^ 64
 number_fits o h i setting run =
-    let number : period_number o (oldest i h) ≤ greatest_number = number_bound o (oldest i h) setting (oldest_run o h i run) in
+    let number : period_number o (oldest i h) ≤ greatest_number =
+    number_bound o (oldest i h) setting (oldest_run o h i run) in
     omega (arith, number)
 
 -- as many ticks as entries at the most

@@ -1,4 +1,5 @@
--- The lanes of a picture: the members that stood in the member table when it begins, and those that joined from then on,
+-- The lanes of a picture: the members that stood in the member table when it begins, and those that joined from then
+-- on,
 -- ascending by id, each with the address that it had last.
 use Rattle.std.specs.Prelude.{ℕ, nat_lt, List, [], ◌∷◌, if◌then◌else◌}
 use Rattle.std.specs.Ordering.{nat_cmp}

@@ -30,7 +30,8 @@ pub record Begins (o : Setting) (h : List Entry) (first : ℕ) (beginning : Earl
   pub entries : beginning.entries ≡ length (before_tick first h)
   pub rows : beginning.rows.items ≡ table o (before_tick first h)
 
--- how many ticks there are, and how many entries within the last tick that is shown; of their marks those from the first
+-- how many ticks there are, and how many entries within the last tick that is shown; of their marks those from the
+-- first
 -- tick on; and the lanes of these rows and of those who joined from then on
 pub record Draws (o : Setting) (h : List Entry) (first until : ℕ) (shown : Picture) : Type 0 where
   pub ticks : shown.ticks ≡ ticks h

@@ -28,8 +28,8 @@ pub struct Picture {
     pub lanes: Lanes,
 }
 
-/// What a picture of these ticks shows of a journal: the entries from the first tick on, up to the tick behind the last. `Err`
-/// only where memory was refused.
+/// What a picture of these ticks shows of a journal: the entries from the first tick on, up to the tick behind the
+/// last. `Err` only where memory was refused.
 pub fn show(alloc: Global, journal: &Journal, span: Span) -> Result<Picture, AllocError>
     ensures { IfOk result (λ shown. Shows journal.now.opening journal.now.past span.first span.until shown) }
 {

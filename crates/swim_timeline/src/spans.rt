@@ -3,7 +3,8 @@
 ghost use Rattle.std.specs.Prelude.{◌≡◌, ◌*◌, ◌+◌, ◌<◌, ◌≤◌, ◌^◌, IfOk, None};
 ghost use Rattle.swim_history.specs.Clock.{period_number, ticks};
 ghost use Rattle.swim_history.specs.Judgement.{judgements};
-ghost use Rattle.swim_timeline.specs.Spans.{first_tick, judged_last, periods_before, span_around, span_from, span_of, span_of_periods};
+ghost use Rattle.swim_timeline.specs.Spans.{first_tick, judged_last, periods_before, span_around, span_from, span_of};
+ghost use Rattle.swim_timeline.specs.Spans.{span_of_periods};
 
 use std::alloc::AllocError;
 use swim_history::{Journal, Judged, Opening};

@@ -18,9 +18,9 @@ use swim_history::Journal;
 use swim_text::Sink;
 use swim_wire::Id;
 
-/// Puts the picture of these ticks of a journal, and answers whether the writer took all of it. The picture is an SVG that
-/// stands alone: a lane for each member, and from left to right what happened to it at which tick. It says how much of
-/// the run it leaves out. `Err` only where memory was refused; then nothing was put.
+/// Puts the picture of these ticks of a journal, and answers whether the writer took all of it. The picture is an SVG
+/// that stands alone: a lane for each member, and from left to right what happened to it at which tick. It says how
+/// much of the run it leaves out. `Err` only where memory was refused; then nothing was put.
 pub fn put_timeline<W: Sink>(
     alloc: Global,
     journal: &Journal,

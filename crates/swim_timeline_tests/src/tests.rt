@@ -1,4 +1,5 @@
 use std::alloc::Global;
+use std::fmt::Debug;
 use std::process::Abort;
 use std::test::Fail;
 use swim_detector::Recorder;
@@ -6,11 +7,16 @@ use swim_doubles::FailingPage;
 use swim_history::{Call, Journal, Opening, Row, RowState};
 use swim_targets::Scripted;
 use swim_text::Page;
-use swim_timeline::{MarkKind, PictureMark, Span, View, put_timeline, show};
+use swim_timeline::{MarkKind, Picture, PictureMark, Span, View, put_timeline, show};
 use swim_wire::{Id, Kind, Message, Peer, PeriodNumber, Version};
 
-fn id(value: u32) -> Result<Id, Fail> {
-    Ok(Id::new(value).ok_or("an id is not 0")?)
+// The two are the same. A call of this is proved at once, and an `assert_eq!` in some seconds.
+fn assert_same<T: PartialEq + Debug, R: Abort>(rt: &R, left: &T, right: &T) {
+    assert_eq!(rt; *left, *right);
+}
+
+fn id(value: u32) -> Id {
+    Id::new(value).unwrap_or_default()
 }
 
 fn address(last: u8) -> Peer {
@@ -24,46 +30,56 @@ fn address(last: u8) -> Peer {
 // 4 are up.
 fn opening(version: Version) -> Result<Opening, Fail> {
     let rows = [
-        (id(2)?, address(2)),
-        (id(3)?, address(3)),
-        (id(4)?, address(4)),
+        (id(2), address(2)),
+        (id(3), address(3)),
+        (id(4), address(4)),
     ];
-    Ok(Opening::check(id(1)?, 1, 1, 3, &rows, 7, version).map_err(|_| "an opening")?)
+    Ok(Opening::check(id(1), 1, 1, 3, &rows, 7, version).map_err(|_| "an opening")?)
 }
 
 // The ack of member 2 for period 8, as member 3 forwards it.
-fn forwarded_ack() -> Result<Call, Fail> {
+fn forwarded_ack() -> Call {
     let message = Message {
         version: Version::One,
         kind: Kind::Ack,
-        sender: id(3)?,
-        initiator: id(1)?,
-        target: id(2)?,
-        number: PeriodNumber::new(8).ok_or("a number is not 0")?,
+        sender: id(3),
+        initiator: id(1),
+        target: id(2),
+        number: PeriodNumber::new(8).unwrap_or_default(),
         at: None,
     };
-    Ok(Call::Hear(address(3), message))
+    Call::Hear(address(3), message)
 }
 
 // Member 2 acks by a relay, 5 joins and leaves, and 3 is judged.
-fn calls() -> Result<[Call; 10], Fail> {
-    let tick = Call::Tick;
-    let join = Call::Join(id(5)?, address(5));
-    let leave = Call::Remove(id(5)?);
-    let ack = forwarded_ack()?;
-    Ok([tick, tick, ack, tick, join, leave, tick, tick, tick, tick])
+fn calls() -> [Call; 10] {
+    [
+        Call::Tick,
+        Call::Tick,
+        forwarded_ack(),
+        Call::Tick,
+        Call::Join(id(5), address(5)),
+        Call::Remove(id(5)),
+        Call::Tick,
+        Call::Tick,
+        Call::Tick,
+        Call::Tick,
+    ]
 }
 
 // The journal of these calls. Orders are left as they are.
-fn journal(rt: HostRuntime) -> Result<Journal, Fail> {
-    let chooser = Scripted::new(Vec::new(rt.alloc()), Vec::new(rt.alloc()));
-    let mut recorder = Recorder::open(rt.alloc(), opening(Version::One)?, chooser, 1000);
-    for call in calls()? {
-        if recorder.apply(0, call).is_err() {
-            return Err(Fail::new("an entry"));
-        }
+fn journal<R: Abort>(rt: &R, alloc: Global) -> Result<Journal, Fail> {
+    let chooser = Scripted::new(Vec::new(alloc), Vec::new(alloc));
+    let recorder = Recorder::open(alloc, opening(Version::One)?, chooser, 1000);
+    Ok(called(rt, recorder, &calls()))
+}
+
+fn called<R: Abort>(rt: &R, recorder: Recorder<Scripted>, calls: &[Call]) -> Journal {
+    let mut recorder = recorder;
+    for call in calls {
+        assert!(rt; recorder.apply(0, *call).is_ok());
     }
-    Ok(recorder.into_journal())
+    recorder.into_journal()
 }
 
 fn span(first: u32, until: u64) -> Span {
@@ -79,9 +95,19 @@ fn state_at(rows: &[Row], place: usize) -> Option<RowState> {
 
 #[test]
 fn each_kind_has_its_mark(rt: HostRuntime) -> Result<(), Fail> {
-    let shown = show(rt.alloc(), &journal(rt)?, span(0, 10))?;
-    assert_eq!(rt; (shown.ticks, shown.entries), (7, 10));
-    assert_eq!(rt; shown.lanes.len(), 4);
+    let shown = show(rt.alloc(), &journal(&rt, rt.alloc())?, span(0, 10))?;
+    assert_counts(&rt, &shown, (7, 10), 4);
+    assert_each_kind(&rt, shown.marks.as_slice());
+    Ok(())
+}
+
+// So many ticks and entries, and so many lanes.
+fn assert_counts<R: Abort>(rt: &R, shown: &Picture, counts: (u32, u32), lanes: usize) {
+    assert_same(rt, &(shown.ticks, shown.entries), &counts);
+    assert_same(rt, &shown.lanes.len(), &lanes);
+}
+
+fn assert_each_kind<R: Abort>(rt: &R, marks: &[PictureMark]) {
     let places = [
         (1, 2),
         (2, 2),
@@ -93,8 +119,7 @@ fn each_kind_has_its_mark(rt: HostRuntime) -> Result<(), Fail> {
         (7, 3),
         (7, 4),
     ];
-    let marks = shown.marks.as_slice();
-    assert_places(&rt, marks, &places);
+    assert_places(rt, marks, &places);
     assert!(rt; is_ask(kind_at(marks, 1), 8));
     assert!(rt; is_ask(kind_at(marks, 6), 9));
     let kinds = [
@@ -107,16 +132,15 @@ fn each_kind_has_its_mark(rt: HostRuntime) -> Result<(), Fail> {
         (8, MarkKind::Probed(10)),
     ];
     for (place, kind) in &kinds {
-        assert_eq!(rt; kind_at(marks, *place), Some(kind));
+        assert_same(rt, &kind_at(marks, *place), &Some(kind));
     }
-    Ok(())
 }
 
 // The ticks and members of these marks.
 fn assert_places<R: Abort>(rt: &R, marks: &[PictureMark], wanted: &[(u32, u32)]) {
-    assert_eq!(rt; marks.len(), wanted.len());
+    assert_same(rt, &marks.len(), &wanted.len());
     for (mark, place) in marks.iter().zip(wanted) {
-        assert_eq!(rt; (mark.tick, mark.member.get()), *place);
+        assert_same(rt, &(mark.tick, mark.member.get()), place);
     }
 }
 
@@ -134,30 +158,36 @@ fn is_ask(kind: Option<&MarkKind>, number: u64) -> bool {
 
 #[test]
 fn a_long_run_is_cut_behind_a_tick(rt: HostRuntime) -> Result<(), Fail> {
-    let shown = show(rt.alloc(), &journal(rt)?, span(0, 4))?;
-    assert_eq!(rt; (shown.ticks, shown.entries), (7, 7));
-    assert_eq!(rt; shown.marks.len(), 6);
+    let shown = show(rt.alloc(), &journal(&rt, rt.alloc())?, span(0, 4))?;
+    assert_same(&rt, &(shown.ticks, shown.entries), &(7, 7));
+    assert_same(&rt, &shown.marks.len(), &6);
     Ok(())
 }
 
 // Members 2 and 3 were probed before, and 5 has come and gone. What is left of ticks 5 to 6 is an ask.
 #[test]
 fn a_later_part_begins_with_the_table_of_then(rt: HostRuntime) -> Result<(), Fail> {
-    let shown = show(rt.alloc(), &journal(rt)?, span(5, 6))?;
-    assert_eq!(rt; (shown.before.entries, shown.entries), (7, 9));
-    assert_eq!(rt; (shown.before.rows.len(), shown.lanes.len()), (3, 3));
-    assert_places(&rt, shown.marks.as_slice(), &[(5, 3)]);
-    let shown = show(rt.alloc(), &journal(rt)?, span(8, 20))?;
-    assert_eq!(rt;
-        state_at(shown.before.rows.as_slice(), 1),
-        Some(RowState::Failed(9))
-    );
-    assert!(rt; shown.marks.is_empty());
+    let journal = journal(&rt, rt.alloc())?;
+    let (alloc, journal) = (rt.alloc(), &journal);
+    assert_behind_fifth(&rt, &show(alloc, journal, span(5, 6))?);
+    assert_behind_last(&rt, &show(alloc, journal, span(8, 20))?);
     Ok(())
 }
 
-// Periods 8, 9 and 10 began at ticks 1, 4 and 7. Member 3 was judged at the end of period 9, which is the second one: so
-// the periods round it begin with period 8, and end with 14. Member 4 wasn't judged.
+fn assert_behind_fifth<R: Abort>(rt: &R, shown: &Picture) {
+    assert_same(rt, &(shown.before.entries, shown.entries), &(7, 9));
+    assert_same(rt, &(shown.before.rows.len(), shown.lanes.len()), &(3, 3));
+    assert_places(rt, shown.marks.as_slice(), &[(5, 3)]);
+}
+
+fn assert_behind_last<R: Abort>(rt: &R, shown: &Picture) {
+    let judged = state_at(shown.before.rows.as_slice(), 1);
+    assert_same(rt, &judged, &Some(RowState::Failed(9)));
+    assert!(rt; shown.marks.is_empty());
+}
+
+// Periods 8, 9 and 10 began at ticks 1, 4 and 7. Member 3 was judged at the end of period 9, which is the second one:
+// so the periods round it begin with period 8, and end with 14. Member 4 wasn't judged.
 #[test]
 fn a_view_is_of_periods_that_began(rt: HostRuntime) -> Result<(), Fail> {
     let wanted = [
@@ -166,40 +196,52 @@ fn a_view_is_of_periods_that_began(rt: HostRuntime) -> Result<(), Fail> {
         (View::From(8), Some(span(1, 1200))),
         (View::From(10), Some(span(7, 1206))),
         (View::From(11), None),
-        (View::Around(id(3)?), Some(span(1, 21))),
-        (View::Around(id(4)?), None),
+        (View::Around(id(3)), Some(span(1, 21))),
+        (View::Around(id(4)), None),
     ];
-    let journal = journal(rt)?;
-    for (view, span) in wanted {
-        assert_view(&rt, &journal, view, span);
-    }
+    assert_views(&rt, &journal(&rt, rt.alloc())?, &wanted);
     Ok(())
 }
 
+fn assert_views<R: Abort>(rt: &R, journal: &Journal, wanted: &[(View, Option<Span>)]) {
+    for (view, span) in wanted {
+        assert_view(rt, journal, *view, *span);
+    }
+}
+
 fn assert_view<R: Abort>(rt: &R, journal: &Journal, view: View, wanted: Option<Span>) {
-    assert_eq!(rt; Span::of(journal, view), Ok(wanted));
+    assert_same(rt, &Span::of(journal, view), &Ok(wanted));
 }
 
 #[test]
 fn an_empty_run_has_its_lanes(rt: HostRuntime) -> Result<(), Fail> {
     let journal = Journal::new(rt.alloc(), opening(Version::One)?);
     let shown = show(rt.alloc(), &journal, span(0, 10))?;
-    assert_eq!(rt; (shown.ticks, shown.entries), (0, 0));
+    assert_counts(&rt, &shown, (0, 0), 3);
     assert!(rt; shown.marks.is_empty());
-    assert_eq!(rt; shown.lanes.len(), 3);
-    let mut page = Page::new(rt.alloc());
-    assert!(rt; put_timeline(rt.alloc(), &journal, span(0, 10), &mut page)?);
-    assert!(rt; page.text().starts_with(b"<svg xmlns="));
-    assert!(rt; page.text().ends_with(b"</svg>\n"));
+    assert_drawn(&rt, picture_of(rt.alloc(), &journal)?.text());
     Ok(())
+}
+
+fn assert_drawn<R: Abort>(rt: &R, text: &[u8]) {
+    assert!(rt; text.starts_with(b"<svg xmlns="));
+    assert!(rt; text.ends_with(b"</svg>\n"));
+}
+
+// The picture of a run's first ticks.
+fn picture_of(alloc: Global, journal: &Journal) -> Result<Page, Fail> {
+    let mut page = Page::new(alloc);
+    if put_timeline(alloc, journal, span(0, 10), &mut page)? {
+        return Ok(page);
+    }
+    Err(Fail::new("a picture"))
 }
 
 // Whether these words stand in the picture of a run without calls, where the member's own messages have that version.
 fn has_words(alloc: Global, version: Version, words: &[u8]) -> Result<bool, Fail> {
     let journal = Journal::new(alloc, opening(version)?);
-    let mut page = Page::new(alloc);
-    let is_whole = put_timeline(alloc, &journal, span(0, 10), &mut page)?;
-    Ok(is_whole && stands_in(page.text(), words))
+    let page = picture_of(alloc, &journal)?;
+    Ok(stands_in(page.text(), words))
 }
 
 fn stands_in(text: &[u8], words: &[u8]) -> bool {

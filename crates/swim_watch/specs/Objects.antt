@@ -21,7 +21,8 @@ word_data word time = object (member (codes "event") (string word) (at_time time
 -- a life
 abbrev pub number_data : ℕ → List ℕ → Data
 number_data life time =
-    object (member (codes "event") (string (codes "life")) (member (codes "life") (number (unsigned life)) (at_time time)))
+    object (member (codes "event") (string (codes "life"))
+    (member (codes "life") (number (unsigned life)) (at_time time)))
 
 -- a change of a member of that id, and what more is to say of it
 abbrev pub member_data : List ℕ → ℕ → Members → Data

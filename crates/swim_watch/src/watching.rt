@@ -34,8 +34,8 @@ pub enum Passed {
     NoMemory,
 }
 
-/// Writes each line that is heard before it waits for the next, as it came, or as an object of JSON with the time; up to the
-/// end of the lines, or to one that can't be written.
+/// Writes each line that is heard before it waits for the next, as it came, or as an object of JSON with the time; up
+/// to the end of the lines, or to one that can't be written.
 #[tactic(auto, using(crate::proofs::Showing::none_shown, crate::proofs::Showing::one_more_shown, crate::proofs::Showing::over_shown, crate::proofs::Showing::lost_shown, crate::proofs::Showing::missed_shown))]
 pub fn watch<R: Clock + Wait, F: Feed, W: Sink>(
     rt: &R,

@@ -6,7 +6,8 @@ ghost use Rattle.std.specs.Option.{SomeIff};
 ghost use Rattle.swim_wire.specs.Address.{IsAddress};
 ghost use Rattle.swim_wire.specs.Messages.{Message, carries};
 ghost use Rattle.swim_wire.specs.Layout.{IsTextOf, first_fault, message_at, code_of, kind_of as kind_at, id_at};
-ghost use Rattle.swim_wire.specs.Layout.{version_code as code_of_version, version_of as version_at, address_bytes, length_of as length_by};
+ghost use Rattle.swim_wire.specs.Layout.{version_code as code_of_version, version_of as version_at, address_bytes};
+ghost use Rattle.swim_wire.specs.Layout.{length_of as length_by};
 ghost use Rattle.swim_wire.specs.Layout.{number_at, address_at, fault_number, decoded};
 
 use crate::ids::{Id, PeriodNumber};

@@ -17,8 +17,10 @@ use Rattle.swimd.specs.declared.askers.Came.TheVariants as came
 use Rattle.swimd.specs.declared.control_lines.NextLine.TheVariants.{Line, Over, Fault}
 use Rattle.swimd.specs.declared.outcomes.Outcome.{Outcome}
 use Rattle.swimd.specs.declared.outcomes.Outcome.TheVariants as outcomes
-use Rattle.swimd.specs.declared.outcomes.Outcome.TheVariants.{AskRefused, AskTimeout, Unanswered, AskUnwritten, AskUnread, Helped}
-use Rattle.swimd.specs.declared.outcomes.Outcome.TheVariants.{Checked, Stopped, Usage, Unread, Refused, Unwritten, NoListen}
+use Rattle.swimd.specs.declared.outcomes.Outcome.TheVariants.{AskRefused, AskTimeout, Unanswered, AskUnwritten}
+use Rattle.swimd.specs.declared.outcomes.Outcome.TheVariants.{AskUnread, Helped}
+use Rattle.swimd.specs.declared.outcomes.Outcome.TheVariants.{Checked, Stopped, Usage, Unread, Refused, Unwritten}
+use Rattle.swimd.specs.declared.outcomes.Outcome.TheVariants.{NoListen}
 use Rattle.swimd.specs.declared.outcomes.Outcome.TheVariants.{NoControl, NoMemory, Socket, NoPlace, NoDaemon, NoRandom}
 use Rattle.swimd.specs.declared.outcomes.Outcome.TheVariants.{NoEvents, NoTeller, WatchUnwritten}
 
@@ -92,7 +94,8 @@ one_more_asked o l1 l2 w1 w2 a1 a2 line answer refused more going (input, taken,
       asked = more_asked going.exchanges last o (record { left = l1; written = w1; asked = a1 })
           (record { left = l2; written = w2; asked = a2 }) going.asked taken.taken wrote (rw (← sent_is) asked);
       refused_is = list_any-append (λ (x : Exchange). is_refusal x.answer) going.exchanges (last ∷ [])
-          ∙ last_of (has_refusal going.exchanges) (is_refusal answer) ∙ ap (λ b. b || is_refusal answer) going.refused_is ∙ sym e;
+          ∙ last_of (has_refusal going.exchanges) (is_refusal answer) ∙
+          ap (λ b. b || is_refusal answer) going.refused_is ∙ sym e;
       answer_is = refl;
     }
   where
@@ -149,29 +152,31 @@ pub ends_broken : (o : Asker) (l1 l2 w1 w2 : Option (List ℕ)) (a1 a2 : Option 
     (refused : Bool) (outcome : Outcome) → Going o (record { left = l1; written = w1; asked = a1 }) refused →
     Reads Line l1 l2 line → Passes line (Err outcome) answer w1 w2 a1 a2 →
     Asking o (record { left = l2; written = w2; asked = a2 }) outcome
-ends_broken o l1 l2 w1 w2 a1 a2 line answer refused AskTimeout going (input, taken, sent_is) (kept, asked) = inl (record {
-  exchanges = going.exchanges;
-  mid = record { left = l1; written = w1; asked = a1 };
-  asked = going.asked;
-  last = record { line = input; answer = answer; taken = taken; asked = rw (← sent_is) asked; kept = kept };
-})
+ends_broken o l1 l2 w1 w2 a1 a2 line answer refused AskTimeout going (input, taken, sent_is) (kept, asked) =
+    inl (record {
+      exchanges = going.exchanges;
+      mid = record { left = l1; written = w1; asked = a1 };
+      asked = going.asked;
+      last = record { line = input; answer = answer; taken = taken; asked = rw (← sent_is) asked; kept = kept };
+    })
 ends_broken o l1 l2 w1 w2 a1 a2 line answer refused Unanswered going (input, taken, sent_is) (kept, asked) = record {
   exchanges = going.exchanges;
   mid = record { left = l1; written = w1; asked = a1 };
   asked = going.asked;
   last = record { line = input; answer = answer; taken = taken; asked = rw (← sent_is) asked; kept = kept };
 }
-ends_broken o l1 l2 w1 w2 a1 a2 line answer refused AskUnwritten going (input, taken, sent_is) (whole, wrote, asked) = record {
-  exchanges = going.exchanges;
-  mid = record { left = l1; written = w1; asked = a1 };
-  asked = going.asked;
-  last = record {
-    exchange = record { line = input; answer = answer; whole = whole };
-    taken = taken;
-    asked = rw (← sent_is) asked;
-    wrote = wrote;
-  };
-}
+ends_broken o l1 l2 w1 w2 a1 a2 line answer refused AskUnwritten going (input, taken, sent_is) (whole, wrote, asked) =
+    record {
+      exchanges = going.exchanges;
+      mid = record { left = l1; written = w1; asked = a1 };
+      asked = going.asked;
+      last = record {
+        exchange = record { line = input; answer = answer; whole = whole };
+        taken = taken;
+        asked = rw (← sent_is) asked;
+        wrote = wrote;
+      };
+    }
 ends_broken o l1 l2 w1 w2 a1 a2 line answer refused Checked going reads passes = absurd passes
 ends_broken o l1 l2 w1 w2 a1 a2 line answer refused Stopped going reads passes = absurd passes
 ends_broken o l1 l2 w1 w2 a1 a2 line answer refused outcomes.Asked going reads passes = absurd passes
@@ -208,7 +213,8 @@ stop_of o n refused answer more is = (
     last : EndsInStop (more.before ++ more.last ∷ [])
     last = (more.before, more.last, refl, ap is_stopping more.answer_is ∙ is)
 
-pub ends_stopped : (o : Asker) (l w : Option (List ℕ)) (a a' : Option (List Sent)) (refused : Bool) (answer : List ℕ) (met : Came)
+pub ends_stopped : (o : Asker) (l w : Option (List ℕ)) (a a' : Option (List Sent)) (refused : Bool) (answer : List ℕ)
+    (met : Came)
     → OneMore o (record { left = l; written = w; asked = a }) refused answer → is_stopping answer ≡ true → a' ≡ a →
     Asking o (record { left = l; written = w; asked = a' }) (stopped_so met refused)
 ends_stopped o l w a a' refused answer met more is same = rw same (by met (stop_of o _ refused answer more is))

@@ -7,10 +7,13 @@ use Rattle.swim_config.specs.declared.config.Config.{Config}
 use Rattle.swim_config.specs.declared.config_fault.ConfigFault.{ConfigFault}
 use Rattle.swim_config.specs.declared.config_fault.ConfigFault.TheVariants.{Size}
 use Rattle.swimd.specs.declared.outcomes.Outcome.{Outcome}
-use Rattle.swimd.specs.declared.outcomes.Outcome.TheVariants.{Checked, Stopped, Asked, Usage, Unread, Refused, Unwritten}
-use Rattle.swimd.specs.declared.outcomes.Outcome.TheVariants.{NoListen, NoControl, NoMemory, Socket, NoPlace, NoDaemon, NoRandom}
+use Rattle.swimd.specs.declared.outcomes.Outcome.TheVariants.{Checked, Stopped, Asked, Usage, Unread, Refused}
+use Rattle.swimd.specs.declared.outcomes.Outcome.TheVariants.{Unwritten}
+use Rattle.swimd.specs.declared.outcomes.Outcome.TheVariants.{NoListen, NoControl, NoMemory, Socket, NoPlace, NoDaemon}
+use Rattle.swimd.specs.declared.outcomes.Outcome.TheVariants.{NoRandom}
 use Rattle.swimd.specs.declared.outcomes.Outcome.TheVariants.{NoEvents, NoTeller, WatchUnwritten}
-use Rattle.swimd.specs.declared.outcomes.Outcome.TheVariants.{AskRefused, AskTimeout, Unanswered, AskUnwritten, AskUnread, Helped}
+use Rattle.swimd.specs.declared.outcomes.Outcome.TheVariants.{AskRefused, AskTimeout, Unanswered, AskUnwritten}
+use Rattle.swimd.specs.declared.outcomes.Outcome.TheVariants.{AskUnread, Helped}
 use Rattle.swimd.specs.Checking.{ChecksKnown, Shows}
 use Rattle.swim_config.specs.Configuration.{config_of}
 use Rattle.swim_config.specs.Inputs.{IsRead}
@@ -40,7 +43,8 @@ known_shown text items config read is = elim is [
   | inr same ↦ sym (same ∙ (ap config_of read ∙ config_of_first text))
 ]
 
-pub shown : (left old new : Option (List ℕ)) (faults then : Written) (items : List ℕ) (config : Config) (outcome : Outcome) →
+pub shown : (left old new : Option (List ℕ)) (faults then : Written) (items : List ℕ) (config : Config)
+    (outcome : Outcome) →
     IsRead left items true → OrNoMemory (Ok config) (config_of items) → Shows config old new faults then outcome →
     ChecksKnown left old new faults then outcome
 shown None old new faults then items config Checked read is shows = tt
@@ -98,7 +102,8 @@ refusal fault = Err fault
 
 pub told : (left written : Option (List ℕ)) (faults : Written) (items : List ℕ) (fault : ConfigFault) →
     IsRead left items true → OrNoMemory (refusal fault) (config_of items) →
-    (65536 < length items → refusal fault ≡ refusal Size) → ChecksKnown left written written faults faults (Refused fault)
+    (65536 < length items → refusal fault ≡ refusal Size) →
+    ChecksKnown left written written faults faults (Refused fault)
 told None written faults items fault read is size = tt
 told (Some text) written faults items fault read is size =
     let same : config_of items ≡ config_of text = ap config_of read ∙ config_of_first text in

@@ -1,5 +1,6 @@
 -- How the reader of a control line goes on from byte to byte, and how a line is made of words.
-use Rattle.std.proofs.Common.{◌≡◌, ℕ, zero, suc, ◌<◌, ◌==◌, ◌||◌, Bool, true, false, List, [], ◌∷◌, ◌++◌, length, take, drop}
+use Rattle.std.proofs.Common.{◌≡◌, ℕ, zero, suc, ◌<◌, ◌==◌, ◌||◌, Bool, true, false, List, [], ◌∷◌, ◌++◌, length, take}
+use Rattle.std.proofs.Common.{drop}
 use Rattle.std.proofs.Common.{◌+◌, ◌≤◌, Bor, slice_index_or}
 use Rattle.std.proofs.Common.{Option, Some, None, refl, sym, ap, ◌∙◌, append_assoc, append-nil, arith, length-append}
 use Rattle.std.proofs.lemmas.Grind.{flat_map-append}
@@ -65,7 +66,8 @@ begins o line e = record {
   unbegun = λ b. refl;
 }
 
-pub goes_further : (o m n : Option (List ℕ)) (line longer : List ℕ) (byte : ℕ) (is_begun : Bool) → Taking o m line is_begun →
+pub goes_further : (o m n : Option (List ℕ)) (line longer : List ℕ) (byte : ℕ) (is_begun : Bool) →
+    Taking o m line is_begun →
     Consumes m n (byte ∷ []) → (byte == 10) ≡ false → longer ≡ take 129 (line ++ byte ∷ []) → Taking o n longer true
 goes_further o m n line longer byte is_begun t c e k = record {
   text = t.text ++ byte ∷ [];
@@ -84,10 +86,12 @@ goes_further o m n line longer byte is_begun t c e k = record {
 pub line_fits : (o m : Option (List ℕ)) (line : List ℕ) (is_begun : Bool) → Taking o m line is_begun → length line < 130
 line_fits o m line is_begun t = omega (arith, ap length t.kept, length-take 129 t.text)
 
-pub line_within : (o m : Option (List ℕ)) (line : List ℕ) (is_begun : Bool) → Taking o m line is_begun → length line ≤ 129
+pub line_within : (o m : Option (List ℕ)) (line : List ℕ) (is_begun : Bool) → Taking o m line is_begun →
+    length line ≤ 129
 line_within o m line is_begun t = omega (arith, ap length t.kept, length-take 129 t.text)
 
-pub ends_by_feed : (o m n : Option (List ℕ)) (line longer : List ℕ) (byte : ℕ) (is_begun : Bool) → Taking o m line is_begun →
+pub ends_by_feed : (o m n : Option (List ℕ)) (line longer : List ℕ) (byte : ℕ) (is_begun : Bool) →
+    Taking o m line is_begun →
     Consumes m n (byte ∷ []) → byte ≡ 10 → longer ≡ line ++ 10 ∷ [] → Reads Line o n longer
 ends_by_feed o m n line longer byte is_begun t c feed k = (
   record { text = t.text; is_ended = true },
@@ -100,7 +104,8 @@ ends_by_feed o m n line longer byte is_begun t c feed k = (
   k ∙ ap (λ l. l ++ 10 ∷ []) t.kept,
 )
 
-pub ends_within : (o m n : Option (List ℕ)) (line : List ℕ) → Taking o m line true → IsAtEnd m → Keeps m n → Reads Line o n line
+pub ends_within : (o m n : Option (List ℕ)) (line : List ℕ) → Taking o m line true → IsAtEnd m → Keeps m n →
+    Reads Line o n line
 ends_within o m n line t e k = (
   record { text = t.text; is_ended = false },
   record {
@@ -112,11 +117,13 @@ ends_within o m n line t e k = (
   t.kept ∙ sym (append-nil (take 129 t.text)),
 )
 
-pub ends_between : (o m n : Option (List ℕ)) (line : List ℕ) → Taking o m line false → IsAtEnd m → Keeps m n → Reads Over o n line
+pub ends_between : (o m n : Option (List ℕ)) (line : List ℕ) → Taking o m line false → IsAtEnd m → Keeps m n →
+    Reads Over o n line
 ends_between o m n line t e k =
     (end_before o m t.text t.taken (t.unbegun refl) e, rw (← t.unbegun refl) (consumes_kept o m n t.text t.taken k))
 
-pub ends_by_end : (o m n : Option (List ℕ)) (line : List ℕ) (is_begun : Bool) (met : NextLine) → Taking o m line is_begun → IsAtEnd m →
+pub ends_by_end : (o m n : Option (List ℕ)) (line : List ℕ) (is_begun : Bool) (met : NextLine) →
+    Taking o m line is_begun → IsAtEnd m →
     Keeps m n → met ≡ end_met is_begun → Reads met o n line
 ends_by_end o m n line true met t e k is = rw is (ends_within o m n line t e k)
 ends_by_end o m n line false met t e k is = rw is (ends_between o m n line t e k)
@@ -129,7 +136,8 @@ ends_by_fault o m n line is_begun t k = (t.text, consumes_kept o m n t.text t.ta
 
 -- a word more, with its space
 pub one_more_word : (front : List (List ℕ)) (word old begun new : List ℕ) →
-    old ≡ take 130 (flat_map (λ word. 32 ∷ word) front) → begun ≡ take 130 (old ++ 32 ∷ []) → new ≡ take 130 (begun ++ word) →
+    old ≡ take 130 (flat_map (λ word. 32 ∷ word) front) → begun ≡ take 130 (old ++ 32 ∷ []) →
+    new ≡ take 130 (begun ++ word) →
     new ≡ take 130 (flat_map (λ word. 32 ∷ word) (front ++ word ∷ []))
 one_more_word front word old begun new o b n =
     let f = flat_map (λ (w : List ℕ). 32 ∷ w) front in
@@ -152,7 +160,8 @@ spaced_more words index default text old begun new o within at b n =
     ∙ ap (λ l. take 130 (flat_map (λ (w : List ℕ). 32 ∷ w) l)) (sym (next_word words index default text within at))
 
 -- no word, so the line is empty
-pub no_words : (words : List (List ℕ)) (text line : List ℕ) → text ≡ take 130 (flat_map (λ word. 32 ∷ word) words) → text ≡ [] →
+pub no_words : (words : List (List ℕ)) (text line : List ℕ) → text ≡ take 130 (flat_map (λ word. 32 ∷ word) words) →
+    text ≡ [] →
     line ≡ [] → line ≡ take 129 (joined words)
 no_words [] text line t none e = e
 no_words (word ∷ words) text line t none e = absurd cc

@@ -4,9 +4,11 @@ use Rattle.swim_config.specs.declared.config.Config.{Config}
 use Rattle.swim_config.specs.declared.config_fault.ConfigFault.{ConfigFault}
 use Rattle.swim_life.specs.Endings.{Written}
 use Rattle.swimd.specs.declared.outcomes.Outcome.{Outcome}
-use Rattle.swimd.specs.declared.outcomes.Outcome.TheVariants.{Checked, Stopped, Asked, Usage, Unread, Refused, Unwritten}
+use Rattle.swimd.specs.declared.outcomes.Outcome.TheVariants.{Checked, Stopped, Asked, Usage, Unread, Refused}
+use Rattle.swimd.specs.declared.outcomes.Outcome.TheVariants.{Unwritten}
 use Rattle.swimd.specs.declared.outcomes.Outcome.TheVariants.{NoListen, NoControl, NoMemory, Socket, NoPlace, NoDaemon}
-use Rattle.swimd.specs.declared.outcomes.Outcome.TheVariants.{AskRefused, AskTimeout, Unanswered, AskUnwritten, AskUnread, Helped, NoRandom}
+use Rattle.swimd.specs.declared.outcomes.Outcome.TheVariants.{AskRefused, AskTimeout, Unanswered, AskUnwritten}
+use Rattle.swimd.specs.declared.outcomes.Outcome.TheVariants.{AskUnread, Helped, NoRandom}
 use Rattle.swimd.specs.declared.outcomes.Outcome.TheVariants.{NoEvents, NoTeller, WatchUnwritten}
 use Rattle.swimd.specs.Asking.{Asks}
 use Rattle.swimd.specs.Checking.{Shows}
@@ -45,7 +47,8 @@ pub nothing_explains : (outcome : Outcome) (details : List ℕ) → details ≡ 
 nothing_explains outcome details empty = explains_if outcome details (λ fault is. inl empty)
 
 -- a configuration was shown
-pub shown_explains : (config : Config) (old new : Option (List ℕ)) (faults then : Written) (outcome : Outcome) (details : List ℕ) →
+pub shown_explains : (config : Config) (old new : Option (List ℕ)) (faults then : Written) (outcome : Outcome)
+    (details : List ℕ) →
     Shows config old new faults then outcome → Explains outcome details
 shown_explains config old new faults then outcome details shows =
     explains_if outcome details (λ fault is. absurd (subst (Shows config old new faults then) is shows))
@@ -70,6 +73,7 @@ asks_explains left_old left_new old new outcome details asks =
 
 pub asked_explains : (line left_old left_new old new : Option (List ℕ)) (outcome : Outcome) (details : List ℕ) →
     AsksWanted line left_old left_new old new outcome → Explains outcome details
-asked_explains None left_old left_new old new outcome details asks = asks_explains left_old left_new old new outcome details asks
+asked_explains None left_old left_new old new outcome details asks =
+    asks_explains left_old left_new old new outcome details asks
 asked_explains (Some line) left_old left_new old new outcome details asks =
     asks_explains (Some line) asks.1.0 old new outcome details asks.1.1

@@ -13,7 +13,8 @@ pub grown_indented : (old new text : List ℕ) → new ≡ old ++ text → AreIn
 grown_indented old new text e p q = rw e (both_indented old text p q)
 
 -- a cause was written into a page in which nothing stood
-pub cause_of : (fault : ConfigFault) (old new : List ℕ) → old ≡ [] → Causes fault (Some old) (Some new) true → IsCause fault new
+pub cause_of : (fault : ConfigFault) (old new : List ℕ) → old ≡ [] → Causes fault (Some old) (Some new) true →
+    IsCause fault new
 cause_of fault old new empty causes =
     let is : new ≡ causes.text = causes.puts ∙ rw empty refl in
     rw is causes.cause
@@ -33,4 +34,5 @@ no_feed byte prints = ne_eqb byte 10 (λ e. omega (arith, leb-true 32 byte (and_
 
 pub printing_free : (text : List ℕ) → list_all is_printing text ≡ true → has_feed text ≡ false
 printing_free [] all = refl
-printing_free (byte ∷ text) all = or_from _ _ (no_feed byte (and_first _ _ all)) (printing_free text (and_second _ _ all))
+printing_free (byte ∷ text) all =
+    or_from _ _ (no_feed byte (and_first _ _ all)) (printing_free text (and_second _ _ all))

@@ -1,5 +1,6 @@
 -- Lists of words and of lines, one after another.
-use Rattle.std.proofs.Common.{◌≡◌, ℕ, suc, ◌<◌, ◌+◌, ◌==◌, ◌&&◌, Bor, true, false, List, [], ◌∷◌, ◌++◌, length, map, take}
+use Rattle.std.proofs.Common.{◌≡◌, ℕ, suc, ◌<◌, ◌+◌, ◌==◌, ◌&&◌, Bor, true, false, List, [], ◌∷◌, ◌++◌, length, map}
+use Rattle.std.proofs.Common.{take}
 use Rattle.std.proofs.Common.{slice_index_or, take-suc, refl, sym, ap, ◌∙◌, arith}
 use Rattle.std.proofs.lemmas.Bool.{ne_eqb, or_from}
 use Rattle.std.proofs.lemmas.List.{map-append}
@@ -13,7 +14,8 @@ use Rattle.swimd.specs.Answers.{is_over}
 not_empty : {A : Type 0} (x : A) (xs : List A) → (length (x ∷ xs) == 0) ≡ false
 not_empty x xs = ne_eqb (length (x ∷ xs)) 0 (λ e. omega (arith, e))
 
-pub over_is : (rest : List ℕ) (lines : List (List ℕ)) → is_over (rest ∷ lines) ≡ ((length rest == 0) && (length lines == 0))
+pub over_is : (rest : List ℕ) (lines : List (List ℕ)) →
+    is_over (rest ∷ lines) ≡ ((length rest == 0) && (length lines == 0))
 over_is [] [] = refl
 over_is [] (line ∷ lines) = rw (not_empty line lines) refl
 over_is (byte ∷ rest) lines = rw (not_empty byte rest) refl
@@ -24,8 +26,10 @@ abbrev pub texts_of : List (Bor (List ℕ)) → List (List ℕ)
 texts_of words = map (λ (word : Bor (List ℕ)). word.now) words
 
 -- the words up to the next one
-pub next_word : (words : List (Bor (List ℕ))) (index : ℕ) (default : Bor (List ℕ)) (text : List ℕ) → index < length words →
-    text ≡ (slice_index_or words index default).now → texts_of (take (index + 1) words) ≡ texts_of (take index words) ++ text ∷ []
+pub next_word : (words : List (Bor (List ℕ))) (index : ℕ) (default : Bor (List ℕ)) (text : List ℕ) →
+    index < length words →
+    text ≡ (slice_index_or words index default).now →
+    texts_of (take (index + 1) words) ≡ texts_of (take index words) ++ text ∷ []
 next_word words index default text within at =
     let next : index + 1 ≡ suc index = omega arith in
     ap texts_of (ap (λ k. take k words) next ∙ take-suc words index default within)
@@ -33,7 +37,8 @@ next_word words index default text within at =
     ∙ ap (λ t. texts_of (take index words) ++ t ∷ []) (sym at)
 
 -- no line feed is in one word more
-pub none_more : (words : List (Bor (List ℕ))) (index : ℕ) (default : Bor (List ℕ)) (text : List ℕ) → index < length words →
+pub none_more : (words : List (Bor (List ℕ))) (index : ℕ) (default : Bor (List ℕ)) (text : List ℕ) →
+    index < length words →
     text ≡ (slice_index_or words index default).now → list_any has_feed (texts_of (take index words)) ≡ false →
     has_feed text ≡ false → list_any has_feed (texts_of (take (index + 1) words)) ≡ false
 none_more words index default text within at none free =
@@ -41,7 +46,8 @@ none_more words index default text within at none free =
     ∙ list_any-append has_feed (texts_of (take index words)) (text ∷ []) ∙ or_from _ _ none (or_from _ _ free refl)
 
 -- one is in this word
-pub one_found : (words : List (Bor (List ℕ))) (index : ℕ) (default : Bor (List ℕ)) (text : List ℕ) → index < length words →
+pub one_found : (words : List (Bor (List ℕ))) (index : ℕ) (default : Bor (List ℕ)) (text : List ℕ) →
+    index < length words →
     text ≡ (slice_index_or words index default).now → has_feed text ≡ true → list_any has_feed (texts_of words) ≡ true
 one_found words index default text within at has =
     sym (list_any-map has_feed (λ (word : Bor (List ℕ)). word.now) words)

@@ -18,13 +18,15 @@ pub three_noticed : (old first then new : Written) → Notices old first → Not
     Notices old new
 three_noticed old first then new a b c = notices_both old first new a (notices_both first then new b c)
 
-pub four_noticed : (old first second then new : Written) → Notices old first → Notices first second → Notices second then →
+pub four_noticed : (old first second then new : Written) → Notices old first → Notices first second →
+    Notices second then →
     Notices then new → Notices old new
 four_noticed old first second then new a b c d =
     notices_both old first new a (three_noticed first second then new b c d)
 
 -- without an entrance nothing was written
-pub no_entrance : (config : Config) (old : Written) (outcome : Outcome) → IsNoEntrance outcome → Starts config old old outcome
+pub no_entrance : (config : Config) (old : Written) (outcome : Outcome) → IsNoEntrance outcome →
+    Starts config old old outcome
 no_entrance config old outcome is = subst (λ o. Starts config old old o) (sym is) refl
 
 -- without a door nothing was written

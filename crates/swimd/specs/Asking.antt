@@ -11,7 +11,8 @@ use Rattle.swimd.specs.declared.askers.Came.TheVariants as came
 use Rattle.swimd.specs.declared.control_lines.NextLine.{NextLine}
 use Rattle.swimd.specs.declared.control_lines.NextLine.TheVariants.{Line, Over, Fault}
 use Rattle.swimd.specs.declared.outcomes.Outcome.{Outcome}
-use Rattle.swimd.specs.declared.outcomes.Outcome.TheVariants.{Asked, AskRefused, AskTimeout, Unanswered, AskUnwritten, AskUnread, NoDaemon}
+use Rattle.swimd.specs.declared.outcomes.Outcome.TheVariants.{Asked, AskRefused, AskTimeout, Unanswered, AskUnwritten}
+use Rattle.swimd.specs.declared.outcomes.Outcome.TheVariants.{AskUnread, NoDaemon}
 use Rattle.swimd.specs.Answers.{is_answer, is_refusal, is_stopping}
 
 -- ---- lines
@@ -156,7 +157,8 @@ Asking old new AskUnwritten = IsBroken Loses old new
 Asking old new AskUnread = IsBroken IsUnread old new
 Asking old new outcome = ⊥
 
--- what asking the daemon at a path does, of which nobody knows what it was asked: where there is none, or it lets nobody
+-- what asking the daemon at a path does, of which nobody knows what it was asked: where there is none, or it lets
+-- nobody
 -- in, nothing is read and nothing is written
 abbrev pub Asks : Option (List ℕ) → Option (List ℕ) → Option (List ℕ) → Option (List ℕ) → Outcome → Type 0
 Asks left_old left_new old new NoDaemon = (left_new ≡ left_old) × (new ≡ old)

@@ -16,8 +16,10 @@ use Rattle.swimd.specs.Outcomes.{outcome_text, status_of}
 use Rattle.swimd.specs.Watched.{WatchesDaemon}
 use Rattle.swimd.specs.Words.{Wanted, Check, Run, Ask, Watch, MakeKey, Help, Version}
 
--- an outcome was told on standard error, with details below it, as far as it took the text, and by the status; failed writes
--- and a failed flush were counted. The details are lines that begin with two spaces, and of a refused configuration its cause
+-- an outcome was told on standard error, with details below it, as far as it took the text, and by the status; failed
+-- writes
+-- and a failed flush were counted. The details are lines that begin with two spaces, and of a refused configuration its
+-- cause
 pub record Told (outcome : Outcome) (old new : Option (List ℕ)) (failed_old failed_new : ℕ) (status : ℕ) : Type 0 where
   pub details : List ℕ
   pub indented : AreIndented details
@@ -29,7 +31,8 @@ pub record Told (outcome : Outcome) (old new : Option (List ℕ)) (failed_old fa
   pub is : status ≡ status_of outcome
 
 -- the daemon at a path was asked: the line that the words make, and standard input was let be, or the lines of that
-abbrev pub AsksWanted : Option (List ℕ) → Option (List ℕ) → Option (List ℕ) → Option (List ℕ) → Option (List ℕ) → Outcome →
+abbrev pub AsksWanted : Option (List ℕ) → Option (List ℕ) → Option (List ℕ) → Option (List ℕ) → Option (List ℕ) →
+    Outcome →
     Type 0
 AsksWanted None left_old left_new old new outcome = Asks left_old left_new old new outcome
 AsksWanted (Some line) left_old left_new old new outcome =
@@ -69,7 +72,8 @@ DoesWanted (Some (Ask path line seconds)) old new outcome =
 DoesWanted (Some (Watch path is_json)) old new outcome =
     WatchesDaemon is_json old.written.0 new.written.0 outcome × (new.left ≡ old.left) × (new.faults ≡ old.faults)
 DoesWanted (Some Help) old new outcome =
-    ((text : List ℕ) × Helps text old.written.0 new.written.0 outcome) × (new.left ≡ old.left) × (new.faults ≡ old.faults)
+    ((text : List ℕ) × Helps text old.written.0 new.written.0 outcome) × (new.left ≡ old.left) ×
+    (new.faults ≡ old.faults)
 DoesWanted (Some MakeKey) old new outcome =
     MakesKey old.written.0 new.written.0 outcome × (new.left ≡ old.left) × (new.faults ≡ old.faults)
 DoesWanted (Some Version) old new outcome =

@@ -5,7 +5,8 @@ use Rattle.swim_config.specs.declared.config_fault.ConfigFault.TheVariants as fa
 use Rattle.swim_life.specs.declared.lives.LivesEnd.{LivesEnd}
 use Rattle.swim_life.specs.declared.lives.LivesEnd.TheVariants as ends
 use Rattle.swimd.specs.declared.outcomes.Outcome.{Outcome}
-use Rattle.swimd.specs.declared.outcomes.Outcome.TheVariants.{Unread, Refused, NoListen, NoControl, NoMemory, Stopped, Socket}
+use Rattle.swimd.specs.declared.outcomes.Outcome.TheVariants.{Unread, Refused, NoListen, NoControl, NoMemory, Stopped}
+use Rattle.swimd.specs.declared.outcomes.Outcome.TheVariants.{Socket}
 use Rattle.swimd.specs.declared.outcomes.Outcome.TheVariants.{NoEvents, NoPlace}
 use Rattle.swim_config.specs.Beginnings.{begun_at}
 use Rattle.swim_config.specs.Configuration.{config_of}
@@ -32,7 +33,8 @@ outcome_of ends.Socket = Socket
 outcome_of ends.NoMemory = Refused faults.NoMemory
 outcome_of ends.NoPlace = NoPlace
 
--- lives were lived from the configuration's opening, with journals of at most as many entries as it says and draws of its
+-- lives were lived from the configuration's opening, with journals of at most as many entries as it says and draws of
+-- its
 -- seed
 pub record IsLivedBy (config : Config) (old new : Written) (outcome : Outcome) : Type 0 where
   pub end : LivesEnd

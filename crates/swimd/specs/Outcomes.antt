@@ -3,8 +3,10 @@ use Rattle.std.specs.Prelude.{ℕ, List, [], codes}
 use Rattle.swim_config.specs.declared.config_fault.ConfigFault.TheVariants as faults
 use Rattle.swimd.specs.declared.outcomes.Outcome.{Outcome}
 use Rattle.swimd.specs.declared.outcomes.Outcome.TheVariants.{Checked, Stopped, Asked, Usage, Unread, Refused}
-use Rattle.swimd.specs.declared.outcomes.Outcome.TheVariants.{Unwritten, NoListen, NoControl, NoMemory, Socket, NoPlace, NoDaemon}
-use Rattle.swimd.specs.declared.outcomes.Outcome.TheVariants.{AskRefused, AskTimeout, Unanswered, AskUnwritten, AskUnread, Helped, NoRandom}
+use Rattle.swimd.specs.declared.outcomes.Outcome.TheVariants.{Unwritten, NoListen, NoControl, NoMemory, Socket, NoPlace}
+use Rattle.swimd.specs.declared.outcomes.Outcome.TheVariants.{NoDaemon}
+use Rattle.swimd.specs.declared.outcomes.Outcome.TheVariants.{AskRefused, AskTimeout, Unanswered, AskUnwritten}
+use Rattle.swimd.specs.declared.outcomes.Outcome.TheVariants.{AskUnread, Helped, NoRandom}
 use Rattle.swimd.specs.declared.outcomes.Outcome.TheVariants.{NoEvents, NoTeller, WatchUnwritten}
 use Rattle.swim_config.specs.FaultTexts.{fault_text}
 

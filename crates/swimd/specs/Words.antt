@@ -20,7 +20,8 @@ use Rattle.swimd.specs.declared.words.Unasked.{Unasked}
 use Rattle.swimd.specs.declared.words.Unasked.TheVariants.{Usage, NoMemory}
 
 -- a check; a daemon with the configuration of a file, and whether it tells no starts; the daemon at a path is asked a
--- line, or those on standard input, and each answer may take so many seconds; what the daemon at a path tells is written,
+-- line, or those on standard input, and each answer may take so many seconds; what the daemon at a path tells is
+-- written,
 -- and whether as JSON; a key; help; the version
 pub data Wanted : Type 0 where
   Check : Wanted

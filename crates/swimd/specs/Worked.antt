@@ -14,7 +14,8 @@ check_checks : IsAsked (codes "check" ∷ []) (Some Check)
 unfolding clap_on_literals
 check_checks = refl
 
-run_takes_a_file : IsAsked (codes "run" ∷ codes "--config" ∷ codes "swimd.toml" ∷ []) (Some (Run (codes "swimd.toml") false))
+run_takes_a_file : IsAsked (codes "run" ∷ codes "--config" ∷ codes "swimd.toml" ∷ [])
+    (Some (Run (codes "swimd.toml") false))
 unfolding clap_on_literals
 run_takes_a_file = refl
 

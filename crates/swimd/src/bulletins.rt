@@ -1,5 +1,5 @@
-//! What the worker that reads the journal hands to the worker at the door, who tells it to people: changes for the log, and
-//! what was counted. Neither waits for the other longer than it takes to copy it.
+//! What the worker that reads the journal hands to the worker at the door, who tells it to people: changes for the log,
+//! and what was counted. Neither waits for the other longer than it takes to copy it.
 
 use crate::happenings::Happening;
 use arrayvec::ArrayVec;

@@ -12,8 +12,8 @@ use std::alloc::Global;
 use swim_config::{Config, INPUT_BYTES, put_warnings, read_config, read_input, summary};
 use swim_text::{Sink, Source};
 
-/// Reads a configuration, and writes its summary, and then what it warns of. What stands below the line of a fault is told in
-/// the details.
+/// Reads a configuration, and writes its summary, and then what it warns of. What stands below the line of a fault is
+/// told in the details.
 pub fn check<S: Source, W: Sink, F: Sink>(
     alloc: Global,
     reader: &mut S,

@@ -38,10 +38,10 @@ use swim_life::{
 use swim_text::{ReadSource, Sink};
 use swim_wire::Peer;
 
-/// Runs the daemon of a configuration file, and writes how its lives ended. What stands in the way of a start is told in
-/// the details. Among the faults stands what the configuration is warned of, and then, while it runs, notices; where it is
-/// quiet, only that a stale socket was removed. Where the group has keys, and the configuration tells no last number, the
-/// detector begins behind the clock's. In the log stands where datagrams came from that nobody of the group
+/// Runs the daemon of a configuration file, and writes how its lives ended. What stands in the way of a start is told
+/// in the details. Among the faults stands what the configuration is warned of, and then, while it runs, notices; where
+/// it is quiet, only that a stale socket was removed. Where the group has keys, and the configuration tells no last
+/// number, the detector begins behind the clock's. In the log stands where datagrams came from that nobody of the group
 /// sent, or more than the fence lets in.
 pub fn run<
     R: Files<File = File> + Net + Clock + Threads + Wait + Sync,
@@ -113,7 +113,8 @@ fn words_why_unread<R: Files>(rt: &R, path: &str) -> &'static str {
     }
 }
 
-/// Writes what a configuration allows and can't work, where standard error takes it at once: no start waits for a reader.
+/// Writes what a configuration allows and can't work, where standard error takes it at once: no start waits for a
+/// reader.
 fn warn_at_once<R: Net, F: Sink>(rt: &R, alloc: Global, config: &Config, faults: &mut F)
     ensures { MayWarn config.now (F.written faults.old, F.failures faults.old)
         (F.written faults.new, F.failures faults.new) }

@@ -51,7 +51,8 @@ impl Details {
         }
     }
 
-    /// Adds a line that says this. A `?` stands in it for what doesn't print, and what there is no room for is left out.
+    /// Adds a line that says this. A `?` stands in it for what doesn't print, and what there is no room for is left
+    /// out.
     pub fn add(&mut self, words: &str) {
         let mut text = ArrayVec::<u8, TEXT_BYTES>::new();
         add_printed(&mut text, words.as_bytes());

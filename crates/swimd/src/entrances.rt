@@ -32,8 +32,8 @@ pub fn pause_ms(events: &Option<SocketPath>) -> u32 {
     }
 }
 
-/// The entrance at the path of the events' socket, from which a stale socket is removed, or why there is none. Where no path
-/// is given it is closed.
+/// The entrance at the path of the events' socket, from which a stale socket is removed, or why there is none. Where no
+/// path is given it is closed.
 #[tactic(auto, using(swim_life::specs::Notices::no_notices))]
 pub fn open_entrance<R: Files<File = File> + Net + Clock, F: Sink>(
     rt: &R,

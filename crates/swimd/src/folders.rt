@@ -41,7 +41,8 @@ impl<'r, R> Folder<'r, R> {
     }
 }
 
-/// Removes the oldest files of this member beside the new one, where there are more than stay. What can't be removed stays.
+/// Removes the oldest files of this member beside the new one, where there are more than stay. What can't be removed
+/// stays.
 fn remove_old<R: Files<File = File>>(
     rt: &R,
     alloc: Global,

@@ -8,7 +8,8 @@ use swim_wire::{Id, Peer};
 /// A change of the member table, as the log tells it.
 #[derive(Clone, Copy, Debug, PartialEq, Eq)]
 pub enum Happening {
-    /// A member was judged failed at the end of that period; and the last period in which it was heard, if that is known.
+    /// A member was judged failed at the end of that period; and the last period in which it was heard, if that is
+    /// known.
     Judged {
         id: Id,
         period: u64,

@@ -16,10 +16,10 @@ const HELD_BYTES: usize = 16_384;
 /// How many bytes of a line are looked at: as many as there are in front of the word that says what was answered.
 const FRONT_BYTES: usize = 32;
 
-/// A journal file, as long as the system takes what is written. It holds back what it is given until it is flushed. Once a
-/// write has failed it takes nothing more, and knows why. It adds comments for people: behind its first line the program
-/// with its version and the time, and behind each line of a started period the seconds since 1970. No contract knows its
-/// bytes.
+/// A journal file, as long as the system takes what is written. It holds back what it is given until it is flushed.
+/// Once a write has failed it takes nothing more, and knows why. It adds comments for people: behind its first line the
+/// program with its version and the time, and behind each line of a started period the seconds since 1970. No contract
+/// knows its bytes.
 #[derive(Drop)]
 pub struct JournalFile<'r, K> {
     clock: &'r K,

@@ -21,8 +21,8 @@ const PATH_BYTES: usize = 128;
 /// What a new file is called, behind the path of the old one, until it is whole.
 const NEW: &str = ".new";
 
-/// The file where metrics are told, if there is to be one. It is written anew each time, beside its path, and renamed to
-/// it, so that nobody reads half of it.
+/// The file where metrics are told, if there is to be one. It is written anew each time, beside its path, and renamed
+/// to it, so that nobody reads half of it.
 #[derive(Drop)]
 pub struct MetricsFile<'r, R> {
     rt: &'r R,

@@ -130,7 +130,8 @@ impl Notice {
         notice
     }
 
-    /// That datagrams come faster than the fence lets in, how many were thrown away so far, and where the newest came from.
+    /// That datagrams come faster than the fence lets in, how many were thrown away so far, and where the newest came
+    /// from.
     pub fn fenced<K: Clock>(clock: &K, source: Peer, count: u64) -> Notice {
         let mut notice = Notice::begun(clock);
         let address = source.write();

@@ -45,8 +45,8 @@ pub fn path_of(dir: &str, me: Id, stamp: Stamp) -> FilePath {
     path
 }
 
-/// Which of a member's other files go beside a new one, where so many files stay: the first of them, which are the oldest,
-/// at most 64 at a time, since no life begins before they are gone. A `keep` of 0 lets all stay.
+/// Which of a member's other files go beside a new one, where so many files stay: the first of them, which are the
+/// oldest, at most 64 at a time, since no life begins before they are gone. A `keep` of 0 lets all stay.
 pub fn removed(others: &[Stamp], keep: u64) -> &[Stamp]
     ensures { result.now ≡ removed others.now keep }
 {
@@ -58,8 +58,8 @@ pub fn removed(others: &[Stamp], keep: u64) -> &[Stamp]
     &others[..count as usize]
 }
 
-/// A member's files in a folder but the one that is new, the oldest first. What has such a name and is no file, as a folder
-/// or a link, isn't one.
+/// A member's files in a folder but the one that is new, the oldest first. What has such a name and is no file, as a
+/// folder or a link, isn't one.
 pub fn others_in<R: Files>(
     rt: &R,
     alloc: Global,

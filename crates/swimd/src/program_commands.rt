@@ -24,8 +24,9 @@ use std::thread::Threads;
 use swim_config::ConfigFault;
 use swim_text::{ReadSource, Sink, Source};
 
-/// Does what the words after the program's name ask, and answers the status with which the program ends. The log is where a
-/// daemon's worker tells people what it threw away: a sink of its own, as those who tell the faults hold theirs.
+/// Does what the words after the program's name ask, and answers the status with which the program ends. The log is
+/// where a daemon's worker tells people what it threw away: a sink of its own, as those who tell the faults hold
+/// theirs.
 pub fn command<
     R: Files<File = File> + Net + Clock + Threads + Wait + Sync,
     S: Source,

@@ -27,8 +27,8 @@ const IDLE_MS: u64 = 100;
 /// 1,048,576 for a connection.
 const MOST_LINES: u32 = 4096;
 
-/// A daemon behind its control socket. Lines go there by one connection as long as the daemon leaves it open, and then by
-/// another. Nothing waits for longer than the limit.
+/// A daemon behind its control socket. Lines go there by one connection as long as the daemon leaves it open, and then
+/// by another. Nothing waits for longer than the limit.
 #[derive(Drop)]
 pub struct ControlSocket<'r, 'p, R: Net + Clock> {
     rt: &'r R,
@@ -171,8 +171,8 @@ fn connect<R: Net + Clock>(rt: &R, path: &str, timer: &Timer) -> io::Result<Unix
     Err(io::Error::from(ErrorKind::TimedOut))
 }
 
-/// Takes in an answer, up to its end. Whether the stream still waits for as long as the limit: to a first read it serves,
-/// and others may take what is left.
+/// Takes in an answer, up to its end. Whether the stream still waits for as long as the limit: to a first read it
+/// serves, and others may take what is left.
 fn take_answer<R: Clock>(
     rt: &R,
     mut stream: &UnixStream,

@@ -1,5 +1,5 @@
-//! Datagrams that nobody of the group sent, and more than the fence lets in. The receiver counts them, and the worker at the
-//! door tells of them, so that no datagram waits for a line on standard error.
+//! Datagrams that nobody of the group sent, and more than the fence lets in. The receiver counts them, and the worker
+//! at the door tells of them, so that no datagram waits for a line on standard error.
 
 ghost use Rattle.std.specs.Prelude.{◌≡◌, ◌≤◌, ◌∷◌, [], length};
 ghost use Rattle.swim_life.specs.Gates.{FitsInto};
@@ -50,7 +50,8 @@ impl SharedThrown {
     }
 }
 
-/// What a daemon throws away: what came faster than the fence lets in, and of the rest what has no tag by a key of the group.
+/// What a daemon throws away: what came faster than the fence lets in, and of the rest what has no tag by a key of the
+/// group.
 #[derive(Drop)]
 pub struct Strangers {
     pub fenced: SharedThrown,

@@ -66,8 +66,8 @@ impl Telling {
 
 /// A door over another. Each time it is asked for the next connection it tells what there is to be told, and waits for
 /// nobody: each change of the member table, how many datagrams were thrown away and where the newest came from, of each
-/// kind at most once a minute, and every ten seconds the metrics. Where it is quiet it tells nothing in the log but that
-/// metrics can't be written.
+/// kind at most once a minute, and every ten seconds the metrics. Where it is quiet it tells nothing in the log but
+/// that metrics can't be written.
 #[derive(Drop)]
 pub struct TellingDoor<'s, 'r, R, D: Door + Drop, G: Sink + Drop> {
     rt: &'r R,

@@ -15,8 +15,8 @@ use swim_config::ConfigFault;
 use swim_text::Sink;
 use swim_watch::{WatchEnd, watch};
 
-/// Writes what the daemon tells at the socket of that path, and what those tell that come after it there, as it comes or as
-/// JSON.
+/// Writes what the daemon tells at the socket of that path, and what those tell that come after it there, as it comes
+/// or as JSON.
 pub fn watch_daemon<R: Net + Clock + Wait, W: Sink>(
     rt: &R,
     alloc: Global,

@@ -8,8 +8,10 @@ ghost use Rattle.clap.specs.Values.{kind_of};
 ghost use Rattle.clap.specs.Walk.{rows_of, rule_of};
 ghost use Rattle.clap.specs.declared.builder.command.Command.TheViews.{out-Command};
 ghost use Rattle.swim_text.specs.Lines.{has_feed};
-ghost use Rattle.swimd.specs.Words.{IsAsked, answer_to, ask_app, asked_in, flag_of, flag_rule, line_in, line_of, needed_rule};
-ghost use Rattle.swimd.specs.Words.{option_rule, program, program_alone, run_app, seconds_in, unasked_by, wanted, watch_app};
+ghost use Rattle.swimd.specs.Words.{IsAsked, answer_to, ask_app, asked_in, flag_of, flag_rule, line_in, line_of};
+ghost use Rattle.swimd.specs.Words.{needed_rule};
+ghost use Rattle.swimd.specs.Words.{option_rule, program, program_alone, run_app, seconds_in, unasked_by, wanted};
+ghost use Rattle.swimd.specs.Words.{watch_app};
 ghost use Rattle.swimd.specs.Words.{words_rule};
 
 use crate::control_lines::{ControlLine, line_of};
@@ -69,9 +71,9 @@ pub enum Unasked {
     NoMemory,
 }
 
-/// What the words ask: `check`, or no words, a check; `run --config FILE`, with `--quiet` or without;
-/// `ask --control PATH`, with `--timeout SECONDS` or without, and the words of a line or none; `watch --events PATH`, with
-/// `--json` or without; `key`; `--help` and `--version`, alone or behind a command.
+/// What the words ask: `check`, or no words, a check; `run --config FILE`, with `--quiet` or without; `ask --control
+/// PATH`, with `--timeout SECONDS` or without, and the words of a line or none; `watch --events PATH`, with `--json` or
+/// without; `key`; `--help` and `--version`, alone or behind a command.
 pub fn read_words<'a>(alloc: Global, words: &'a [&'a str]) -> Result<Asked<'a>, Unasked>
     ensures { MatchResult result
         (λ asked. IsAsked (map (λ word. word.now) words.now) (Some (wanted asked)))
@@ -270,8 +272,8 @@ fn is_set(given: &ArgMatches<'_>, name: &str) -> bool
     }
 }
 
-/// The line that the words make, `Some(None)` where there are none. Of words with a line feed no line is made, since they
-/// would be several.
+/// The line that the words make, `Some(None)` where there are none. Of words with a line feed no line is made, since
+/// they would be several.
 #[tactic(auto, using(crate::proofs::Given::all_given))]
 fn line_in(given: &ArgMatches<'_>) -> Option<Option<ControlLine>>
     ensures { option_map (option_map (λ line. line.items)) result ≡ line_in (rows_of (found_of given.now)) }

@@ -1,4 +1,4 @@
-pub mod ToldReasons
 pub mod CommandLine
-pub mod Feeds
 pub mod Digits
+pub mod Feeds
+pub mod Unseen

@@ -1,7 +1,6 @@
 pub mod Options
 pub mod Meanings
-pub mod Named
+pub mod Reasons
 pub mod Differences
 pub mod Verifying
 pub mod WholeLines
-pub mod Wording

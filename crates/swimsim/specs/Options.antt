@@ -1,5 +1,6 @@
 -- The words of the command line.
-use Rattle.std.specs.Prelude.{◌≡◌, ◌⊎◌, ℕ, ◌-◌, ◌^◌, ◌<◌, List, [], length, Option, Some, None, IsSome, Bool, codes, true, false}
+use Rattle.std.specs.Prelude.{◌≡◌, ◌⊎◌, ℕ, ◌-◌, ◌^◌, ◌<◌, List, [], length, Option, Some, None, IsSome, Bool, codes}
+use Rattle.std.specs.Prelude.{true, false}
 use Rattle.std.specs.Option.{unwrap_or}
 use Rattle.std.specs.Str.Parse.{IsNumeral, digits_value, without_leading_plus}
 use Rattle.swimsim.specs.declared.options.Options.{Options}
@@ -40,10 +41,12 @@ script_line =
     with_rule (with_rule (with_rule (with_rule (on_top versioned (new_app (codes "swimsim"))) script_rule)
     (flag_rule (codes "decode"))) (flag_rule (codes "explain"))) (value_rule (codes "timeline"))
 
--- of the picture: with which period it begins, or round whose judgement it lies, and whether it is written over anything
+-- of the picture: with which period it begins, or round whose judgement it lies, and whether it is written over
+-- anything
 abbrev pub picture_line : App
 picture_line =
-    with_rule (with_rule (with_rule script_line (number_rule (codes "from") (2 ^ 64 - 1))) (number_rule (codes "around") (2 ^ 32 - 1)))
+    with_rule (with_rule (with_rule script_line (number_rule (codes "from") (2 ^ 64 - 1)))
+    (number_rule (codes "around") (2 ^ 32 - 1)))
     (flag_rule (codes "force"))
 
 -- these and the journal files to be verified, beside what clap gives each program that has a version, `--help` and

@@ -1,19 +1,14 @@
 //! What a script is read from, and what its answers are written to.
 
-ghost use Rattle.std.specs.Prelude.{◌≡◌, IfOk, length};
 ghost use Rattle.std.specs.Io.{ReadsAtMost};
 
-use crate::decoding::Decoder;
-use crate::hearing::Messages;
-use crate::naming::Namer;
 use crate::notes::NoteTaker;
 use crate::overhearing::Overheard;
 use crate::whole_lines::WholeLines;
-use crate::wording::Worded;
 use std::cell::RefCell;
 use std::fs::File;
 use std::io::{self, ErrorKind, Read, Stdin, Stdout, Write};
-use swim_text::{Byte, ReadSource, Sink, Source, WriteSink};
+use swim_text::{Byte, ReadSource, Source};
 
 /// Where a script lies.
 #[derive(Drop)]
@@ -31,15 +26,11 @@ impl Read for Script {
     }
 }
 
-/// The bytes of a script, with a note of what each line tells.
-type Noted<'a> = Overheard<ReadSource<Script>, NoteTaker<'a>>;
-
-/// A script, as it lies there, or byte by byte with notes of its lines and of what is heard in them, or its whole lines
-/// alone.
+/// A script, as it lies there, or byte by byte with notes of its lines, or its whole lines alone.
 #[derive(Drop)]
 pub enum Input<'a> {
     Plain(Script),
-    Overheard(Overheard<Noted<'a>, Messages<'a>>),
+    Overheard(Overheard<ReadSource<Script>, NoteTaker<'a>>),
     Whole(&'a RefCell<WholeLines>),
 }
 
@@ -80,24 +71,17 @@ fn read_byte<R: Source>(script: &mut R, buf: &mut [u8]) -> io::Result<usize>
     }
 }
 
-/// Standard output, for answers as they are, or with datagrams in words, with names behind numbers, or with both; or
-/// nothing that takes them.
+/// Standard output, or nothing that takes the answers.
 #[derive(Drop)]
-pub enum Output<'a> {
+pub enum Output {
     Plain(Stdout),
-    Decoded(Worded<Decoder<'a>, WriteSink<Stdout>>),
-    Named(Worded<Namer<'a>, WriteSink<Stdout>>),
-    Both(Worded<Decoder<'a>, Worded<Namer<'a>, WriteSink<Stdout>>>),
     Nowhere,
 }
 
-impl<'a> Write for Output<'a> {
+impl Write for Output {
     fn write(&mut self, buf: &[u8]) -> io::Result<usize> {
         match self {
             Output::Plain(output) => output.write(buf),
-            Output::Decoded(output) => put_all(output, buf),
-            Output::Named(output) => put_all(output, buf),
-            Output::Both(output) => put_all(output, buf),
             Output::Nowhere => Ok(buf.len()),
         }
     }
@@ -105,30 +89,7 @@ impl<'a> Write for Output<'a> {
     fn flush(&mut self) -> io::Result<()> {
         match self {
             Output::Plain(output) => output.flush(),
-            Output::Decoded(output) => hand_on(output),
-            Output::Named(output) => hand_on(output),
-            Output::Both(output) => hand_on(output),
             Output::Nowhere => Ok(()),
         }
-    }
-}
-
-/// Puts all bytes into a sink.
-fn put_all<W: Sink>(output: &mut W, buf: &[u8]) -> io::Result<usize>
-    ensures { IfOk result (λ count. count ≡ length buf.now) }
-{
-    if output.put(buf) {
-        Ok(buf.len())
-    } else {
-        Err(io::Error::from(ErrorKind::Other))
-    }
-}
-
-/// Hands on what a sink holds back.
-fn hand_on<W: Sink>(output: &mut W) -> io::Result<()> {
-    if output.flush() {
-        Ok(())
-    } else {
-        Err(io::Error::from(ErrorKind::Other))
     }
 }

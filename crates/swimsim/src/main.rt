@@ -5,7 +5,6 @@ ghost use Rattle.std.specs.Prelude.{◌≡◌, if◌then◌else◌};
 ghost use Rattle.swim_script.specs.Ends.{unplayed};
 
 mod causes;
-mod decoding;
 mod differences;
 mod drawing;
 mod draws;
@@ -13,11 +12,9 @@ mod expectations;
 mod explanations;
 mod files;
 mod grammar;
-mod hearing;
 mod limits;
 mod marks;
 mod meanings;
-mod naming;
 mod notes;
 mod options;
 mod overhearing;
@@ -27,37 +24,32 @@ mod showing;
 mod spelling;
 mod summaries;
 mod tallies;
+mod telling;
 mod verifying;
 mod whole_lines;
 mod witness;
-mod wording;
 
 use anyhow::Result;
-use decoding::Decoder;
 use differences::newest_line;
 use drawing::draw_at;
 use draws::warnings_of;
 use explanations::Explanation;
 use files::{Input, Output, Script};
-use hearing::Messages;
-use naming::Namer;
 use notes::{NoteTaker, Notes, Told};
 use options::{Options, read_options, refuse_bytes, refuse_mixed, refuse_twofold, refuse_unplaced};
 use overhearing::Overheard;
 use std::alloc::AllocError;
-use std::cell::{Cell, RefCell};
+use std::cell::RefCell;
 use std::env;
 use std::fs::File;
 use std::io::{self, ErrorKind};
 use std::process::ExitCode;
-use summaries::Summary;
+use summaries::JournalSummary;
 use swim_history::Journal;
 use swim_script::{FaultKind, ScriptFault, Session};
 use swim_text::{ReadSource, Sink, WriteSink};
-use swim_wire::Message;
-use tallies::Tally;
+use telling::WordTeller;
 use verifying::verify;
-use wording::Worded;
 
 fn main(rt: HostRuntime) -> ExitCode {
     match begin(&rt) {
@@ -74,25 +66,25 @@ fn begin(rt: &HostRuntime) -> Result<ExitCode> {
     let words: Vec<String> = match env::args(rt) {
         Ok(words) => words.collect(rt.alloc())?,
         Err(error) if error.kind() == ErrorKind::InvalidData => {
-            return tell(rt, &refuse_bytes(rt.alloc())?);
+            return print_answer(rt, &refuse_bytes(rt.alloc())?);
         }
         Err(error) => return Err(error.into()),
     };
     match read_options(rt.alloc(), words.as_slice()) {
-        Ok(options) if options.is_mixed() => tell(rt, &refuse_mixed(rt.alloc())?),
-        Ok(options) if options.is_unplaced() => tell(rt, &refuse_unplaced(rt.alloc())?),
-        Ok(options) if options.is_twofold() => tell(rt, &refuse_twofold(rt.alloc())?),
+        Ok(options) if options.is_mixed() => print_answer(rt, &refuse_mixed(rt.alloc())?),
+        Ok(options) if options.is_unplaced() => print_answer(rt, &refuse_unplaced(rt.alloc())?),
+        Ok(options) if options.is_twofold() => print_answer(rt, &refuse_twofold(rt.alloc())?),
         Ok(options) if !options.verify.is_empty() => verify(rt, options.verify.as_slice()),
         Ok(options) => match options.script {
             Some(path) if path != "-" => Ok(play_file(rt, path, &options)),
             _ => Ok(play(rt, Script::Standard(rt.stdin()), &options)),
         },
-        Err(answer) => tell(rt, &answer),
+        Err(answer) => print_answer(rt, &answer),
     }
 }
 
 /// Writes the answer to words that ask for no script: help, the version, or why they are refused.
-fn tell(rt: &HostRuntime, answer: &clap::Error) -> Result<ExitCode> {
+fn print_answer(rt: &HostRuntime, answer: &clap::Error) -> Result<ExitCode> {
     answer.print(rt)?;
     if answer.kind() == clap::error::ErrorKind::OutOfMemory {
         return Ok(ExitCode::FAILURE);
@@ -135,47 +127,19 @@ fn play(rt: &HostRuntime, script: Script, options: &Options<'_>) -> ExitCode {
 /// Plays it, and puts into words what the options ask for.
 fn play_in_words(rt: &HostRuntime, script: Script, options: &Options<'_>) -> ExitCode {
     let mut session = Session::new(rt.alloc());
-    let heard = Cell::new(None);
-    let tally = Cell::new(Tally::default());
+    let mut teller = WordTeller::new(rt.alloc(), options.decode, options.explain);
     let notes = RefCell::new(Notes::new(rt.alloc()));
-    let input = overhear(script, &heard, &notes);
-    let output = word(rt, options, &heard, &tally);
-    let outcome = play_between(&mut session, input, output);
+    let input = Overheard::new(ReadSource::new(script), NoteTaker::new(&notes));
+    let output = Output::Plain(rt.stdout());
+    let outcome = tell_between(&mut session, Input::Overheard(input), output, &mut teller);
     let code = finish(rt, outcome);
     let journal = session.into_journal();
     if options.explain {
         explain(rt, outcome, journal.as_ref(), &notes.into_inner());
-        let tally = tally.get();
+        let tally = teller.tally();
         let _ = eprint!(rt; "{tally}");
     }
     draw_at(rt, options, journal.as_ref(), code)
-}
-
-/// The bytes of a script, of which notes are taken.
-fn overhear<'a>(
-    script: Script,
-    heard: &'a Cell<Option<Message>>,
-    notes: &'a RefCell<Notes>,
-) -> Input<'a> {
-    let script = Overheard::new(ReadSource::new(script), NoteTaker::new(notes));
-    Input::Overheard(Overheard::new(script, Messages::new(heard)))
-}
-
-/// Standard output, with the words that the options ask for.
-fn word<'a>(
-    rt: &HostRuntime,
-    options: &Options<'_>,
-    heard: &'a Cell<Option<Message>>,
-    tally: &'a Cell<Tally>,
-) -> Output<'a> {
-    let output = WriteSink::new(rt.stdout());
-    let decoder = Decoder::new(rt.alloc(), heard);
-    let namer = Namer::new(rt.alloc(), tally);
-    match (options.decode, options.explain) {
-        (false, true) => Output::Named(Worded::new(namer, output)),
-        (true, true) => Output::Both(Worded::new(decoder, Worded::new(namer, output))),
-        (_, false) => Output::Decoded(Worded::new(decoder, output)),
-    }
 }
 
 /// Tells the fault of a script, if it has one.
@@ -213,7 +177,7 @@ fn explain(
 
 /// Tells what a journal holds, and what is strange about the orders and places that were told.
 fn sum_up(rt: &HostRuntime, journal: &Journal, told: &Told) -> Result<(), AllocError> {
-    let summary = Summary::of(journal)?;
+    let summary = JournalSummary::of(journal)?;
     let warnings = warnings_of(rt.alloc(), journal, told)?;
     let _ = eprint!(rt; "{summary}");
     for warning in warnings.as_slice() {
@@ -223,19 +187,36 @@ fn sum_up(rt: &HostRuntime, journal: &Journal, told: &Told) -> Result<(), AllocE
 }
 
 /// Plays a script between that input and that output.
-// Their types are the same with and without words: so there is one run in the program, whose functions the compiler
-// puts in place.
+// In a place of its own, since the compiler puts the functions of a run in place.
 #[inline(never)]
 fn play_between(
     session: &mut Session,
     script: Input<'_>,
-    answers: Output<'_>,
+    answers: Output,
 ) -> Result<(), ScriptFault>
     requires { session.old ≡ unplayed }
 {
     let mut reader = ReadSource::new(script);
     let mut writer = WriteSink::new(answers);
     match swim_script::run(session, &mut reader, &mut writer) {
+        Ok(()) => Ok(()),
+        Err(fault) => Err(told(fault, writer.flush())),
+    }
+}
+
+/// Plays it with somebody's words.
+#[inline(never)]
+fn tell_between(
+    session: &mut Session,
+    script: Input<'_>,
+    answers: Output,
+    teller: &mut WordTeller,
+) -> Result<(), ScriptFault>
+    requires { session.old ≡ unplayed }
+{
+    let mut reader = ReadSource::new(script);
+    let mut writer = WriteSink::new(answers);
+    match swim_script::play(session, &mut reader, &mut writer, teller) {
         Ok(()) => Ok(()),
         Err(fault) => Err(told(fault, writer.flush())),
     }

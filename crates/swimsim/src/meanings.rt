@@ -1,11 +1,9 @@
 //! Datagrams in words.
 
 ghost use Rattle.std.specs.Prelude.{◌≡◌, IfOk, string_bytes};
-ghost use Rattle.swimsim.specs.Meanings.{kind_name, field_words, version_words, place_words, message_after, message_words};
+ghost use Rattle.swimsim.specs.Meanings.{kind_name, field_words, version_words, place_words, message_words};
 
 use std::alloc::{AllocError, Global};
-use swim_script::{Command, Form, Word, read_command};
-use swim_text::Words;
 use swim_wire::{Kind, Message, Peer, Version};
 
 /// The line that says in words what a message is.
@@ -64,20 +62,5 @@ fn kind_name(kind: Kind) -> &'static str
         Kind::Ping => "ping",
         Kind::PingReq => "ping-req",
         Kind::Ack => "ack",
-    }
-}
-
-/// The message of a line that begins with the mark, and has an address and the digits of a datagram behind it.
-pub fn message_after(mark: &[u8], line: &[u8]) -> Option<Message>
-    ensures { result ≡ message_after mark.now line.now }
-{
-    let mut words = Words::new(line);
-    let first = words.next()?;
-    if first != mark {
-        return None;
-    }
-    match read_command(Form::Script, Word::Hear, &mut words) {
-        Ok(Some(Command::Hear(_, Ok(message)))) => Some(message),
-        _ => None,
     }
 }

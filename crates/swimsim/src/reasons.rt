@@ -1,14 +1,12 @@
-//! Answers that tell a reason by its number.
+//! The reasons that answers tell by number.
 
-ghost use Rattle.std.specs.Prelude.{◌≡◌, ◌++◌, ℕ, ◌≤◌, IfSome, Some, decimal};
+ghost use Rattle.std.specs.Prelude.{◌≡◌, IfSome, Some};
 ghost use Rattle.swim_wire.specs.Layout.{fault_number};
 ghost use Rattle.swim_history.specs.Reasons.{drop_number, refusal_number};
-ghost use Rattle.swimsim.specs.Named.{reason_text};
-ghost use Rattle.swimsim.specs.declared.reasons.Reason.{Reason};
+ghost use Rattle.swimsim.specs.Reasons.{reason_of};
 
 use std::fmt;
-use swim_history::{DropReason, Refusal};
-use swim_text::read_number;
+use swim_history::{DropReason, Refusal, Reply};
 use swim_wire::WireFault;
 
 /// The greatest number of a reason.
@@ -32,34 +30,15 @@ impl fmt::Display for Reason {
     }
 }
 
-/// The reason that an answer tells, given without its line feed.
-pub fn reason_in(line: &[u8]) -> Option<Reason>
-    ensures told { IfSome result (λ reason. reason_text reason ≡ line.now) }
-    ensures every { (reason : Reason) → reason_text reason ≡ line.now → result ≡ Some reason }
+/// The reason that a reply tells.
+pub fn reason_of(reply: &Reply) -> Option<Reason>
+    ensures { result ≡ reason_of reply.now }
 {
-    if let Some(number) = number_after(line, b"dropped ") {
-        return Some(Reason::Dropped(dropped(number)?));
+    match reply {
+        Reply::Dropped(why) => Some(Reason::Dropped(*why)),
+        Reply::Refused(why) => Some(Reason::Refused(*why)),
+        _ => None,
     }
-    if let Some(number) = number_after(line, b"refused ") {
-        return Some(Reason::Refused(refused(number)?));
-    }
-    let number = number_after(line, b"wire ")?;
-    Some(Reason::Wire(wire(number)?))
-}
-
-/// The number of a reason behind a word.
-fn number_after(line: &[u8], word: &[u8]) -> Option<u64>
-    ensures number { IfSome result (λ number. word.now ++ decimal number ≡ line.now) }
-    ensures every { (number : ℕ) → number ≤ 8 → word.now ++ decimal number ≡ line.now → result ≡ Some number }
-{
-    if line.len() < word.len() {
-        return None;
-    }
-    let (first, digits) = line.split_at(word.len());
-    if first != word {
-        return None;
-    }
-    read_number(digits, u64::from(MOST_NUMBER))
 }
 
 /// The reason to drop a message that has a number.

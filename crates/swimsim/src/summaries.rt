@@ -5,7 +5,7 @@ ghost use Rattle.swim_history.specs.Clock.{period_number};
 ghost use Rattle.swim_history.specs.Judgement.{judgements};
 
 use crate::reasons::{MOST_NUMBER, dropped, refused, wire};
-use crate::tallies::{Counts, Tally};
+use crate::tallies::{AnswerTally, ReasonCounts};
 use std::alloc::AllocError;
 use std::fmt;
 use swim_history::{Journal, Judged, Reply};
@@ -13,31 +13,31 @@ use swim_history::{Journal, Judged, Reply};
 /// What a journal holds: its entries, the periods that began, the judgements in order, and why messages were dropped
 /// and calls refused.
 #[derive(Debug, Drop)]
-pub struct Summary {
+pub struct JournalSummary {
     pub entries: u32,
     pub periods: u64,
     pub judged: Vec<Judged>,
-    pub dropped: Counts,
-    pub refused: Counts,
+    pub dropped: ReasonCounts,
+    pub refused: ReasonCounts,
 }
 
-impl Summary {
+impl JournalSummary {
     /// The summary of a journal. `Err` only where memory was refused.
-    pub fn of(journal: &Journal) -> Result<Summary, AllocError>
+    pub fn of(journal: &Journal) -> Result<JournalSummary, AllocError>
         ensures entries { IfOk result (λ s. s.entries ≡ length journal.now.past) }
         ensures periods { IfOk result (λ s. s.periods
             ≡ period_number journal.now.opening journal.now.past - journal.now.opening.last) }
         ensures judged { IfOk result (λ s. s.judged.items ≡ judgements journal.now.opening journal.now.past) }
     {
         let judged = journal.judgements()?;
-        let mut dropped = Counts::default();
-        let mut refused = Counts::default();
+        let mut dropped = ReasonCounts::default();
+        let mut refused = ReasonCounts::default();
         for place in 0..journal.len() {
             if let Some(entry) = journal.entry(place) {
                 count(&entry.reply, &mut dropped, &mut refused);
             }
         }
-        Ok(Summary {
+        Ok(JournalSummary {
             entries: journal.len(),
             periods: journal
                 .last_number()
@@ -50,7 +50,7 @@ impl Summary {
 }
 
 /// Counts the reason of a reply that has one.
-fn count(reply: &Reply, dropped: &mut Counts, refused: &mut Counts) {
+fn count(reply: &Reply, dropped: &mut ReasonCounts, refused: &mut ReasonCounts) {
     match reply {
         Reply::Dropped(why) => dropped.add(why.number()),
         Reply::Refused(why) => refused.add(why.number()),
@@ -59,7 +59,7 @@ fn count(reply: &Reply, dropped: &mut Counts, refused: &mut Counts) {
 }
 
 /// A line for each thing that is told.
-impl fmt::Display for Summary {
+impl fmt::Display for JournalSummary {
     fn fmt<W: fmt::Write>(&self, f: &mut fmt::Formatter<W>) -> fmt::Result {
         let entries = self.entries;
         let periods = self.periods;
@@ -78,7 +78,7 @@ fn show_judged<W: fmt::Write>(judged: &Judged, f: &mut fmt::Formatter<W>) -> fmt
     write!(f, "judged {member} in period {number}\n")
 }
 
-fn show_dropped<W: fmt::Write>(counts: &Counts, f: &mut fmt::Formatter<W>) -> fmt::Result {
+fn show_dropped<W: fmt::Write>(counts: &ReasonCounts, f: &mut fmt::Formatter<W>) -> fmt::Result {
     for number in 1..=MOST_NUMBER {
         if let Some(why) = dropped(u64::from(number)) {
             show_count(counts.of(number), format_args!("dropped {number} {why}"), f)?;
@@ -87,7 +87,7 @@ fn show_dropped<W: fmt::Write>(counts: &Counts, f: &mut fmt::Formatter<W>) -> fm
     Ok(())
 }
 
-fn show_refused<W: fmt::Write>(counts: &Counts, f: &mut fmt::Formatter<W>) -> fmt::Result {
+fn show_refused<W: fmt::Write>(counts: &ReasonCounts, f: &mut fmt::Formatter<W>) -> fmt::Result {
     for number in 1..=MOST_NUMBER {
         if let Some(why) = refused(u64::from(number)) {
             show_count(counts.of(number), format_args!("refused {number} {why}"), f)?;
@@ -97,7 +97,7 @@ fn show_refused<W: fmt::Write>(counts: &Counts, f: &mut fmt::Formatter<W>) -> fm
 }
 
 /// The answers that no entry of a journal tells, a line for each kind.
-impl fmt::Display for Tally {
+impl fmt::Display for AnswerTally {
     fn fmt<W: fmt::Write>(&self, f: &mut fmt::Formatter<W>) -> fmt::Result {
         for number in 1..=MOST_NUMBER {
             if let Some(fault) = wire(u64::from(number)) {

@@ -28,7 +28,7 @@ struct Played<'a> {
 
 /// A file, and what its life left; nothing is known of that where the file isn't whole.
 #[derive(Drop)]
-struct Left<'a> {
+struct FileLeft<'a> {
     path: &'a str,
     life: Option<(Opening, Heading)>,
 }
@@ -36,7 +36,7 @@ struct Left<'a> {
 /// Files that are verified one after the other.
 #[derive(Drop)]
 struct Sequence<'a> {
-    before: Option<Left<'a>>,
+    before: Option<FileLeft<'a>>,
     is_good: bool,
 }
 
@@ -61,7 +61,7 @@ impl<'a> Sequence<'a> {
     fn go_on(&mut self, rt: &HostRuntime, path: &'a str) -> Result<()> {
         let life = match play(rt, path) {
             Ok(played) if played.witness.end == FileEnd::Foreign => {
-                self.tell(
+                self.report_fault(
                     rt,
                     path,
                     "it is no journal file: its first line isn't `journal 1`",
@@ -70,16 +70,16 @@ impl<'a> Sequence<'a> {
             }
             Ok(played) => self.judge(rt, played)?,
             Err(error) => {
-                self.tell(rt, path, error);
+                self.report_fault(rt, path, error);
                 None
             }
         };
-        self.before = Some(Left { path, life });
+        self.before = Some(FileLeft { path, life });
         Ok(())
     }
 
     /// Tells what is wrong with a file.
-    fn tell<T: fmt::Display + Drop>(&mut self, rt: &HostRuntime, path: &str, what: T) {
+    fn report_fault<T: fmt::Display + Drop>(&mut self, rt: &HostRuntime, path: &str, what: T) {
         let _ = eprintln!(rt; "swimsim: {path}: {what}");
         self.is_good = false;
     }
@@ -118,11 +118,11 @@ impl<'a> Sequence<'a> {
                 let what = format_args!(
                     "line {line}: no answer stands behind the call of entry {entry}"
                 );
-                self.tell(rt, played.path, what);
+                self.report_fault(rt, played.path, what);
             }
             Verdict::Faulty(fault) => {
                 let place = End(played.witness.confirmations.confirmed);
-                self.tell(rt, played.path, format_args!("{fault}, {place}"));
+                self.report_fault(rt, played.path, format_args!("{fault}, {place}"));
             }
         }
     }
@@ -138,11 +138,11 @@ impl<'a> Sequence<'a> {
                 let what = format_args!(
                     "does not follow {other}: what {other} left isn't known, as it isn't whole"
                 );
-                self.tell(rt, played.path, what);
+                self.report_fault(rt, played.path, what);
             }
             Some((left, heading)) => {
                 if let Some(met) = played.break_behind(left, heading) {
-                    self.tell(
+                    self.report_fault(
                         rt,
                         played.path,
                         format_args!("does not follow {other}: {met}"),
@@ -208,7 +208,8 @@ impl<'a> Played<'a> {
         ))
     }
 
-    /// In what it isn't the life that follows one with that heading, which left that opening. A header that may be cut isn't compared.
+    /// In what it isn't the life that follows one with that heading, which left that opening. A header that may be cut
+    /// isn't compared.
     fn break_behind(&self, left: &Opening, before: &Heading) -> Option<Break> {
         let heading = self.witness.heading?;
         if self.witness.is_in_header()
@@ -221,8 +222,8 @@ impl<'a> Played<'a> {
     }
 }
 
-/// The fault of a file that was played with that outcome, and ended so behind so many lines. That no line tells an opening
-/// is none: such a file is cut.
+/// The fault of a file that was played with that outcome, and ended so behind so many lines. That no line tells an
+/// opening is none: such a file is cut.
 fn fault_met(outcome: Result<(), ScriptFault>, end: FileEnd, lines: u32) -> Option<ScriptFault>
     ensures { result ≡ fault_met outcome end lines }
 {

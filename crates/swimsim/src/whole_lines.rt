@@ -19,11 +19,12 @@ use swim_text::{Byte, LineEnd, ReadSource, Source};
 /// The first line of a journal file.
 const MARK: &[u8; 9] = b"journal 1";
 
-/// How many bytes of lines are held: what may stand before a line feed that wasn't read yet, and what a source reads at once.
+/// How many bytes of lines are held: what may stand before a line feed that wasn't read yet, and what a source reads at
+/// once.
 const HELD_BYTES: usize = 8192;
 
-/// Reads a journal file, and gives its lines that have a line feed, as many at once as can be had without waiting. Those
-/// that were given are noted by the witness as soon as more is wanted: they were carried out by then.
+/// Reads a journal file, and gives its lines that have a line feed, as many at once as can be had without waiting.
+/// Those that were given are noted by the witness as soon as more is wanted: they were carried out by then.
 ///
 /// Behind a header without a call it gives a line `table`, so that the opening is looked at.
 #[derive(Drop)]
@@ -31,13 +32,13 @@ pub struct WholeLines {
     source: ReadSource<Script>,
     lines: ArrayVec<u8, HELD_BYTES>,
     given: usize,
-    stage: Stage,
+    stage: GivingStage,
     witness: Witness,
 }
 
 /// What is being given.
 #[derive(Clone, Copy, Debug, PartialEq, Eq)]
-enum Stage {
+enum GivingStage {
     /// Nothing so far.
     Begun,
     /// Lines of the file.
@@ -55,7 +56,7 @@ impl WholeLines {
             source: ReadSource::new(file),
             lines: ArrayVec::new(),
             given: 0,
-            stage: Stage::Begun,
+            stage: GivingStage::Begun,
             witness: Witness::new(alloc),
         }
     }
@@ -63,7 +64,7 @@ impl WholeLines {
     /// What the lines tell that were carried out, where they were played with that outcome: those before the line of a
     /// fault.
     pub fn into_witness(mut self, outcome: Result<(), ScriptFault>) -> Witness {
-        if let (Stage::Lines, Err(fault)) = (self.stage, outcome) {
+        if let (GivingStage::Lines, Err(fault)) = (self.stage, outcome) {
             let before = fault.line.saturating_sub(1);
             let count = before.saturating_sub(self.witness.lines);
             self.witness
@@ -74,14 +75,14 @@ impl WholeLines {
 
     /// Goes on to the next lines.
     fn advance(&mut self) -> io::Result<()> {
-        let is_first = self.stage == Stage::Begun;
-        if self.stage == Stage::Lines {
+        let is_first = self.stage == GivingStage::Begun;
+        if self.stage == GivingStage::Lines {
             self.witness.note_lines(self.lines.as_slice(), usize::MAX);
         }
-        if self.stage == Stage::Closing {
-            self.stage = Stage::Over;
+        if self.stage == GivingStage::Closing {
+            self.stage = GivingStage::Over;
         }
-        if self.stage == Stage::Over {
+        if self.stage == GivingStage::Over {
             return Ok(());
         }
         self.given = 0;
@@ -92,7 +93,7 @@ impl WholeLines {
         if end == FileEnd::Failed {
             return Err(io::Error::from(ErrorKind::Other));
         }
-        if self.stage == Stage::Closing {
+        if self.stage == GivingStage::Closing {
             self.lines.clear();
             let _fits = self.lines.try_extend_from_slice(b"table\n");
         }
@@ -100,11 +101,11 @@ impl WholeLines {
     }
 
     /// What is given next, where the file was met to end so.
-    fn stage_at(&self, end: FileEnd) -> Stage {
+    fn stage_at(&self, end: FileEnd) -> GivingStage {
         match end {
-            FileEnd::Unmet => Stage::Lines,
-            FileEnd::Whole | FileEnd::Cut if self.witness.is_in_header() => Stage::Closing,
-            _ => Stage::Over,
+            FileEnd::Unmet => GivingStage::Lines,
+            FileEnd::Whole | FileEnd::Cut if self.witness.is_in_header() => GivingStage::Closing,
+            _ => GivingStage::Over,
         }
     }
 }
@@ -124,8 +125,8 @@ fn take_lines<R: Source>(reader: &mut R, lines: &mut ArrayVec<u8, HELD_BYTES>) -
     LineEnd::Long
 }
 
-/// Takes the bytes that are ready up to the last line feed, or all of them if they have none, and answers what ended the
-/// last line if anything did.
+/// Takes the bytes that are ready up to the last line feed, or all of them if they have none, and answers what ended
+/// the last line if anything did.
 fn take_part<R: Source>(reader: &mut R, lines: &mut ArrayVec<u8, HELD_BYTES>) -> Option<LineEnd>
     requires room { length lines.old.items ≤ LINE_BYTES }
     requires unended { has_feed lines.old.items ≡ false }
@@ -218,10 +219,10 @@ impl Read for WholeLines {
         if buf.is_empty() {
             return Ok(0);
         }
-        if self.stage == Stage::Begun || self.given >= self.lines.len() {
+        if self.stage == GivingStage::Begun || self.given >= self.lines.len() {
             self.advance()?;
         }
-        if self.stage == Stage::Over {
+        if self.stage == GivingStage::Over {
             return Ok(0);
         }
         let count = give(self.lines.as_slice(), self.given, buf);

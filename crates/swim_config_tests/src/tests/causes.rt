@@ -1,7 +1,10 @@
 //! Causes below the lines of faults, and warnings.
 
+use super::alone::assert_warnings;
+use super::assert_same;
 use std::alloc::Global;
-use swim_config::{ConfigFault, put_cause, put_warnings, read_config};
+use std::process::Abort;
+use swim_config::{ConfigFault, put_cause, read_config};
 use swim_text::Page;
 
 /// A configuration that can't work in any of the ways that are warned of.
@@ -35,52 +38,44 @@ warning: a period has 90000000 milliseconds, which is beyond a day
 warning: seed is one byte again and again, which anybody may guess
 ";
 
-/// Writes the cause of a document's fault.
-fn put_cause_of(alloc: Global, document: &str, page: &mut Page) -> Option<ConfigFault> {
+/// The cause of a document's fault is told so.
+fn assert_cause<R: Abort>(rt: &R, alloc: Global, document: &str, wanted: &str) {
+    let mut page = Page::new(alloc);
     match read_config(alloc, document.as_bytes()) {
-        Ok(_) => None,
+        Ok(_) => panic!(rt; "no fault: {document}"),
         Err(fault) => {
-            let _is_put = put_cause(alloc, page, document.as_bytes(), fault);
-            Some(fault)
+            let _is_put = put_cause(alloc, &mut page, document.as_bytes(), fault);
         }
     }
+    assert_same(rt, &page.text(), &wanted.as_bytes());
 }
 
 #[test]
 fn tells_what_was_expected_and_what_stood_there(rt: HostRuntime) {
-    let mut page = Page::new(rt.alloc());
     let document = "# of a test\n\nid = 1 # this\nlisten = \"10.0.0.1\"\r\n";
-    assert!(rt; put_cause_of(rt.alloc(), document, &mut page).is_some());
     let wanted = "  expected: a string IP:PORT, as 10.0.0.1:7000 (where its datagrams come in)
   line 4: listen = \"10.0.0.1\"
 ";
-    assert_eq!(rt; page.text(), wanted.as_bytes());
+    assert_cause(&rt, rt.alloc(), document, wanted);
 }
 
 #[test]
 fn finds_no_key_in_a_text(rt: HostRuntime) {
-    let mut page = Page::new(rt.alloc());
     let document = "id = 1\ncontrol = '''\nlisten = 2\n'''\nlisten = 3\n";
-    assert!(rt; put_cause_of(rt.alloc(), document, &mut page).is_some());
     let wanted = "  expected: a string IP:PORT, as 10.0.0.1:7000 (where its datagrams come in)
   line 5: listen = 3
 ";
-    assert_eq!(rt; page.text(), wanted.as_bytes());
+    assert_cause(&rt, rt.alloc(), document, wanted);
 }
 
 #[test]
 fn tells_nothing_of_refused_memory(rt: HostRuntime) {
     let mut page = Page::new(rt.alloc());
     assert!(rt; put_cause(rt.alloc(), &mut page, b"", ConfigFault::NoMemory));
-    assert_eq!(rt; page.text(), b"".as_slice());
+    assert!(rt; page.text().is_empty());
 }
 
 #[test]
 fn warns_of_all(rt: HostRuntime) {
-    let mut page = Page::new(rt.alloc());
-    match read_config(rt.alloc(), DOUBTFUL.as_bytes()) {
-        Ok(config) => assert!(rt; put_warnings(&mut page, &config)),
-        Err(fault) => assert_eq!(rt; fault, ConfigFault::Size),
-    }
-    assert_eq!(rt; page.text(), WARNINGS.as_bytes());
+    assert_warnings(&rt, rt.alloc(), DOUBTFUL, WARNINGS);
 }

@@ -1,5 +1,6 @@
 //! Configurations, from their bytes to what is told of them.
 
+use super::assert_same;
 use arrayvec::ArrayVec;
 use std::alloc::Global;
 use swim_config::{
@@ -63,52 +64,56 @@ fn end_of(alloc: Global, text: &[u8]) -> End {
 fn shows_a_configuration(rt: HostRuntime) {
     let mut page = Page::new(rt.alloc());
     let end = show(rt.alloc(), &mut Text::new(WHOLE.as_bytes()), &mut page);
-    assert_eq!(rt; end, End::Shown);
-    assert_eq!(rt; page.text(), SUMMARY.as_bytes());
+    assert_same(&rt, &end, &End::Shown);
+    assert_same(&rt, &page.text(), &SUMMARY.as_bytes());
 }
 
 #[test]
 fn names_the_first_key_that_is_missing(rt: HostRuntime) {
     let end = end_of(rt.alloc(), b"id = 1\nlisten = \"10.0.0.1:7000\"\nk = 9\n");
     let fault = ConfigFault::Missing(ConfigKey::Control);
-    assert_eq!(rt; end, End::Refused(fault));
+    assert_same(&rt, &end, &End::Refused(fault));
     let mut page = Page::new(rt.alloc());
     assert!(rt; put_fault(&mut page, fault));
-    assert_eq!(rt; page.text(), b"configuration 4 control\n".as_slice());
+    assert_same(&rt, &page.text(), &b"configuration 4 control\n".as_slice());
 }
 
 #[test]
 fn tells_unknown_keys_before_missing_ones(rt: HostRuntime) {
     let end = end_of(rt.alloc(), b"z = 1\n");
-    assert_eq!(rt; end, End::Refused(ConfigFault::UnknownKey));
+    assert_same(&rt, &end, &End::Refused(ConfigFault::UnknownKey));
 }
 
 #[test]
 fn tells_a_failed_read(rt: HostRuntime) {
     let mut reader = Text::failing_after(WHOLE.as_bytes(), 40);
     let end = show(rt.alloc(), &mut reader, &mut Page::new(rt.alloc()));
-    assert_eq!(rt; end, End::Unread);
+    assert_same(&rt, &end, &End::Unread);
 }
 
 #[test]
 fn tells_a_failed_write(rt: HostRuntime) {
     let mut page = FailingPage::new(rt.alloc(), Some(3), None);
     let end = show(rt.alloc(), &mut Text::new(WHOLE.as_bytes()), &mut page);
-    assert_eq!(rt; end, End::Unwritten);
+    assert_same(&rt, &end, &End::Unwritten);
 }
 
 #[test]
 fn tells_a_summary_that_is_not_handed_on(rt: HostRuntime) {
     let mut page = FailingPage::new(rt.alloc(), None, Some(0));
     let end = show(rt.alloc(), &mut Text::new(WHOLE.as_bytes()), &mut page);
-    assert_eq!(rt; end, End::NotHandedOn);
+    assert_same(&rt, &end, &End::NotHandedOn);
 }
 
 #[test]
 fn refuses_65_537_bytes(rt: HostRuntime) {
     let bytes = [b'\n'; 65_537];
     let end = end_of(rt.alloc(), &bytes[..65_536]);
-    assert_eq!(rt; end, End::Refused(ConfigFault::Missing(ConfigKey::Id)));
+    assert_same(
+        &rt,
+        &end,
+        &End::Refused(ConfigFault::Missing(ConfigKey::Id)),
+    );
     let end = end_of(rt.alloc(), &bytes);
-    assert_eq!(rt; end, End::Refused(ConfigFault::Size));
+    assert_same(&rt, &end, &End::Refused(ConfigFault::Size));
 }

@@ -1,18 +1,24 @@
 //! The key `events`: which path it says, how a summary tells it, and its faults.
 
-use super::alone::{ALONE, told_of};
+use super::alone::{assert_fault_behind, assert_summary_begins, behind, config_of, joined};
+use super::assert_same_at;
 use std::alloc::Global;
+use std::process::Abort;
 use std::test::Fail;
-use swim_config::{read_config, summary};
-use swim_text::Page;
 
 /// What a value of `events` has to be.
 const EXPECTED: &str =
     "  expected: a string of 1 to 100 characters of ASCII that print (the path of the events' socket, not that of control)";
 
-/// The configuration behind these lines.
-fn behind(alloc: Global, lines: &str) -> Result<String, Fail> {
-    Ok(format!(in alloc; "{lines}{ALONE}")?)
+/// A summary up to the path of the control socket.
+const FRONT: &str = "id 1\nlisten 10.0.0.1:7000\ncontrol /tmp/swimd.sock";
+
+/// A document says this path, and its summary begins so.
+fn assert_events<R: Abort>(rt: &R, alloc: Global, document: &str, path: &str, front: &str) {
+    let config = config_of(rt, alloc, document);
+    let events = config.events.as_ref();
+    assert_same_at(rt, document, &events.map_or("", |it| it.as_str()), &path);
+    assert_summary_begins(rt, alloc, &config, front);
 }
 
 #[test]
@@ -31,17 +37,8 @@ fn a_summary_tells_the_path_behind_that_of_control(rt: HostRuntime) -> Result<()
         ),
     ] {
         let document = behind(rt.alloc(), lines)?;
-        let Ok(config) = read_config(rt.alloc(), document.as_bytes()) else {
-            panic!(rt; "a configuration, at {lines}");
-        };
-        let events = config.events.as_ref();
-        assert_eq!(rt; events.map_or("", |it| it.as_str()), path, "at {lines}");
-        let mut page = Page::new(rt.alloc());
-        assert!(rt; summary(&config, &mut page), "at {lines}");
-        let front = format!(in rt.alloc();
-            "id 1\nlisten 10.0.0.1:7000\ncontrol /tmp/swimd.sock{told}\nk 1 "
-        )?;
-        assert!(rt; page.text().starts_with(front.as_bytes()), "at {lines}");
+        let front = joined(rt.alloc(), &[FRONT, told, "\nk 1 "])?;
+        assert_events(&rt, rt.alloc(), document.as_str(), path, front.as_str());
     }
     Ok(())
 }
@@ -66,10 +63,7 @@ fn another_path_is_a_fault(rt: HostRuntime) -> Result<(), Fail> {
             "  line 2: events = \"/tmp/swimd.sock\" # twice",
         ),
     ] {
-        let document = behind(rt.alloc(), lines)?;
-        let wanted = format!(in rt.alloc(); "{fault}\n{EXPECTED}\n{found}\n")?;
-        let page = told_of(rt.alloc(), document.as_str());
-        assert_eq!(rt; page.text(), wanted.as_bytes(), "at {lines}");
+        assert_fault_behind(&rt, rt.alloc(), lines, [fault, EXPECTED, found])?;
     }
     Ok(())
 }

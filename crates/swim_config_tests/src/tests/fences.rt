@@ -1,14 +1,18 @@
 //! The key `fence`: which rate it says, how a summary tells it, its faults, and when a journal is short for a flood.
 
-use super::alone::{ALONE, told_of};
+use super::alone::{
+    ALONE, assert_fault_behind, assert_summary_ends, assert_warnings, behind, config_of, joined,
+};
+use super::assert_same_at;
 use std::alloc::Global;
+use std::process::Abort;
 use std::test::Fail;
-use swim_config::{put_warnings, read_config, summary};
-use swim_text::Page;
 
-/// The configuration behind these lines.
-fn behind(alloc: Global, lines: &str) -> Result<String, Fail> {
-    Ok(format!(in alloc; "{lines}{ALONE}")?)
+/// A document says this, and its summary ends so.
+fn assert_fence<R: Abort>(rt: &R, alloc: Global, document: &str, fence: u32, end: &str) {
+    let config = config_of(rt, alloc, document);
+    assert_same_at(rt, document, &config.fence, &fence);
+    assert_summary_ends(rt, alloc, &config, end);
 }
 
 #[test]
@@ -24,14 +28,8 @@ fn a_fence_is_1000_where_none_is_said(rt: HostRuntime) -> Result<(), Fail> {
         ),
     ] {
         let document = behind(rt.alloc(), lines)?;
-        let Ok(config) = read_config(rt.alloc(), document.as_bytes()) else {
-            panic!(rt; "a configuration, at {lines}");
-        };
-        assert_eq!(rt; config.fence, fence, "at {lines}");
-        let mut page = Page::new(rt.alloc());
-        assert!(rt; summary(&config, &mut page), "at {lines}");
-        let end = format!(in rt.alloc(); " journal 1000{told}\nmembers 0\n")?;
-        assert!(rt; page.text().ends_with(end.as_bytes()), "at {lines}");
+        let end = joined(rt.alloc(), &[" journal 1000", told, "\nmembers 0\n"])?;
+        assert_fence(&rt, rt.alloc(), document.as_str(), fence, end.as_str());
     }
     Ok(())
 }
@@ -57,38 +55,35 @@ fn another_fence_is_a_fault(rt: HostRuntime) -> Result<(), Fail> {
             "  line 1: fence = 1.0",
         ),
     ] {
-        let document = behind(rt.alloc(), lines)?;
-        let wanted = format!(in rt.alloc(); "{fault}\n{expected}\n{found}\n")?;
-        let page = told_of(rt.alloc(), document.as_str());
-        assert_eq!(rt; page.text(), wanted.as_bytes(), "at {lines}");
+        assert_fault_behind(&rt, rt.alloc(), lines, [fault, expected, found])?;
     }
     Ok(())
+}
+
+/// The configuration behind these lines, with a member. It asks no relay.
+fn with_a_member(alloc: Global, lines: &str) -> Result<String, Fail> {
+    let member = "[[member]]\nid = 2\nat = \"10.0.0.2:7000\"\n";
+    let document = joined(alloc, &[lines, ALONE, member])?;
+    Ok(document.as_str().replace(alloc, "\nk = 1", "\nk = 0")?)
 }
 
 /// Three rounds of one member are 9 seconds here.
 #[test]
 fn a_journal_is_short_where_a_flood_fills_it(rt: HostRuntime) -> Result<(), Fail> {
-    let member = "[[member]]\nid = 2\nat = \"10.0.0.2:7000\"\n";
-    for (fence, warning) in [
-        (0_u32, ""),
-        (111, ""),
+    for (lines, warning) in [
+        ("fence = 0\n", ""),
+        ("fence = 111\n", ""),
         (
-            112,
+            "fence = 112\n",
             "warning: journal 1000 is shorter than what a flood of 112 datagrams a second adds in three rounds, 1008 entries\n",
         ),
         (
-            4_294_967_295,
+            "fence = 4294967295\n",
             "warning: journal 1000 is shorter than what a flood of 4294967295 datagrams a second adds in three rounds, 38654705655 entries\n",
         ),
     ] {
-        let document = format!(in rt.alloc(); "k = 0\nfence = {fence}\n{ALONE}{member}")?;
-        let document = document.as_str().replace(rt.alloc(), "\nk = 1", "")?;
-        let Ok(config) = read_config(rt.alloc(), document.as_bytes()) else {
-            panic!(rt; "a configuration, at {fence}");
-        };
-        let mut page = Page::new(rt.alloc());
-        assert!(rt; put_warnings(&mut page, &config), "at {fence}");
-        assert_eq!(rt; page.text(), warning.as_bytes(), "at {fence}");
+        let document = with_a_member(rt.alloc(), lines)?;
+        assert_warnings(&rt, rt.alloc(), document.as_str(), warning);
     }
     Ok(())
 }
@@ -96,14 +91,7 @@ fn a_journal_is_short_where_a_flood_fills_it(rt: HostRuntime) -> Result<(), Fail
 /// The fence that goes without saying lets in 9,000 datagrams in that time.
 #[test]
 fn of_the_fence_that_goes_without_saying_nothing_is_warned(rt: HostRuntime) -> Result<(), Fail> {
-    let member = "[[member]]\nid = 2\nat = \"10.0.0.2:7000\"\n";
-    let document = format!(in rt.alloc(); "{ALONE}{member}")?;
-    let document = document.as_str().replace(rt.alloc(), "\nk = 1", "\nk = 0")?;
-    let Ok(config) = read_config(rt.alloc(), document.as_bytes()) else {
-        panic!(rt; "a configuration");
-    };
-    let mut page = Page::new(rt.alloc());
-    assert!(rt; put_warnings(&mut page, &config));
-    assert_eq!(rt; page.text(), "".as_bytes());
+    let document = with_a_member(rt.alloc(), "")?;
+    assert_warnings(&rt, rt.alloc(), document.as_str(), "");
     Ok(())
 }

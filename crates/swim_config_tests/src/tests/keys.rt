@@ -1,10 +1,13 @@
 //! The key `keys`: which keys it says, how a summary tells them, its faults, and that no fault shows their digits.
 
-use super::alone::{ALONE, told_of};
+use super::alone::{
+    self, assert_fault, assert_fault_lines, assert_summary, config_of, joined, told_of,
+};
+use super::{assert_same, assert_same_at};
 use std::alloc::Global;
+use std::process::Abort;
 use std::test::Fail;
-use swim_config::{Config, read_config, summary};
-use swim_text::Page;
+use swim_config::Config;
 
 /// A key, and the same with other digits in front.
 const FIRST: &str = "00112233445566778899aabbccddeeffFFEEDDCCBBAA99887766554433221100";
@@ -15,39 +18,48 @@ const SECOND: &str = "ff112233445566778899aabbccddeeffFFEEDDCCBBAA99887766554433
 const EXPECTED: &str =
     "  expected: an array of 1 to 4 strings of 64 hexadecimal digits (the keys of the group, of which the first signs)";
 
-/// The configuration behind these lines, in which `<1>` and `<2>` stand for the digits of the two keys.
-fn behind(alloc: Global, lines: &str) -> Result<String, Fail> {
-    let first = lines.replace(alloc, "<1>", FIRST)?;
-    let both = first.as_str().replace(alloc, "<2>", SECOND)?;
-    Ok(format!(in alloc; "{both}{ALONE}")?)
-}
+/// What is told of another form, and of other values.
+const FORM: &str = "configuration 5 keys";
 
-/// A summary whose line of numbers ends so.
-fn summed_up(alloc: Global, numbers: &str) -> Result<String, Fail> {
-    Ok(format!(in alloc;
-        "id 1
+const RANGE: &str = "configuration 6 keys";
+
+/// The beginning of a summary, up to its line of numbers.
+const FRONT: &str = "id 1
 listen 10.0.0.1:7000
 control /tmp/swimd.sock
-k 1 rtt 1 period 3 tick_ms 1000{numbers}
-members 0
-"
-    )?)
+k 1 rtt 1 period 3 tick_ms 1000";
+
+/// A text with the digits of the two keys in place of `<1>` and `<2>`.
+fn with_digits(alloc: Global, text: &str) -> Result<String, Fail> {
+    let first = text.replace(alloc, "<1>", FIRST)?;
+    Ok(first.as_str().replace(alloc, "<2>", SECOND)?)
+}
+
+/// The configuration behind these lines, in which `<1>` and `<2>` stand for the digits of the two keys.
+fn behind(alloc: Global, lines: &str) -> Result<String, Fail> {
+    alone::behind(alloc, with_digits(alloc, lines)?.as_str())
 }
 
 #[test]
 fn keys_are_read_in_order(rt: HostRuntime) -> Result<(), Fail> {
     let document = behind(rt.alloc(), "keys = [\"<1>\", '<2>']\n")?;
-    let Ok(config) = read_config(rt.alloc(), document.as_bytes()) else {
-        panic!(rt; "a configuration");
-    };
-    let firsts = config.keys.as_slice();
-    assert_eq!(rt; firsts.len(), 2);
-    for (key, wanted) in firsts.iter().zip([0x00, 0xff]) {
-        assert_eq!(rt; key.as_bytes()[0], wanted);
-        assert_eq!(rt; &key.as_bytes()[1..3], [0x11, 0x22].as_slice());
-        assert_eq!(rt; key.as_bytes()[31], 0);
-    }
+    let config = config_of(&rt, rt.alloc(), document.as_str());
+    assert_two_keys(&rt, &config);
     Ok(())
+}
+
+fn assert_two_keys<R: Abort>(rt: &R, config: &Config) {
+    let firsts = config.keys.as_slice();
+    assert_same(rt, &firsts.len(), &2);
+    for (key, first) in firsts.iter().zip([0x00, 0xff]) {
+        assert_key(rt, key.as_bytes(), first);
+    }
+}
+
+/// A key's bytes begin with this one and those of the second and third, and end with that of the last.
+fn assert_key<R: Abort>(rt: &R, bytes: &[u8; 32], first: u8) {
+    assert_same(rt, &[bytes[0], bytes[1], bytes[2]], &[first, 0x11, 0x22]);
+    assert_same(rt, &bytes[31], &0);
 }
 
 #[test]
@@ -65,50 +77,50 @@ fn a_summary_tells_how_many_keys_there_are(rt: HostRuntime) -> Result<(), Fail> 
         ),
     ] {
         let document = behind(rt.alloc(), lines)?;
-        let Ok(config) = read_config(rt.alloc(), document.as_bytes()) else {
-            panic!(rt; "a configuration, at {lines}");
-        };
-        let mut page = Page::new(rt.alloc());
-        assert!(rt; summary(&config, &mut page), "at {lines}");
-        let wanted = summed_up(rt.alloc(), numbers)?;
-        assert_eq!(rt; page.text(), wanted.as_bytes(), "at {lines}");
+        let wanted = joined(rt.alloc(), &[FRONT, numbers, "\nmembers 0\n"])?;
+        let config = config_of(&rt, rt.alloc(), document.as_str());
+        assert_summary(&rt, rt.alloc(), &config, wanted.as_str());
     }
     Ok(())
 }
 
 #[test]
 fn other_keys_are_a_fault(rt: HostRuntime) -> Result<(), Fail> {
-    for (lines, number, found) in [
-        ("keys = \"<1>\"\n", 5, "keys = \"..\""),
-        ("keys = [\"<1>\", 5]\n", 5, "keys = [\"..\", 5]"),
-        ("keys = [[\"<1>\"]]\n", 5, "keys = [[\"..\"]]"),
-        ("keys = []\n", 6, "keys = []"),
+    for (lines, fault, found) in [
+        ("keys = \"<1>\"\n", FORM, "  line 1: keys = \"..\""),
+        (
+            "keys = [\"<1>\", 5]\n",
+            FORM,
+            "  line 1: keys = [\"..\", 5]",
+        ),
+        ("keys = [[\"<1>\"]]\n", FORM, "  line 1: keys = [[\"..\"]]"),
+        ("keys = []\n", RANGE, "  line 1: keys = []"),
         (
             "keys = [\"<1>\",'<1>',\"<1>\",\"<2>\",\"<2>\"]\n",
-            6,
-            "keys = [\"..\",'..',\"..\",\"..\",\"..\"]",
+            RANGE,
+            "  line 1: keys = [\"..\",'..',\"..\",\"..\",\"..\"]",
         ),
-        ("keys = [\"<1>\", \"<1>0\"]\n", 6, "keys = [\"..\", \"..\"]"),
-        ("keys = [\n  \"<1> \",\n]\n", 6, "keys = ["),
+        (
+            "keys = [\"<1>\", \"<1>0\"]\n",
+            RANGE,
+            "  line 1: keys = [\"..\", \"..\"]",
+        ),
+        ("keys = [\n  \"<1> \",\n]\n", RANGE, "  line 1: keys = ["),
         // The digits aren't shown either where one of them is none, or where there are spaces among them.
         (
             "keys = [\"0123456789abcdefO123456789abcdef0123456789abcdef0123456789abcdef\"]\n",
-            6,
-            "keys = [\"..\"]",
+            RANGE,
+            "  line 1: keys = [\"..\"]",
         ),
         (
             "keys = [ \"01 23 45 67 89 ab cd ef 01 23 45 67 89 ab cd ef 01 23 45\" ]\n",
-            6,
-            "keys = [ \"..\" ]",
+            RANGE,
+            "  line 1: keys = [ \"..\" ]",
         ),
-        ("keys.<1> = 1\n", 5, "..= 1"),
+        ("keys.<1> = 1\n", FORM, "  line 1: ..= 1"),
     ] {
         let document = behind(rt.alloc(), lines)?;
-        let wanted = format!(in rt.alloc();
-            "configuration {number} keys\n{EXPECTED}\n  line 1: {found}\n"
-        )?;
-        let page = told_of(rt.alloc(), document.as_str());
-        assert_eq!(rt; page.text(), wanted.as_bytes(), "at {lines}");
+        assert_fault_lines(&rt, rt.alloc(), document.as_str(), [fault, EXPECTED, found])?;
     }
     Ok(())
 }
@@ -136,8 +148,7 @@ fn no_other_fault_shows_a_key(rt: HostRuntime) -> Result<(), Fail> {
         ),
     ] {
         let document = behind(rt.alloc(), lines)?;
-        let page = told_of(rt.alloc(), document.as_str());
-        assert_eq!(rt; page.text(), wanted.as_bytes(), "at {lines}");
+        assert_fault(&rt, rt.alloc(), document.as_str(), wanted);
     }
     let document = behind(rt.alloc(), "wire = 1 Keys = [\"<1>\"]\n")?;
     let page = told_of(rt.alloc(), document.as_str());
@@ -153,8 +164,8 @@ fn no_other_fault_shows_a_key(rt: HostRuntime) -> Result<(), Fail> {
 fn without_keys_a_line_is_shown_as_it_stands(rt: HostRuntime) -> Result<(), Fail> {
     let document = behind(rt.alloc(), "# keys = []\nseed = '<1>' '<2>'\n")?;
     let page = told_of(rt.alloc(), document.as_str());
-    let wanted = format!(in rt.alloc(); "\n  line 2: seed = '{FIRST}' '{SECOND}'\n")?;
-    assert!(rt; page.text().ends_with(wanted.as_bytes()));
+    let end = with_digits(rt.alloc(), "\n  line 2: seed = '<1>' '<2>'\n")?;
+    assert!(rt; page.text().ends_with(end.as_bytes()));
     Ok(())
 }
 
@@ -175,10 +186,8 @@ fn the_clock_is_the_last_number_where_keys_are_set_and_none_is_given(
         ("keys = [\"<1>\"]\nlast = 2000\n", 2_000),
     ] {
         let document = behind(rt.alloc(), lines)?;
-        match read_config(rt.alloc(), document.as_bytes()) {
-            Ok(config) => assert_eq!(rt; last_at_1000(config), last, "at {lines}"),
-            Err(_) => panic!(rt; "a configuration, at {lines}"),
-        }
+        let config = config_of(&rt, rt.alloc(), document.as_str());
+        assert_same_at(&rt, lines, &last_at_1000(config), &last);
     }
     Ok(())
 }

@@ -1,7 +1,8 @@
-//! A configuration is read with memory refused. tests/node/refusals runs this with one request for memory refused, the first,
-//! the second and so on; else none is. Want of memory is told, and never taken for a configuration. Where a test met it, it
-//! writes a line.
+//! A configuration is read with memory refused. tests/node/refusals runs this with one request for memory refused, the
+//! first, the second and so on; else none is. Want of memory is told, and never taken for a configuration. Where a test
+//! met it, it writes a line.
 
+use super::assert_same;
 use std::process::Abort;
 use std::test::Fail;
 use swim_config::{Config, ConfigFault, ConfigKey, read_config};
@@ -39,22 +40,26 @@ fn at(last: u8) -> Peer {
 }
 
 fn assert_whole<R: Abort>(rt: &R, config: &Config) {
-    assert_eq!(rt; config.listen, at(1));
-    assert_eq!(rt; config.control.as_str(), "/tmp/swimd.sock");
-    assert_eq!(rt; (config.tick_ms, config.journal), (1000, 1000));
-    assert_eq!(rt; config.seed, [0; 32]);
+    assert_same(rt, &config.listen, &at(1));
+    assert_same(rt, &config.control.as_str(), &"/tmp/swimd.sock");
+    assert_same(rt, &(config.tick_ms, config.journal), &(1000, 1000));
+    assert_same(rt, &config.seed, &[0; 32]);
     assert!(rt; config.files.dir.is_none());
     assert_opening(rt, config);
 }
 
 fn assert_opening<R: Abort>(rt: &R, config: &Config) {
     let opening = &config.opening;
-    assert_eq!(rt; (opening.me(), opening.last()), (id(1), 0));
-    assert_eq!(rt; (opening.k(), opening.rtt(), opening.period()), (1, 1, 3));
+    assert_same(rt, &(opening.me(), opening.last()), &(id(1), 0));
+    assert_same(
+        rt,
+        &(opening.k(), opening.rtt(), opening.period()),
+        &(1, 1, 3),
+    );
     let rows = opening.rows();
-    assert_eq!(rt; rows.len(), 2);
+    assert_same(rt, &rows.len(), &2);
     for (row, last) in rows.iter().zip([3, 2]) {
-        assert_eq!(rt; (row.id, row.peer), (id(u32::from(last)), at(last)));
+        assert_same(rt, &(row.id, row.peer), &(id(u32::from(last)), at(last)));
     }
 }
 

@@ -1,14 +1,16 @@
 //! The key `rejoin`: how often it says that is knocked, how a summary tells it, and its faults.
 
-use super::alone::{ALONE, told_of};
+use super::alone::{assert_fault_behind, assert_summary_ends, behind, config_of, joined};
+use super::assert_same_at;
 use std::alloc::Global;
+use std::process::Abort;
 use std::test::Fail;
-use swim_config::{read_config, summary};
-use swim_text::Page;
 
-/// The configuration behind these lines.
-fn behind(alloc: Global, lines: &str) -> Result<String, Fail> {
-    Ok(format!(in alloc; "{lines}{ALONE}")?)
+/// A document says this, and its summary ends so.
+fn assert_rejoin<R: Abort>(rt: &R, alloc: Global, document: &str, rejoin: u32, end: &str) {
+    let config = config_of(rt, alloc, document);
+    assert_same_at(rt, document, &config.rejoin, &rejoin);
+    assert_summary_ends(rt, alloc, &config, end);
 }
 
 #[test]
@@ -24,14 +26,8 @@ fn nobody_is_knocked_at_where_nothing_is_said(rt: HostRuntime) -> Result<(), Fai
         ),
     ] {
         let document = behind(rt.alloc(), lines)?;
-        let Ok(config) = read_config(rt.alloc(), document.as_bytes()) else {
-            panic!(rt; "a configuration, at {lines}");
-        };
-        assert_eq!(rt; config.rejoin, rejoin, "at {lines}");
-        let mut page = Page::new(rt.alloc());
-        assert!(rt; summary(&config, &mut page), "at {lines}");
-        let end = format!(in rt.alloc(); " journal 1000{told}\nmembers 0\n")?;
-        assert!(rt; page.text().ends_with(end.as_bytes()), "at {lines}");
+        let end = joined(rt.alloc(), &[" journal 1000", told, "\nmembers 0\n"])?;
+        assert_rejoin(&rt, rt.alloc(), document.as_str(), rejoin, end.as_str());
     }
     Ok(())
 }
@@ -57,10 +53,7 @@ fn another_rejoin_is_a_fault(rt: HostRuntime) -> Result<(), Fail> {
             "  line 1: rejoin = 1.0",
         ),
     ] {
-        let document = behind(rt.alloc(), lines)?;
-        let wanted = format!(in rt.alloc(); "{fault}\n{expected}\n{found}\n")?;
-        let page = told_of(rt.alloc(), document.as_str());
-        assert_eq!(rt; page.text(), wanted.as_bytes(), "at {lines}");
+        assert_fault_behind(&rt, rt.alloc(), lines, [fault, expected, found])?;
     }
     Ok(())
 }

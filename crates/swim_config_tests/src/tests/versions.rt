@@ -1,10 +1,10 @@
 //! The key `wire`: which version it says, how a summary tells it, and its faults.
 
-use super::alone::{ALONE, told_of};
+use super::alone::{assert_fault, assert_fault_behind, assert_summary, behind, config_of};
+use super::assert_same_at;
 use std::alloc::Global;
+use std::process::Abort;
 use std::test::Fail;
-use swim_config::{read_config, summary};
-use swim_text::Page;
 use swim_wire::Version;
 
 /// Its summary.
@@ -33,9 +33,11 @@ journal_keep 16
 members 0
 ";
 
-/// The configuration behind these lines.
-fn behind(alloc: Global, lines: &str) -> Result<String, Fail> {
-    Ok(format!(in alloc; "{lines}{ALONE}")?)
+/// A document says this, and its summary is this text.
+fn assert_version<R: Abort>(rt: &R, alloc: Global, document: &str, version: Version, told: &str) {
+    let config = config_of(rt, alloc, document);
+    assert_same_at(rt, document, &config.opening.version(), &version);
+    assert_summary(rt, alloc, &config, told);
 }
 
 #[test]
@@ -51,13 +53,7 @@ fn a_version_is_1_where_none_is_said(rt: HostRuntime) -> Result<(), Fail> {
         ),
     ] {
         let document = behind(rt.alloc(), lines)?;
-        let Ok(config) = read_config(rt.alloc(), document.as_bytes()) else {
-            panic!(rt; "a configuration, at {lines}");
-        };
-        assert_eq!(rt; config.opening.version(), version, "at {lines}");
-        let mut page = Page::new(rt.alloc());
-        assert!(rt; summary(&config, &mut page), "at {lines}");
-        assert_eq!(rt; page.text(), told.as_bytes(), "at {lines}");
+        assert_version(&rt, rt.alloc(), document.as_str(), version, told);
     }
     Ok(())
 }
@@ -82,29 +78,24 @@ fn another_version_is_a_fault(rt: HostRuntime) -> Result<(), Fail> {
             "  line 2: wire = 3",
         ),
     ] {
-        let document = behind(rt.alloc(), lines)?;
-        let wanted = format!(in rt.alloc(); "{fault}\n{expected}\n{found}\n")?;
-        let page = told_of(rt.alloc(), document.as_str());
-        assert_eq!(rt; page.text(), wanted.as_bytes(), "at {lines}");
+        assert_fault_behind(&rt, rt.alloc(), lines, [fault, expected, found])?;
     }
     Ok(())
 }
 
 #[test]
 fn wire_has_its_place_among_the_keys(rt: HostRuntime) -> Result<(), Fail> {
-    let document = behind(rt.alloc(), "wire = 3\nlast = -1\n")?;
-    let wanted = "configuration 6 last
+    let last = "configuration 6 last
   expected: an integer from 0 to 9223372036854775807 (the last period number that was used before)
   line 2: last = -1
 ";
-    let page = told_of(rt.alloc(), document.as_str());
-    assert_eq!(rt; page.text(), wanted.as_bytes());
-    let document = behind(rt.alloc(), "wired = 2\n")?;
-    let wanted = "configuration 3
+    let wired = "configuration 3
   found: wired; the nearest known key: wire
   line 1: wired = 2
 ";
-    let page = told_of(rt.alloc(), document.as_str());
-    assert_eq!(rt; page.text(), wanted.as_bytes());
+    for (lines, wanted) in [("wire = 3\nlast = -1\n", last), ("wired = 2\n", wired)] {
+        let document = behind(rt.alloc(), lines)?;
+        assert_fault(&rt, rt.alloc(), document.as_str(), wanted);
+    }
     Ok(())
 }

@@ -1,5 +1,6 @@
 //! One read, one write or one flush that fails, at each place.
 
+use super::assert_same;
 use super::groups::{Group, assert_served, serve_two};
 use std::alloc::Global;
 use std::process::Abort;
@@ -62,8 +63,8 @@ fn fails_after<R: Wait + Abort>(rt: &R, alloc: Global, puts: u32) -> bool {
     if fails {
         assert!(rt; page.text().len() < ANSWERS.len());
     } else {
-        assert_eq!(rt; end, Served::Unended);
-        assert_eq!(rt; page.text(), ANSWERS);
+        assert_same(rt, &end, &Served::Unended);
+        assert_same(rt, &page.text(), &ANSWERS);
     }
     fails
 }
@@ -76,9 +77,9 @@ fn tells_a_failing_write(rt: HostRuntime) {
             failed = puts + 1;
         }
     }
-    // The puts of the answers: the table takes 6 for each row and 1 for its end, and a fault 3. A row is an id, a space,
-    // an empty word and an address, the state with the line feed, and an empty text where its pieces end.
-    assert_eq!(rt; failed, 19);
+    // The puts of the answers: the table takes 6 for each row and 1 for its end, and a fault 3. A row is an id, a
+    // space, an empty word and an address, the state with the line feed, and an empty text where its pieces end.
+    assert_same(&rt, &failed, &19);
 }
 
 /// Where the flush after so many others fails, that is told, and this text has been answered so.
@@ -91,8 +92,8 @@ fn assert_unflushed<R: Wait + Abort>(
 ) {
     let mut page = FailingPage::new(alloc, None, Some(flushes));
     let end = serve_two(rt, alloc, &mut Text::new(text), &mut page);
-    assert_eq!(rt; end, Served::WriteFault);
-    assert_eq!(rt; page.text(), answers);
+    assert_same(rt, &end, &Served::WriteFault);
+    assert_same(rt, &page.text(), &answers);
 }
 
 #[test]

@@ -1,5 +1,6 @@
 //! A desk of a small group, and runs of connections to it.
 
+use super::assert_same;
 use std::alloc::Global;
 use std::process::Abort;
 use std::sync::Wait;
@@ -206,6 +207,6 @@ pub fn assert_served<S: Source, R: Wait + Abort>(
     end: Served,
 ) {
     let mut page = Page::new(alloc);
-    assert_eq!(rt; serve(rt, alloc, source, &mut page, group), end);
-    assert_eq!(rt; page.text(), answers);
+    assert_same(rt, &serve(rt, alloc, source, &mut page, group), &end);
+    assert_same(rt, &page.text(), &answers);
 }

@@ -1,5 +1,6 @@
 //! How long a line and how many reads may be.
 
+use super::assert_same;
 use super::groups::{Group, assert_at_once, assert_bytes, assert_lines, assert_served, serve_two};
 use std::alloc::Global;
 use std::process::Abort;
@@ -79,7 +80,7 @@ fn refuses_129_bytes_however_they_come(rt: HostRuntime) {
 
 // It is what a source gives next.
 fn assert_next<R: Abort>(rt: &R, source: &mut Text<'_>, byte: Byte) {
-    assert_eq!(rt; source.byte(), byte);
+    assert_same(rt, &source.byte(), &byte);
 }
 
 #[test]
@@ -134,7 +135,7 @@ fn assert_faults<S: Source, R: Wait + Abort>(
     end: Served,
 ) {
     let mut page = Page::new(alloc);
-    assert_eq!(rt; serve_two(rt, alloc, source, &mut page), end);
+    assert_same(rt, &serve_two(rt, alloc, source, &mut page), &end);
     assert!(rt; is_faults(page.text(), count));
 }
 

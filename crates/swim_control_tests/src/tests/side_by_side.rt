@@ -2,6 +2,7 @@
 
 ghost use Rattle.std.specs.Prelude.{None, length};
 
+use super::assert_same;
 use super::groups::Group;
 use arrayvec::ArrayVec;
 use std::alloc::Global;
@@ -105,7 +106,7 @@ fn assert_turn<R: Wait + Abort>(
     now: u64,
     stand: Option<Stand>,
 ) {
-    assert_eq!(rt; clients.turn(rt, alloc, now, group), stand);
+    assert_same(rt, &clients.turn(rt, alloc, now, group), &stand);
 }
 
 // How serving one of them ends, in the first twenty turns.
@@ -148,8 +149,8 @@ fn each_in_its_turn(rt: HostRuntime) {
         0,
     );
     let end = first_end(&rt, rt.alloc(), &mut clients, &mut group);
-    assert_eq!(rt; end, Some(Served::Stopped));
-    assert_eq!(rt; clients.len(), 2);
+    assert_same(&rt, &end, &Some(Served::Stopped));
+    assert_same(&rt, &clients.len(), &2);
     assert!(rt; seen.is(b"1gap none\n2refused 4\n1fault 2\n2stopping\n"));
 }
 
@@ -181,7 +182,7 @@ fn a_minute_of_silence(rt: HostRuntime) {
     }
     let silent = Some(Stand::Closed(Close::Silent));
     assert_turn(&rt, rt.alloc(), &mut clients, &mut group, 60_005, silent);
-    assert_eq!(rt; clients.len(), 0);
+    assert_same(&rt, &clients.len(), &0);
     assert_turn(&rt, rt.alloc(), &mut clients, &mut group, 60_006, None);
 }
 
@@ -260,5 +261,5 @@ fn as_many_as_may_be(rt: HostRuntime) {
     assert!(rt; clients.is_full());
     let one_more = client_of(b'1', &seen);
     assert!(rt; !clients.add(rt.alloc(), Text::new(b""), one_more, 0));
-    assert_eq!(rt; clients.len(), MOST_CONNECTIONS);
+    assert_same(&rt, &clients.len(), &MOST_CONNECTIONS);
 }

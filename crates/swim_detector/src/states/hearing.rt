@@ -169,8 +169,8 @@ impl State {
     }
 }
 
-/// Where the target of a request is to be pinged: where it is listed, else where the request says. Or why the request is
-/// dropped.
+/// Where the target of a request is to be pinged: where it is listed, else where the request says. Or why the request
+/// is dropped.
 fn requested_at(journal: &Journal, message: &Message) -> Result<Peer, DropReason>
     ensures { MatchResult result
         (λ peer. IsRequest journal.now.opening.me message.now × (message.now.target ≢ journal.now.opening.me)

@@ -15,7 +15,7 @@ pub(super) fn entry(seat: u8, number: u32, call: Call, reply: Reply, choice: Cho
 
 // The journal has these entries, and no other.
 pub(super) fn assert_entries<R: Abort>(rt: &R, journal: &Journal, entries: &[Entry]) {
-    assert_eq!(rt; journal.len() as usize, entries.len());
+    assert_same(rt, &(journal.len() as usize), &entries.len());
     for place in 0..journal.len() {
         assert_entry(rt, journal, place, entries.get(place as usize));
     }
@@ -24,7 +24,7 @@ pub(super) fn assert_entries<R: Abort>(rt: &R, journal: &Journal, entries: &[Ent
 
 // The entry at that place is this one, or there is none.
 fn assert_entry<R: Abort>(rt: &R, journal: &Journal, place: u32, expected: Option<&Entry>) {
-    assert!(rt; journal.entry(place).as_ref() == expected, "at {place}");
+    assert_same_at(rt, place, &journal.entry(place).as_ref(), &expected);
 }
 
 // The first round goes by the first order, and the first relays by the second.
@@ -73,7 +73,7 @@ fn entries_come_back_whole(rt: HostRuntime) -> Result<(), Fail> {
 // The choice of the entry at that place is this one.
 fn assert_choice<R: Abort>(rt: &R, journal: &Journal, place: u32, expected: &Choice) {
     match journal.entry(place) {
-        Some(entry) => assert!(rt; entry.choice == *expected, "at {place}"),
+        Some(entry) => assert_same_at(rt, place, &entry.choice, expected),
         None => panic!(rt; "an entry at {place}"),
     }
 }

@@ -9,7 +9,7 @@ fn assert_numbered<R: Abort>(rt: &R, recorder: &mut Recorder<Scripted>, seat: u8
     requires { seat < SEATS }
 {
     match recorder.apply(seat, Call::Tick) {
-        Ok(entry) => assert_eq!(rt; (entry.seat, entry.number), (seat, number)),
+        Ok(entry) => assert_same(rt, &(entry.seat, entry.number), &(seat, number)),
         Err(_) => panic!(rt; "an entry"),
     }
 }
@@ -18,7 +18,7 @@ fn assert_numbered<R: Abort>(rt: &R, recorder: &mut Recorder<Scripted>, seat: u8
 fn assert_full<R: Abort>(rt: &R, recorder: &mut Recorder<Scripted>, seat: u8)
     requires { seat < SEATS }
 {
-    assert!(rt; recorder.ready() == Err(ApplyFault::JournalFull));
+    assert_same(rt, &recorder.ready(), &Err(ApplyFault::JournalFull));
     let answer = recorder.apply(seat, Call::Tick);
     assert!(rt; matches!(answer, Err(ApplyFault::JournalFull)));
 }
@@ -35,7 +35,7 @@ fn assert_full_at_2<R: Abort>(rt: &R, recorder: Recorder<Scripted>) {
         assert_numbered(rt, &mut recorder, seat, 0);
     }
     assert_full(rt, &mut recorder, 0);
-    assert_eq!(rt; recorder.journal().len(), 2);
+    assert_same(rt, &recorder.journal().len(), &2);
 }
 
 #[test]
@@ -58,7 +58,7 @@ fn assert_counted<R: Abort>(rt: &R, recorder: Recorder<Scripted>) {
 
 // The reply that it lends is that of the first start.
 fn assert_lends_start<R: Abort>(rt: &R, recorder: &Recorder<Scripted>) {
-    assert!(rt; *recorder.reply() == started(None, 2, 1));
+    assert_same(rt, recorder.reply(), &started(None, 2, 1));
 }
 
 #[test]
@@ -68,10 +68,10 @@ fn a_reply_is_lent_until_the_next(rt: HostRuntime) {
 
 fn assert_lends<R: Abort>(rt: &R, recorder: Recorder<Scripted>) {
     let mut recorder = recorder;
-    assert!(rt; *recorder.reply() == Reply::Quiet);
+    assert_same(rt, recorder.reply(), &Reply::Quiet);
     assert!(rt; recorder.record(2, Call::Tick).is_ok());
     assert_lends_start(rt, &recorder);
     let full = recorder.record(2, Call::Tick);
-    assert!(rt; full == Err(ApplyFault::JournalFull));
+    assert_same(rt, &full, &Err(ApplyFault::JournalFull));
     assert_lends_start(rt, &recorder);
 }

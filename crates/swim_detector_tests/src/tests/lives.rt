@@ -61,7 +61,7 @@ fn a_full_table_stays_full(rt: HostRuntime) {
     for other in 2..130u8 {
         let _ = others.try_push(other);
     }
-    assert_eq!(rt; others.len(), 128);
+    assert_same(&rt, &others.len(), &128);
     let steps = [
         Step::Told(Call::Join(id(130), at(130)), Reply::Refused(Refusal::Full)),
         Step::Told(Call::Join(id(2), at(9)), Reply::Joined { place: 127 }),
@@ -91,8 +91,12 @@ fn assert_goes_on<R: Abort>(rt: &R, alloc: Global, calls: &[Call]) {
     let table = first.table();
     let journal = first.into_journal();
     let second = opened(alloc, Opening::after(&journal), 1000);
-    assert!(rt; second.table().as_slice() == table.as_slice());
-    assert_eq!(rt; second.journal().opening().last(), journal.last_number());
+    assert_same(rt, &second.table().as_slice(), &table.as_slice());
+    assert_same(
+        rt,
+        &second.journal().opening().last(),
+        &journal.last_number(),
+    );
 }
 
 #[test]

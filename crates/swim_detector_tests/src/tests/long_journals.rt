@@ -19,7 +19,7 @@ fn judged_so_often<R: Abort>(rt: &R, alloc: Global) -> Journal {
 #[test]
 fn a_long_journal_tells_its_judgements(rt: HostRuntime) -> Result<(), Fail> {
     let journal = judged_so_often(&rt, rt.alloc());
-    assert_eq!(rt; journal.len(), 7 * TIMES);
+    assert_same(&rt, &journal.len(), &(7 * TIMES));
     assert_judgements(&rt, journal.judgements()?.as_slice());
     Ok(())
 }
@@ -28,10 +28,10 @@ fn a_long_journal_tells_its_judgements(rt: HostRuntime) -> Result<(), Fail> {
 fn assert_judgements<R: Abort>(rt: &R, judgements: &[Judged]) {
     let mut number = 1;
     for judged in judgements {
-        assert_eq!(rt; (judged.member, judged.number), (id(2), number));
+        assert_same(rt, &(judged.member, judged.number), &(id(2), number));
         number = number.wrapping_add(2);
     }
-    assert_eq!(rt; judgements.len(), TIMES as usize);
+    assert_same(rt, &judgements.len(), &(TIMES as usize));
 }
 
 #[test]
@@ -45,8 +45,8 @@ fn a_long_journal_tells_its_probes(rt: HostRuntime) -> Result<(), Fail> {
 fn assert_probes<R: Abort>(rt: &R, probes: &[Probed]) {
     let mut number = 1;
     for probed in probes {
-        assert_eq!(rt; (probed.member, probed.number), (id(2), number));
+        assert_same(rt, &(probed.member, probed.number), &(id(2), number));
         number = number.wrapping_add(2);
     }
-    assert_eq!(rt; probes.len(), TIMES as usize);
+    assert_same(rt, &probes.len(), &(TIMES as usize));
 }

@@ -28,7 +28,7 @@ fn four_ticks<R: Abort>(rt: &R, alloc: Global) -> Journal {
 
 fn assert_judged<R: Abort>(rt: &R, journal: &Journal, expected: &[Judged]) {
     match journal.judgements() {
-        Ok(judgements) => assert!(rt; judgements.as_slice() == expected),
+        Ok(judgements) => assert_same(rt, &judgements.as_slice(), &expected),
         Err(_) => panic!(rt; "judgements"),
     }
 }
@@ -44,7 +44,7 @@ fn a_judgement_is_in_the_journal(rt: HostRuntime) {
 
 fn assert_probed<R: Abort>(rt: &R, journal: &Journal, expected: &[Probed]) {
     match journal.probes() {
-        Ok(probes) => assert!(rt; probes.as_slice() == expected),
+        Ok(probes) => assert_same(rt, &probes.as_slice(), &expected),
         Err(_) => panic!(rt; "probes"),
     }
 }

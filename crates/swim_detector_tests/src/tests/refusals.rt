@@ -1,6 +1,6 @@
-//! Calls that are refused memory. tests/node/refusals runs these with one request for memory refused, the first, the second and
-//! so on; else none is. A call that is refused changes nothing, and made again it is answered as where none was refused. Where a
-//! test met a refusal of a call that it names, it writes a line.
+//! Calls that are refused memory. tests/node/refusals runs these with one request for memory refused, the first, the
+//! second and so on; else none is. A call that is refused changes nothing, and made again it is answered as where none
+//! was refused. Where a test met a refusal of a call that it names, it writes a line.
 
 use super::entries::{assert_entries, entry};
 use super::requests::{ack, forwarded, pinged, request};
@@ -57,16 +57,16 @@ fn scripted_draws(alloc: Global) -> Result<Scripted, AllocError> {
 // It has these entries and this table, and lends the reply of the newest entry.
 fn assert_holds<R: Abort>(rt: &R, recorder: &Recorder<Scripted>, entries: &[Entry], rows: &[Row]) {
     assert_entries(rt, recorder.journal(), entries);
-    assert!(rt; recorder.table().as_slice() == rows);
+    assert_same(rt, &recorder.table().as_slice(), &rows);
     match entries.last() {
-        Some(newest) => assert!(rt; *recorder.reply() == newest.reply),
-        None => assert!(rt; *recorder.reply() == Reply::Quiet),
+        Some(newest) => assert_same(rt, recorder.reply(), &newest.reply),
+        None => assert_same(rt, recorder.reply(), &Reply::Quiet),
     }
 }
 
 fn assert_made<R: Abort>(rt: &R, answer: Result<Entry, ApplyFault>, wanted: &Entry) {
     match answer {
-        Ok(entry) => assert!(rt; entry == *wanted),
+        Ok(entry) => assert_same(rt, &entry, wanted),
         Err(_) => panic!(rt; "an entry"),
     }
 }
@@ -235,7 +235,7 @@ fn assert_judged<R: Abort>(rt: &R, judgements: Result<Vec<Judged>, AllocError>) 
         number: 1,
     };
     match judgements {
-        Ok(judged) => assert!(rt; judged.as_slice() == [wanted].as_slice()),
+        Ok(judged) => assert_same(rt, &judged.as_slice(), &[wanted].as_slice()),
         Err(_) => panic!(rt; "judgements"),
     }
 }
@@ -269,7 +269,7 @@ fn assert_probed<R: Abort>(rt: &R, probes: Result<Vec<Probed>, AllocError>) {
         member: id(3),
     };
     match probes {
-        Ok(probed) => assert!(rt; probed.as_slice() == [first, second].as_slice()),
+        Ok(probed) => assert_same(rt, &probed.as_slice(), &[first, second].as_slice()),
         Err(_) => panic!(rt; "probes"),
     }
 }

@@ -1,4 +1,5 @@
-//! What is asked of a detector, as data: a test is proved in no time where it writes down steps, and one loop takes them.
+//! What is asked of a detector, as data: a test is proved in no time where it writes down steps, and one loop takes
+//! them.
 
 use super::*;
 use swim_history::Change;
@@ -46,14 +47,14 @@ fn take<R: Abort>(rt: &R, recorder: &mut Recorder<Scripted>, step: &Step) {
         Step::Ticks(count) => tick(rt, recorder, *count),
         Step::Made(call) => assert!(rt; recorder.apply(0, *call).is_ok()),
         Step::Told(call, reply) => assert_told(rt, recorder, *call, reply),
-        Step::Changes(call, change) => assert!(rt; recorder.change(call) == *change),
+        Step::Changes(call, change) => assert_same(rt, &recorder.change(call), change),
         Step::Knows(rows) => assert_knows(rt, recorder, rows.as_slice()),
         Step::Began(number) => assert_began(rt, recorder, *number),
     }
 }
 
 fn assert_began<R: Abort>(rt: &R, recorder: &Recorder<Scripted>, number: u64) {
-    assert_eq!(rt; recorder.journal().opening().last(), number);
+    assert_same(rt, &recorder.journal().opening().last(), &number);
 }
 
 fn tick<R: Abort>(rt: &R, recorder: &mut Recorder<Scripted>, count: u32) {
@@ -64,12 +65,11 @@ fn tick<R: Abort>(rt: &R, recorder: &mut Recorder<Scripted>, count: u32) {
 
 fn assert_told<R: Abort>(rt: &R, recorder: &mut Recorder<Scripted>, call: Call, expected: &Reply) {
     match recorder.apply(0, call) {
-        Ok(entry) => assert!(rt; entry.reply == *expected),
+        Ok(entry) => assert_same(rt, &entry.reply, expected),
         Err(_) => panic!(rt; "a reply"),
     }
 }
 
 fn assert_knows<R: Abort>(rt: &R, recorder: &Recorder<Scripted>, rows: &[Row]) {
-    let table = recorder.table();
-    assert!(rt; table.as_slice() == rows);
+    assert_same(rt, &recorder.table().as_slice(), &rows);
 }

@@ -210,5 +210,5 @@ fn assert_goes_on<R: Abort>(rt: &R, alloc: Global, version: Version) {
     let mut first = opened(alloc, opening_in(rt, 1, &[2, 3], 0, version), 100);
     call_each(rt, &mut first, &[Call::Tick; 4]);
     let later = Opening::after(&first.into_journal());
-    assert_eq!(rt; later.version(), version);
+    assert_same(rt, &later.version(), &version);
 }

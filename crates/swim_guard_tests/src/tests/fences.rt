@@ -3,7 +3,7 @@
 ghost use Rattle.std.specs.Prelude.{◌≡◌, ◌≤◌, None};
 ghost use Rattle.swim_life.specs.Gates.{FitsInto};
 
-use super::{BY_FIRST, PING, at, keys};
+use super::{BY_FIRST, PING, assert_same, at, keys};
 use std::sync::Wait;
 use std::test::Fail;
 use swim_guard::{FencedLine, SealedLine, Sieve, Timepiece};
@@ -99,9 +99,9 @@ fn heard<R: Wait, L: Line>(rt: &R, line: &mut L, count: u32) -> (u32, u32) {
 fn each_member_has_a_bucket(rt: HostRuntime) {
     let mut line = FencedLine::new(in_turn(PING), Still {}, 2);
     line.list(&[at(2), at(3)]);
-    assert_eq!(rt; heard(&rt, &mut line, 6), (2, 2));
-    assert_eq!(rt; line.thrown().count, 2);
-    assert_eq!(rt; line.thrown().newest, Some(at(3)));
+    assert_same(&rt, &heard(&rt, &mut line, 6), &(2, 2));
+    assert_same(&rt, &line.thrown().count, &2);
+    assert_same(&rt, &line.thrown().newest, &Some(at(3)));
 }
 
 // All others have one together: of six datagrams two pass.
@@ -109,25 +109,25 @@ fn each_member_has_a_bucket(rt: HostRuntime) {
 fn strangers_have_one_bucket(rt: HostRuntime) {
     let mut line = FencedLine::new(in_turn(PING), Still {}, 2);
     line.list(&[at(4)]);
-    assert_eq!(rt; heard(&rt, &mut line, 6), (1, 1));
-    assert_eq!(rt; line.thrown().count, 4);
+    assert_same(&rt, &heard(&rt, &mut line, 6), &(1, 1));
+    assert_same(&rt, &line.thrown().count, &4);
 }
 
-// Datagrams come each quarter of a second, and two a second may pass: of the first four, while the burst lasts, three do, and
-// then each second one.
+// Datagrams come each quarter of a second, and two a second may pass: of the first four, while the burst lasts, three
+// do, and then each second one.
 #[test]
 fn the_bucket_fills_again(rt: HostRuntime) {
     let mut line = FencedLine::new(in_turn(PING), Quarters { time: 0 }, 2);
-    assert_eq!(rt; heard(&rt, &mut line, 4), (2, 1));
-    assert_eq!(rt; heard(&rt, &mut line, 40), (20, 0));
+    assert_same(&rt, &heard(&rt, &mut line, 4), &(2, 1));
+    assert_same(&rt, &heard(&rt, &mut line, 40), &(20, 0));
 }
 
 // With a fence of 0 all pass.
 #[test]
 fn no_fence(rt: HostRuntime) {
     let mut line = FencedLine::new(in_turn(PING), Still {}, 0);
-    assert_eq!(rt; heard(&rt, &mut line, 100), (50, 50));
-    assert_eq!(rt; line.thrown().count, 0);
+    assert_same(&rt, &heard(&rt, &mut line, 100), &(50, 50));
+    assert_same(&rt, &line.thrown().count, &0);
 }
 
 // The fence stands below the keys: what it refuses is not looked at, and what it lets in has to have a tag.
@@ -136,12 +136,12 @@ fn a_fence_below_the_keys(rt: HostRuntime) -> Result<(), Fail> {
     let keys = keys()?;
     let fenced = FencedLine::new(in_turn(PING), Still {}, 2);
     let mut line = SealedLine::new(fenced, Some(&keys));
-    assert_eq!(rt; heard(&rt, &mut line, 6), (0, 0));
-    assert_eq!(rt; line.thrown().count, 2);
+    assert_same(&rt, &heard(&rt, &mut line, 6), &(0, 0));
+    assert_same(&rt, &line.thrown().count, &2);
     let fenced = FencedLine::new(in_turn(BY_FIRST), Still {}, 2);
     let mut line = SealedLine::new(fenced, Some(&keys));
     line.list(&[at(2)]);
-    assert_eq!(rt; heard(&rt, &mut line, 6), (2, 2));
-    assert_eq!(rt; line.thrown().count, 0);
+    assert_same(&rt, &heard(&rt, &mut line, 6), &(2, 2));
+    assert_same(&rt, &line.thrown().count, &0);
     Ok(())
 }

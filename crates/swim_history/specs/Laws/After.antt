@@ -1,10 +1,10 @@
 -- Laws of what a detector goes on from after a journal: it is within the limits, and its period numbers are new.
-use Rattle.std.proofs.Common.{◌≡◌, ◌≢◌, ℕ, ◌+◌, ◌<◌, ◌≤◌, ◌==◌, Bool, true, false, cond, nat_lt, nat_le, List, []}
-use Rattle.std.proofs.Common.{◌∷◌, Option, Some, None, refl, sym, ap, ◌∙◌, arith, find, ◌&&◌, ◌||◌}
-use Rattle.std.proofs.lemmas.Bool.{lt-ltb, le-leb, leb-true, ltb-true, and_parts, cond_both, ne_eqb}
+use Rattle.std.proofs.Common.{◌≡◌, ℕ, ◌+◌, ◌<◌, ◌≤◌, ◌==◌, Bool, true, false, cond, nat_lt, nat_le, List, []}
+use Rattle.std.proofs.Common.{◌∷◌, Option, Some, None, refl, sym, ap, ◌∙◌, arith, find, ◌||◌}
+use Rattle.std.proofs.lemmas.Bool.{lt-ltb, le-leb, leb-true, and_parts, cond_both, ne_eqb}
 use Rattle.std.specs.List.{AllByRecursion, list_all, list_any}
 use Rattle.std.specs.Option.{option_map, option_to_list, is_some}
-use Rattle.swim_wire.specs.Ids.{has, has_twice}
+use Rattle.swim_wire.specs.Ids.{has_twice}
 use Rattle.swim_history.specs.declared.rows.Row.{Row}
 use Rattle.swim_history.specs.declared.rows.RowState.{RowState}
 use Rattle.swim_history.specs.declared.rows.RowState.TheVariants as state
@@ -17,10 +17,10 @@ use Rattle.swim_history.specs.declared.entries.Choice.TheVariants.{Nothing}
 use Rattle.swim_history.specs.declared.entries.Entry.{Entry}
 use Rattle.swim_history.specs.Setting.{Setting, IsSetting, ids_of, is_state_past}
 use Rattle.swim_history.specs.Events.{is_start}
-use Rattle.swim_history.specs.Clock.{period_number, number_at, ticks}
+use Rattle.swim_history.specs.Clock.{period_number}
 use Rattle.swim_history.specs.Aim.{unheard}
 use Rattle.swim_history.specs.Rows.{up, failed, row_at, row_then, row_of}
-use Rattle.swim_history.specs.Changes.{change_by, ascending, IsAscending, rows_after, table}
+use Rattle.swim_history.specs.Changes.{change_by, IsAscending, rows_after, table}
 use Rattle.swim_history.specs.Run.{Answers, IsRun}
 use Rattle.swim_history.specs.After.{setting_after, numbers, NumbersGoOn}
 use Rattle.swim_history.specs.Laws.Run.{number_then}

@@ -17,7 +17,8 @@ are_past last [] = refl
 are_past last (member ∷ members) = are_past last members
 
 pub is_setting : (me k rtt period : ℕ) (members : List (ℕ × Address)) (last : ℕ) (version : Version) → last < 2 ^ 64 →
-    first_fault (setting_of me k rtt period members last version) ≡ None → IsSetting (setting_of me k rtt period members last version)
+    first_fault (setting_of me k rtt period members last version) ≡ None →
+    IsSetting (setting_of me k rtt period members last version)
 is_setting me k rtt period members last version lt none =
     let rows = rows_up members in
     let test = has_fault (setting_of me k rtt period members last version) in

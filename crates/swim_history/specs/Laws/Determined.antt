@@ -76,7 +76,8 @@ send_on None ack otherwise = otherwise
 send_on (Some asker) ack otherwise = Send asker.0 (ack asker.1)
 
 abbrev pub reply_to_message : Setting → List Entry → Message → Address → Kind → Reply
-reply_to_message o h m source Ping = if m.target == o.me then Send source (ack_by m.version o.me m) else Dropped NotForMe
+reply_to_message o h m source Ping =
+    if m.target == o.me then Send source (ack_by m.version o.me m) else Dropped NotForMe
 reply_to_message o h m source PingReq =
     if not (m.initiator == m.sender) || m.initiator == o.me then Dropped Borrowed
     else (if m.target == o.me then Dropped AboutMe

@@ -250,9 +250,11 @@ module _ {S : Type 0} (orders : S → List ℕ → List ℕ → S → Type 0) (p
       (address_once (row_of o h target) target peer peer' a.4 row)
       (subst (λ (n : ℕ). Same (Asked target peer number rs) (Asked target peer n rs') Nothing Nothing)
       (a.2 ∙ sym a'.2) (asked_same target peer number rs rs' a.3 relays d d'))) a'.3 a'.4 d'
-  free_same Tick (Asked target peer number rs) (Asked target' peer' number' rs') Nothing (Round order') a a' e d d' free =
+  free_same Tick (Asked target peer number rs) (Asked target' peer' number' rs') Nothing (Round order') a a' e d d'
+      free =
       absurd a'
-  free_same Tick (Asked target peer number rs) (Asked target' peer' number' rs') (Round order) choice' a a' e d d' free = absurd a
+  free_same Tick (Asked target peer number rs) (Asked target' peer' number' rs') (Round order) choice' a a' e d d'
+      free = absurd a
   free_same (Join id peer) (Joined place) (Joined place') Nothing Nothing a a' e d d' free =
       let drawn = f.place before before' after after' (length (listed o h)) place place' alike d d' in
       record { replies = ap Joined drawn.0; choices = refl; choosers = drawn.1 }

@@ -24,7 +24,8 @@ same_length : (id number : ℕ) (rows : List Row) → length (rows_failed id num
 same_length id number [] = refl
 same_length id number (row ∷ rows) = ap (λ n. suc n) (same_length id number rows)
 
-past : (last number : ℕ) (row : Row) (is : Bool) → is_state_past last (Failed number) ≡ true → is_state_past last row.state ≡ true →
+past : (last number : ℕ) (row : Row) (is : Bool) → is_state_past last (Failed number) ≡ true →
+    is_state_past last row.state ≡ true →
     is_state_past last (cond is (failed number row) row).state ≡ true
 past last number row true used before = used
 past last number row false used before = before
@@ -37,7 +38,8 @@ all_past last id number (row ∷ rows) used before =
     let parts = and_parts (is_state_past last row.state) (list_all (λ row. is_state_past last row.state) rows) before in
     rw (past last number row (eqb row.id id) used parts.0, all_past last id number rows used parts.1) refl
 
-pub failed_is : (o : Setting) (id number : ℕ) → IsSetting o → is_state_past o.last (Failed number) ≡ true → IsSetting (setting_failed id number o)
+pub failed_is : (o : Setting) (id number : ℕ) → IsSetting o → is_state_past o.last (Failed number) ≡ true →
+    IsSetting (setting_failed id number o)
 failed_is o id number s used = record {
   relays = s.relays;
   timing = s.timing;

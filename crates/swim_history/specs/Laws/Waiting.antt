@@ -33,7 +33,8 @@ use Rattle.swim_history.specs.Waiting.{Asking, asked_in, sent_on_in, ends, left_
 abbrev left_by : ℕ → Asking → Bool → ℕ → Option Request
 left_by period a ended passed =
     cond ended None
-    (cond (nat_lt passed period) (Some (record { key = a.key; peer = a.peer; version = a.version; left = period - passed })) None)
+    (cond (nat_lt passed period)
+    (Some (record { key = a.key; peer = a.peer; version = a.version; left = period - passed })) None)
 
 -- one more entry after a request
 ended_more : (e : Entry) (newer : List Entry) (key : Key) → list_any (ends key) (newer ++ e ∷ []) ≡
@@ -79,8 +80,10 @@ left_ended period a key false t = rw (same_key_comm key a.key) (by (same_key a.k
     by : (same : Bool) → same_key a.key key ≡ same → (waits : Bool) →
         option_to_list
         (cond (same || false) None
-        (cond waits (Some (record { key = a.key; peer = a.peer; version = a.version; left = period - t })) None)) ≡ forget key
-        (option_to_list (cond waits (Some (record { key = a.key; peer = a.peer; version = a.version; left = period - t })) None))
+        (cond waits (Some (record { key = a.key; peer = a.peer; version = a.version; left = period - t })) None)) ≡
+        forget key
+        (option_to_list (cond waits
+        (Some (record { key = a.key; peer = a.peer; version = a.version; left = period - t })) None))
     by true is true = rw is refl
     by true is false = refl
     by false is true = rw is refl
@@ -191,7 +194,8 @@ waiting_asked o h e m source peer ping positive call kind reply =
     waiting_then o e (forget (key_of m)) (forget_each (key_of m))
     (sent_each o.period e (key_of m) (rw call refl) (rw (call, reply, kind) refl)) h
     ∙ (rw (call, reply, kind, lt-ltb 0 o.period positive)
-    (ap (λ (n : ℕ). forget (key_of m) (waiting o h) ++ record { key = key_of m; peer = source; version = m.version; left = n } ∷ [])
+    (ap (λ (n : ℕ). forget (key_of m) (waiting o h) ++
+    record { key = key_of m; peer = source; version = m.version; left = n } ∷ [])
     (omega arith)))
 
 -- an ack that is passed on ends what waits for it

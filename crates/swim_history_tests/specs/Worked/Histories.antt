@@ -196,7 +196,15 @@ one_for_another_is_run = (
 -- acks of member 2, of this member's period with that number, from the relay
 abbrev ack : ℕ → Call
 ack number =
-    Hear (at 3) (record { version = One; kind = Ack; sender = 3; initiator = 1; target = 2; number = number; at = None })
+    Hear (at 3) (record {
+      version = One;
+      kind = Ack;
+      sender = 3;
+      initiator = 1;
+      target = 2;
+      number = number;
+      at = None;
+    })
 
 -- an ack counts that comes in its period, whoever sent it, and no other
 ack_counts : unheard two_members (entry 1 (ack 1) Heard Nothing ∷ first_start ∷ []) ≡ None
@@ -230,13 +238,17 @@ joins_later = refl
 -- a request of member 2 for a ping of member 3, which waits for a period of ticks and no longer
 abbrev request : ℕ → Entry
 request place =
-    entry place (Hear (at 2) (record { version = One; kind = PingReq; sender = 2; initiator = 2; target = 3; number = 9; at = None }))
-    (Send (at 3) (record { version = One; kind = Ping; sender = 1; initiator = 2; target = 3; number = 9; at = None })) Nothing
+    entry place (Hear (at 2)
+    (record { version = One; kind = PingReq; sender = 2; initiator = 2; target = 3; number = 9; at = None }))
+    (Send (at 3) (record { version = One; kind = Ping; sender = 1; initiator = 2; target = 3; number = 9; at = None }))
+    Nothing
 
 abbrev forwarded : ℕ → Entry
 forwarded place =
-    entry place (Hear (at 3) (record { version = One; kind = Ack; sender = 3; initiator = 2; target = 3; number = 9; at = None }))
-    (Send (at 2) (record { version = One; kind = Ack; sender = 1; initiator = 2; target = 3; number = 9; at = None })) Nothing
+    entry place (Hear (at 3)
+    (record { version = One; kind = Ack; sender = 3; initiator = 2; target = 3; number = 9; at = None }))
+    (Send (at 2) (record { version = One; kind = Ack; sender = 1; initiator = 2; target = 3; number = 9; at = None }))
+    Nothing
 
 waits : waiting two_members (asking 2 2 1 [] ∷ first_start ∷ request 0 ∷ []) ≡
     record { key = record { initiator = 2; target = 3; number = 9 }; peer = at 2; version = One; left = 1 } ∷ []

@@ -1,6 +1,6 @@
 ghost use Rattle.std.specs.Prelude.{◌<◌};
 
-use super::{address, id};
+use super::{address, assert_same, id};
 use std::process::Abort;
 use swim_history::*;
 
@@ -15,7 +15,7 @@ fn row(member: u32, last: u8, state: RowState) -> Row
 }
 
 fn assert_last<R: Abort>(rt: &R, table: &Table, expected: Row) {
-    assert_eq!(rt; table.last(), Some(&expected));
+    assert_same(rt, &table.last(), &Some(&expected));
 }
 
 // 128 members, 1 to 128, are known: no other one becomes so until one of them goes.
@@ -34,6 +34,10 @@ fn a_full_table_stays(rt: HostRuntime) {
     change_table(&mut table, &Change::Gone(id(1)));
     change_table(&mut table, &Change::Up(id(129), address(1)));
     assert_last(&rt, &table, row(129, 1, RowState::Up));
-    assert_eq!(rt; table.len(), 128);
-    assert_eq!(rt; copy_table(table.as_slice()).as_slice(), table.as_slice());
+    assert_same(&rt, &table.len(), &128);
+    assert_same(
+        &rt,
+        &copy_table(table.as_slice()).as_slice(),
+        &table.as_slice(),
+    );
 }

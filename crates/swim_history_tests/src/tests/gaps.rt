@@ -8,7 +8,7 @@ ghost use Rattle.swim_history_tests.specs.Worked.Returns.{leaving, returning, re
 ghost use Rattle.swim_history_tests.specs.Worked.Returns.{judged_returning, judged_and_back};
 
 use super::journals::{append, entry, first_start, played, start};
-use super::{address, id};
+use super::{address, assert_same, id};
 use arrayvec::ArrayVec;
 use std::alloc::Global;
 use std::process::Abort;
@@ -89,7 +89,7 @@ fn replayed<R: Abort>(rt: &R, alloc: Global, entries: &[Entry]) -> Journal
 fn assert_gap<R: Abort>(rt: &R, journal: &Journal, member: u32, expected: Option<Gap>)
     requires { 0 < member }
 {
-    assert_eq!(rt; journal.widest_gap(id(member)), expected);
+    assert_same(rt, &journal.widest_gap(id(member)), &expected);
 }
 
 // Four periods whose aims answer: they probe 2, 3, 3 and 2.

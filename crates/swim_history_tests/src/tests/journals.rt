@@ -7,7 +7,7 @@ ghost use Rattle.swim_history.specs.Run.{Continues};
 ghost use Rattle.swim_history_tests.specs.Worked.Histories.{at, entry, round, starting, asking};
 ghost use Rattle.swim_history_tests.specs.Worked.Histories.{two_members, first_start};
 
-use super::{address, id, opening};
+use super::{address, assert_same, id, opening};
 use arrayvec::ArrayVec;
 use std::alloc::Global;
 use std::process::Abort;
@@ -16,20 +16,20 @@ use swim_wire::{Id, Version};
 
 fn assert_judged<R: Abort>(rt: &R, journal: &Journal, expected: &[Judged]) {
     match journal.judgements() {
-        Ok(judgements) => assert!(rt; judgements.as_slice() == expected),
+        Ok(judgements) => assert_same(rt, &judgements.as_slice(), &expected),
         Err(_) => panic!(rt; "judgements"),
     }
 }
 
 fn assert_entry<R: Abort>(rt: &R, journal: &Journal, place: u32, expected: Option<&Entry>) {
-    assert!(rt; journal.entry(place).as_ref() == expected);
+    assert_same(rt, &journal.entry(place).as_ref(), &expected);
 }
 
 // It has so many entries, and judged nobody.
 fn assert_counts<R: Abort>(rt: &R, journal: &Journal, count: u32) {
-    assert_eq!(rt; journal.len(), count);
-    assert!(rt; journal.is_empty() == (count == 0));
-    assert!(rt; journal.judged_count() == 0);
+    assert_same(rt, &journal.len(), &count);
+    assert_same(rt, &journal.is_empty(), &(count == 0));
+    assert_same(rt, &journal.judged_count(), &0);
 }
 
 #[test]
@@ -41,7 +41,7 @@ fn assert_empty<R: Abort>(rt: &R, journal: Journal) {
     assert_counts(rt, &journal, 0);
     assert_entry(rt, &journal, 0, None);
     assert_judged(rt, &journal, &[]);
-    assert_eq!(rt; journal.opening().period(), 3);
+    assert_same(rt, &journal.opening().period(), &3);
     assert_room(rt, journal);
 }
 
@@ -207,7 +207,7 @@ fn row(member: u8, state: RowState) -> Row
 fn assert_row<R: Abort>(rt: &R, journal: &Journal, member: u32, expected: Option<Row>)
     requires { 0 < member }
 {
-    assert!(rt; journal.row(id(member)) == expected);
+    assert_same(rt, &journal.row(id(member)), &expected);
 }
 
 // What the run that is played makes, worked by hand: member 2 failed in period 1, and member 4 is up.
@@ -225,8 +225,8 @@ fn assert_rows<R: Abort>(rt: &R, journal: &Journal) {
 
 fn assert_table<R: Abort>(rt: &R, journal: &Journal) {
     let rows = [row(2, RowState::Failed(1)), row(4, RowState::Up)];
-    assert!(rt; journal.rows().as_slice() == rows.as_slice());
-    assert_eq!(rt; journal.known(), 2);
+    assert_same(rt, &journal.rows().as_slice(), &rows.as_slice());
+    assert_same(rt, &journal.known(), &2);
 }
 
 #[test]
@@ -239,13 +239,17 @@ fn assert_numbers_and_judgements<R: Abort>(rt: &R, journal: &Journal) {
         member: id(2),
         number: 1,
     };
-    assert_eq!(rt; (journal.last_number(), journal.judged_count()), (2, 1));
+    assert_same(
+        rt,
+        &(journal.last_number(), journal.judged_count()),
+        &(2, 1),
+    );
     assert_judged(rt, journal, &[judged]);
 }
 
 fn assert_probed<R: Abort>(rt: &R, journal: &Journal, expected: &[Probed]) {
     match journal.probes() {
-        Ok(probes) => assert!(rt; probes.as_slice() == expected),
+        Ok(probes) => assert_same(rt, &probes.as_slice(), &expected),
         Err(_) => panic!(rt; "probes"),
     }
 }

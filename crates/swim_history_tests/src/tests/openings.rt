@@ -1,6 +1,6 @@
 ghost use Rattle.std.specs.Prelude.{◌<◌, ◌≤◌};
 
-use super::{address, id};
+use super::{address, assert_same, id};
 use arrayvec::ArrayVec;
 use std::process::Abort;
 use std::test::Fail;
@@ -24,7 +24,7 @@ fn assert_fault<R: Abort>(
 ) {
     match Opening::check(id(1), k, rtt, period, members, 0, Version::One) {
         Ok(_) => panic!(rt; "fault {number}"),
-        Err(fault) => assert_eq!(rt; fault.number(), number),
+        Err(fault) => assert_same(rt, &fault.number(), &number),
     }
 }
 
@@ -59,22 +59,20 @@ fn members(count: u8) -> ArrayVec<(Id, Peer), 129>
 #[test]
 fn members_fit_up_to_128(rt: HostRuntime) {
     let most = members(128);
-    assert_eq!(rt; most.len(), 128);
+    assert_same(&rt, &most.len(), &128);
     assert!(rt; Opening::check(id(1), 1, 1, 3, most.as_slice(), 0, Version::One).is_ok());
     let more = members(129);
-    assert_eq!(rt; more.len(), 129);
+    assert_same(&rt, &more.len(), &129);
     assert_fault(&rt, 1, 1, 3, more.as_slice(), 3);
 }
 
 fn assert_copied<R: Abort>(rt: &R, opening: &Opening) {
     let copy = opening.copy();
-    assert_eq!(rt; copy.me(), id(1));
-    assert_eq!(rt;
-        (copy.k(), copy.rtt(), copy.period(), copy.last()),
-        (3, 2, 6, 9)
-    );
-    assert!(rt; copy.rows() == opening.rows());
-    assert_eq!(rt; copy.version(), Version::Two);
+    assert_same(rt, &copy.me(), &id(1));
+    assert_same(rt, &(copy.k(), copy.rtt(), copy.period()), &(3, 2, 6));
+    assert_same(rt, &copy.last(), &9);
+    assert_same(rt, &copy.rows(), &opening.rows());
+    assert_same(rt, &copy.version(), &Version::Two);
 }
 
 #[test]
@@ -101,14 +99,14 @@ fn members_that_failed(rt: HostRuntime) -> Result<(), Fail> {
 fn assert_failed<R: Abort>(rt: &R, opening: &Opening) {
     match opening.rows() {
         [second, third] => {
-            assert!(rt; second.state == RowState::Up);
-            assert!(rt; third.state == RowState::Failed(9));
-            assert!(rt; third.peer == address(3));
+            assert_same(rt, &second.state, &RowState::Up);
+            assert_same(rt, &third.state, &RowState::Failed(9));
+            assert_same(rt, &third.peer, &address(3));
         }
         _ => panic!(rt; "two rows"),
     }
-    assert_eq!(rt; opening.last(), 9);
-    assert!(rt; opening.version() == Version::Two);
+    assert_same(rt, &opening.last(), &9);
+    assert_same(rt, &opening.version(), &Version::Two);
 }
 
 // Nobody failed in these periods.

@@ -1,4 +1,4 @@
-use super::{address, id, opening};
+use super::{address, assert_same, id, opening};
 use arrayvec::ArrayVec;
 use std::process::Abort;
 use swim_history::*;
@@ -27,7 +27,7 @@ fn numbers_reasons(rt: HostRuntime) {
         (OpeningFault::Twice, 5),
     ];
     for (fault, number) in faults {
-        assert_eq!(rt; fault.number(), number);
+        assert_same(&rt, &fault.number(), &number);
     }
     let drops = [
         (DropReason::NotForMe, 1),
@@ -39,7 +39,7 @@ fn numbers_reasons(rt: HostRuntime) {
         (DropReason::NoRequest, 7),
     ];
     for (reason, number) in drops {
-        assert_eq!(rt; reason.number(), number);
+        assert_same(&rt, &reason.number(), &number);
     }
     let refusals = [
         (Refusal::Myself, 1),
@@ -49,14 +49,14 @@ fn numbers_reasons(rt: HostRuntime) {
         (Refusal::Spent, 5),
     ];
     for (refusal, number) in refusals {
-        assert_eq!(rt; refusal.number(), number);
+        assert_same(&rt, &refusal.number(), &number);
     }
 }
 
 // A detector whose last number is 8 sends these for the reply.
 fn assert_sends<R: Abort>(rt: &R, reply: &Reply, expected: &[(Peer, Message)]) {
     let opening = opening(rt, 8);
-    assert_eq!(rt; sends(reply, &opening).as_slice(), expected);
+    assert_same(rt, &sends(reply, &opening).as_slice(), &expected);
 }
 
 // A start that probes member 2 in the period of that number.
@@ -133,12 +133,11 @@ fn own_of_version_2(kind: Kind) -> Message {
 fn assert_sends_in_version_2<R: Abort>(rt: &R, reply: &Reply, peer: Peer, message: Message) {
     let members = [(id(2), address(2)), (id(3), address(3))];
     match Opening::check(id(1), 1, 1, 3, &members, 0, Version::Two) {
-        Ok(opening) => {
-            assert_eq!(rt;
-                sends(reply, &opening).as_slice(),
-                [(peer, message)].as_slice()
-            );
-        }
+        Ok(opening) => assert_same(
+            rt,
+            &sends(reply, &opening).as_slice(),
+            &[(peer, message)].as_slice(),
+        ),
         Err(_) => panic!(rt; "an opening"),
     }
 }
@@ -161,10 +160,10 @@ fn asking_3() -> Reply {
 #[test]
 fn sends_its_own_in_version_2(rt: HostRuntime) {
     let ping = own_of_version_2(Kind::Ping);
-    assert_eq!(rt; ping.at, None);
+    assert_same(&rt, &ping.at, &None);
     assert_sends_in_version_2(&rt, &probing(1), address(2), ping);
     let request = own_of_version_2(Kind::PingReq);
-    assert_eq!(rt; request.at, Some(address(2)));
+    assert_same(&rt, &request.at, &Some(address(2)));
     assert_sends_in_version_2(&rt, &asking_3(), address(3), request);
 }
 

@@ -53,8 +53,8 @@ impl Sink for File {
     }
 }
 
-// A shelf of files that take so many bytes. It plays each file that comes back, and counts those that were played to their
-// end, and the calls in them.
+// A shelf of files that take so many bytes. It plays each file that comes back, and counts those that were played to
+// their end, and the calls in them.
 #[derive(Drop)]
 struct Player {
     alloc: Global,
@@ -172,8 +172,8 @@ fn live_twice<R: Threads + Wait + Clock + Send + Sync + Copy + Drop>(
 #[test]
 fn each_life_has_a_file(rt: HostRuntime) -> Result<(), Fail> {
     let (shelf, page) = live_twice(rt, rt.alloc(), 1000)?;
-    assert_eq!(rt; shelf.played, 2);
-    assert_eq!(rt; shelf.calls, 4);
+    assert_same(&rt, &shelf.played, &2);
+    assert_same(&rt, &shelf.calls, &4);
     assert!(rt;
         page.text()
             .starts_with(b"life 0 entries 2 judged 0 unsent 0 wire 0 refused 0\n")

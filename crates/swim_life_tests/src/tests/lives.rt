@@ -113,7 +113,7 @@ fn sixteen_faults(rt: HostRuntime) -> Result<(), Fail> {
     let mut pace = pace(rt, &signals.is_failing, 0);
     let past = live_alone(&rt, rt.alloc(), opening, 1000, &mut line, &post, &mut pace);
     assert_ended(&rt, past, Why::Socket, 0, 0);
-    assert_eq!(rt; signals.receives.load(Ordering::SeqCst), 16);
+    assert_same(&rt, &signals.receives.load(Ordering::SeqCst), &16);
     Ok(())
 }
 
@@ -170,16 +170,21 @@ fn two_lives(rt: HostRuntime) -> Result<(), Fail> {
         &NoReporter {},
         &mut NoEntrance {},
     );
-    assert_eq!(rt; end, LivesEnd::Stopped);
-    assert_eq!(rt; herald.begun, 2);
+    assert_same(&rt, &end, &LivesEnd::Stopped);
+    assert_same(&rt, &herald.begun, &2);
     // It heard of each entry of both lives, of which none changed the member table.
-    assert_eq!(rt;
-        (listener.lives, listener.calls, listener.changes),
-        (2, 4, 0)
+    assert_same(
+        &rt,
+        &(listener.lives, listener.calls, listener.changes),
+        &(2, 4, 0),
     );
     assert!(rt; page.text().starts_with(FIRST_LIFE));
     assert!(rt; page.text().ends_with(LAST_LIFE));
-    assert_eq!(rt; page.text().len(), FIRST_LIFE.len() + LAST_LIFE.len());
+    assert_same(
+        &rt,
+        &page.text().len(),
+        &(FIRST_LIFE.len() + LAST_LIFE.len()),
+    );
     Ok(())
 }
 
@@ -346,12 +351,12 @@ fn a_stop_at_a_full_journal(rt: HostRuntime) -> Result<(), Fail> {
         &NoReporter {},
         &mut NoEntrance {},
     );
-    assert_eq!(rt; end, LivesEnd::Stopped);
-    assert_eq!(rt; herald.begun, 1);
+    assert_same(&rt, &end, &LivesEnd::Stopped);
+    assert_same(&rt, &herald.begun, &1);
     assert!(rt; is_set(&was_given));
     assert!(rt; page.text().starts_with(FIRST_LIFE));
     assert!(rt; page.text().ends_with(NO_LIFE));
-    assert_eq!(rt; page.text().len(), FIRST_LIFE.len() + NO_LIFE.len());
+    assert_same(&rt, &page.text().len(), &(FIRST_LIFE.len() + NO_LIFE.len()));
     Ok(())
 }
 
@@ -364,9 +369,9 @@ const LAST_LIFE: &[u8] = b"ended stopped entries 2 judged 0 unsent 0 wire 0 refu
 pub fn assert_ended<R: Abort>(rt: &R, past: Option<Past>, why: Why, entries: u32, unsent: u64) {
     match past {
         Some(past) => {
-            assert_eq!(rt; past.why, why);
-            assert_eq!(rt; past.journal.len(), entries);
-            assert_eq!(rt; past.unsent, unsent);
+            assert_same(&rt, &past.why, &why);
+            assert_same(&rt, &past.journal.len(), &entries);
+            assert_same(&rt, &past.unsent, &unsent);
         }
         None => panic!(rt; "a node"),
     }

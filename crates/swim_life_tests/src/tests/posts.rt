@@ -112,8 +112,8 @@ impl<'s, K: Clock + Drop> Line for OnePing<'s, K> {
     fn list(&mut self, _members: &[Peer]) {}
 }
 
-// A ping is acked by the receiver's post. The ticker's is handed a ping, and a ping-req to the other member, as no ack came.
-// One of the two goes to member 3, which no post can send to: the other is sent all the same, and one is counted.
+// A ping is acked by the receiver's post. The ticker's is handed a ping, and a ping-req to the other member, as no ack
+// came. One of the two goes to member 3, which no post can send to: the other is sent all the same, and one is counted.
 #[test]
 fn each_datagram_is_handed_over(rt: HostRuntime) -> Result<(), Fail> {
     let post = KeepingPost {
@@ -159,11 +159,11 @@ fn live_by<
     let life = live_unwatched(
         &rt, alloc, node, seats, viewers, &mut line, posts, &mut pace, &mut hall,
     );
-    assert_eq!(rt; life.unsent, 1);
+    assert_same(&rt, &life.past.unsent, &1);
     assert_acked(&rt, life.posts.hearing.sheets.as_slice());
     assert_probed(&rt, life.posts.ticking.sheets.as_slice());
     assert!(rt; life.posts.knocking.sheets.is_empty());
-    assert_eq!(rt; life.knocks, 0);
+    assert_same(&rt, &life.knocks, &0);
     Ok(())
 }
 

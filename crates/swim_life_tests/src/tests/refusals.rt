@@ -1,5 +1,5 @@
-//! A life that is refused memory. tests/node/refusals runs it with one request for memory refused, the first, the second
-//! and so on; else none is. Where a call was refused, which is counted and made again, it writes a line.
+//! A life that is refused memory. tests/node/refusals runs it with one request for memory refused, the first, the
+//! second and so on; else none is. Where a call was refused, which is counted and made again, it writes a line.
 
 ghost use Rattle.std.specs.Prelude.{None};
 ghost use Rattle.swim_life.specs.Gates.{FitsInto};
@@ -12,8 +12,8 @@ use swim_life::Got;
 /// How many turns the pace waits for what may not come where memory was refused.
 const PATIENCE: u32 = 10_000;
 
-/// A line that gives its ping until the ack of it was handed to the post. It is idle until the list was answered, and when
-/// the ack was sent.
+/// A line that gives its ping until the ack of it was handed to the post. It is idle until the list was answered, and
+/// when the ack was sent.
 #[derive(Drop)]
 struct InsistentLine<'s, K: Clock + Drop> {
     clock: K,
@@ -44,8 +44,8 @@ impl<'s, K: Clock + Drop> Line for InsistentLine<'s, K> {
     fn list(&mut self, _members: &[Peer]) {}
 }
 
-// An operator lists the members, then a ping comes until its ack was sent, and then the operator stops the life. Each wait
-// ends by itself.
+// An operator lists the members, then a ping comes until its ack was sent, and then the operator stops the life. Each
+// wait ends by itself.
 fn insist<R: Threads + Wait + Clock + Send + Sync + Copy + Drop>(
     rt: &R,
     alloc: Global,
@@ -96,8 +96,8 @@ fn a_life_goes_on(rt: HostRuntime) -> Result<(), Fail> {
     assert!(rt; past.why == Why::Stopped || (past.why == Why::NoMemory && !is_refused));
     assert!(rt; is_set(&signals.is_acked) || !is_refused);
     let heard = u32::from(is_set(&signals.is_acked));
-    assert_eq!(rt; past.journal.len(), heard);
-    assert_eq!(rt; past.unsent, 0);
+    assert_same(&rt, &past.journal.len(), &heard);
+    assert_same(&rt, &past.unsent, &0);
     if is_refused {
         println!(rt; "a call was refused")?;
     }

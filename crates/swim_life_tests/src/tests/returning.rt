@@ -165,16 +165,16 @@ fn who_answers_a_knock_is_joined_again(rt: HostRuntime) -> Result<(), Fail> {
     with_0_nobody_is_knocked_at();
     let visit = Visit::new();
     let mut returning = Returning::new(1, id(1));
-    assert_eq!(rt; returning.rejoin(), 1);
+    assert_same(&rt, &returning.rejoin(), &1);
     let Some(past) = live_knocking(rt, rt.alloc(), &visit, &mut returning) else {
         panic!(rt; "a life");
     };
-    assert_eq!(rt; past.journal.judged_count(), 1);
+    assert_same(&rt, &past.journal.judged_count(), &1);
     match past.journal.row(id(2)) {
         Some(row) => assert!(rt; row.state == RowState::Up),
         None => panic!(rt; "a row of member 2"),
     }
-    assert_eq!(rt; returning.knocks(), 1);
-    assert_eq!(rt; returning.rejoins(), 1);
+    assert_same(&rt, &returning.knocks(), &1);
+    assert_same(&rt, &returning.rejoins(), &1);
     Ok(())
 }

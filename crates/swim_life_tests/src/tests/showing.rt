@@ -228,9 +228,9 @@ fn members_are_shown(rt: HostRuntime) -> Result<(), Fail> {
     let shown = Shown::new();
     let past = live_on(&rt, rt.alloc(), opening()?, &shown);
     assert!(rt; past.is_some());
-    assert_eq!(rt; read(&shown.at_first_receive), 0b1100);
-    assert_eq!(rt; read(&shown.before_the_tick), 0b1100);
-    assert_eq!(rt; read(&shown.latest), 0b11100);
-    assert_eq!(rt; read(&shown.times), 2);
+    assert_same(&rt, &read(&shown.at_first_receive), &0b1100);
+    assert_same(&rt, &read(&shown.before_the_tick), &0b1100);
+    assert_same(&rt, &read(&shown.latest), &0b11100);
+    assert_same(&rt, &read(&shown.times), &2);
     Ok(())
 }

@@ -122,7 +122,7 @@ fn assert_heard<R: Abort>(rt: &R, journal: &Journal, peer: Peer) {
     assert!(rt; replied(journal, 3, &Reply::Quiet));
     assert!(rt; replied(journal, 4, &started(2)));
     assert!(rt; journal.len() <= 6);
-    assert_eq!(rt; journal.judged_count(), 0);
+    assert_same(rt, &journal.judged_count(), &0);
 }
 
 fn replied(journal: &Journal, place: u32, reply: &Reply) -> bool {

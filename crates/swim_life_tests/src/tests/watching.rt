@@ -162,7 +162,7 @@ fn each_is_told_a_table_and_then_the_changes(rt: HostRuntime) -> Result<(), Fail
     let seen = Seen::new();
     let signals = Signals::new(false);
     let watching = live_watched(rt, rt.alloc(), pair()?, &seen, &signals);
-    assert_eq!(rt; watching, Some(2));
+    assert_same(&rt, &watching, &Some(2));
     assert!(rt; seen.is_all(Who::Early, EARLY.len()));
     assert!(rt; seen.is_all(Who::Late, LATE.len()));
     assert!(rt; seen.is_all(Who::Slow, WAITING + 5));
@@ -215,7 +215,7 @@ fn who_watches_stays_from_life_to_life(rt: HostRuntime) -> Result<(), Fail> {
         &NoReporter {},
         &mut nobody,
     );
-    assert_eq!(rt; end, LivesEnd::Stopped);
+    assert_same(&rt, &end, &LivesEnd::Stopped);
     gallery.tell(&Event::Ended);
     gallery.send();
     assert!(rt; seen.is_all(Who::Early, text.len()));

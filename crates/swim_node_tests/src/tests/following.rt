@@ -50,16 +50,21 @@ fn read_in_threads<N: Naming + Send + Sync, R: Threads + Wait + Abort + Send + S
     requires drawn { (h : List Entry) → N.drawn h }
 {
     let opened = open::<N, Scripted, R>(rt, alloc, parts, opening, no_script(alloc), 1000)?;
-    let (journal, read, is_whole) = read_and_close(&rt, alloc, opened, unread);
-    assert!(rt; is_whole == (unread == 0));
-    assert_all_read(&rt, &journal, &read, unread);
+    assert_closed(&rt, read_and_close(&rt, alloc, opened, unread), unread);
     Ok(())
 }
 
-fn assert_all_read<R: Abort>(rt: &R, journal: &Journal, read: &Vec<Followed>, unread: u32) {
-    assert_eq!(rt; read.len(), 90);
-    assert_eq!(rt; u64::from(journal.len()), 90 + u64::from(unread));
-    assert_read(rt, journal, read.as_slice());
+// All but so many calls were read, and whether that is all is told.
+fn assert_closed<R: Abort>(rt: &R, closed: (Journal, Vec<Followed>, bool), unread: u32) {
+    let (journal, read, is_whole) = closed;
+    assert_same(rt, &is_whole, &(unread == 0));
+    assert_all_read(rt, &journal, read.as_slice(), unread);
+}
+
+fn assert_all_read<R: Abort>(rt: &R, journal: &Journal, read: &[Followed], unread: u32) {
+    assert_same(rt, &read.len(), &90);
+    assert_same(rt, &u64::from(journal.len()), &(90 + u64::from(unread)));
+    assert_read(rt, journal, read);
 }
 
 fn read_and_close<N: Naming + Send + Sync, R: Threads + Wait + Send + Sync + Copy + Drop>(
@@ -209,7 +214,7 @@ fn close_read<N: Naming, R: Wait + Copy + Drop>(
 // What was read are the journal's first entries.
 fn assert_read<R: Abort>(rt: &R, journal: &Journal, read: &[Followed]) {
     for (place, followed) in read.iter().enumerate() {
-        assert_eq!(rt; followed.kept.position as usize, place);
+        assert_same(rt, &(followed.kept.position as usize), &place);
         match journal.entry(followed.kept.position) {
             Some(entry) => assert_is(rt, followed, &entry),
             None => panic!(rt; "no entry"),
@@ -218,8 +223,8 @@ fn assert_read<R: Abort>(rt: &R, journal: &Journal, read: &[Followed]) {
 }
 
 fn assert_is<R: Abort>(rt: &R, followed: &Followed, entry: &swim_history::Entry) {
-    assert_eq!(rt; followed.seat, entry.seat);
-    assert_eq!(rt; followed.kept.number, entry.number);
-    assert!(rt; followed.kept.call == entry.call);
-    assert!(rt; followed.kept.reply == entry.reply);
+    assert_same(rt, &followed.seat, &entry.seat);
+    assert_same(rt, &followed.kept.number, &entry.number);
+    assert_same(rt, &followed.kept.call, &entry.call);
+    assert_same(rt, &followed.kept.reply, &entry.reply);
 }

@@ -133,7 +133,11 @@ fn no_datagram_waits_for_the_lock(rt: HostRuntime) -> Result<(), Fail> {
     let parts = Parts::make(rt.alloc(), 8)?;
     let hold = Hold::new();
     let answer = join_and_hear::<Brand, _>(rt, rt.alloc(), parts, opening, &hold)?;
-    assert!(rt; answer == Some(CallFault::Wire(WireFault::Length)));
-    assert!(rt; hold.was_answered.load(Ordering::SeqCst));
+    assert_answered(&rt, answer, &hold);
     Ok(())
+}
+
+fn assert_answered<R: Abort>(rt: &R, answer: Option<CallFault>, hold: &Hold) {
+    assert_same(rt, &answer, &Some(CallFault::Wire(WireFault::Length)));
+    assert!(rt; hold.was_answered.load(Ordering::SeqCst));
 }

@@ -141,8 +141,8 @@ pub(crate) fn each_call() -> [Call; 4] {
 
 /// The journal has the entries of the plan and no more, and its table is that of the plan.
 pub(crate) fn assert_journal<R: Abort>(rt: &R, journal: &Journal, plan: &Plan) {
-    assert_eq!(rt; journal.len(), plan.entries);
-    assert!(rt; journal.rows().as_slice() == plan.rows);
+    assert_same(rt, &journal.len(), &plan.entries);
+    assert_same(rt, &journal.rows().as_slice(), &plan.rows);
     assert_entries(rt, journal, 2, plan.changing);
     assert_entries(rt, journal, 0, plan.listening);
 }
@@ -157,7 +157,7 @@ fn assert_entries<R: Abort>(rt: &R, journal: &Journal, seat: u8, calls: &[Kept])
 }
 
 fn assert_entry<R: Abort>(rt: &R, entry: &Entry, seat: u8, wanted: &Kept) {
-    assert_eq!(rt; (entry.seat, entry.number), (seat, wanted.number));
-    assert!(rt; entry.call == wanted.call);
-    assert!(rt; entry.reply == wanted.reply);
+    assert_same(rt, &(entry.seat, entry.number), &(seat, wanted.number));
+    assert_same(rt, &entry.call, &wanted.call);
+    assert_same(rt, &entry.reply, &wanted.reply);
 }

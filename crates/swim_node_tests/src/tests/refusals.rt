@@ -6,7 +6,7 @@ ghost use Rattle.std.specs.Prelude.{◌≡◌, IfOk, List};
 ghost use Rattle.swim_history.specs.declared.entries.Entry.{Entry};
 
 use super::plans::*;
-use super::steps::make;
+use super::steps::{assert_full, make};
 use super::*;
 
 fn tell(rt: &HostRuntime, refused: Result<bool, Fail>) -> Result<(), Fail> {
@@ -175,7 +175,7 @@ fn called_again<N: Naming, R: Wait + Abort + Copy + Drop>(
             Some(call_and_close(&rt, node, callers, two_by_two(viewers), plan))
         }
         Err(fault) => {
-            assert!(rt; fault == OpenFault::NoMemory);
+            assert_same(&rt, &fault, &OpenFault::NoMemory);
             None
         }
     }
@@ -198,7 +198,7 @@ fn call_and_close<N: Naming, R: Wait + Abort + Copy + Drop>(
     let (third, viewer, changing) = answer_all(rt, &node, third, viewer, plan.changing);
     let (first, viewer, listening) = answer_all(rt, &node, first, viewer, plan.listening);
     let (first, viewer) = meet_full(rt, &node, first, viewer, plan);
-    assert_listed(rt, viewer, plan.rows);
+    assert_listed_twice(rt, viewer, plan.rows);
     let (journal, callers) = close(rt, node, ((first, second), (third, fourth)));
     drop(callers);
     assert_journal(rt, &journal, plan);
@@ -239,7 +239,7 @@ fn answer<N: Naming, R: Wait + Abort + Copy + Drop>(
     let refused = matches!(answered, Err(CallFault::NoMemory));
     if refused {
         assert_calls(rt, seat, before);
-        assert!(rt; listed(rt, viewer).as_slice() == rows.as_slice());
+        assert_listed(rt, viewer, rows.as_slice());
         let again = make(rt, node, seat, &wanted.call);
         assert_receipt(rt, again, viewer, wanted);
     } else {
@@ -264,9 +264,10 @@ fn assert_receipt<N: Naming, R: Abort>(
 }
 
 fn assert_answered<N: Naming, R: Abort>(rt: &R, receipt: &Receipt<N>, wanted: &Kept) {
-    assert!(rt; receipt.position == wanted.position && receipt.number == wanted.number);
-    assert!(rt; receipt.call == wanted.call);
-    assert!(rt; receipt.reply == wanted.reply);
+    assert_same(rt, &receipt.position, &wanted.position);
+    assert_same(rt, &receipt.number, &wanted.number);
+    assert_same(rt, &receipt.call, &wanted.call);
+    assert_same(rt, &receipt.reply, &wanted.reply);
 }
 
 // Each of the calls that meet a full journal is told so, and changes nothing.
@@ -281,10 +282,9 @@ fn meet_full<N: Naming, R: Wait + Abort + Copy + Drop>(
 {
     let (mut seat, mut viewer) = (seat, viewer);
     for call in plan.full {
-        let answer = make(rt, node, &mut seat, call);
-        assert!(rt; matches!(answer, Err(CallFault::JournalFull)));
+        assert_full(rt, make(rt, node, &mut seat, call));
         assert_calls(rt, &seat, plan.listening);
-        assert!(rt; listed(rt, &mut viewer).as_slice() == plan.rows);
+        assert_listed(rt, &mut viewer, plan.rows);
     }
     (seat, viewer)
 }
@@ -296,16 +296,20 @@ fn listed<N: Naming, R: Abort>(rt: &R, viewer: &mut Viewer<N>) -> Table {
     }
 }
 
-fn assert_listed<N: Naming, R: Abort>(rt: &R, viewer: Viewer<N>, rows: &[Row]) {
+fn assert_listed<N: Naming, R: Abort>(rt: &R, viewer: &mut Viewer<N>, rows: &[Row]) {
+    assert_same(rt, &listed(rt, viewer).as_slice(), &rows);
+}
+
+fn assert_listed_twice<N: Naming, R: Abort>(rt: &R, viewer: Viewer<N>, rows: &[Row]) {
     let mut viewer = viewer;
-    assert!(rt; listed(rt, &mut viewer).as_slice() == rows);
-    assert!(rt; listed(rt, &mut viewer).as_slice() == rows);
+    assert_listed(rt, &mut viewer, rows);
+    assert_listed(rt, &mut viewer, rows);
 }
 
 // The seat was answered these calls, and no more.
 fn assert_calls<N: Naming, R: Abort>(rt: &R, seat: &Seat<N>, wanted: &[Kept]) {
     let calls = seat.calls();
-    assert_eq!(rt; calls.len(), wanted.len());
+    assert_same(rt, &calls.len(), &wanted.len());
     for place in 0..calls.len() {
         let kept = &calls[place];
         assert!(rt; wanted.get(place).is_some_and(|it| is_same(kept, it)));

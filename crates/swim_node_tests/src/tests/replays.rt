@@ -60,14 +60,14 @@ fn assert_again<R: Abort>(rt: &R, recorder: &mut Recorder<Scripted>, entry: Opti
     };
     assert!(rt; entry.seat < 4);
     match recorder.apply(entry.seat, entry.call) {
-        Ok(again) => assert!(rt; again == entry),
+        Ok(again) => assert_same(rt, &again, &entry),
         Err(_) => panic!(rt; "a reply"),
     }
 }
 
 fn assert_all_met<R: Abort>(rt: &R, lists: &[Watched]) {
     for watched in lists {
-        assert!(rt; watched.met == watched.tables.len());
+        assert_same(rt, &watched.met, &watched.tables.len());
     }
 }
 

@@ -28,7 +28,7 @@ fn four_callers_and_four_readers(rt: HostRuntime) -> Result<(), Fail> {
 }
 
 fn assert_length<R: Abort>(rt: &R, journal: &Journal) {
-    assert_eq!(rt; journal.len(), 4 * CALLS);
+    assert_same(rt, &journal.len(), &(4 * CALLS));
 }
 
 fn soaked<N: Naming + Send + Sync, R: Threads + Wait + Abort + Send + Sync + Copy + Drop>(

@@ -74,11 +74,11 @@ fn take_period<N: Naming, R: Wait + Abort + Copy + Drop>(
 }
 
 fn assert_count<N: Naming, R: Abort>(rt: &R, seat: &Seat<N>, count: usize) {
-    assert_eq!(rt; seat.calls().len(), count);
+    assert_same(rt, &seat.calls().len(), &count);
 }
 
 fn assert_gap<R: Abort>(rt: &R, gap: Option<Gap>, expected: &Option<Gap>) {
-    assert_eq!(rt; &gap, expected);
+    assert_same(rt, &gap, expected);
 }
 
 fn assert_made<N: Naming, R: Abort>(rt: &R, answer: Result<Receipt<N>, CallFault>) {
@@ -91,12 +91,13 @@ fn assert_told<N: Naming, R: Abort>(
     expected: &Reply,
 ) {
     match answer {
-        Ok(receipt) => assert!(rt; receipt.reply == *expected),
+        Ok(receipt) => assert_same(rt, &receipt.reply, expected),
         Err(_) => panic!(rt; "a receipt"),
     }
 }
 
-fn assert_full<N: Naming, R: Abort>(rt: &R, answer: Result<Receipt<N>, CallFault>) {
+/// A call is refused, as the journal is full.
+pub(crate) fn assert_full<N: Naming, R: Abort>(rt: &R, answer: Result<Receipt<N>, CallFault>) {
     assert!(rt; matches!(answer, Err(CallFault::JournalFull)));
 }
 
@@ -125,7 +126,7 @@ pub(crate) fn assert_length<R: Abort>(
     journal: Result<Journal, Fail>,
     count: u32,
 ) -> Result<(), Fail> {
-    assert_eq!(rt; journal?.len(), count);
+    assert_same(rt, &journal?.len(), &count);
     Ok(())
 }
 

@@ -65,9 +65,9 @@ fn assert_two_called<N: Naming, R: Abort>(rt: &R, callers: Four<Seat<N>>) {
 }
 
 fn assert_judged<R: Abort>(rt: &R, journal: &Journal) {
-    assert_eq!(rt; journal.len(), 190);
+    assert_same(rt, &journal.len(), &190);
     match journal.judgements() {
-        Ok(judgements) => assert!(rt; judgements.as_slice() == judged().as_slice()),
+        Ok(judgements) => assert_same(rt, &judgements.as_slice(), &judged().as_slice()),
         Err(_) => panic!(rt; "memory"),
     }
 }
@@ -87,14 +87,14 @@ fn judged() -> [Judged; 2] {
 
 // The seat's calls are numbered in order.
 fn assert_calls<N: Naming, R: Abort>(rt: &R, seat: &Seat<N>, number: u8, count: usize) {
-    assert_eq!(rt; seat.number(), number);
-    assert_eq!(rt; seat.calls().len(), count);
+    assert_same(rt, &seat.number(), &number);
+    assert_same(rt, &seat.calls().len(), &count);
     assert_in_order(rt, seat.calls());
 }
 
 fn assert_in_order<R: Abort>(rt: &R, calls: &[Kept]) {
     for (number, kept) in calls.iter().enumerate() {
-        assert!(rt; kept.number as usize == number);
+        assert_same(rt, &(kept.number as usize), &number);
     }
 }
 
@@ -131,7 +131,7 @@ fn call_by_four<N: Naming + Send + Sync, R: Threads + Wait + Abort + Send + Sync
     let callers = four_at_once(rt, &node, callers, four_works());
     let (journal, callers) = close(rt, node, callers);
     assert_four_called(rt, callers);
-    assert_eq!(rt; journal.len(), 290);
+    assert_same(rt, &journal.len(), &290);
 }
 
 fn four_works() -> Four<Work> {
@@ -159,6 +159,6 @@ fn assert_joined<N: Naming, R: Abort>(rt: &R, seat: &Seat<N>) {
 
 fn assert_unknown<N: Naming, R: Abort>(rt: &R, seat: &Seat<N>) {
     for kept in seat.calls() {
-        assert!(rt; kept.reply == Reply::Refused(Refusal::Unknown));
+        assert_same(rt, &kept.reply, &Reply::Refused(Refusal::Unknown));
     }
 }

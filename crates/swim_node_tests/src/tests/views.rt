@@ -39,7 +39,7 @@ fn join_and_close<N: Naming, R: Wait + Abort + Copy + Drop>(rt: &R, opened: Open
     drop(callers);
     lists_nothing(rt, other);
     lists_nothing(rt, viewer);
-    assert_eq!(rt; journal.len(), 2);
+    assert_same(rt, &journal.len(), &2);
 }
 
 // Member 5 joins last in the round, and is seen at once by who learns of it, also later.
@@ -69,7 +69,7 @@ fn learn<N: Naming, R: Abort>(
 ) {
     match answer {
         Ok(receipt) => {
-            assert!(rt; receipt.reply == *expected);
+            assert_same(rt, &receipt.reply, expected);
             viewer.learn(&receipt.news);
         }
         Err(_) => panic!(rt; "a receipt"),
@@ -79,7 +79,7 @@ fn learn<N: Naming, R: Abort>(
 fn assert_lists<N: Naming, R: Abort>(rt: &R, viewer: &mut Viewer<N>) {
     let rows = [up(2), up(3), up(5)];
     match viewer.list() {
-        Some(table) => assert!(rt; table.as_slice() == rows.as_slice()),
+        Some(table) => assert_same(rt, &table.as_slice(), &rows.as_slice()),
         None => panic!(rt; "a list"),
     }
 }
@@ -140,8 +140,8 @@ fn wait_and_close<N: Naming, R: Wait + Abort + Copy + Drop>(rt: &R, opened: Open
 }
 
 fn assert_shows<R: Abort>(rt: &R, journal: &Journal, table: &Table) {
-    assert!(rt; journal.rows().as_slice() == table.as_slice());
-    assert_eq!(rt; table.len(), 3);
+    assert_same(rt, &journal.rows().as_slice(), &table.as_slice());
+    assert_same(rt, &table.len(), &3);
 }
 
 // A period begins, a member joins, and two ticks pass, of which the last is quiet.

@@ -87,8 +87,8 @@ fn largest_there_and_back(rt: HostRuntime) {
     assert_text(&rt, &ack, &ACK);
 }
 
-// Member 2 asks for a ping of member 9, which member 1 pings, and whose ack it sends on: each datagram has the text of its
-// kind and version.
+// Member 2 asks for a ping of member 9, which member 1 pings, and whose ack it sends on: each datagram has the text of
+// its kind and version.
 #[test]
 fn each_version_and_kind_there_and_back(rt: HostRuntime) {
     for (version, byte) in [(Version::One, 1), (Version::Two, 2)] {

@@ -24,7 +24,9 @@ returns-then-not-put_key-clause-bytes g t c =
 
 pub returns-clause-bytes : goal.returns-clause-bytes
 returns-clause-bytes g t c =
-    both_put (g.W.Sink.written c.args.writer.now) (g.W.Sink.written c.put_key.new.writer) (g.W.Sink.written c.put_numbers.new.writer) _
-    (numbers_text c.args.config.now (others_of c.args.keys.now)) (numbers_text c.args.config.now c.args.keys.now) c.put_numbers.result
+    both_put (g.W.Sink.written c.args.writer.now) (g.W.Sink.written c.put_key.new.writer)
+    (g.W.Sink.written c.put_numbers.new.writer) _
+    (numbers_text c.args.config.now (others_of c.args.keys.now)) (numbers_text c.args.config.now c.args.keys.now)
+    c.put_numbers.result
     (first_told c.args.config.now c.args.keys.now _ c.in-len1-up.len_at_least)
     c.if-not-put_key.ensures.bytes c.put_numbers.ensures.bytes

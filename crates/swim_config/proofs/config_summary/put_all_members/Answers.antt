@@ -6,14 +6,18 @@ use Rattle.swim_config.proofs.config_summary.put_all_members.Goals as goal
 
 pub returns-then-not-put_count-clause-bytes : goal.returns-then-not-put_count-clause-bytes
 returns-then-not-put_count-clause-bytes g c =
-    first_failed (g.W.Sink.written c.args.writer.now) (g.W.Sink.written c.put_count.new.writer) (count_text (length c.rows-members.result.now)) (members_text (ascending c.rows-members.result.now))
-    (all_members_text c.args.opening.now.rows) (ap all_members_text c.rows-members.ensures.value) c.if-not-put_count.ensures.bytes
+    first_failed (g.W.Sink.written c.args.writer.now) (g.W.Sink.written c.put_count.new.writer)
+    (count_text (length c.rows-members.result.now)) (members_text (ascending c.rows-members.result.now))
+    (all_members_text c.args.opening.now.rows) (ap all_members_text c.rows-members.ensures.value)
+    c.if-not-put_count.ensures.bytes
 
 pub returns-clause-bytes : goal.returns-clause-bytes
 returns-clause-bytes g c =
     let sorted : c.as_slice.result.now ≡ ascending c.args.opening.now.rows =
     c.as_slice.ensures.value ∙ (c.table_of-sorted.ensures ∙ ap ascending c.rows-members.ensures.value) in
-    both_put (g.W.Sink.written c.args.writer.now) (g.W.Sink.written c.put_count.new.writer) (g.W.Sink.written c.put_members.new.writer) (count_text (length c.rows-members.result.now)) (members_text c.as_slice.result.now)
+    both_put (g.W.Sink.written c.args.writer.now) (g.W.Sink.written c.put_count.new.writer)
+    (g.W.Sink.written c.put_members.new.writer) (count_text (length c.rows-members.result.now))
+    (members_text c.as_slice.result.now)
     (all_members_text c.args.opening.now.rows) c.put_members.result
     (ap₂ (λ listed told. count_text (length listed) ++ members_text told) c.rows-members.ensures.value sorted)
     c.if-not-put_count.ensures.bytes c.put_members.ensures.bytes

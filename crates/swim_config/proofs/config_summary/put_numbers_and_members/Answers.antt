@@ -5,10 +5,13 @@ use Rattle.swim_config.proofs.config_summary.put_numbers_and_members.Goals as go
 
 pub returns-then-not-put_numbers-clause-bytes : goal.returns-then-not-put_numbers-clause-bytes
 returns-then-not-put_numbers-clause-bytes g c =
-    puts_less (g.W.Sink.written c.args.writer.now) (g.W.Sink.written c.put_numbers.new.writer) (numbers_text c.args.config.now number_keys) (all_members_text c.args.config.now.opening.rows)
+    puts_less (g.W.Sink.written c.args.writer.now) (g.W.Sink.written c.put_numbers.new.writer)
+    (numbers_text c.args.config.now number_keys) (all_members_text c.args.config.now.opening.rows)
     c.if-not-put_numbers.ensures.bytes
 
 pub returns-clause-bytes : goal.returns-clause-bytes
 returns-clause-bytes g c =
-    puts_then (g.W.Sink.written c.args.writer.now) (g.W.Sink.written c.put_numbers.new.writer) (g.W.Sink.written c.put_all_members.new.writer) (numbers_text c.args.config.now number_keys) (all_members_text c.args.config.now.opening.rows)
+    puts_then (g.W.Sink.written c.args.writer.now) (g.W.Sink.written c.put_numbers.new.writer)
+    (g.W.Sink.written c.put_all_members.new.writer) (numbers_text c.args.config.now number_keys)
+    (all_members_text c.args.config.now.opening.rows)
     c.put_all_members.result c.if-not-put_numbers.ensures.bytes c.put_all_members.ensures.bytes

@@ -24,10 +24,12 @@ front_read (Some bytes) (Some rest) items is full = rw (is, ← full) (sym (take
 
 pub returns-in-End-clause-bytes : goal.returns-in-End-clause-bytes
 returns-in-End-clause-bytes g c =
-    all_read (g.S.Source.left c.args.reader.now) (g.S.Source.left c.loop-reader.reader) c.loop-reader.text.items c.loop-reader.invariant.reading
+    all_read (g.S.Source.left c.args.reader.now) (g.S.Source.left c.loop-reader.reader) c.loop-reader.text.items
+    c.loop-reader.invariant.reading
     c.in-End.ensures.bytes.0 c.is_full.ensures.fits
 
 pub returns-clause-bytes : goal.returns-clause-bytes
 returns-clause-bytes g c =
-    front_read (g.S.Source.left c.args.reader.now) (g.S.Source.left c.loop-reader.reader) c.loop-reader.text.items c.loop-reader.invariant.reading
+    front_read (g.S.Source.left c.args.reader.now) (g.S.Source.left c.loop-reader.reader) c.loop-reader.text.items
+    c.loop-reader.invariant.reading
     (eqb-true _ _ (sym c.loop-reader-test.ensures.value))

@@ -6,4 +6,5 @@ use Rattle.swim_config.proofs.members.read_members.Given as goal
 
 abbrev pub invariant-loop-value : goal.invariant-loop-value
 invariant-loop-value l =
-    members_of (items_view l.values.items) ≡ after l.members.items (members_of (items_view (drop l.value-index l.values.items)))
+    members_of (items_view l.values.items) ≡
+    after l.members.items (members_of (items_view (drop l.value-index l.values.items)))

@@ -23,6 +23,7 @@ pub returns-after-is_memory : goal.returns-after-is_memory
 returns-after-is_memory c = elim c.if-is_memory.branch [
   | then-is_memory w ↦ inl (rw w.result-is refl)
   | else-is_memory w ↦
-      let none = no_document c.args.bytes.now (c.in-Err.ensures.refused (λ m. false≢true (sym w.if-is_memory.false ∙ c.is_memory.ensures.1 m))) in
+      let none = no_document c.args.bytes.now
+      (c.in-Err.ensures.refused (λ m. false≢true (sym w.if-is_memory.false ∙ c.is_memory.ensures.1 m))) in
       inr (rw (w.result-is, none) refl)
 ]

@@ -26,12 +26,17 @@ returns-in_err-members c =
     let is : c.from_residual-in_err-members.result ≡ Err fault = search rules in
     let known : only_keys top_keys (table_view c.args.table.now) ≡ Ok tt = search rules in
     let said : settings_in (table_view c.args.table.now) ≡ Ok c.in_ok-settings.settings = search rules in
-    rw is (fault_of_members c.in_ok-settings.settings (members_at (table_view c.args.table.now)) _ c.take_members.result fault
-    (by_members (table_view c.args.table.now) c.in_ok-settings.settings known said) c.take_members.ensures (c.in_err-members.was))
+    rw is (fault_of_members c.in_ok-settings.settings (members_at (table_view c.args.table.now)) _ c.take_members.result
+    fault
+    (by_members (table_view c.args.table.now) c.in_ok-settings.settings known said) c.take_members.ensures
+    (c.in_err-members.was))
 
 pub returns : goal.returns
 returns c =
     let known : only_keys top_keys (table_view c.args.table.now) ≡ Ok tt = search rules in
     let said : settings_in (table_view c.args.table.now) ≡ Ok c.in_ok-settings.settings = search rules in
-    rw (c.config_with.ensures, c.as_slice.ensures.value) (whole_of_members c.in_ok-settings.settings (members_at (table_view c.args.table.now)) _ c.take_members.result c.in_ok-members.members
-    (by_members (table_view c.args.table.now) c.in_ok-settings.settings known said) c.take_members.ensures c.in_ok-members.was)
+    rw (c.config_with.ensures, c.as_slice.ensures.value)
+    (whole_of_members c.in_ok-settings.settings (members_at (table_view c.args.table.now)) _ c.take_members.result
+    c.in_ok-members.members
+    (by_members (table_view c.args.table.now) c.in_ok-settings.settings known said) c.take_members.ensures
+    c.in_ok-members.was)

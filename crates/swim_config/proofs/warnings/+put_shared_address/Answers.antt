@@ -15,7 +15,10 @@ at_once row other others is =
 pub returns-then-is_same_address-clause-bytes : goal.returns-then-is_same_address-clause-bytes
 returns-then-is_same_address-clause-bytes g t c =
     let others = others_of c.args.others.now in
-    let whole : c.args.others.now ≡ c.other-item.result ∷ others = first_and_others c.args.others.now c.other-item.result c.in-len1-up.len_at_least c.other-item.is in
+    let whole : c.args.others.now ≡ c.other-item.result ∷ others =
+    first_and_others c.args.others.now c.other-item.result c.in-len1-up.len_at_least c.other-item.is in
     let same : is_same_address c.args.member.now.peer c.other-item.result.peer ≡ true = search rules in
-    let text = ap (shared_address_text c.args.member.now) whole ∙ at_once c.args.member.now c.other-item.result others same in
-    subst (λ (t : List ℕ). Puts (g.W.Sink.written c.args.writer.now) (g.W.Sink.written c.put_shared_line.new.writer) t c.put_shared_line.result) (sym text) c.put_shared_line.ensures.bytes
+    let text = ap (shared_address_text c.args.member.now) whole ∙
+    at_once c.args.member.now c.other-item.result others same in
+    subst (λ (t : List ℕ). Puts (g.W.Sink.written c.args.writer.now) (g.W.Sink.written c.put_shared_line.new.writer) t
+    c.put_shared_line.result) (sym text) c.put_shared_line.ensures.bytes

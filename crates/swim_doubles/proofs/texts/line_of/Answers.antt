@@ -15,7 +15,8 @@ returns-in-Some c =
     let text = c.args.text.now in
     let line = c.in-Some.line.now in
     let through = rw c.in-Some.ensures at (through_first 10 text) in
-    ap (λ n. take n text) (sym (length-append line (10 ∷ []))) ∙ first_with 10 text (line, c.in-Some.field-0-1.now) c.in-Some.ensures ∙ sym through
+    ap (λ n. take n text) (sym (length-append line (10 ∷ []))) ∙
+    first_with 10 text (line, c.in-Some.field-0-1.now) c.in-Some.ensures ∙ sym through
 
 pub returns-in-None : goal.returns-in-None
 returns-in-None c = sym (rw c.in-None.ensures at (through_first 10 c.args.text.now))

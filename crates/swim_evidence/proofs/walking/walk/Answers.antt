@@ -1,4 +1,5 @@
-use Rattle.std.proofs.Common.{List, min, subst, ◌≡◌, ◌+◌, ◌<◌, ◌∷◌, length, reverse, take, arith, sym, ap, ◌∙◌, inl, inr}
+use Rattle.std.proofs.Common.{List, min, subst, ◌≡◌, ◌+◌, ◌<◌, ◌∷◌, length, reverse, take, arith, sym, ap, ◌∙◌, inl}
+use Rattle.std.proofs.Common.{inr}
 use Rattle.std.proofs.lemmas.List.{reverse-reverse, length-reverse, length-take}
 use Rattle.std.proofs.lemmas.Grind.{common_steps}
 use Rattle.std.proofs.lemmas.Option.{get_or_from_slice_get, slice_get_cases}
@@ -16,12 +17,16 @@ loop-place-preserved c =
     let entries = reverse c.args.journal.now.past in
     let place = c.loop-place.place in
     let h = reverse (take place entries) in
-    let there : place < length entries = rw (length-reverse c.args.journal.now.past) (omega (arith, c.loop-place-test.true, c.min-place-end.ensures, c.len.ensures.value)) in
+    let there : place < length entries =
+    rw (length-reverse c.args.journal.now.past)
+    (omega (arith, c.loop-place-test.true, c.min-place-end.ensures, c.len.ensures.value)) in
     elim c.match-entry.branch [
       | in-Some+in_ok-note w ↦
           let e = w.in-Some.entry in
-          let more : reverse (take (place + 1) entries) ≡ e ∷ h = past_more entries place e there ∙ ap (λ x. x ∷ h) (get_or_from_slice_get entries place e e (sym w.in-Some.ensures)) in
-          let counted : place ≡ length h = sym (length-reverse (take place entries) ∙ (length-take place entries ∙ omega arith)) in
+          let more : reverse (take (place + 1) entries) ≡ e ∷ h = past_more entries place e there ∙
+          ap (λ x. x ∷ h) (get_or_from_slice_get entries place e e (sym w.in-Some.ensures)) in
+          let counted : place ≡ length h =
+          sym (length-reverse (take place entries) ∙ (length-take place entries ∙ omega arith)) in
           rw (more, w.trail-is) (w.in_ok-note.ensures o h c.loop-place.invariant counted)
       | in_default w ↦
           elim (slice_get_cases entries place).1 [
@@ -36,10 +41,20 @@ returns-clause-judgements c =
     let entries = reverse c.args.journal.now.past in
     let first = reverse (take c.args.confirmed entries) in
     let place : c.loop-place.place ≡ min c.args.confirmed (length entries) =
-    rw (length-reverse c.args.journal.now.past) (omega (arith, c.loop-place-test.false, c.loop-place.auto.place-end, c.min-place-end.ensures, c.len.ensures.value)) in
+    rw (length-reverse c.args.journal.now.past)
+    (omega (
+      arith,
+      c.loop-place-test.false,
+      c.loop-place.auto.place-end,
+      c.min-place-end.ensures,
+      c.len.ensures.value,
+    )) in
     let all : take c.loop-place.place entries ≡ take c.args.confirmed entries =
     ap (λ i. take i entries) place ∙ grind (arith, common_steps) in
     let found : c.into_findings.result.findings.items ≡ findings o first =
-    c.into_findings.ensures.findings ∙ (c.loop-place.invariant.findings ∙ ap (λ (h : List Entry). findings o (reverse h)) all) in
-    let run : IsRun o first = run_so_far o entries c.args.confirmed (subst (λ (h : List Entry). IsRun o h) (sym (reverse-reverse c.args.journal.now.past)) c.len.ensures.run) in
+    c.into_findings.ensures.findings ∙
+    (c.loop-place.invariant.findings ∙ ap (λ (h : List Entry). findings o (reverse h)) all) in
+    let run : IsRun o first =
+    run_so_far o entries c.args.confirmed
+    (subst (λ (h : List Entry). IsRun o h) (sym (reverse-reverse c.args.journal.now.past)) c.len.ensures.run) in
     ap judgements_told found ∙ judgements_are_told o first c.len.ensures.limits run

@@ -16,7 +16,8 @@ overflow_add-number c =
     let there : place < length entries = omega (arith, c.len-place-end.ensures, c.loop-place-test.true) in
     let follows = next_continues o entries place e there (entry_there entries place there) c.requires in
     let begins = begins_it e.reply c.in-Some.start (c.in-Some.ensures no_entry) in
-    let unspent : c.loop-place.number + 1 < 2 ^ 64 = rw c.loop-place.invariant.now (unspent_at o (reverse (take place entries)) e follows begins.starts) in
+    let unspent : c.loop-place.number + 1 < 2 ^ 64 =
+    rw c.loop-place.invariant.now (unspent_at o (reverse (take place entries)) e follows begins.starts) in
     omega arith
 
 pub loop-place-preserved : goal.loop-place-preserved
@@ -29,19 +30,28 @@ loop-place-preserved c =
     let there : place < length entries = omega (arith, c.len-place-end.ensures, c.loop-place-test.true) in
     let is = entry_there entries place there in
     let follows = next_continues o entries place e there is c.requires in
-    let more : reverse (take (place + 1) entries) ≡ e ∷ h = past_more entries place e there ∙ ap (λ x. x ∷ h) (sym is) in
+    let more : reverse (take (place + 1) entries) ≡ e ∷ h = past_more entries place e there ∙
+    ap (λ x. x ∷ h) (sym is) in
     let number = number_then o h e c.last-number.ensures.limits follows in
     elim c.match-start.branch [
       | in-Some+in_ok-note_judged w ↦
           let begins = begins_it e.reply w.in-Some.start (w.in-Some.ensures no_entry) in
           record {
-            told = rw (more, w.judged-is, w.in_ok-note_judged.ensures, c.loop-place.invariant.told, c.loop-place.invariant.now, begins.judged) refl;
+            told = rw (
+              more,
+              w.judged-is,
+              w.in_ok-note_judged.ensures,
+              c.loop-place.invariant.told,
+              c.loop-place.invariant.now,
+              begins.judged,
+            ) refl;
             now = rw (more, w.number-is, c.loop-place.invariant.now) (sym (rw begins.starts at number));
           }
       | in_default w ↦
           let begins = begins_nothing e.reply (w.in_default.ensures no_entry) in
           record {
-            told = rw (more, w.judged-is, c.loop-place.invariant.told, begins.no_judged) (sym (append-nil (judgements o h)));
+            told = rw (more, w.judged-is, c.loop-place.invariant.told, begins.no_judged)
+                (sym (append-nil (judgements o h)));
             now = rw (more, w.number-is, c.loop-place.invariant.now) (sym (rw begins.no_start at number));
           }
     ]

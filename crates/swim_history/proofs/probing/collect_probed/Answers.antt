@@ -15,7 +15,8 @@ loop-place-preserved c =
     let e = entry_at entries place in
     let h = reverse (take place entries) in
     let there : place < length entries = omega (arith, c.len-place-end.ensures, c.loop-place-test.true) in
-    let more : reverse (take (place + 1) entries) ≡ e ∷ h = past_more entries place e there ∙ ap (λ x. x ∷ h) (sym (entry_there entries place there)) in
+    let more : reverse (take (place + 1) entries) ≡ e ∷ h = past_more entries place e there ∙
+    ap (λ x. x ∷ h) (sym (entry_there entries place there)) in
     let later = map-append probed_by (probes h) (option_to_list (probe_in e.reply)) in
     elim c.match-start.branch [
       | in-Some+in_ok-note_probed w ↦
@@ -23,5 +24,6 @@ loop-place-preserved c =
           rw (more, w.probed-is, w.in_ok-note_probed.ensures, c.loop-place.invariant, ← begins.probe) (sym later)
       | in_default w ↦
           let begins = begins_nothing e.reply (w.in_default.ensures no_entry) in
-          rw (more, w.probed-is, c.loop-place.invariant, begins.no_probe) (ap (map probed_by) (sym (append-nil (probes h))))
+          rw (more, w.probed-is, c.loop-place.invariant, begins.no_probe)
+          (ap (map probed_by) (sym (append-nil (probes h))))
     ]

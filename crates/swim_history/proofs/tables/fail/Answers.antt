@@ -15,5 +15,6 @@ returns-in-Ok c =
 
 pub returns-in_default : goal.returns-in_default
 returns-in_default c =
-    let absent : IsGapFor c.args.table.now.items c.args.id c.in_default.field-0 = rw c.as_slice.ensures.value at c.in_default.ensures.absent in
+    let absent : IsGapFor c.args.table.now.items c.args.id c.in_default.field-0 =
+    rw c.as_slice.ensures.value at c.in_default.ensures.absent in
     sym (failed_in_gap c.args.id c.args.number c.args.table.now.items c.in_default.field-0 absent)

@@ -4,7 +4,23 @@ use Rattle.swim_journal.specs.Headings.{mark_line, open_line, wire_text, row_lin
 use Rattle.swim_journal.proofs.headings.put_header.Goals as goal
 
 pub returns-then-not-put-clause-bytes : goal.returns-then-not-put-clause-bytes
-returns-then-not-put-clause-bytes g c = first_failed (g.W.Sink.written c.args.writer.now) (g.W.Sink.written c.put.new.self) (mark_line) (open_line c.args.opening.now c.args.limit ++ (wire_text c.args.opening.now.version ++ (row_lines c.args.opening.now.rows ++ seed_line c.args.seed.now c.args.life))) (mark_line ++ (open_line c.args.opening.now c.args.limit ++ (wire_text c.args.opening.now.version ++ (row_lines c.args.opening.now.rows ++ seed_line c.args.seed.now c.args.life)))) refl c.if-not-put.ensures.bytes
+returns-then-not-put-clause-bytes g c =
+    first_failed (g.W.Sink.written c.args.writer.now) (g.W.Sink.written c.put.new.self) (mark_line)
+    (open_line c.args.opening.now c.args.limit ++
+    (wire_text c.args.opening.now.version ++
+    (row_lines c.args.opening.now.rows ++ seed_line c.args.seed.now c.args.life)))
+    (mark_line ++ (open_line c.args.opening.now c.args.limit ++
+    (wire_text c.args.opening.now.version ++
+    (row_lines c.args.opening.now.rows ++ seed_line c.args.seed.now c.args.life)))) refl c.if-not-put.ensures.bytes
 
 pub returns-clause-bytes : goal.returns-clause-bytes
-returns-clause-bytes g c = both_put (g.W.Sink.written c.args.writer.now) (g.W.Sink.written c.put.new.self) (g.W.Sink.written c.put_opening.new.writer) (mark_line) (open_line c.args.opening.now c.args.limit ++ (wire_text c.args.opening.now.version ++ (row_lines c.args.opening.now.rows ++ seed_line c.args.seed.now c.args.life))) (mark_line ++ (open_line c.args.opening.now c.args.limit ++ (wire_text c.args.opening.now.version ++ (row_lines c.args.opening.now.rows ++ seed_line c.args.seed.now c.args.life)))) c.put_opening.result refl c.if-not-put.ensures.bytes c.put_opening.ensures.bytes
+returns-clause-bytes g c =
+    both_put (g.W.Sink.written c.args.writer.now) (g.W.Sink.written c.put.new.self)
+    (g.W.Sink.written c.put_opening.new.writer) (mark_line)
+    (open_line c.args.opening.now c.args.limit ++
+    (wire_text c.args.opening.now.version ++
+    (row_lines c.args.opening.now.rows ++ seed_line c.args.seed.now c.args.life)))
+    (mark_line ++ (open_line c.args.opening.now c.args.limit ++
+    (wire_text c.args.opening.now.version ++
+    (row_lines c.args.opening.now.rows ++ seed_line c.args.seed.now c.args.life)))) c.put_opening.result refl
+    c.if-not-put.ensures.bytes c.put_opening.ensures.bytes

@@ -4,7 +4,8 @@ use Rattle.swim_life.proofs.knocking.send.Goals as goal
 
 pub returns-in-Some : goal.returns-in-Some
 returns-in-Some g c =
-    one_knock c.args.knock.now c.in-Some.knock (g.O.Post.posted c.args.post.now) (g.O.Post.posted c.send-is_taken.new.self) c.as_slice.result.now c.send-is_taken.result
+    one_knock c.args.knock.now c.in-Some.knock (g.O.Post.posted c.args.post.now)
+    (g.O.Post.posted c.send-is_taken.new.self) c.as_slice.result.now c.send-is_taken.result
     (search rules) c.send-is_taken.ensures (search rules)
 
 pub returns-in-None : goal.returns-in-None

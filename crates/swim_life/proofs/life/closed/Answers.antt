@@ -1,5 +1,7 @@
 use Rattle.std.proofs.Common.{refl}
+use Rattle.std.proofs.lemmas.Bool.{not-false}
 use Rattle.swim_life.proofs.Fullness.{life_full}
+use Rattle.swim_life.proofs.LifeFiles.{is_left}
 use Rattle.swim_life.proofs.life.closed.Goals as goal
 use Rattle.swim_life.proofs.life.closed.Goals.{then-all_began, else-all_began}
 
@@ -9,10 +11,25 @@ returns-clause-why g c = elim c.if-all_began.branch [
   | else-all_began w ↦ rw (c.or-why.ensures, c.or-2.ensures, c.or.ensures, w.began-is, w.if-all_began.false) refl
 ]
 
+pub returns-clause-written : goal.returns-clause-written
+returns-clause-written g c =
+    let journal = c.close_recorded-recorded in
+    is_left g.N.PageNaming.page (g.W.Sink.written journal.result.writer) _ journal.result.is_whole refl
+    journal.ensures.written journal.ensures.back
+
+pub returns-clause-sent : goal.returns-clause-sent
+returns-clause-sent g c =
+    let journal = c.close_recorded-recorded in
+    λ e. journal.ensures.sent (not-false journal.result.is_whole e)
+
 pub returns-clause-full : goal.returns-clause-full
 returns-clause-full g c =
     let ended = c.args.ended in
-    let journal = c.close_recorded-journal in
-    life_full g.N.Naming.limit journal.result.journal.past c.given_back-seats.result c.leave-hearer.result.0.seat c.leave-giver.result.0.seat ended.third.held.seat c.args.fourth.seat ended.first.why ended.second.why ended.third.why ended.all_began c.or-why.result
+    let journal = c.close_recorded-recorded in
+    life_full g.N.Naming.limit journal.result.journal.past c.given_back-seats.result c.leave-hearer.result.0.seat
+    c.leave-giver.result.0.seat ended.third.held.seat c.args.fourth.seat ended.first.why ended.second.why
+    ended.third.why ended.all_began c.or-why.result
     journal.ensures.full c.given_back-seats.ensures.values
-    (λ is. rw c.leave-hearer.ensures.seat (ended.first.full is)) (λ is. rw (c.leave-giver.ensures.seat, c.leave-sender.ensures.sender) (ended.second.full is)) ended.third.full (returns-clause-why g c)
+    (λ is. rw c.leave-hearer.ensures.seat (ended.first.full is))
+    (λ is. rw (c.leave-giver.ensures.seat, c.leave-sender.ensures.sender) (ended.second.full is)) ended.third.full
+    (returns-clause-why g c)

@@ -17,8 +17,10 @@ returns-clause-watched g c =
     let parts = c.into_parts-scribe in
     let told = parts.ensures.told in
     let reader = c.into_parts-follower.ensures.reader in
-    whole_told c.is_all-is_read.result g.N.Naming.opening g.N.GuestNaming.guests g.N.GuestNaming.heard (g.Y.Reporter.heard parts.result.2) parts.result.0.read told.0 parts.result.1 c.where_all-gallery.result past
-    told.1 (subst IsSetting journal.ensures.opening c.len.ensures.limits) (subst (λ (o : Setting). IsRun o past) journal.ensures.opening c.len.ensures.run)
+    whole_told c.is_all-is_read.result g.N.Naming.opening g.N.GuestNaming.guests g.N.GuestNaming.heard
+    (g.Y.Reporter.heard parts.result.2) parts.result.0.read told.0 parts.result.1 c.where_all-gallery.result past
+    told.1 (subst IsSetting journal.ensures.opening c.len.ensures.limits)
+    (subst (λ (o : Setting). IsRun o past) journal.ensures.opening c.len.ensures.run)
     (subst (λ (r : List Filing). length r ≡ length past → r ≡ filings_of past) reader journal.ensures.whole)
     (c.is_all-is_read.ensures ∙ rw (c.len-read.ensures, reader, c.len.ensures.value) refl) c.where_all-gallery.ensures
 
@@ -29,8 +31,10 @@ returns-clause-reported g c =
     let parts = c.into_parts-scribe in
     let told = parts.ensures.told in
     let reader = c.into_parts-follower.ensures.reader in
-    whole_heard c.is_all-is_read.result g.N.Naming.opening g.N.GuestNaming.guests g.N.GuestNaming.heard (g.Y.Reporter.heard parts.result.2) parts.result.0.read told.0 parts.result.1 past
-    told.1 (subst IsSetting journal.ensures.opening c.len.ensures.limits) (subst (λ (o : Setting). IsRun o past) journal.ensures.opening c.len.ensures.run)
+    whole_heard c.is_all-is_read.result g.N.Naming.opening g.N.GuestNaming.guests g.N.GuestNaming.heard
+    (g.Y.Reporter.heard parts.result.2) parts.result.0.read told.0 parts.result.1 past
+    told.1 (subst IsSetting journal.ensures.opening c.len.ensures.limits)
+    (subst (λ (o : Setting). IsRun o past) journal.ensures.opening c.len.ensures.run)
     (subst (λ (r : List Filing). IsPrefix r (filings_of past)) reader journal.ensures.followed)
     (subst (λ (r : List Filing). length r ≡ length past → r ≡ filings_of past) reader journal.ensures.whole)
     (c.is_all-is_read.ensures ∙ rw (c.len-read.ensures, reader, c.len.ensures.value) refl)
@@ -45,4 +49,5 @@ returns-clause-written g c =
     let is : c.are_both-is_whole.result ≡ (left.result.2 && (length left.result.0 == length past)) =
     c.are_both-is_whole.ensures ∙ rw (c.is_all-is_read.ensures, c.len-read.ensures, c.len.ensures.value) refl in
     subst (λ (b : Bool). Puts page new (calls_text (filings_of past)) b) (sym is)
-    (is_written page new left.result.0 past left.result.2 left.ensures.written journal.ensures.followed journal.ensures.whole)
+    (is_written page new left.result.0 past left.result.2 left.ensures.written journal.ensures.followed
+    journal.ensures.whole)

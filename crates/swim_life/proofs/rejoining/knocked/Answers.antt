@@ -9,5 +9,6 @@ pub loop-note-preserved : goal.loop-note-preserved
 loop-note-preserved c = (
   c.knocked.ensures.rejoin ∙ c.loop-note.invariant.0,
   c.knocked.ensures.me ∙ c.loop-note.invariant.1,
-  one_more_on c.args.rejoiner.now c.loop-note.rejoiner c.knocked.new.self _ _ c.loop-note.invariant.2 c.knocked.ensures.follows,
+  one_more_on c.args.rejoiner.now c.loop-note.rejoiner c.knocked.new.self _ _ c.loop-note.invariant.2
+      c.knocked.ensures.follows,
 )

@@ -6,6 +6,19 @@ pub scoped-requires : goal.scoped-requires
 scoped-requires g c = record {
   at = λ a. (
     search rules,
-    (search rules, search rules, search rules, search rules, search rules, search rules, search rules, search rules, search rules, search rules, search rules, search rules),
+    (
+      search rules,
+      search rules,
+      search rules,
+      search rules,
+      search rules,
+      search rules,
+      search rules,
+      search rules,
+      search rules,
+      search rules,
+      search rules,
+      search rules,
+    ),
   );
 }

@@ -6,13 +6,16 @@ use Rattle.swim_metrics.proofs.metric_texts.+put_families.Goals as goal
 pub returns-then-not-put_metric-clause-bytes : goal.returns-then-not-put_metric-clause-bytes
 returns-then-not-put_metric-clause-bytes g t c =
     first_failed (g.W.Sink.written c.args.writer.now) (g.W.Sink.written c.put_metric.new.writer) _
-    (families_text c.args.measures.now c.args.outside.now (others_of c.args.told.now)) (families_text c.args.measures.now c.args.outside.now c.args.told.now)
+    (families_text c.args.measures.now c.args.outside.now (others_of c.args.told.now))
+    (families_text c.args.measures.now c.args.outside.now c.args.told.now)
     (first_family c.args.measures.now c.args.outside.now c.args.told.now _ c.in-len1-up.len_at_least)
     c.if-not-put_metric.ensures.bytes
 
 pub returns-clause-bytes : goal.returns-clause-bytes
 returns-clause-bytes g t c =
-    both_put (g.W.Sink.written c.args.writer.now) (g.W.Sink.written c.put_metric.new.writer) (g.W.Sink.written c.put_families.new.writer) _
-    (families_text c.args.measures.now c.args.outside.now (others_of c.args.told.now)) (families_text c.args.measures.now c.args.outside.now c.args.told.now) c.put_families.result
+    both_put (g.W.Sink.written c.args.writer.now) (g.W.Sink.written c.put_metric.new.writer)
+    (g.W.Sink.written c.put_families.new.writer) _
+    (families_text c.args.measures.now c.args.outside.now (others_of c.args.told.now))
+    (families_text c.args.measures.now c.args.outside.now c.args.told.now) c.put_families.result
     (first_family c.args.measures.now c.args.outside.now c.args.told.now _ c.in-len1-up.len_at_least)
     c.if-not-put_metric.ensures.bytes c.put_families.ensures.bytes

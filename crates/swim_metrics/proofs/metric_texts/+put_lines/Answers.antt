@@ -6,13 +6,16 @@ use Rattle.swim_metrics.proofs.metric_texts.+put_lines.Goals as goal
 pub returns-then-not-put_values-clause-bytes : goal.returns-then-not-put_values-clause-bytes
 returns-then-not-put_values-clause-bytes g t c =
     first_failed (g.W.Sink.written c.args.writer.now) (g.W.Sink.written c.put_values.new.writer) _
-    (families_lines c.args.measures.now c.args.outside.now (others_of c.args.told.now)) (families_lines c.args.measures.now c.args.outside.now c.args.told.now)
+    (families_lines c.args.measures.now c.args.outside.now (others_of c.args.told.now))
+    (families_lines c.args.measures.now c.args.outside.now c.args.told.now)
     (first_lines c.args.measures.now c.args.outside.now c.args.told.now _ c.in-len1-up.len_at_least)
     c.if-not-put_values.ensures.bytes
 
 pub returns-clause-bytes : goal.returns-clause-bytes
 returns-clause-bytes g t c =
-    both_put (g.W.Sink.written c.args.writer.now) (g.W.Sink.written c.put_values.new.writer) (g.W.Sink.written c.put_lines.new.writer) _
-    (families_lines c.args.measures.now c.args.outside.now (others_of c.args.told.now)) (families_lines c.args.measures.now c.args.outside.now c.args.told.now) c.put_lines.result
+    both_put (g.W.Sink.written c.args.writer.now) (g.W.Sink.written c.put_values.new.writer)
+    (g.W.Sink.written c.put_lines.new.writer) _
+    (families_lines c.args.measures.now c.args.outside.now (others_of c.args.told.now))
+    (families_lines c.args.measures.now c.args.outside.now c.args.told.now) c.put_lines.result
     (first_lines c.args.measures.now c.args.outside.now c.args.told.now _ c.in-len1-up.len_at_least)
     c.if-not-put_values.ensures.bytes c.put_lines.ensures.bytes

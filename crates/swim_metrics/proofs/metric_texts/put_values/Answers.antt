@@ -7,6 +7,10 @@ use Rattle.swim_metrics.proofs.metric_texts.put_values.Goals as goal
 
 pub returns-clause-bytes : goal.returns-clause-bytes
 returns-clause-bytes g c =
-    let P : List ℕ → Type 0 = λ t. Puts (g.W.Sink.written c.args.writer.now) (g.W.Sink.written c.put_samples.new.writer) t c.put_samples.result in
-    subst P (lines_of c.family-family.result.name.now (samples_of c.family-family.result.samples) (family_of c.args.measures.now c.args.outside.now c.args.metric) c.family-family.ensures.name c.family-family.ensures.samples)
+    let P : List ℕ → Type 0 =
+    λ t. Puts (g.W.Sink.written c.args.writer.now) (g.W.Sink.written c.put_samples.new.writer) t
+    c.put_samples.result in
+    subst P (lines_of c.family-family.result.name.now (samples_of c.family-family.result.samples)
+    (family_of c.args.measures.now c.args.outside.now c.args.metric) c.family-family.ensures.name
+    c.family-family.ensures.samples)
     c.put_samples.ensures.bytes

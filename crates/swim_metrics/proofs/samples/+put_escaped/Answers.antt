@@ -12,7 +12,8 @@ returns-then-not-put_character-clause-bytes g t c =
 
 pub returns-clause-bytes : goal.returns-clause-bytes
 returns-clause-bytes g t c =
-    both_put (g.W.Sink.written c.args.writer.now) (g.W.Sink.written c.put_character.new.writer) (g.W.Sink.written c.put_escaped.new.writer) _
+    both_put (g.W.Sink.written c.args.writer.now) (g.W.Sink.written c.put_character.new.writer)
+    (g.W.Sink.written c.put_escaped.new.writer) _
     (escaped (others_of c.args.text.now)) (escaped c.args.text.now) c.put_escaped.result
     (first_escaped c.args.text.now _ c.in-len1-up.len_at_least)
     c.if-not-put_character.ensures.bytes c.put_escaped.ensures.bytes

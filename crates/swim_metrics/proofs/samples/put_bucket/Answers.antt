@@ -5,5 +5,8 @@ use Rattle.swim_metrics.proofs.samples.put_bucket.Goals as goal
 
 pub returns-clause-bytes : goal.returns-clause-bytes
 returns-clause-bytes g c =
-    let P : List ℕ → Type 0 = λ t. Puts (g.W.Sink.written c.args.writer.now) (g.W.Sink.written c.put_pieces.new.writer) t c.put_pieces.result in
-    subst P (bucket_line c.as_bytes.result.now c.args.name.now c.args.bucket.now c.as_bytes.ensures.value) c.put_pieces.ensures.bytes
+    let P : List ℕ → Type 0 =
+    λ t. Puts (g.W.Sink.written c.args.writer.now) (g.W.Sink.written c.put_pieces.new.writer) t
+    c.put_pieces.result in
+    subst P (bucket_line c.as_bytes.result.now c.args.name.now c.args.bucket.now c.as_bytes.ensures.value)
+    c.put_pieces.ensures.bytes

@@ -6,4 +6,5 @@ use Rattle.swim_metrics.proofs.tests_of_entries.pings_in.Goals as goal
 pub returns-in-Asked : goal.returns-in-Asked
 returns-in-Asked c = λ o.
     rw (c.in-Asked.is)
-    (sym (pings_to_each o (record { target = c.in-Asked.target; peer = c.in-Asked.peer; number = c.in-Asked.number }) (map (λ (relay : Relay). relay.peer) c.in-Asked.relays.items)))
+    (sym (pings_to_each o (record { target = c.in-Asked.target; peer = c.in-Asked.peer; number = c.in-Asked.number })
+    (map (λ (relay : Relay). relay.peer) c.in-Asked.relays.items)))

@@ -8,10 +8,13 @@ pub returns-in-Some : goal.returns-in-Some
 returns-in-Some c =
     let stands = sym c.place_of.ensures ∙ c.in-Some.is in
     c.again.ensures
-    ∙ ap (known_now c.args.row.now) (sym (find-at_position (λ (k : Known). nat_eq k.row.id c.args.row.now.id) c.args.knowns.now c.in-Some.place c.index-knowns-place.result stands c.index-knowns-place.is))
+    ∙ ap (known_now c.args.row.now)
+    (sym (find-at_position (λ (k : Known). nat_eq k.row.id c.args.row.now.id) c.args.knowns.now c.in-Some.place
+    c.index-knowns-place.result stands c.index-knowns-place.is))
 
 pub returns-in-None : goal.returns-in-None
 returns-in-None c =
     let stands = sym c.place_of.ensures ∙ c.in-None.is in
     c.first.ensures
-    ∙ ap (known_now c.args.row.now) (sym (find-at_none (λ (k : Known). nat_eq k.row.id c.args.row.now.id) c.args.knowns.now stands))
+    ∙ ap (known_now c.args.row.now)
+    (sym (find-at_none (λ (k : Known). nat_eq k.row.id c.args.row.now.id) c.args.knowns.now stands))

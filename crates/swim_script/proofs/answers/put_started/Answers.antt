@@ -6,4 +6,5 @@ returns-in-None-clause-bytes g c = rw c.in-None.is (rw c.id_piece-judged.ensures
 
 pub returns-in-Some-clause-bytes : goal.returns-in-Some-clause-bytes
 returns-in-Some-clause-bytes g c =
-    rw c.in-Some.is (rw (c.id_piece-judged.ensures, c.from.ensures, c.get.ensures.value, append-nil) at c.put_pieces-in-Some.ensures.bytes)
+    rw c.in-Some.is (rw (c.id_piece-judged.ensures, c.from.ensures, c.get.ensures.value, append-nil) at
+    c.put_pieces-in-Some.ensures.bytes)

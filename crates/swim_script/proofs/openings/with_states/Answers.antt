@@ -25,4 +25,5 @@ pub returns : goal.returns
 returns c =
     let rows = c.args.rows.now in
     let over : drop c.loop-row.row-index rows ≡ [] = drop_all c.loop-row.row-index rows c.loop-row-test.false in
-    sym (ap (λ (l : List Row). with_all l c.loop-row.told) over) ∙ c.loop-row.invariant ∙ states_are c.args.opening rows c.requires.up c.requires.once
+    sym (ap (λ (l : List Row). with_all l c.loop-row.told) over) ∙ c.loop-row.invariant ∙
+    states_are c.args.opening rows c.requires.up c.requires.once

@@ -10,7 +10,12 @@ returns-in-Some c =
     let joined = cut_joined 10 bytes (part, c.in-Some.field-0-1.now) c.in-Some.ensures in
     record {
       front = first_with 10 bytes (part, c.in-Some.field-0-1.now) c.in-Some.ensures;
-      fits = omega (arith, ap length joined, length-append part (10 ∷ []), length-append part (10 ∷ c.in-Some.field-0-1.now));
+      fits = omega (
+        arith,
+        ap length joined,
+        length-append part (10 ∷ []),
+        length-append part (10 ∷ c.in-Some.field-0-1.now),
+      );
       some = λ _. omega (arith, length-append part (10 ∷ []));
       within = rw c.in-Some.ensures at (first_free 10 bytes);
     }

@@ -10,8 +10,10 @@ returns-in-Some-clause-writes g c =
     elim c.if-is_empty.branch [
       | then-is_empty w ↦
           let met : w.read_byte-met.result ≡ Some taken = cc in
-          ap g.W.Sink.failures w.writer-is ∙ (rw met at w.read_byte-met.ensures.writes) ∙ ap (λ n. failures_sent n taken) before
+          ap g.W.Sink.failures w.writer-is ∙ (rw met at w.read_byte-met.ensures.writes) ∙
+          ap (λ n. failures_sent n taken) before
       | else-is_empty w ↦
           let met : w.read_ready-met.result ≡ Some taken = cc in
-          ap g.W.Sink.failures w.writer-is ∙ before ∙ sym (rw met at (w.read_ready-met.ensures.writes (g.W.Sink.failures c.args.writer.now)))
+          ap g.W.Sink.failures w.writer-is ∙ before ∙
+          sym (rw met at (w.read_ready-met.ensures.writes (g.W.Sink.failures c.args.writer.now)))
     ]

@@ -6,7 +6,8 @@ use Rattle.swim_text.proofs.lines.next_line.Given as goal
 
 abbrev pub invariant-loop-reader : goal.invariant-loop-reader
 invariant-loop-reader g l = record {
-  taking : TakingKnown (g.R.Source.left l.initial.reader) (g.R.Source.left l.reader) l.line.items g.row.LIMIT l.start l.budget l.is_long;
+  taking : TakingKnown (g.R.Source.left l.initial.reader) (g.R.Source.left l.reader) l.line.items g.row.LIMIT l.start
+      l.budget l.is_long;
   within : l.budget ≤ l.start;
   kept : Keeps (g.W.Sink.written l.initial.writer) (g.W.Sink.written l.writer);
   reads : g.R.Source.failures l.reader ≡ g.R.Source.failures l.initial.reader;

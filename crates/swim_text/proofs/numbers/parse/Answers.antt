@@ -11,11 +11,14 @@ returns-then-not-is_plain c =
 
 pub returns-in_err-number : goal.returns-in_err-number
 returns-in_err-number c =
-    c.from_residual.ensures ∙ sym (not_read c.args.limit c.args.text.now c.parsed.result (omega arith) c.parsed.ensures.only c.in_err-number.was)
+    c.from_residual.ensures ∙
+    sym (not_read c.args.limit c.args.text.now c.parsed.result (omega arith) c.parsed.ensures.only
+    c.in_err-number.was)
 
 pub returns-then-number-limit : goal.returns-then-number-limit
 returns-then-number-limit c =
-    sym (not_written c.args.limit c.args.text.now c.parsed.result c.in_ok-number.number (omega arith) c.parsed.ensures.only c.in_ok-number.was (λ within is. omega arith))
+    sym (not_written c.args.limit c.args.text.now c.parsed.result c.in_ok-number.number (omega arith)
+    c.parsed.ensures.only c.in_ok-number.was (λ within is. omega arith))
 
 pub returns : goal.returns
 returns c =

@@ -13,7 +13,8 @@ pub returns-clause-only : goal.returns-clause-only
 returns-clause-only c = λ n small is.
     let text = ok_is c.from_utf8.result c.in_ok-ok.field-0 (sym c.ok.ensures.value ∙ c.in_ok-ok.was) in
     let same = rw text at c.from_utf8.ensures.cases in
-    let read = parse-decimal 64 n c.in_ok-ok.field-0.now c.parse.result small small (same.0 ∙ is) c.parse.ensures.value.0 in
+    let read = parse-decimal 64 n c.in_ok-ok.field-0.now c.parse.result small small (same.0 ∙ is)
+    c.parse.ensures.value.0 in
     rw (c.ok-2.ensures.value, read) refl
 
 pub returns-clause-found : goal.returns-clause-found

@@ -6,7 +6,8 @@ use Rattle.swim_text.proofs.short_lines.next_short_line.Given as goal
 
 abbrev pub invariant-loop-reads : goal.invariant-loop-reads
 invariant-loop-reads g l = record {
-  taken : IsTakenKnown (g.R.Source.left l.initial.reader) (g.R.Source.left l.reader) l.line.items g.row.LIMIT l.initial.reads l.reads;
+  taken : IsTakenKnown (g.R.Source.left l.initial.reader) (g.R.Source.left l.reader) l.line.items g.row.LIMIT
+      l.initial.reads l.reads;
   within : l.reads ≤ l.initial.reads;
   kept : Keeps (g.W.Sink.written l.initial.writer) (g.W.Sink.written l.writer);
   read : g.R.Source.failures l.reader ≡ g.R.Source.failures l.initial.reader;

@@ -9,7 +9,9 @@ returns-in_err-target c =
     let fault = c.in_err-target.ensures in
     rw (p.1, p.2, fault.0)
     (target_fault c.args.bytes.now
-    (has_form c.args.bytes.now c.in_ok-version.version c.in_ok-kind.kind c.if-bytes-ne83.false c.if-bytes-ne87.false (search rules) (search rules) (search rules) (search rules) (search rules) (search rules) (search rules)) fault.1)
+    (has_form c.args.bytes.now c.in_ok-version.version c.in_ok-kind.kind c.if-bytes-ne83.false c.if-bytes-ne87.false
+    (search rules) (search rules) (search rules) (search rules) (search rules) (search rules) (search rules))
+    fault.1)
 
 pub returns-in_err-number : goal.returns-in_err-number
 returns-in_err-number c =
@@ -17,4 +19,6 @@ returns-in_err-number c =
     let fault = c.in_err-number.ensures in
     rw (p.1, p.2, fault.0)
     (number_fault c.args.bytes.now
-    (has_form c.args.bytes.now c.in_ok-version.version c.in_ok-kind.kind c.if-bytes-ne83.false c.if-bytes-ne87.false (search rules) (search rules) (search rules) (search rules) (search rules) (search rules) (search rules)) (search rules) (search rules) (search rules) fault.1)
+    (has_form c.args.bytes.now c.in_ok-version.version c.in_ok-kind.kind c.if-bytes-ne83.false c.if-bytes-ne87.false
+    (search rules) (search rules) (search rules) (search rules) (search rules) (search rules) (search rules))
+    (search rules) (search rules) (search rules) fault.1)

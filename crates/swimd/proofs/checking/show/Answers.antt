@@ -15,7 +15,8 @@ unsent o m n text put kept = record {
 
 pub returns-then-not-flush-clause-shows : goal.returns-then-not-flush-clause-shows
 returns-then-not-flush-clause-shows g c = (
-  unsent (g.W.Sink.written c.args.writer.now) (g.W.Sink.written c.summary.new.writer) (g.W.Sink.written c.flush.new.self) (summary_text c.args.config.now)
+  unsent (g.W.Sink.written c.args.writer.now) (g.W.Sink.written c.summary.new.writer)
+      (g.W.Sink.written c.flush.new.self) (summary_text c.args.config.now)
       c.if-not-summary.ensures.bytes c.flush.ensures.bytes,
   refl,
 )

@@ -9,8 +9,11 @@ returns g c = record {
   indented = c.as_slice-lines.ensures.indented;
   explains = rw c.as_slice-lines.ensures.lines c.requires;
   done = c.put_told-is_put.result;
-  put = puts_kept (g.F.Sink.written c.args.faults.now) (g.F.Sink.written c.put_told-is_put.new.faults) (g.F.Sink.written c.flush-is_sent.new.self) (outcome_text c.args.outcome ++ c.as_slice-lines.result.now) c.put_told-is_put.result c.put_told-is_put.ensures.bytes c.flush-is_sent.ensures.bytes;
+  put = puts_kept (g.F.Sink.written c.args.faults.now) (g.F.Sink.written c.put_told-is_put.new.faults)
+      (g.F.Sink.written c.flush-is_sent.new.self) (outcome_text c.args.outcome ++ c.as_slice-lines.result.now)
+      c.put_told-is_put.result c.put_told-is_put.ensures.bytes c.flush-is_sent.ensures.bytes;
   sent = c.flush-is_sent.result;
-  failed = c.flush-is_sent.ensures.failures ∙ ap (λ n. failures_if n c.flush-is_sent.result) c.put_told-is_put.ensures.failures;
+  failed = c.flush-is_sent.ensures.failures ∙
+      ap (λ n. failures_if n c.flush-is_sent.result) c.put_told-is_put.ensures.failures;
   is = c.status.ensures;
 }

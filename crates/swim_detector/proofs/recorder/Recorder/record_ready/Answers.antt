@@ -13,4 +13,8 @@ pub invariant_of-self : goal.invariant_of-self
 invariant_of-self g c =
     let s = c.self.inside in
     let limit = rw (← c.self.view_is) at c.requires.limit in
-    rw (c.add.ensures.opening, c.add.ensures.past) (c.answer.ensures.2 c.args.seat _, counted s.journal.past _ s.counts s.limit c.self.invariant.1 (search rules) c.requires.seat limit, refl)
+    rw (c.add.ensures.opening, c.add.ensures.past) (
+      c.answer.ensures.2 c.args.seat _,
+      counted s.journal.past _ s.counts s.limit c.self.invariant.1 (search rules) c.requires.seat limit,
+      refl,
+    )

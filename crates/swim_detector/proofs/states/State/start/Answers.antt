@@ -5,13 +5,17 @@ use Rattle.swim_detector.proofs.states.State.start.Goals as goal
 
 pub probe_of-probe-requires : goal.probe_of-probe-requires
 probe_of-probe-requires g c =
-    next_of_round c.args.journal.now.opening c.args.journal.now.past c.args.self.now c.unheard-judged.result (drawn_of c.next-next.result.drawn) c.next-next.result.member c.leave.new.targets
-    c.opening.ensures.limits c.opening.ensures.run c.requires.mirrors c.leave.ensures c.next-next.ensures.draws c.next-next.ensures.member
+    next_of_round c.args.journal.now.opening c.args.journal.now.past c.args.self.now c.unheard-judged.result
+    (drawn_of c.next-next.result.drawn) c.next-next.result.member c.leave.new.targets
+    c.opening.ensures.limits c.opening.ensures.run c.requires.mirrors c.leave.ensures c.next-next.ensures.draws
+    c.next-next.ensures.member
 
 pub returns : goal.returns
 returns g c =
     let period = c.period.ensures.value ∙ ap (λ x. x.period) c.opening.ensures.value in
-    rw c.is_some.ensures (started g.C.Chooser.orders g.C.Chooser.places c.args.journal.now.opening c.args.journal.now.past c.args.self.now _ c.leave.new.targets c.unheard-judged.result c.next-next.result.member c.next-next.result.drawn c.probe_of-probe.result c.args.chooser.now c.next-next.new.chooser
+    rw c.is_some.ensures (started g.C.Chooser.orders g.C.Chooser.places c.args.journal.now.opening
+    c.args.journal.now.past c.args.self.now _ c.leave.new.targets c.unheard-judged.result c.next-next.result.member
+    c.next-next.result.drawn c.probe_of-probe.result c.args.chooser.now c.next-next.new.chooser
     c.requires.mirrors
     (record {
       judges = c.unheard-judged.ensures;

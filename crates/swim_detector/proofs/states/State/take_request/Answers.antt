@@ -8,11 +8,16 @@ returns-in-Ok c =
     let a = c.args in
     let me = c.me-me.ensures ∙ ap (λ x. x.me) c.opening.ensures.value in
     let asked = rw (c.key.ensures, ap (λ (m : Message). m.version) c.message.view_is) at c.in-Ok.ensures.ok in
-    rw (c.ping_by.ensures, me) (request_taken a.journal.now.opening a.journal.now.past a.message.now a.source a.peer a.self.now (record a.self.now { requests = c.ask.new.self })
-    c.opening.ensures.limits c.requires.mirrors c.requires.kind c.requires.own c.requires.other c.requires.target refl refl refl refl asked c.in-Ok.ensures.kept.bound)
+    rw (c.ping_by.ensures, me)
+    (request_taken a.journal.now.opening a.journal.now.past a.message.now a.source a.peer a.self.now
+    (record a.self.now { requests = c.ask.new.self })
+    c.opening.ensures.limits c.requires.mirrors c.requires.kind c.requires.own c.requires.other c.requires.target refl
+    refl refl refl asked c.in-Ok.ensures.kept.bound)
 
 pub returns-in-Err : goal.returns-in-Err
 returns-in-Err c =
     let a = c.args in
     let full = rw c.key.ensures at (c.in-Err.ensures.full.0 refl) in
-    rw c.in-Err.ensures.err (request_full a.journal.now.opening a.journal.now.past a.message.now a.source a.peer a.self.now c.requires.mirrors c.requires.kind c.requires.own c.requires.other c.requires.target full.0 full.1)
+    rw c.in-Err.ensures.err
+    (request_full a.journal.now.opening a.journal.now.past a.message.now a.source a.peer a.self.now
+    c.requires.mirrors c.requires.kind c.requires.own c.requires.other c.requires.target full.0 full.1)

@@ -8,4 +8,5 @@ returns-then-self-rtt g c = rw c.requires.none c.time_out.ensures
 
 pub returns-else-self-rtt : goal.returns-else-self-rtt
 returns-else-self-rtt g c =
-    rw c.requires.none (settled g.C.Chooser.orders g.C.Chooser.places c.args.journal.now.opening c.args.journal.now.past Tick (plain c.quiet_tick.new.reply) c.quiet_tick.new.self c.args.chooser.now c.quiet_tick.ensures)
+    rw c.requires.none (settled g.C.Chooser.orders g.C.Chooser.places c.args.journal.now.opening c.args.journal.now.past
+    Tick (plain c.quiet_tick.new.reply) c.quiet_tick.new.self c.args.chooser.now c.quiet_tick.ensures)

@@ -7,4 +7,6 @@ use Rattle.swim_fence.proofs.fences.Fence.admits.Goals as goal
 pub returns-else-self-eq0-clause-follows : goal.returns-else-self-eq0-clause-follows
 returns-else-self-eq0-clause-follows c = λ h f.
     let P : Kept → Type 0 = λ k. Follows k (Asked c.args.from.now c.args.now ∷ h) in
-    subst P (sym c.ask.ensures.after) (Follows-asked c.args.self.now h c.args.from.now c.args.now c.ask.ensures.room (omega (arith, ap (λ (k : Kept). k.rate) c.self.view_is)) f)
+    subst P (sym c.ask.ensures.after)
+    (Follows-asked c.args.self.now h c.args.from.now c.args.now c.ask.ensures.room
+    (omega (arith, ap (λ (k : Kept). k.rate) c.self.view_is)) f)

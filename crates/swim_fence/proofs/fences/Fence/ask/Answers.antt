@@ -8,4 +8,6 @@ returns-in-None-clause-room c =
     let inside = c.self.inside in
     let P : Kept → Type 0 = λ k. HasRoom k in
     subst P c.self.view_is
-    (HasRoom-from_lengths (record { rate = inside.rate; members = inside.places; buckets = inside.buckets; strangers = inside.strangers }) (omega arith))
+    (HasRoom-from_lengths
+    (record { rate = inside.rate; members = inside.places; buckets = inside.buckets; strangers = inside.strangers })
+    (omega arith))

@@ -8,5 +8,6 @@ use Rattle.swim_fence.proofs.fences.Fence.buckets_for.Given as goal
 abbrev pub invariant-loop-place : goal.invariant-loop-place
 invariant-loop-place l = record {
   whole : length l.buckets ≡ 128;
-  kept : (p : ℕ) → p < l.place → (a : Address) (b : Bucket) → get_or l.buckets p b ≡ bucket_for l.self (get_or l.members p a);
+  kept : (p : ℕ) → p < l.place → (a : Address) (b : Bucket) →
+      get_or l.buckets p b ≡ bucket_for l.self (get_or l.members p a);
 }

@@ -10,4 +10,5 @@ find_row-requires c =
 pub returns-clause-value : goal.returns-clause-value
 returns-clause-value c =
     let j = c.self.inside in
-    rw (← c.self.view_is, c.find_row.ensures, c.as_slice.ensures.value, c.self.invariant.3.rows_are) (table_shows j.opening (reverse j.entries.items) c.args.id)
+    rw (← c.self.view_is, c.find_row.ensures, c.as_slice.ensures.value, c.self.invariant.3.rows_are)
+    (table_shows j.opening (reverse j.entries.items) c.args.id)

@@ -15,7 +15,9 @@ returns-clause-widest c =
     let h = reverse j.entries.items in
     let kept = c.self.invariant.3.gaps_are c.args.member in
     let w = walked j.opening h c.args.member c.self.invariant.0 c.self.invariant.1 in
-    rw (← c.self.view_is, c.widest_gap.ensures, kept.widest) (walked_widest j.opening h c.args.member (last_probe j.opening c.args.member h) (widest_gap j.opening c.args.member h) w)
+    rw (← c.self.view_is, c.widest_gap.ensures, kept.widest)
+    (walked_widest j.opening h c.args.member (last_probe j.opening c.args.member h)
+    (widest_gap j.opening c.args.member h) w)
 
 pub returns-clause-none : goal.returns-clause-none
 returns-clause-none c =
@@ -23,7 +25,9 @@ returns-clause-none c =
     let h = reverse j.entries.items in
     let kept = c.self.invariant.3.gaps_are c.args.member in
     let w = walked j.opening h c.args.member c.self.invariant.0 c.self.invariant.1 in
-    rw (← c.self.view_is, c.widest_gap.ensures, kept.widest) (walked_none_left j.opening h c.args.member (last_probe j.opening c.args.member h) (widest_gap j.opening c.args.member h) w)
+    rw (← c.self.view_is, c.widest_gap.ensures, kept.widest)
+    (walked_none_left j.opening h c.args.member (last_probe j.opening c.args.member h)
+    (widest_gap j.opening c.args.member h) w)
 
 pub returns-clause-bound : goal.returns-clause-bound
 returns-clause-bound c =

@@ -12,6 +12,10 @@ invariant_of-self-2 g c =
     let read : c.next.new.self.read ≡ c.self.inside.scribe.read ++ f ∷ [] =
     c.in-Some.ensures.some ∙ ap (λ (x : Filing). c.self.inside.scribe.read ++ x ∷ []) (sym c.next-2.view_is) in
     let heard =
-    subst (λ (x : Filing). Grows (g.Y.Reporter.heard c.self.inside.reporter) (g.Y.Reporter.heard c.hear.new.self) (Called x told.result ∷ [])) (sym c.next-2.view_is) c.hear.ensures in
-    next_told g.N.Naming.opening g.N.GuestNaming.guests g.N.GuestNaming.heard (g.Y.Reporter.heard c.self.inside.reporter) (g.Y.Reporter.heard c.hear.new.self) c.self.inside.scribe.read c.next.new.self.read f told.result c.self.inside.watching told.new.watching c.self.inside.gallery told.new.gallery
+    subst (λ (x : Filing). Grows (g.Y.Reporter.heard c.self.inside.reporter) (g.Y.Reporter.heard c.hear.new.self)
+    (Called x told.result ∷ [])) (sym c.next-2.view_is) c.hear.ensures in
+    next_told g.N.Naming.opening g.N.GuestNaming.guests g.N.GuestNaming.heard
+    (g.Y.Reporter.heard c.self.inside.reporter) (g.Y.Reporter.heard c.hear.new.self) c.self.inside.scribe.read
+    c.next.new.self.read f told.result c.self.inside.watching told.new.watching c.self.inside.gallery
+    told.new.gallery
     c.self.invariant read told.ensures.known told.ensures.told told.ensures.change heard

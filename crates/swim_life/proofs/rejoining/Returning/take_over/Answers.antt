@@ -4,4 +4,5 @@ use Rattle.swim_life.proofs.rejoining.Returning.take_over.Goals as goal
 
 pub returns-then-self-gt0-clause-learns : goal.returns-then-self-gt0-clause-learns
 returns-then-self-gt0-clause-learns g c = λ o.
-    taken_learnt o c.args.self.now (record c.args.self.now { rejoiner = c.knocked.new.rejoiner }) c.knocked.ensures.follows refl
+    taken_learnt o c.args.self.now (record c.args.self.now { rejoiner = c.knocked.new.rejoiner })
+    c.knocked.ensures.follows refl

@@ -11,24 +11,40 @@ use Rattle.swim_life.proofs.senders.Sender.hear.Goals as goal
 
 pub invariant_of-self : goal.invariant_of-self
 invariant_of-self g c =
-    finished_sent g.O.Post.posted g.N.Naming.opening c.opening-opening.result.now c.self.inside.held.seat c.hear-answer.new.seat c.hear-answer.result (box_value c.self.inside.post) c.deref_mut.result.now c.finish-end.new.post c.self.inside.counts c.finish-end.new.counts c.finish-end.result
-    c.self.invariant (search rules) c.opening-opening.ensures (search rules) c.hear-answer.ensures.err c.finish-end.ensures
+    finished_sent g.O.Post.posted g.N.Naming.opening c.opening-opening.result.now c.self.inside.held.seat
+    c.hear-answer.new.seat c.hear-answer.result (box_value c.self.inside.post) c.deref_mut.result.now
+    c.finish-end.new.post c.self.inside.counts c.finish-end.new.counts c.finish-end.result
+    c.self.invariant (search rules) c.opening-opening.ensures (search rules) c.hear-answer.ensures.err
+    c.finish-end.ensures
 
 pub returns-clause-hears : goal.returns-clause-hears
 returns-clause-hears g c =
-    let new : AtSender g.row.O.Denot = record { seat = c.hear-answer.new.seat; post = c.finish-end.new.post; counts = c.finish-end.new.counts } in
-    subst (λ old. Hears g.N.Naming.opening g.N.Naming.limit c.args.bytes.now c.args.source old c.finish-end.result new) c.self.view_is
-    (heard_so g.O.Post.posted (λ r. sends_of r.reply c.opening-opening.result.now) g.N.Naming.opening g.N.Naming.limit c.args.bytes.now c.args.source c.self.inside.held.seat c.hear-answer.new.seat c.hear-answer.result (box_value c.self.inside.post) c.deref_mut.result.now c.finish-end.new.post c.self.inside.counts c.finish-end.new.counts c.finish-end.result
-    (search rules) c.hear-answer.ensures.ok c.hear-answer.ensures.err c.hear-answer.ensures.refuses c.finish-end.ensures)
+    let new : AtSender g.row.O.Denot =
+    record { seat = c.hear-answer.new.seat; post = c.finish-end.new.post; counts = c.finish-end.new.counts } in
+    subst (λ old. Hears g.N.Naming.opening g.N.Naming.limit c.args.bytes.now c.args.source old c.finish-end.result new)
+    c.self.view_is
+    (heard_so g.O.Post.posted (λ r. sends_of r.reply c.opening-opening.result.now) g.N.Naming.opening g.N.Naming.limit
+    c.args.bytes.now c.args.source c.self.inside.held.seat c.hear-answer.new.seat c.hear-answer.result
+    (box_value c.self.inside.post) c.deref_mut.result.now c.finish-end.new.post c.self.inside.counts
+    c.finish-end.new.counts c.finish-end.result
+    (search rules) c.hear-answer.ensures.ok c.hear-answer.ensures.err c.hear-answer.ensures.refuses
+    c.finish-end.ensures)
 
 pub returns-clause-full : goal.returns-clause-full
 returns-clause-full g c =
-    finished_full g.O.Post.posted (λ r. sends_of r.reply c.opening-opening.result.now) c.self.inside.held.seat c.hear-answer.new.seat c.hear-answer.result c.deref_mut.result.now c.finish-end.new.post c.self.inside.counts c.finish-end.new.counts c.finish-end.result
+    finished_full g.O.Post.posted (λ r. sends_of r.reply c.opening-opening.result.now) c.self.inside.held.seat
+    c.hear-answer.new.seat c.hear-answer.result c.deref_mut.result.now c.finish-end.new.post c.self.inside.counts
+    c.finish-end.new.counts c.finish-end.result
     c.hear-answer.ensures.err c.finish-end.ensures
 
 pub returns-clause-message : goal.returns-clause-message
 returns-clause-message g c =
-    let new : AtSender g.row.O.Denot = record { seat = c.hear-answer.new.seat; post = c.finish-end.new.post; counts = c.finish-end.new.counts } in
+    let new : AtSender g.row.O.Denot =
+    record { seat = c.hear-answer.new.seat; post = c.finish-end.new.post; counts = c.finish-end.new.counts } in
     subst (λ old. IsMessage c.args.bytes.now old c.finish-end.result new c.message_of-message.result) c.self.view_is
-    (rw c.message_of-message.ensures (message_so g.O.Post.posted (λ r. sends_of r.reply c.opening-opening.result.now) g.N.Naming.opening c.args.bytes.now c.args.source c.self.inside.held.seat c.hear-answer.new.seat c.hear-answer.result (box_value c.self.inside.post) c.deref_mut.result.now c.finish-end.new.post c.self.inside.counts c.finish-end.new.counts c.finish-end.result
+    (rw c.message_of-message.ensures
+    (message_so g.O.Post.posted (λ r. sends_of r.reply c.opening-opening.result.now) g.N.Naming.opening
+    c.args.bytes.now c.args.source c.self.inside.held.seat c.hear-answer.new.seat c.hear-answer.result
+    (box_value c.self.inside.post) c.deref_mut.result.now c.finish-end.new.post c.self.inside.counts
+    c.finish-end.new.counts c.finish-end.result
     c.hear-answer.ensures.ok c.hear-answer.ensures.err c.finish-end.ensures))

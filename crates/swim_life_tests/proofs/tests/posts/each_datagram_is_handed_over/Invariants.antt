@@ -3,7 +3,15 @@ use Rattle.swim_life_tests.proofs.tests.posts.each_datagram_is_handed_over.Given
 
 -- the node of these parts and this opening
 abbrev pub ghosts-live_by-N-Naming : goal.ghosts-live_by-N-Naming
-ghosts-live_by-N-Naming g a = record { opening = a.opening; limit = a.parts.limit; ledgers = a.parts.ledgers; log = a.parts.log; cells = a.parts.cells; drawn = λ h. Unit {0} }
+ghosts-live_by-N-Naming g a =
+    record {
+      opening = a.opening;
+      limit = a.parts.limit;
+      ledgers = a.parts.ledgers;
+      log = a.parts.log;
+      cells = a.parts.cells;
+      drawn = λ h. Unit {0};
+    }
 
 -- its journal is written nowhere
 abbrev pub ghosts-live_by-N-PageNaming : goal.ghosts-live_by-N-PageNaming

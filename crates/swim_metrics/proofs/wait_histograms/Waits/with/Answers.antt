@@ -5,7 +5,8 @@ use Rattle.swim_metrics.proofs.wait_histograms.Waits.with.Goals as goal
 
 pub returns : goal.returns
 returns c = λ ended waits is held. record {
-  buckets = c.count_wait.ensures ∙ ap (map (bucket_then c.args.wait)) held.buckets ∙ all_buckets_then waits ended c.args.wait is;
+  buckets = c.count_wait.ensures ∙ ap (map (bucket_then c.args.wait)) held.buckets ∙
+      all_buckets_then waits ended c.args.wait is;
   total = total_then waits ended c.args.wait c.args.self.now.sum c.more.result is held.total c.more.ensures;
   number = one_more_then (length waits) c.args.self.now.count c.more-2.result held.number c.more-2.ensures;
 }

@@ -12,5 +12,6 @@ compare_exchange-found-requires g c =
       book ∙ sym (ap (λ w. w.book) h),
       pen.0 ∙ (book ∙ sym (ap (λ w. w.book) h)),
       offer.0,
-      rw (ap (λ w. w.key) h, pen.1, offer.1, offer.3) (adds_moves c.self.inside.seen.log c.args.change.now c.self.inside.len (sym c.self.invariant)),
+      rw (ap (λ w. w.key) h, pen.1, offer.1, offer.3)
+          (adds_moves c.self.inside.seen.log c.args.change.now c.self.inside.len (sym c.self.invariant)),
     )

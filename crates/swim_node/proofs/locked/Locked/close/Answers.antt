@@ -12,5 +12,8 @@ returns-clause-history g c =
     let opening = c.journal.ensures.opening ∙ c.locked.invariant.0 in
     let setting : IsSetting o = rw opening at c.len-run.ensures.limits in
     let run : IsRun o past = rw (opening, c.journal.ensures.past) at c.len-run.ensures.run in
-    let calls : HoldsCalls past c.args.seats = rw (c.locked.view_is, c.compare_all-seats.ensures.locked) c.compare_all-seats.ensures.calls in
-    rw c.into_journal.ensures.past (one_history o past c.args.seats c.news-news.result setting run calls (c.news-news.ensures ∙ c.locked.invariant.3))
+    let calls : HoldsCalls past c.args.seats =
+    rw (c.locked.view_is, c.compare_all-seats.ensures.locked) c.compare_all-seats.ensures.calls in
+    rw c.into_journal.ensures.past
+    (one_history o past c.args.seats c.news-news.result setting run calls
+    (c.news-news.ensures ∙ c.locked.invariant.3))

@@ -14,8 +14,11 @@ returns-clause-calls g c =
     let past = c.self.inside.recorder.past in
     let seat = c.seat.inside.tally.seat in
     let calls = c.seat.inside.calls.items in
-    let run : IsRun g.N.Naming.opening past = rw (c.journal.ensures.past, c.journal.ensures.opening ∙ c.self.invariant.0) at c.len-run.ensures.run in
+    let run : IsRun g.N.Naming.opening past =
+    rw (c.journal.ensures.past, c.journal.ensures.opening ∙ c.self.invariant.0) at c.len-run.ensures.run in
     let count = sym c.seat.invariant.0 ∙ sym c.audit.ensures.count ∙ c.self.invariant.2 seat c.audit.ensures.seat in
-    let known : AreNoted cells seat calls (notes_of cells past) (length calls) = rw (c.audit.ensures.tally, c.self.invariant.4) at c.compare.ensures.noted in
-    let held : calls ≡ kept_of seat past = hold_calls g.N.Naming.opening cells past seat calls run count c.seat.invariant.1 known in
+    let known : AreNoted cells seat calls (notes_of cells past) (length calls) =
+    rw (c.audit.ensures.tally, c.self.invariant.4) at c.compare.ensures.noted in
+    let held : calls ≡ kept_of seat past =
+    hold_calls g.N.Naming.opening cells past seat calls run count c.seat.invariant.1 known in
     rw (← c.seat.view_is, ← c.self.view_is) held

@@ -10,4 +10,5 @@ compare-requires g c = rw (c.self.invariant.4) (placed_notes g.N.Naming.cells c.
 pub returns-clause-begins : goal.returns-clause-begins
 returns-clause-begins g c =
     let past = c.self.inside.recorder.past in
-    rw (← c.self.view_is) (c.compare.ensures.begins (filings_of past) (c.self.invariant.4 ∙ notes_are g.N.Naming.cells past))
+    rw (← c.self.view_is)
+    (c.compare.ensures.begins (filings_of past) (c.self.invariant.4 ∙ notes_are g.N.Naming.cells past))

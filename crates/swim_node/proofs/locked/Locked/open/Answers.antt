@@ -9,6 +9,7 @@ invariant_of-locked g c = (
   search rules,
   search rules,
   search rules,
-  drawn_first g.C.Chooser.orders g.C.Chooser.places g.N.Naming.opening g.N.Naming.drawn c.open-2.result.past c.args.chooser c.open-2.result.chooser (search rules) (search rules) c.requires.drawn,
+  drawn_first g.C.Chooser.orders g.C.Chooser.places g.N.Naming.opening g.N.Naming.drawn c.open-2.result.past
+      c.args.chooser c.open-2.result.chooser (search rules) (search rules) c.requires.drawn,
   search rules,
 )

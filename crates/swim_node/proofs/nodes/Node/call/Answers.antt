@@ -3,7 +3,8 @@ use Rattle.swim_node.proofs.Filing.{numbered_then, noted_then}
 use Rattle.swim_node.proofs.nodes.Node.call.Goals as goal
 
 pub returns-in-Err-clause-refuses : goal.returns-in-Err-clause-refuses
-returns-in-Err-clause-refuses g c = c.in-Err.ensures.refuses c.args.seat.now (search rules) (search rules) (search rules)
+returns-in-Err-clause-refuses g c =
+    c.in-Err.ensures.refuses c.args.seat.now (search rules) (search rules) (search rules)
 
 pub invariant_of-seat-2 : goal.invariant_of-seat-2
 invariant_of-seat-2 g c =
@@ -12,5 +13,7 @@ invariant_of-seat-2 g c =
     let new = c.push_reserved-2.new.self.items in (
       search rules,
       numbered_then calls new k c.seat.invariant.1 (search rules) (search rules),
-      noted_then g.N.Naming.cells c.call-answered.new.tally.seat calls new k c.seat.inside.notes.items c.push_reserved.new.self.items c.in-Ok-answered.note (search rules) (search rules) (search rules) (search rules),
+      noted_then g.N.Naming.cells c.call-answered.new.tally.seat calls new k c.seat.inside.notes.items
+          c.push_reserved.new.self.items c.in-Ok-answered.note (search rules) (search rules) (search rules)
+          (search rules),
     )

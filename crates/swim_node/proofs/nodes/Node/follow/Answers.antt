@@ -11,14 +11,18 @@ invariant_of-follower-in_default-read g c = rw (c.reserve.ensures.items) c.follo
 
 pub invariant_of-follower-2 : goal.invariant_of-follower-2
 invariant_of-follower-2 g c =
-    placed_more g.N.Naming.cells c.follower.inside.notes.items c.push_reserved.new.self.items c.in-Some.read.note c.follower.invariant c.in-Some.read.followed c.in-Some.ensures.note (search rules) (search rules)
+    placed_more g.N.Naming.cells c.follower.inside.notes.items c.push_reserved.new.self.items c.in-Some.read.note
+    c.follower.invariant c.in-Some.read.followed c.in-Some.ensures.note (search rules) (search rules)
 
 pub returns-clause-some : goal.returns-clause-some
 returns-clause-some g c =
-    rw (c.push_reserved.ensures.items, c.reserve.ensures.items, ← c.follower.view_is) (known_more c.follower.inside.notes.items c.in-Some.read.note c.in-Some.read.followed (ap (λ n. n.known) c.in-Some.ensures.note))
+    rw (c.push_reserved.ensures.items, c.reserve.ensures.items, ← c.follower.view_is)
+    (known_more c.follower.inside.notes.items c.in-Some.read.note c.in-Some.read.followed
+    (ap (λ n. n.known) c.in-Some.ensures.note))
 
 pub returns-clause-place : goal.returns-clause-place
 returns-clause-place g c =
     let notes = c.follower.inside.notes.items in
-    let many : length (known_of notes) ≡ length notes = all_known notes (λ place n there. (c.follower.invariant place n there).1) in
+    let many : length (known_of notes) ≡ length notes =
+    all_known notes (λ place n there. (c.follower.invariant place n there).1) in
     rw (← c.follower.view_is, many) (search rules)

@@ -2,4 +2,12 @@ use Rattle.swim_node_tests.proofs.tests.threads.four_threads.Given as goal
 
 -- the node of these parts and this opening
 abbrev pub ghosts-four_in_threads : goal.ghosts-four_in_threads
-ghosts-four_in_threads g a = record { opening = a.opening; limit = a.parts.limit; ledgers = a.parts.ledgers; log = a.parts.log; cells = a.parts.cells; drawn = λ h. Unit {0} }
+ghosts-four_in_threads g a =
+    record {
+      opening = a.opening;
+      limit = a.parts.limit;
+      ledgers = a.parts.ledgers;
+      log = a.parts.log;
+      cells = a.parts.cells;
+      drawn = λ h. Unit {0};
+    }

@@ -1,9 +1,10 @@
-use Rattle.std.proofs.Common.{◌<◌, sym, ◌∙◌, arith, ap, false}
+use Rattle.std.proofs.Common.{◌<◌, sym, ◌∙◌, arith, ap}
 use Rattle.swim_wire.specs.Messages.{Message}
 use Rattle.swim_rejoin.specs.Rejoiners.{Kept, is_marked}
 use Rattle.swim_rejoin.proofs.Showing.{believed-some, believed-none, shown-is, unmarked}
 use Rattle.swim_rejoin.proofs.rejoiners.Rejoiner.believes.Goals as goal
-use Rattle.swim_rejoin.proofs.rejoiners.Rejoiner.believes.Goals.{then-self-eq0-via-then-self-eq0, then-self-eq0-via-else-self-eq0+then-not-has}
+use Rattle.swim_rejoin.proofs.rejoiners.Rejoiner.believes.Goals.{then-self-eq0-via-then-self-eq0}
+use Rattle.swim_rejoin.proofs.rejoiners.Rejoiner.believes.Goals.{then-self-eq0-via-else-self-eq0+then-not-has}
 
 pub returns-then-self-eq0 : goal.returns-then-self-eq0
 returns-then-self-eq0 c = λ h f.
@@ -12,9 +13,11 @@ returns-then-self-eq0 c = λ h f.
     let from = c.args.from.now in
     elim c.then-self-eq0.branch [
       | then-self-eq0-via-then-self-eq0 w ↦
-          sym (believed-none k.rejoin k.me h m from (ap (λ (k : Kept). k.rejoin) (sym c.self.view_is) ∙ w.if-self-eq0.true))
+          sym (believed-none k.rejoin k.me h m from
+          (ap (λ (k : Kept). k.rejoin) (sym c.self.view_is) ∙ w.if-self-eq0.true))
       | then-self-eq0-via-else-self-eq0+then-not-has w ↦
-          let positive : 0 < k.rejoin = omega (arith, w.if-self-eq0.false, ap (λ (k : Kept). k.rejoin) c.self.view_is) in
+          let positive : 0 < k.rejoin =
+          omega (arith, w.if-self-eq0.false, ap (λ (k : Kept). k.rejoin) c.self.view_is) in
           let mark = ap (λ (k : Kept). is_marked k.marks m.sender) (sym c.self.view_is)
           ∙ ap (is_marked c.self.inside.marks.marks) (sym (ap (λ (m : Message). m.sender) c.message.view_is))
           ∙ sym w.has.ensures ∙ w.if-not-has.true in
@@ -27,4 +30,5 @@ returns c = λ h f.
     let m = c.args.message.now in
     let from = c.args.from.now in
     let positive : 0 < k.rejoin = omega (arith, c.if-self-eq0.false, ap (λ (k : Kept). k.rejoin) c.self.view_is) in
-    c.shown.ensures.value ∙ shown-is k h m from positive c.shown.ensures.number f ∙ sym (believed-some k.rejoin k.me h m from positive)
+    c.shown.ensures.value ∙ shown-is k h m from positive c.shown.ensures.number f ∙
+    sym (believed-some k.rejoin k.me h m from positive)

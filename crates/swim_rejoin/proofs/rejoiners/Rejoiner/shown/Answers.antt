@@ -16,7 +16,8 @@ returns-in-Some-clause-value c =
     let known = c.index-deref-place.result in
     let p : Known → Bool = λ k. nat_eq k.row.id m.sender in
     let stands = ap (position p) (sym c.as_slice.ensures.value)
-    ∙ ap (λ id. position (λ (k : Known). nat_eq k.row.id id) c.as_slice.result.now) (sym (ap (λ (m : Message). m.sender) c.message.view_is))
+    ∙ ap (λ id. position (λ (k : Known). nat_eq k.row.id id) c.as_slice.result.now)
+    (sym (ap (λ (m : Message). m.sender) c.message.view_is))
     ∙ sym c.place_of.ensures ∙ c.in-Some.is in
     let read = c.index-deref-place.is ∙ ap (λ (xs : List Known). get_or xs place known) c.deref.ensures.0 in
     c.shown.ensures
@@ -30,7 +31,8 @@ returns-in-None-clause-value c =
     let from = c.args.from.now in
     let p : Known → Bool = λ k. nat_eq k.row.id m.sender in
     let stands = ap (position p) (sym c.as_slice.ensures.value)
-    ∙ ap (λ id. position (λ (k : Known). nat_eq k.row.id id) c.as_slice.result.now) (sym (ap (λ (m : Message). m.sender) c.message.view_is))
+    ∙ ap (λ id. position (λ (k : Known). nat_eq k.row.id id) c.as_slice.result.now)
+    (sym (ap (λ (m : Message). m.sender) c.message.view_is))
     ∙ sym c.place_of.ensures ∙ c.in-None.is in
     ap (option_and_then (shown_of c.self.inside.me m from)) (sym (find-at_none p items stands))
     ∙ ap (λ (k : Kept). shown_by k m from) c.self.view_is

@@ -11,4 +11,5 @@ returns-clause-held c =
     let whole = take-put_mid b.end (end - b.end) b.bytes text end refl (omega arith) in
     let front : b.start ≤ length (take b.end b.bytes) = omega (arith, length-take b.end b.bytes) in
     rw (← c.self.view_is, c.copy_from_slice.ensures.after)
-    (between_is _ b.start end ∙ ap (drop b.start) whole ∙ drop-append-le b.start (take b.end b.bytes) text front ∙ ap (λ held. held ++ text) (sym (between_is b.bytes b.start b.end)))
+    (between_is _ b.start end ∙ ap (drop b.start) whole ∙ drop-append-le b.start (take b.end b.bytes) text front ∙
+    ap (λ held. held ++ text) (sym (between_is b.bytes b.start b.end)))

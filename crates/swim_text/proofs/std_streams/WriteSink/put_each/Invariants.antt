@@ -6,6 +6,7 @@ use Rattle.swim_text.proofs.std_streams.WriteSink.put_each.Given as goal
 
 abbrev pub invariant-loop-byte : goal.invariant-loop-byte
 invariant-loop-byte g l = record {
-  written : Appends (written_of g.W.Write.contents l.initial.self) (written_of g.W.Write.contents l.self) (take l.byte-index l.text);
+  written : Appends (written_of g.W.Write.contents l.initial.self) (written_of g.W.Write.contents l.self)
+      (take l.byte-index l.text);
   unfailed : l.self.failures ≡ l.initial.self.failures;
 }

@@ -7,10 +7,12 @@ pub returns-in-Some : goal.returns-in-Some
 returns-in-Some c =
     let separator = c.self.inside.separator in
     let text = c.in_ok-text.text.now in
-    sym c.self.view_is ∙ (ap (λ left. words_left separator (option_copied left)) c.in_ok-text.was ∙ (words_cut separator text ∙ ap (words_after separator text) c.in-Some.ensures))
+    sym c.self.view_is ∙ (ap (λ left. words_left separator (option_copied left)) c.in_ok-text.was ∙
+    (words_cut separator text ∙ ap (words_after separator text) c.in-Some.ensures))
 
 pub returns-in-None : goal.returns-in-None
 returns-in-None c =
     let separator = c.self.inside.separator in
     let text = c.in_ok-text.text.now in
-    sym c.self.view_is ∙ (ap (λ left. words_left separator (option_copied left)) c.in_ok-text.was ∙ (words_cut separator text ∙ ap (words_after separator text) c.in-None.ensures))
+    sym c.self.view_is ∙ (ap (λ left. words_left separator (option_copied left)) c.in_ok-text.was ∙
+    (words_cut separator text ∙ ap (words_after separator text) c.in-None.ensures))

@@ -10,6 +10,7 @@ returns-then-self-span-clause-drawn c = λ h draws.
 
 pub returns-clause-drawn : goal.returns-clause-drawn
 returns-clause-drawn c = λ h draws.
-    draws_more c.args.opening.now h c.args.entry.now c.args.span.first c.args.span.until c.args.self.now _ c.number_at-ended.result draws
+    draws_more c.args.opening.now h c.args.entry.now c.args.span.first c.args.span.until c.args.self.now _
+    c.number_at-ended.result draws
     (c.ticks_with-self.ensures h draws.ticks) (omega (arith, c.if-from-span.false, c.from.ensures)) c.if-self-span.false
     refl refl c.number_at-ended.ensures c.in_ok-add_marks.ensures c.in_ok-add_lane.ensures

@@ -18,4 +18,5 @@ returns-clause-text c =
       c.new-text.ensures,
       c.format.ensures.text,
     )
-    (is_written (record { ip = c.self.inside.ip; port = c.self.inside.port }) (search rules) ∙ ap address_text c.self.view_is)
+    (is_written (record { ip = c.self.inside.ip; port = c.self.inside.port }) (search rules) ∙
+    ap address_text c.self.view_is)

@@ -6,4 +6,5 @@ use Rattle.swimd.proofs.details.Details.explain.Goals as goal
 pub take-requires : goal.take-requires
 take-requires c =
     rw c.text.ensures (cause_indented c.args.fault c.put_cause.new.writer.text
-    (cause_of c.args.fault c.new-page.result.text c.put_cause.new.writer.text (ap (λ p. p.text) c.new-page.ensures) (rw c.if-put_cause.true at c.put_cause.ensures.bytes)))
+    (cause_of c.args.fault c.new-page.result.text c.put_cause.new.writer.text (ap (λ p. p.text) c.new-page.ensures)
+    (rw c.if-put_cause.true at c.put_cause.ensures.bytes)))

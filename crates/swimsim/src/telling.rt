@@ -1,0 +1,177 @@
+//! Answers with words between them.
+
+ghost use Rattle.std.specs.Prelude.{◌≡◌};
+ghost use Rattle.swim_text.specs.Streams.{failures_if};
+
+use crate::files::Output;
+use crate::meanings::message_words;
+use crate::reasons::{Reason, reason_of};
+use crate::tallies::AnswerTally;
+use std::alloc::Global;
+use swim_history::{Call, Opening, Reply, sends};
+use swim_script::{LineOutcome, Session, Teller, put_reply, put_send};
+use swim_text::{Sink, WriteSink, put_numbered};
+use swim_wire::{Message, Peer, WireFault};
+
+/// Who writes answers with words: datagrams as they are heard and sent, or the names of reasons behind their numbers,
+/// or both. In want of memory words are left out. It counts the answers that no entry of a journal tells.
+#[derive(Drop)]
+pub struct WordTeller {
+    alloc: Global,
+    has_datagrams: bool,
+    has_reasons: bool,
+    tally: AnswerTally,
+}
+
+impl WordTeller {
+    /// Who has words for datagrams, or for reasons, or for both.
+    pub fn new(alloc: Global, has_datagrams: bool, has_reasons: bool) -> WordTeller {
+        WordTeller {
+            alloc,
+            has_datagrams,
+            has_reasons,
+            tally: AnswerTally::default(),
+        }
+    }
+
+    /// How often an answer was given that no entry of a journal tells.
+    pub fn tally(&self) -> AnswerTally {
+        self.tally
+    }
+
+    /// The answer to a call, behind the words of the message that it heard, if it did.
+    fn put_called<W: Sink>(
+        &self,
+        session: &Session,
+        outcome: &LineOutcome,
+        call: &Call,
+        writer: &mut W,
+    ) -> bool
+        ensures { W.failures writer.new ≡ failures_if (W.failures writer.old) result }
+    {
+        if !self.put_heard(call, writer) {
+            return false;
+        }
+        match outcome {
+            LineOutcome::Made(_) => self.put_answer(session, writer),
+            _ => session.put(outcome, writer),
+        }
+    }
+
+    /// The words of the message that a call heard, if it did.
+    fn put_heard<W: Sink>(&self, call: &Call, writer: &mut W) -> bool
+        ensures { W.failures writer.new ≡ failures_if (W.failures writer.old) result }
+    {
+        match call {
+            Call::Hear(_, message) => self.put_message(message, writer),
+            _ => true,
+        }
+    }
+
+    /// The words of a message.
+    fn put_message<W: Sink>(&self, message: &Message, writer: &mut W) -> bool
+        ensures { W.failures writer.new ≡ failures_if (W.failures writer.old) result }
+    {
+        if !self.has_datagrams {
+            return true;
+        }
+        match message_words(self.alloc, message) {
+            Ok(words) => writer.put(words.as_bytes()),
+            Err(_) => true,
+        }
+    }
+
+    /// The newest reply.
+    fn put_answer<W: Sink>(&self, session: &Session, writer: &mut W) -> bool
+        ensures { W.failures writer.new ≡ failures_if (W.failures writer.old) result }
+    {
+        let (Some(reply), Some(opening)) = (session.reply(), session.opening()) else {
+            return true;
+        };
+        self.put_lines(reply, opening, writer)
+    }
+
+    /// The lines of a reply: its text, and a line for each message that it sends.
+    fn put_lines<W: Sink>(&self, reply: &Reply, opening: &Opening, writer: &mut W) -> bool
+        ensures { W.failures writer.new ≡ failures_if (W.failures writer.old) result }
+    {
+        if !put_reply(writer, reply) {
+            return false;
+        }
+        if !self.end_line(reason_of(reply), writer) {
+            return false;
+        }
+        self.put_sends(sends(reply, opening).as_slice(), writer)
+    }
+
+    /// The messages that are sent, each with its words below.
+    fn put_sends<W: Sink>(&self, sent: &[(Peer, Message)], writer: &mut W) -> bool
+        ensures { W.failures writer.new ≡ failures_if (W.failures writer.old) result }
+    {
+        for one in sent {
+            if !put_send(writer, one.0, &one.1) {
+                return false;
+            }
+            if !self.put_message(&one.1, writer) {
+                return false;
+            }
+        }
+        true
+    }
+
+    /// The line of a datagram that is none.
+    fn put_fault<W: Sink>(&self, fault: WireFault, writer: &mut W) -> bool
+        ensures { W.failures writer.new ≡ failures_if (W.failures writer.old) result }
+    {
+        if !put_numbered(writer, b"wire ", u64::from(fault.number())) {
+            return false;
+        }
+        self.end_line(Some(Reason::Wire(fault)), writer)
+    }
+
+    /// The end of a line, with the name of the reason that it tells.
+    fn end_line<W: Sink>(&self, reason: Option<Reason>, writer: &mut W) -> bool
+        ensures { W.failures writer.new ≡ failures_if (W.failures writer.old) result }
+    {
+        if !self.put_name(reason, writer) {
+            return false;
+        }
+        writer.put(b"\n")
+    }
+
+    fn put_name<W: Sink>(&self, reason: Option<Reason>, writer: &mut W) -> bool
+        ensures { W.failures writer.new ≡ failures_if (W.failures writer.old) result }
+    {
+        let Some(reason) = reason else {
+            return true;
+        };
+        if !self.has_reasons {
+            return true;
+        }
+        match format!(in self.alloc; " {reason}") {
+            Ok(name) => writer.put(name.as_bytes()),
+            Err(_) => true,
+        }
+    }
+}
+
+/// No contract sees the bytes that standard output takes, so none says where the words stand. That they stand between
+/// the answers, and change none, is tested.
+impl Teller<WriteSink<Output>> for WordTeller {
+    #[tactic(auto, using(crate::proofs::Unseen::puts_unseen))]
+    fn put(
+        &mut self,
+        session: &Session,
+        outcome: &LineOutcome,
+        writer: &mut WriteSink<Output>,
+    ) -> bool {
+        self.tally.add(outcome);
+        match outcome {
+            LineOutcome::Made(call) | LineOutcome::Full(call) | LineOutcome::NoMemory(call) => {
+                self.put_called(session, outcome, call, writer)
+            }
+            LineOutcome::Unread(fault) => self.put_fault(*fault, writer),
+            LineOutcome::Table | LineOutcome::Gap(_) => session.put(outcome, writer),
+        }
+    }
+}
