@@ -92,18 +92,13 @@ pub fn read_words<'a>(alloc: Global, words: &'a [&'a str]) -> Result<Asked<'a>, 
 fn program<'a>(alloc: Global) -> Result<Command<'a>, AllocError>
     ensures { IfOk result (λ made. app_of made ≡ program) }
 {
-    let check = check_command(alloc);
-    let run = run_command(alloc)?;
-    let ask = ask_command(alloc)?;
-    let watch = watch_command(alloc)?;
-    let key = key_command(alloc);
+    // Each command is made where it is added: what may fail then drops one program, and no commands beside it.
     let alone = program_alone(alloc)?;
-    alone
-        .subcommand(check)?
-        .subcommand(run)?
-        .subcommand(ask)?
-        .subcommand(watch)?
-        .subcommand(key)
+    let checking = alone.subcommand(check_command(alloc))?;
+    let running = checking.subcommand(run_command(alloc)?)?;
+    let asking = running.subcommand(ask_command(alloc)?)?;
+    let watching = asking.subcommand(watch_command(alloc)?)?;
+    watching.subcommand(key_command(alloc))
 }
 
 /// The program without its commands.

@@ -18,21 +18,24 @@ with_watch = with_subcommand with_ask watch_app.top
 
 pub returns : goal.returns
 returns c =
-    let check_is : shape_of c.check_command-check.result ≡ new_shape (codes "check") =
-    ap (λ (a : App). a.top) c.check_command-check.ensures.app in
-    let run_is : shape_of c.in_ok-run.run' ≡ run_app.top = ap (λ (a : App). a.top) c.in_ok-run.ensures.app in
-    let ask_is : shape_of c.in_ok-ask.ask ≡ ask_app.top = ap (λ (a : App). a.top) c.in_ok-ask.ensures.app in
-    let watch_is : shape_of c.in_ok-watch.watch ≡ watch_app.top = ap (λ (a : App). a.top) c.in_ok-watch.ensures.app in
-    let first_is : app_of c.in_ok-subcommand.field-0 ≡ with_check =
-    c.in_ok-subcommand.ensures.shape c.check_command-check.ensures.local ∙
+    let check_is : shape_of c.check_command.result ≡ new_shape (codes "check") =
+    ap (λ (a : App). a.top) c.check_command.ensures.app in
+    let run_is : shape_of c.in_ok-run_command.field-0 ≡ run_app.top =
+    ap (λ (a : App). a.top) c.in_ok-run_command.ensures.app in
+    let ask_is : shape_of c.in_ok-ask_command.field-0 ≡ ask_app.top =
+    ap (λ (a : App). a.top) c.in_ok-ask_command.ensures.app in
+    let watch_is : shape_of c.in_ok-watch_command.field-0 ≡ watch_app.top =
+    ap (λ (a : App). a.top) c.in_ok-watch_command.ensures.app in
+    let key_is : shape_of c.key_command.result ≡ new_shape (codes "key") =
+    ap (λ (a : App). a.top) c.key_command.ensures.app in
+    let checks_is : app_of c.in_ok-checking.checking ≡ with_check =
+    c.in_ok-checking.ensures.shape c.check_command.ensures.local ∙
     ap₂ with_subcommand c.in_ok-alone.ensures check_is in
-    let second_is : app_of c.in_ok-subcommand-2.field-0 ≡ with_run =
-    c.in_ok-subcommand-2.ensures.shape c.in_ok-run.ensures.local ∙ ap₂ with_subcommand first_is run_is in
-    let key_is : shape_of c.key_command-key.result ≡ new_shape (codes "key") =
-    ap (λ (a : App). a.top) c.key_command-key.ensures.app in
-    let third_is : app_of c.in_ok-subcommand-3.field-0 ≡ with_ask =
-    c.in_ok-subcommand-3.ensures.shape c.in_ok-ask.ensures.local ∙ ap₂ with_subcommand second_is ask_is in
-    let fourth_is : app_of c.in_ok-subcommand-4.field-0 ≡ with_watch =
-    c.in_ok-subcommand-4.ensures.shape c.in_ok-watch.ensures.local ∙ ap₂ with_subcommand third_is watch_is in
+    let runs_is : app_of c.in_ok-running.running ≡ with_run =
+    c.in_ok-running.ensures.shape c.in_ok-run_command.ensures.local ∙ ap₂ with_subcommand checks_is run_is in
+    let asks_is : app_of c.in_ok-asking.asking ≡ with_ask =
+    c.in_ok-asking.ensures.shape c.in_ok-ask_command.ensures.local ∙ ap₂ with_subcommand runs_is ask_is in
+    let watches_is : app_of c.in_ok-watching.watching ≡ with_watch =
+    c.in_ok-watching.ensures.shape c.in_ok-watch_command.ensures.local ∙ ap₂ with_subcommand asks_is watch_is in
     IfOk-weaker c.subcommand-5.result _ _
-    (λ r h. h.shape c.key_command-key.ensures.local ∙ ap₂ with_subcommand fourth_is key_is) c.subcommand-5.ensures
+    (λ r h. h.shape c.key_command.ensures.local ∙ ap₂ with_subcommand watches_is key_is) c.subcommand-5.ensures
