@@ -21,6 +21,7 @@ from tests.swimd.daemon_groups import MOST_GROWTH, Answerer
 
 MINUTE = 60_000
 ROWS = [(102, "10.0.0.2:7000"), (103, "10.0.0.3:7000")]
+JUDGED = re.compile(rb"^= \d+ started judged (\d+) probe \d+ (\d+)$", re.MULTILINE)
 TICKS = {"k": 1, "rtt": 1, "period": 4, "tick_ms": 10}
 # What a call may take to its file, and how far a comment's time may be off.
 SOON, OFF = 0.5, 2.0
@@ -132,14 +133,16 @@ def a_life_begins_with_what_was_left(machine):
     closing, files = daemon.stop(), journals(machine.journals)
     must_be_told(daemon, closing, files)
     must(re.fullmatch(r"failed [12]", state), f"a member that never answers is {state}")
-    rows = [(2, f"127.0.0.1:{silent} {state}"), (3, f"127.0.0.1:{third.port}")]
-    last = 0
+    peers, failed, last = {2: f"127.0.0.1:{silent}", 3: f"127.0.0.1:{third.port}"}, {}, 0
     for it in files:
-        wanted = header(daemon, rows if it.life else [(2, f"127.0.0.1:{silent}"), (3, f"127.0.0.1:{third.port}")],
-                        it.life, last)
+        rows = [(id, peer + (f" failed {failed[id]}" if id in failed else "")) for id, peer in peers.items()]
+        wanted = header(daemon, rows, it.life, last)
         must(sorted(it.header) == sorted(wanted), f"life {it.life} begins with {it.header}, and not {wanted}")
+        # A busy machine may have kept the third from answering: then the file tells its verdict, too.
+        failed.update((int(id), int(number) - 1) for id, number in JUDGED.findall(it.text))
         last = max([last, *(int(number) for number in re.findall(rb"^= \d+ started .* (\d+)$", it.text, re.MULTILINE))])
         must_play(machine.simulator, it.text, it.path)
+    must(state == f"failed {failed.get(2)}", f"the silent member is {state}, and its file tells {failed}")
     must_verify(machine.simulator, *files)
     swapped = subprocess.run([machine.simulator, "--verify", files[1].path, files[0].path], capture_output=True,
                              timeout=SECONDS)
