@@ -9,7 +9,7 @@ ghost use Rattle.node_bench.specs.Tasks.{Tells, limit_of, mode_of};
 use std::env::Args;
 
 /// What is done again and again.
-#[derive(Clone, Copy, Debug, PartialEq, Eq)]
+#[derive(Clone, Copy)]
 pub(crate) enum Mode {
     /// Nothing: the node is opened.
     Open,
@@ -26,7 +26,7 @@ pub(crate) enum Mode {
 }
 
 /// What is done, how often, and by how many threads beside the first.
-#[derive(Clone, Copy, Debug, PartialEq, Eq)]
+#[derive(Clone, Copy)]
 pub(crate) struct Task {
     pub(crate) mode: Mode,
     pub(crate) calls: u32,

@@ -7,7 +7,7 @@ ghost use Rattle.swimd.specs.Asking.{Grows, Sent};
 use crate::answers::ControlAnswer;
 
 /// What came of a line that was sent.
-#[derive(Clone, Copy, Debug, PartialEq, Eq)]
+#[derive(Clone, Copy)]
 pub enum Came {
     /// A whole answer.
     Answer,

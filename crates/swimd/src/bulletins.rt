@@ -15,7 +15,7 @@ const MOST_WAITING: usize = 128;
 pub type Waiting = ArrayVec<Happening, MOST_WAITING>;
 
 /// What was counted until now, over all lives.
-#[derive(Clone, Copy, Debug, PartialEq, Eq)]
+#[derive(Clone, Copy)]
 pub struct Counted {
     /// Of the journals' entries.
     pub measures: Measures,

@@ -18,7 +18,7 @@ const LINE_BYTES: usize = SENT_BYTES + 1;
 pub type ControlLine = ArrayVec<u8, LINE_BYTES>;
 
 /// What a look for the next line of an input met.
-#[derive(Clone, Copy, Debug, PartialEq, Eq)]
+#[derive(Clone, Copy)]
 pub enum NextLine {
     /// A line, with its line feed; the last one may have none.
     Line,

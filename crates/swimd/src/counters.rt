@@ -12,7 +12,7 @@ use swim_metrics::{Measures, Outside, put_stats};
 use swim_wire::Id;
 
 /// What the metrics tell of a configuration.
-#[derive(Clone, Copy, Debug, PartialEq, Eq)]
+#[derive(Clone, Copy)]
 struct Facts {
     me: Id,
     tick_ms: u32,

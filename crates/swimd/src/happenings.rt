@@ -6,7 +6,7 @@ use std::rt::Clock;
 use swim_wire::{Id, Peer};
 
 /// A change of the member table, as the log tells it.
-#[derive(Clone, Copy, Debug, PartialEq, Eq)]
+#[derive(Clone, Copy)]
 pub enum Happening {
     /// A member was judged failed at the end of that period; and the last period in which it was heard, if that is
     /// known.

@@ -26,7 +26,7 @@ const MOST_BYTES: u32 = 1_048_576;
 const REMOVALS: u64 = 64;
 
 /// Which life a file is of: when its daemon began, in seconds since 1970, and its number there. An older one is less.
-#[derive(Clone, Copy, Debug, PartialEq, Eq, PartialOrd, Ord)]
+#[derive(Clone, Copy, PartialEq, Eq, PartialOrd, Ord)]
 pub struct Stamp {
     pub began: u64,
     pub life: u64,

@@ -8,7 +8,7 @@ use swim_config::{ConfigFault, put_fault};
 use swim_text::Sink;
 
 /// How a command ended.
-#[derive(Clone, Copy, Debug, PartialEq, Eq)]
+#[derive(Clone, Copy)]
 pub enum Outcome {
     /// The configuration was checked, and its summary written.
     Checked,

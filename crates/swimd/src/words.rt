@@ -33,7 +33,7 @@ const USUAL_SECONDS: u64 = 5;
 const MOST_SECONDS: u64 = 86_400;
 
 /// What the words ask.
-#[derive(Debug, Drop)]
+#[derive(Drop)]
 pub enum Asked<'a> {
     /// That the configuration on standard input is checked.
     Check,
@@ -52,7 +52,7 @@ pub enum Asked<'a> {
 }
 
 /// What a daemon is asked.
-#[derive(Debug, Drop)]
+#[derive(Drop)]
 pub struct Request<'a> {
     /// The path of its control socket.
     pub path: &'a str,
@@ -63,7 +63,7 @@ pub struct Request<'a> {
 }
 
 /// Why the words ask nothing.
-#[derive(Clone, Copy, Debug, PartialEq, Eq)]
+#[derive(Clone, Copy)]
 pub enum Unasked {
     /// There is no such command.
     Usage,

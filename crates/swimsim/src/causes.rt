@@ -16,7 +16,7 @@ const BYTE_ORDER_MARK: &[u8; 3] = b"\xef\xbb\xbf";
 const UTF_16_MARKS: [&[u8; 2]; 2] = [b"\xff\xfe", b"\xfe\xff"];
 
 /// Why a script has a fault.
-#[derive(Clone, Copy, Debug, PartialEq, Eq)]
+#[derive(Clone, Copy)]
 pub enum Cause {
     ByteOrderMark,
     Utf16,

@@ -8,7 +8,7 @@ use swim_targets::Order;
 use swim_wire::Id;
 
 /// What is strange about a line of an order or a place.
-#[derive(Clone, Copy, Debug, PartialEq, Eq)]
+#[derive(Clone, Copy)]
 pub enum Oddity {
     /// The order has other members than were to be put in order, so that they were left as they were.
     Unfit,
@@ -18,7 +18,7 @@ pub enum Oddity {
 }
 
 /// An oddity with its line.
-#[derive(Clone, Copy, Debug, PartialEq, Eq)]
+#[derive(Clone, Copy)]
 pub struct Warning {
     pub line: u32,
     pub oddity: Oddity,

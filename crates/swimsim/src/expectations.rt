@@ -6,7 +6,7 @@ use swim_history::KNOWN_MEMBERS;
 use swim_script::{JOURNAL_BYTES, LINE_BYTES, SCRIPT_BYTES};
 
 /// What was expected.
-#[derive(Clone, Copy, Debug, PartialEq, Eq)]
+#[derive(Clone, Copy)]
 pub enum Expected {
     /// The opening, first.
     Opening,

@@ -17,14 +17,14 @@ use swim_text::Words;
 use swim_wire::Id;
 
 /// A line with the word that is at fault.
-#[derive(Clone, Copy, Debug)]
+#[derive(Clone, Copy)]
 pub struct Marked<'a> {
     line: &'a [u8],
     mark: Mark<'a>,
 }
 
 /// What was expected: one of some things, or a line, without its line feed.
-#[derive(Clone, Copy, Debug)]
+#[derive(Clone, Copy)]
 enum Wanted<'a> {
     Thing(Expected),
     Line(&'a [u8]),
@@ -43,7 +43,7 @@ impl<'a> fmt::Display for Wanted<'a> {
 }
 
 /// What is told of a fault: the line with a mark under the word, what was expected there, and the commonest cause.
-#[derive(Debug, Drop)]
+#[derive(Drop)]
 pub struct Explanation<'a> {
     marked: Option<Marked<'a>>,
     wanted: Wanted<'a>,

@@ -14,7 +14,7 @@ use swim_text::Words;
 use swim_wire::{take_id, take_peer};
 
 /// An argument of a line.
-#[derive(Clone, Copy, Debug, PartialEq, Eq)]
+#[derive(Clone, Copy)]
 pub enum Argument {
     Me,
     Relays,

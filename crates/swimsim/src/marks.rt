@@ -5,7 +5,7 @@ use swim_script::{Form, Word};
 use swim_text::Words;
 
 /// A part of a line: the bytes before it, and its own. A word that is missing has none, behind the line's end.
-#[derive(Clone, Copy, Debug)]
+#[derive(Clone, Copy)]
 pub struct Mark<'a> {
     pub before: &'a [u8],
     pub word: &'a [u8],

@@ -17,7 +17,7 @@ use swim_timeline::View;
 use swim_wire::Id;
 
 /// What the words of the command line ask for.
-#[derive(Debug, Drop)]
+#[derive(Drop)]
 pub struct Options<'a> {
     /// The path of the script; `None`, and `-`, for standard input.
     pub script: Option<&'a str>,
@@ -177,31 +177,28 @@ pub fn refuse_twofold(alloc: Global) -> Result<Error, AllocError>
 fn command_line<'a>(alloc: Global) -> Result<Command<'a>, AllocError>
     ensures { IfOk result (λ command. app_of command ≡ command_line) }
 {
-    let decode = flag(
-        alloc,
-        "decode",
-        "Puts each datagram that is heard or sent into words",
-    );
-    let explain = flag(
-        alloc,
-        "explain",
-        "Explains faults and numbers, and sums the run up on standard error",
-    );
-    let force = flag(
-        alloc,
-        "force",
-        "Draws over a file that holds something else than a picture of swimsim",
-    );
     Command::new(alloc, "swimsim")
         .version("1.0")
         .about("Replays a script of a SWIM failure detector")
         .arg(script(alloc))?
-        .arg(decode)?
-        .arg(explain)?
+        .arg(flag(
+            alloc,
+            "decode",
+            "Puts each datagram that is heard or sent into words",
+        ))?
+        .arg(flag(
+            alloc,
+            "explain",
+            "Explains faults and numbers, and sums the run up on standard error",
+        ))?
         .arg(timeline(alloc))?
         .arg(from(alloc))?
         .arg(around(alloc))?
-        .arg(force)?
+        .arg(flag(
+            alloc,
+            "force",
+            "Draws over a file that holds something else than a picture of swimsim",
+        ))?
         .arg(verify(alloc))
 }
 

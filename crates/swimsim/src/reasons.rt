@@ -13,7 +13,7 @@ use swim_wire::WireFault;
 pub const MOST_NUMBER: u8 = 8;
 
 /// Why a message was dropped, or a call refused, or bytes are no datagram. It is shown in words.
-#[derive(Clone, Copy, Debug, PartialEq, Eq)]
+#[derive(Clone, Copy)]
 pub enum Reason {
     Dropped(DropReason),
     Refused(Refusal),

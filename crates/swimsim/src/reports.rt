@@ -47,7 +47,7 @@ impl<'a> fmt::Display for Report<'a> {
 }
 
 /// Where so many confirmed entries end.
-#[derive(Clone, Copy, Debug)]
+#[derive(Clone, Copy)]
 pub struct End(pub u32);
 
 impl fmt::Display for End {

@@ -4,7 +4,7 @@ use std::fmt;
 
 /// Bytes as they are shown: those that can be printed stand for themselves, a carriage return is `\r`, a tab `\t`, and
 /// any other `\x` with two digits.
-#[derive(Clone, Copy, Debug)]
+#[derive(Clone, Copy)]
 pub struct Shown<'a> {
     pub bytes: &'a [u8],
 }

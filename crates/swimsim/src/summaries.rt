@@ -12,7 +12,7 @@ use swim_history::{Journal, Judged, Reply};
 
 /// What a journal holds: its entries, the periods that began, the judgements in order, and why messages were dropped
 /// and calls refused.
-#[derive(Debug, Drop)]
+#[derive(Drop)]
 pub struct JournalSummary {
     pub entries: u32,
     pub periods: u64,

@@ -7,7 +7,7 @@ use swim_script::LineOutcome;
 const NUMBERS: usize = MOST_NUMBER as usize + 1;
 
 /// How often each reason was told, by its number. The counts stop at 4294967295.
-#[derive(Clone, Copy, Debug, Default, PartialEq, Eq)]
+#[derive(Clone, Copy, Default)]
 pub struct ReasonCounts {
     by_number: [u32; NUMBERS],
 }
@@ -30,7 +30,7 @@ impl ReasonCounts {
 }
 
 /// How often an answer was given that no entry of a journal tells. The counts stop at 4294967295.
-#[derive(Clone, Copy, Debug, Default, PartialEq, Eq)]
+#[derive(Clone, Copy, Default)]
 pub struct AnswerTally {
     /// Bytes that are no datagram, by their fault.
     pub wire: ReasonCounts,

@@ -37,7 +37,7 @@ pub struct WholeLines {
 }
 
 /// What is being given.
-#[derive(Clone, Copy, Debug, PartialEq, Eq)]
+#[derive(Clone, Copy)]
 enum GivingStage {
     /// Nothing so far.
     Begun,

@@ -10,7 +10,7 @@ use swim_script::{Command, Form, Word, first_word, read_command};
 use swim_text::{Words, read_number};
 
 /// How a journal file ended, as far as it was read.
-#[derive(Clone, Copy, Debug, PartialEq, Eq)]
+#[derive(Clone, Copy)]
 pub enum FileEnd {
     /// Its end wasn't met.
     Unmet,

@@ -13,18 +13,18 @@ returns c =
     let named_is : app_of c.about.result ≡ on_top versioned (new_app (codes "swimsim")) = about_is ∙
     (version_is ∙ ap (on_top versioned) c.new.ensures.app) in
     let scripted_is = c.in_ok-arg.ensures.shape c.script.ensures.local ∙ ap₂ with_rule named_is c.script.ensures.rule in
-    let decoding_is = c.in_ok-arg-2.ensures.shape c.flag-decode.ensures.local ∙
-    ap₂ with_rule scripted_is c.flag-decode.ensures.rule in
-    let explaining_is = c.in_ok-arg-3.ensures.shape c.flag-explain.ensures.local ∙
-    ap₂ with_rule decoding_is c.flag-explain.ensures.rule in
+    let decoding_is = c.in_ok-arg-2.ensures.shape c.flag.ensures.local ∙
+    ap₂ with_rule scripted_is c.flag.ensures.rule in
+    let explaining_is = c.in_ok-arg-3.ensures.shape c.flag-2.ensures.local ∙
+    ap₂ with_rule decoding_is c.flag-2.ensures.rule in
     let drawing_is = c.in_ok-arg-4.ensures.shape c.timeline.ensures.local ∙
     ap₂ with_rule explaining_is c.timeline.ensures.rule in
     let beginning_is = c.in_ok-arg-5.ensures.shape c.from.ensures.local ∙
     ap₂ with_rule drawing_is c.from.ensures.rule in
     let judging_is = c.in_ok-arg-6.ensures.shape c.around.ensures.local ∙
     ap₂ with_rule beginning_is c.around.ensures.rule in
-    let forcing_is = c.in_ok-arg-7.ensures.shape c.flag-force.ensures.local ∙
-    ap₂ with_rule judging_is c.flag-force.ensures.rule in
+    let forcing_is = c.in_ok-arg-7.ensures.shape c.flag-3.ensures.local ∙
+    ap₂ with_rule judging_is c.flag-3.ensures.rule in
     IfOk-weaker c.arg-8.result _ _
     (λ command added. added.shape c.verify.ensures.local ∙ ap₂ with_rule forcing_is c.verify.ensures.rule)
     c.arg-8.ensures
