@@ -236,9 +236,7 @@ fn end_others(over: &AtomicBool, is_missing: bool) {
     }
 }
 
-/// Runs the workers to their ends. One that could not be started for want of memory runs when the others have ended,
-/// sees the flag, and hands back what it was given. The others end where that is one that calls the node; the writer
-/// isn't missed, since what is left of the journal is written once the life is over.
+/// Runs the workers to their ends.
 pub(crate) fn work_at_once<
     N: GuestNaming + Send + Sync,
     O: Post + Drop + Send,
@@ -261,20 +259,56 @@ pub(crate) fn work_at_once<
     controlling: Controlling<N, H, D, K>,
     recording: Recording<N, Seeded, H, W, Q, E, Y, I>,
 ) -> Over<N, O, W, E, Y> {
+    let (first, second, third, crier, all_began) = run_at_once(
+        rt,
+        over,
+        move || run_hearing(rt, hearing),
+        move || run_ticking(rt, ticking),
+        move || run_controlling(rt, controlling),
+        move || run_recording(rt, recording),
+    );
+    Over {
+        first,
+        second,
+        third,
+        all_began,
+        crier,
+    }
+}
+
+/// Runs four jobs at the same time, the third in this thread, and gives what came of each, and whether threads could be
+/// started for the first two. A job whose thread could not be started for want of memory runs when the others have
+/// ended, sees the flag, and hands back what it was given. The others end where that is one of the first two, which
+/// call the node; the fourth isn't missed, since what is left of the journal is written once the life is over.
+fn run_at_once<
+    R: Threads + Wait + Sync,
+    A: FnOnce() -> S + Send,
+    B: FnOnce() -> T + Send,
+    C: FnOnce() -> U,
+    D: FnOnce() -> V + Send,
+    S: Send + Drop,
+    T: Send + Drop,
+    U: Drop,
+    V: Send + Drop,
+>(rt: &R, over: &AtomicBool, hear: A, tick: B, control: C, write: D) -> (S, T, U, V, bool)
+    requires hear { A.pre hear }
+    requires tick { B.pre tick }
+    requires control { C.pre control }
+    requires write { D.pre write }
+{
     thread::scope(
         thread::scope_env(),
         rt,
-        move |scope| -> Over<N, O, W, E, Y>
-            requires { IsSync R.row × IsSend L.row × IsSend O.row × IsSend P.row × IsSend N.row × IsSync N.row
-                × IsSend H.row × IsSend W.row × IsSend Q.row × IsSend E.row × IsSend Y.row × IsSend I.row }
+        move |scope| -> (S, T, U, V, bool)
+            requires { A.pre hear × B.pre tick × C.pre control × D.pre write }
         {
-            let first = scope.spawn(move || run_hearing(rt, hearing));
+            let first = scope.spawn(hear);
             end_others(over, first.is_err());
-            let second = scope.spawn(move || run_ticking(rt, ticking));
+            let second = scope.spawn(tick);
             end_others(over, second.is_err());
-            let fourth = scope.spawn(move || run_recording(rt, recording));
+            let fourth = scope.spawn(write);
             let all_began = first.is_ok() && second.is_ok();
-            let third = run_controlling(rt, controlling);
+            let third = control();
             let first = match first {
                 Ok(handle) => handle.join(rt),
                 Err(refused) => (refused.value)(),
@@ -283,17 +317,11 @@ pub(crate) fn work_at_once<
                 Ok(handle) => handle.join(rt),
                 Err(refused) => (refused.value)(),
             };
-            let crier = match fourth {
+            let fourth = match fourth {
                 Ok(handle) => handle.join(rt),
                 Err(refused) => (refused.value)(),
             };
-            Over {
-                first,
-                second,
-                third,
-                all_began,
-                crier,
-            }
+            (first, second, third, fourth, all_began)
         },
     )
 }
