@@ -10,7 +10,7 @@ import time
 
 from tests.support.daemons import SECONDS, must, until
 from tests.support.journals import front, in_one_folder, journals, must_play, told
-from tests.support.sayings import TIME
+from tests.support.sayings import TIME, first_line_of
 from tests.swimd.daemon_journals import ROWS, filled, must_be_told, pinged
 from tests.swimd.daemon_starting import NOBODY
 
@@ -136,21 +136,41 @@ def a_folder_of_others(machine):
     must(daemon.cut == [0] and not journals(machine.journals), f"the lives {daemon.cut} are cut")
 
 
+def launched_with_threads(machine, most, id=1):
+    """A daemon that is launched as another user, who may have so many threads."""
+
+    def as_a_stranger():
+        resource.setrlimit(resource.RLIMIT_NPROC, (most, most))
+        os.setuid(STRANGER)
+
+    os.chmod(machine.folder, 0o777)
+    os.chmod(machine.journals, 0o777)
+    daemon = machine.daemon(id, members=ROWS, tick_ms=MINUTE, journal=9)
+    os.chmod(daemon.file, 0o644)
+    daemon.launch(preexec_fn=as_a_stranger)
+    return daemon
+
+
+def no_thread_for_a_caller(machine):
+    """Where a thread is refused for the receiver, or after it for the ticker, the others end, and the daemon says that
+    there was no memory."""
+    if os.getuid() != 0:
+        print("  not tried, since it needs another user than this one")
+        return
+    for most in (1, 2):
+        daemon = launched_with_threads(machine, most, id=most)
+        stdout, stderr = daemon.child.communicate(timeout=SECONDS)
+        found = stdout, first_line_of(stderr), daemon.child.returncode
+        wanted = b"ended no memory entries 0 judged 0 unsent 0 wire 0 refused 0\n", b"no memory\n", 4
+        must(found == wanted, f"with {most} threads it ends as {found}")
+
+
 def no_thread_for_the_writer(machine):
     """Where a fourth thread is refused, the whole file is written when the life ends."""
     if os.getuid() != 0:
         print("  not tried, since it needs another user than this one")
         return
-
-    def of_three_threads():
-        resource.setrlimit(resource.RLIMIT_NPROC, (3, 3))
-        os.setuid(STRANGER)
-
-    os.chmod(machine.folder, 0o777)
-    os.chmod(machine.journals, 0o777)
-    daemon, peer = machine.daemon(1, members=ROWS, tick_ms=MINUTE, journal=9), machine.socket()
-    os.chmod(daemon.file, 0o644)
-    daemon.launch(preexec_fn=of_three_threads)
+    daemon, peer = launched_with_threads(machine, 3), machine.socket()
     daemon.ready()
     number = filled(daemon, peer, 1)
     pinged(peer, daemon, number)
@@ -299,6 +319,7 @@ JOURNAL_FAULTS = [
         something_else_is_there,
         folders_that_take_nothing,
         a_folder_of_others,
+        no_thread_for_a_caller,
         no_thread_for_the_writer,
         a_folder_that_goes,
         a_file_that_takes_no_more,
