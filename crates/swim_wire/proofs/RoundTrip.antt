@@ -25,7 +25,7 @@ use Rattle.swim_wire.specs.First.{find_none}
 use Rattle.swim_wire.specs.Messages.{Message, carries}
 use Rattle.swim_wire.specs.Layout.{decoded, version_code, code_of, address_bytes, text_of, length_of, IsSound, IsTextOf}
 use Rattle.swim_wire.specs.Layout.{version_of, kind_of, version_at, kind_at, id_at, number_at, address_at, has_address}
-use Rattle.swim_wire.specs.Layout.{has_fault, first_fault, message_at}
+use Rattle.swim_wire.specs.Layout.{has_fault, first_fault, later_fault, message_at}
 
 abbrev pub IsBytes : List ℕ → Type 0
 IsBytes bytes = (i : ℕ) → get_or bytes i 0 < 256
@@ -203,35 +203,23 @@ has_form bytes v k first second one two v-is three four k-is long = record {
     either false false e f = absurd (omega (arith, eqb-false _ 1 e, eqb-false _ 2 f))
 
 -- where the form is right, the first fault is among the others
-later_fault : (bytes : List ℕ) (ids number : Bool) → HasForm bytes → has_fault bytes ZeroId ≡ ids →
-    has_fault bytes ZeroNumber ≡ number
-    → first_fault bytes ≡
-    cond ids (Some ZeroId) (cond number (Some ZeroNumber) (cond (has_fault bytes ZeroPort) (Some ZeroPort) None))
-later_fault bytes ids number h i n = by _ _ _ _ _ _ _ h.long h.magic h.version h.kind h.form i n
+pub goes_on : (bytes : List ℕ) → HasForm bytes → first_fault bytes ≡ later_fault bytes
+goes_on bytes h = by _ _ _ _ _ h.long h.magic h.version h.kind h.form
   where
-    by : (a b c d e f g : Bool) → a ≡ false → b ≡ false → c ≡ false → d ≡ false → e ≡ false → f ≡ ids → g ≡ number
-        → cond a (Some Length)
-        (cond b (Some Magic) (cond c (Some Version)
-        (cond d (Some UnknownKind)
-        (cond e (Some Form) (cond f (Some ZeroId)
-        (cond g (Some ZeroNumber) (cond (has_fault bytes ZeroPort) (Some ZeroPort) None)))))))
-        ≡ cond ids (Some ZeroId) (cond number (Some ZeroNumber) (cond (has_fault bytes ZeroPort) (Some ZeroPort) None))
-    by a b c d e f g p q r s t u v = rw (p, q, r, s, t, u, v) refl
+    by : (a b c d e : Bool) → a ≡ false → b ≡ false → c ≡ false → d ≡ false → e ≡ false
+        → cond a (Some Length) (cond b (Some Magic) (cond c (Some Version)
+        (cond d (Some UnknownKind) (cond e (Some Form) (later_fault bytes)))))
+        ≡ later_fault bytes
+    by a b c d e p q r s t = rw (p, q, r, s, t) refl
 
-pub target_fault : (bytes : List ℕ) → HasForm bytes → id_at bytes 12 ≡ 0 → first_fault bytes ≡ Some ZeroId
-target_fault bytes h target =
-    later_fault bytes true (has_fault bytes ZeroNumber) h
-    (or_zero (eqb (id_at bytes 4) 0 || eqb (id_at bytes 8) 0) _ (eq-eqb _ _ target)) refl
+-- and where it isn't, there is none
+pub no_more : (bytes : List ℕ) → has_fault bytes ZeroId ≡ false → has_fault bytes ZeroNumber ≡ false →
+    has_fault bytes ZeroPort ≡ false → later_fault bytes ≡ None
+no_more bytes ids number port = by _ _ _ ids number port
   where
-    or_zero : (a b : Bool) → b ≡ true → (a || b) ≡ true
-    or_zero true b e = refl
-    or_zero false b e = e
-
-pub number_fault : (bytes : List ℕ) → HasForm bytes → 0 < id_at bytes 4 → 0 < id_at bytes 8 → 0 < id_at bytes 12 →
-    number_at bytes 16 ≡ 0 → first_fault bytes ≡ Some ZeroNumber
-number_fault bytes h sender initiator target number =
-    later_fault bytes false true h
-    (or_from _ _ (or_from _ _ (nonzero _ sender) (nonzero _ initiator)) (nonzero _ target)) (eq-eqb _ _ number)
+    by : (a b c : Bool) → a ≡ false → b ≡ false → c ≡ false
+        → cond a (Some ZeroId) (cond b (Some ZeroNumber) (cond c (Some ZeroPort) None)) ≡ None
+    by a b c p q r = rw (p, q, r) refl
 
 at_least : (c : Bool) (n : ℕ) → n ≡ (if c then 30 else 24) → 24 ≤ n
 at_least true n e = omega (arith, e)

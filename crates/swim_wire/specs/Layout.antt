@@ -100,6 +100,10 @@ abbrev pub first_fault : List ℕ → Option WireFault
 first_fault bytes = find (has_fault bytes)
     (Length ∷ Magic ∷ Version ∷ UnknownKind ∷ Form ∷ ZeroId ∷ ZeroNumber ∷ ZeroPort ∷ [])
 
+-- the first that applies to bytes that have the form of a datagram
+abbrev pub later_fault : List ℕ → Option WireFault
+later_fault bytes = find (has_fault bytes) (ZeroId ∷ ZeroNumber ∷ ZeroPort ∷ [])
+
 -- the fields at their offsets
 abbrev pub message_at : List ℕ → Message
 message_at bytes = record {

@@ -1,13 +1,14 @@
 //! Datagrams: the layouts of a message, version 1 and version 2.
 
 ghost use Rattle.std.specs.Prelude.{◌≡◌, ◌+◌, ◌<◌, ◌≤◌, Ok, Some, None, IfOk, IfErr, MatchResult, length};
-ghost use Rattle.std.specs.Prelude.{◌++◌, IfSome, true, is_some, if◌then◌else◌};
+ghost use Rattle.std.specs.Prelude.{◌++◌, IfSome, true, false, is_some, if◌then◌else◌};
 ghost use Rattle.std.specs.Option.{SomeIff};
 ghost use Rattle.swim_wire.specs.Address.{IsAddress};
 ghost use Rattle.swim_wire.specs.Messages.{Message, carries};
-ghost use Rattle.swim_wire.specs.Layout.{IsTextOf, first_fault, message_at, code_of, kind_of as kind_at, id_at};
-ghost use Rattle.swim_wire.specs.Layout.{version_code as code_of_version, version_of as version_at, address_bytes};
-ghost use Rattle.swim_wire.specs.Layout.{length_of as length_by};
+ghost use Rattle.swim_wire.specs.Layout.{IsTextOf, first_fault, message_at, code_of, kind_of as kind_by, id_at};
+ghost use Rattle.swim_wire.specs.Layout.{version_code as code_of_version, version_of as version_by, address_bytes};
+ghost use Rattle.swim_wire.specs.Layout.{length_of as length_by, version_at, kind_at};
+ghost use Rattle.swim_wire.specs.Layout.{has_fault, has_address, later_fault};
 ghost use Rattle.swim_wire.specs.Layout.{number_at, address_at, fault_number, decoded};
 
 use crate::ids::{Id, PeriodNumber};
@@ -144,6 +145,28 @@ fn parse(bytes: &[u8]) -> Result<Message, WireFault>
         (λ m. (first_fault bytes.now ≡ None) × (m ≡ message_at bytes.now))
         (λ f. first_fault bytes.now ≡ Some f) }
 {
+    let (version, kind) = form_of(bytes)?;
+    let (sender, initiator, target) = ids_of(bytes)?;
+    let number = number_at(bytes, 16)?;
+    let at = address_of(bytes, version, kind)?;
+    Ok(Message {
+        version,
+        kind,
+        sender,
+        initiator,
+        target,
+        number,
+        at,
+    })
+}
+
+/// The version and the kind of bytes that have the form of a datagram of these.
+fn form_of(bytes: &[u8]) -> Result<(Version, Kind), WireFault>
+    ensures { MatchResult result
+        (λ form. (form.0 ≡ version_at bytes.now) × (form.1 ≡ kind_at bytes.now)
+        × (length bytes.now ≡ length_by form.0 form.1) × (first_fault bytes.now ≡ later_fault bytes.now))
+        (λ f. first_fault bytes.now ≡ Some f) }
+{
     if bytes.len() != DATAGRAM_BYTES && bytes.len() != LONGEST_DATAGRAM_BYTES {
         return Err(WireFault::Length);
     }
@@ -155,20 +178,18 @@ fn parse(bytes: &[u8]) -> Result<Message, WireFault>
     if bytes.len() != length_of(version, kind) {
         return Err(WireFault::Form);
     }
-    let sender = id_at(bytes, 4)?;
-    let initiator = id_at(bytes, 8)?;
-    let target = id_at(bytes, 12)?;
-    let number = number_at(bytes, 16)?;
-    let at = target_at(bytes, version, kind)?;
-    Ok(Message {
-        version,
-        kind,
-        sender,
-        initiator,
-        target,
-        number,
-        at,
-    })
+    Ok((version, kind))
+}
+
+/// The sender, the initiator and the target.
+fn ids_of(bytes: &[u8]) -> Result<(Id, Id, Id), WireFault>
+    requires { 16 ≤ length bytes.now }
+    ensures { MatchResult result
+        (λ ids. (ids.0 ≡ id_at bytes.now 4) × (ids.1 ≡ id_at bytes.now 8) × (ids.2 ≡ id_at bytes.now 12)
+        × (has_fault bytes.now WireFault.ZeroId ≡ false))
+        (λ f. (f ≡ WireFault.ZeroId) × (has_fault bytes.now WireFault.ZeroId ≡ true)) }
+{
+    Ok((id_at(bytes, 4)?, id_at(bytes, 8)?, id_at(bytes, 12)?))
 }
 
 /// How many bytes a datagram of that version and kind has.
@@ -192,7 +213,7 @@ fn version_code(version: Version) -> u8
 }
 
 fn version_of(byte: u8) -> Option<Version>
-    ensures { SomeIff result ((0 < byte) × (byte < 3)) (version_at byte) }
+    ensures { SomeIff result ((0 < byte) × (byte < 3)) (version_by byte) }
 {
     match byte {
         1 => Some(Version::One),
@@ -212,7 +233,7 @@ fn kind_code(kind: Kind) -> u8
 }
 
 fn kind_of(byte: u8) -> Option<Kind>
-    ensures { SomeIff result ((0 < byte) × (byte < 4)) (kind_at byte) }
+    ensures { SomeIff result ((0 < byte) × (byte < 4)) (kind_by byte) }
 {
     match byte {
         1 => Some(Kind::Ping),
@@ -253,11 +274,12 @@ fn number_at(bytes: &[u8], at: usize) -> Result<PeriodNumber, WireFault>
 }
 
 /// The address of the target, where a datagram of that version and kind carries one.
-fn target_at(bytes: &[u8], version: Version, kind: Kind) -> Result<Option<Peer>, WireFault>
-    requires { length bytes.now ≡ length_by version kind }
+fn address_of(bytes: &[u8], version: Version, kind: Kind) -> Result<Option<Peer>, WireFault>
+    requires { (length bytes.now ≡ length_by version kind) × (version ≡ version_at bytes.now) × (kind ≡ kind_at bytes.now) }
     ensures { MatchResult result
-        (λ at. (is_some at ≡ carries version kind) × (at ≡ if carries version kind then Some (address_at bytes.now 24) else None))
-        (λ f. (f ≡ WireFault.ZeroPort) × (carries version kind ≡ true) × ((address_at bytes.now 24).port ≡ 0)) }
+        (λ at. (at ≡ if has_address bytes.now then Some (address_at bytes.now 24) else None)
+        × (has_fault bytes.now WireFault.ZeroPort ≡ false))
+        (λ f. (f ≡ WireFault.ZeroPort) × (has_fault bytes.now WireFault.ZeroPort ≡ true)) }
 {
     if !version.carries(kind) {
         return Ok(None);
