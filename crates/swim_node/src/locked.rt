@@ -1,7 +1,9 @@
 //! What lies under a node's lock.
 
-ghost use Rattle.std.specs.Prelude.{◌≡◌, ◌<◌, ◌≤◌, ◌+◌, length, IfOk, IfErr, IfSome};
+ghost use Rattle.std.specs.Prelude.{◌≡◌, ◌<◌, ◌≤◌, ◌+◌, length, true, IfOk, IfErr, IfSome};
+ghost use Rattle.std.specs.Vec.{vec_capacity, vec_len};
 ghost use mathlib.Core.List.{IsPrefix};
+ghost use Rattle.swim_detector.specs.Recording.{IsKept};
 ghost use Rattle.swim_node.specs.Following.{filings_of, note_in};
 ghost use Rattle.swim_node.specs.Draws.{DrawsAll};
 ghost use Rattle.swim_history.specs.Seats.{kept_of};
@@ -131,12 +133,9 @@ impl<N: Naming, C: Chooser, H: Wait + Drop> Locked<N, C, H> {
         // These two take no time, and show what the seat's counts and the journal are.
         self.books.audit(tally);
         let position = self.recorder.journal().len();
-        match self.recorder.ready() {
-            Ok(()) => {}
-            Err(ApplyFault::JournalFull) => return Err(self.full(tally)),
-            Err(ApplyFault::NoMemory) => return Err(CallFault::NoMemory),
+        if !make_room(&mut self.recorder, &mut self.notes) {
+            return Err(self.refusal(tally));
         }
-        self.notes.reserve(1)?;
         let change = self.recorder.change(call);
         let seat = tally.seat();
         self.recorder.record_ready(seat, call);
@@ -326,4 +325,14 @@ impl<N: Naming, C: Chooser, H: Wait + Drop> Locked<N, C, H> {
         self.compare(rt, &mut seat);
         seat
     }
+}
+
+/// Makes room for one more entry and the note of its cell: not where the journal is full, nor where there is no memory.
+fn make_room<C: Chooser>(recorder: &mut Recorder<C>, notes: &mut Vec<CellNote>) -> bool
+    ensures recorder { IsKept recorder.old recorder.new }
+    ensures notes { notes.new.items ≡ notes.old.items }
+    ensures room { result ≡ true → (0 < recorder.new.room) × (length recorder.new.past < recorder.new.limit)
+        × (vec_len notes.new < vec_capacity notes.new) }
+{
+    recorder.ready().is_ok() && notes.reserve(1).is_ok()
 }

@@ -1,6 +1,7 @@
 //! The node: one detector for four callers.
 
-ghost use Rattle.std.specs.Prelude.{◌≡◌, ◌≤◌, ◌++◌, ◌∷◌, [], Err, Some, IfOk, IfErr, IfSome, IfNone, length};
+ghost use Rattle.std.specs.Prelude.{◌≡◌, ◌≤◌, ◌<◌, ◌++◌, ◌∷◌, [], Err, Some, IfOk, IfErr, IfSome, IfNone, length};
+ghost use Rattle.std.specs.Vec.{vec_capacity, vec_len};
 ghost use mathlib.Core.List.{IsPrefix};
 ghost use Rattle.swim_node.specs.Following.{filings_of};
 ghost use Rattle.swim_node.specs.Draws.{DrawsAll};
@@ -13,7 +14,7 @@ ghost use Rattle.swim_node.specs.Seats.{AreNew, AreTheSeats};
 ghost use Rattle.swim_node.specs.Answered.{kept, refused, IsAnswered, MayRefuse, MayRefuseBytes, IsGapAtMoment};
 ghost use Rattle.swim_node.specs.OneHistory.{AreFullWhereMet, IsOneHistory};
 
-use crate::cells::{Cells, Filed};
+use crate::cells::{CellNote, Cells, Filed};
 use crate::following::{Followed, Follower, ReadCall};
 use crate::locked::{Answered, Locked};
 use crate::naming::Naming;
@@ -25,7 +26,7 @@ use crate::seats::Seat;
 use crate::viewers::Viewer;
 use std::alloc::Global;
 use std::sync::{Mutex, Wait};
-use swim_history::{Call, Gap, Journal, Opening};
+use swim_history::{Call, Gap, Journal, Kept, Opening};
 use swim_targets::Chooser;
 use swim_wire::{Id, Peer, decode};
 
@@ -234,13 +235,7 @@ impl<N: Naming, C: Chooser, H: Wait + Drop> Node<N, C, H> {
         ensures err { IfErr result (λ fault. seat.new ≡ refused fault seat.old) }
         ensures refuses { IfErr result (MayRefuse N.opening N.limit seat.old) }
     {
-        let Ok(()) = seat.calls.reserve(1) else {
-            return Err(self.refusal(rt, seat));
-        };
-        let Ok(()) = seat.notes.reserve(1) else {
-            return Err(self.refusal(rt, seat));
-        };
-        let Ok(filed) = Filed::blank(*seat.calls.allocator()) else {
+        let Some(filed) = room_for_one(&mut seat.calls, &mut seat.notes) else {
             return Err(self.refusal(rt, seat));
         };
         let number = seat.calls.len();
@@ -272,4 +267,21 @@ impl<N: Naming, C: Chooser, H: Wait + Drop> Node<N, C, H> {
     {
         self.locked.lock(rt).refusal(&mut seat.tally)
     }
+}
+
+/// Makes room for one more call of a seat and its note, and what is to go into the call's cell: `None` where there is no
+/// memory.
+fn room_for_one(calls: &mut Vec<Kept>, notes: &mut Vec<CellNote>) -> Option<Box<Filed>>
+    ensures calls { calls.new.items ≡ calls.old.items }
+    ensures notes { notes.new.items ≡ notes.old.items }
+    ensures room { IfSome result (λ filed. (vec_len calls.new < vec_capacity calls.new)
+        × (vec_len notes.new < vec_capacity notes.new)) }
+{
+    let Ok(()) = calls.reserve(1) else {
+        return None;
+    };
+    let Ok(()) = notes.reserve(1) else {
+        return None;
+    };
+    Filed::blank(*calls.allocator()).ok()
 }

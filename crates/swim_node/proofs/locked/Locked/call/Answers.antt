@@ -32,7 +32,7 @@ publish_if-requires-clause-room g c =
 pub publish_if-requires-clause-fits : goal.publish_if-requires-clause-fits
 publish_if-requires-clause-fits g c =
     let recorded = c.record_ready.ensures in
-    let before = c.ready.new.self in
+    let before = c.make_room.new.recorder in
     change_fits g.N.Naming.opening before.opening c.self.inside.recorder.past before.past c.args.call.now
     c.change-change.result c.self.inside.board recorded.0 (search rules) (search rules) (search rules)
     (search rules) (search rules) (search rules)

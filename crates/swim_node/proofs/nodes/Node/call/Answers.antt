@@ -8,12 +8,12 @@ returns-in-Err-clause-refuses g c =
 
 pub invariant_of-seat-2 : goal.invariant_of-seat-2
 invariant_of-seat-2 g c =
-    let k = c.in-Ok-answered.kept in
+    let k = c.in-Ok.kept in
     let calls = c.seat.inside.calls.items in
     let new = c.push_reserved-2.new.self.items in (
       search rules,
       numbered_then calls new k c.seat.invariant.1 (search rules) (search rules),
       noted_then g.N.Naming.cells c.call-answered.new.tally.seat calls new k c.seat.inside.notes.items
-          c.push_reserved.new.self.items c.in-Ok-answered.note (search rules) (search rules) (search rules)
+          c.push_reserved.new.self.items c.in-Ok.note (search rules) (search rules) (search rules)
           (search rules),
     )
