@@ -16,6 +16,7 @@ mod life;
 mod lives;
 mod lookouts;
 mod meters;
+mod named_lives;
 mod naming;
 mod node_desk;
 mod nowhere;

@@ -61,6 +61,32 @@ pub struct Life<
     pub reporter: Y,
 }
 
+impl<N: GuestNaming, O: Post + Drop, W: Sink + Drop, E: Outlet + Drop, Y: Reporter + Drop> Life<
+    N,
+    O,
+    W,
+    E,
+    Y,
+> {
+    /// What goes on when the seats and the posts are let go: what stays of it, its knocks, its sink, those who watch,
+    /// and the reporter.
+    pub(crate) fn leave(self) -> (Past, u64, W, Gallery<E>, Y)
+        ensures past { result.0 ≡ self.past }
+        ensures knocks { result.1 ≡ self.knocks }
+        ensures writer { result.2 ≡ self.writer }
+        ensures gallery { result.3 ≡ self.gallery }
+        ensures reporter { result.4 ≡ self.reporter }
+    {
+        (
+            self.past,
+            self.knocks,
+            self.writer,
+            self.gallery,
+            self.reporter,
+        )
+    }
+}
+
 /// Runs a node over its gates until a worker ends: the receiver with the first seat and the second viewer, the ticker
 /// with the second seat and the third viewer, and the controller with the third and the first viewer, all at the same
 /// time. The receiver shows the line who stands in the member table, before the first datagram and then once a tick at

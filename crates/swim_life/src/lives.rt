@@ -1,10 +1,7 @@
 //! Lives: one node after another, each of which goes on from the journal of the one before.
 
-ghost use Rattle.std.specs.Prelude.{◌≡◌, IfOk, MatchResult, false, true, map};
+ghost use Rattle.std.specs.Prelude.{◌≡◌, IfOk, MatchResult, false, true};
 ghost use Rattle.swim_targets.specs.Draws.{DrawsOrder, DrawsPlace};
-ghost use Rattle.swim_node.specs.Draws.{DrawsAll};
-ghost use Rattle.swim_events.specs.Guests.{put_text};
-ghost use Rattle.swim_events.specs.Texts.{life_text};
 ghost use Rattle.swim_life.specs.Draws.{WasDrawn};
 ghost use Rattle.swim_life.specs.Lives.{AreLived, IsLife, end_after, end_without};
 ghost use Rattle.swim_life.specs.Notices.{Notices};
@@ -18,21 +15,18 @@ use crate::endings::{tell_life, tell_stopped};
 use crate::filing::live_next;
 use crate::gates::{Door, Herald, Line, Pace, Post, Shelf};
 use crate::halls::Hall;
-use crate::life::run_life;
-use crate::naming::GuestNaming;
+use crate::named_lives::live_so;
 use crate::nowhere::{Never, NoEntrance, NoOutlet, NoReporter, Nowhere};
 use crate::pasts::{Past, with_cut};
-use crate::posts::Posts;
 use crate::rejoining::Returning;
 use crate::reporters::{Reporter, Speaker};
 use std::alloc::Global;
 use std::marker::Brand;
-use std::mem;
 use std::sync::Wait;
 use std::thread::Threads;
-use swim_events::{Entrance, Event, Gallery, Outlet};
+use swim_events::{Entrance, Gallery, Outlet};
 use swim_history::Opening;
-use swim_node::{Node, OpenFault, Parts};
+use swim_node::{OpenFault, Parts};
 use swim_targets::Seeded;
 use swim_text::Sink;
 
@@ -281,84 +275,4 @@ pub fn live_recorded<
         rt, alloc, parts, opening, chooser, limit, number, line, post, returning, pace, hall,
         writer, pause, gallery, reporter, speaker, entrance,
     )
-}
-
-/// The same, of a node that its types know by a name.
-fn live_so<
-    N: GuestNaming + Send + Sync,
-    R: Threads + Wait + Sync,
-    O: Post + Drop + Send,
-    L: Line + Send,
-    P: Pace + Send,
-    D: Door + Drop,
-    W: Sink + Drop + Send,
-    Q: Pace + Send,
-    E: Outlet + Drop + Send,
-    Y: Reporter + Drop + Send,
-    I: Entrance<E> + Send,
-    K: Speaker,
->(
-    rt: &R,
-    alloc: Global,
-    parts: Parts,
-    opening: Opening,
-    chooser: Seeded,
-    limit: u32,
-    number: u64,
-    line: &mut L,
-    post: &O,
-    returning: &mut Returning,
-    pace: &mut P,
-    hall: &mut Hall<D>,
-    writer: W,
-    pause: &mut Q,
-    gallery: &mut Gallery<E>,
-    reporter: &mut Y,
-    speaker: &K,
-    entrance: &mut I,
-) -> Result<Lived<W>, OpenFault>
-    requires parts { parts ≡ record { limit = N.limit; ledgers = N.ledgers; log = N.log; cells = N.cells } }
-    requires opening { opening ≡ N.opening }
-    requires limit { limit ≡ N.limit }
-    requires drawn { DrawsAll DrawsOrder DrawsPlace N.opening chooser N.drawn }
-    requires page { W.written writer ≡ N.page }
-    requires guests { N.guests ≡ map (put_text (life_text number)) gallery.old }
-    requires heard { N.heard ≡ Y.heard reporter.old }
-    requires rejoin { returning.old.rejoin ≡ N.rejoin }
-    ensures life { IfOk result (λ lived. IsLife opening limit lived.past) }
-    ensures drawn { IfOk result (λ lived. N.drawn lived.past.journal.past) }
-    ensures written { IfOk result (λ lived. IsWritten N.page (W.written lived.writer) lived.past) }
-    ensures sent { IfOk result (λ lived. lived.past.is_cut ≡ false → W.held lived.writer ≡ 0) }
-    ensures watched { MatchResult result
-        (λ lived. AreToldLife number opening gallery.old lived.past.journal.past gallery.new)
-        (λ fault. gallery.new ≡ gallery.old) }
-    ensures reported { MatchResult result
-        (λ lived. HearsOf lived.past.is_read opening lived.past.journal.past (Y.heard reporter.old) (Y.heard reporter.new))
-        (λ fault. Y.heard reporter.new ≡ Y.heard reporter.old) }
-    ensures read { IfOk result (λ lived. lived.past.is_cut ≡ false → lived.past.is_read ≡ true) }
-{
-    let Ok(posts) = Posts::of(alloc, post) else {
-        return Err(OpenFault::NoMemory);
-    };
-    match Node::<N, Seeded, &R>::open(alloc, rt, parts, opening, chooser, limit) {
-        Ok(opened) => {
-            let (node, seats, viewers) = opened;
-            gallery.tell(&Event::Life(number));
-            let guests = mem::replace(gallery, Gallery::new(alloc));
-            let stand_in = reporter.fresh();
-            let own = mem::replace(reporter, stand_in);
-            let life = run_life(
-                rt, alloc, node, seats, viewers, line, posts, returning, pace, hall, writer, pause,
-                guests, own, speaker, entrance,
-            );
-            *gallery = life.gallery;
-            *reporter = life.reporter;
-            returning.add_knocks(life.knocks);
-            Ok(Lived {
-                past: life.past,
-                writer: life.writer,
-            })
-        }
-        Err(fault) => Err(fault),
-    }
 }

@@ -33,3 +33,26 @@ returns-clause-full g c =
     (λ is. rw c.leave-hearer.ensures.seat (ended.first.full is))
     (λ is. rw (c.leave-giver.ensures.seat, c.leave-sender.ensures.sender) (ended.second.full is)) ended.third.full
     (returns-clause-why g c)
+
+pub returns-clause-opening : goal.returns-clause-opening
+returns-clause-opening g c = c.close_recorded-recorded.ensures.opening
+
+pub returns-clause-within : goal.returns-clause-within
+returns-clause-within g c = c.close_recorded-recorded.ensures.within
+
+pub returns-clause-history : goal.returns-clause-history
+returns-clause-history g c = c.close_recorded-recorded.ensures.history
+
+pub returns-clause-drawn : goal.returns-clause-drawn
+returns-clause-drawn g c = c.close_recorded-recorded.ensures.drawn
+
+pub returns-clause-watched : goal.returns-clause-watched
+returns-clause-watched g c = c.close_recorded-recorded.ensures.watched
+
+pub returns-clause-reported : goal.returns-clause-reported
+returns-clause-reported g c = c.close_recorded-recorded.ensures.reported
+
+pub returns-clause-read : goal.returns-clause-read
+returns-clause-read g c =
+    let journal = c.close_recorded-recorded in
+    λ e. journal.ensures.read (not-false journal.result.is_whole e)

@@ -51,3 +51,12 @@ returns-clause-written g c =
     subst (λ (b : Bool). Puts page new (calls_text (filings_of past)) b) (sym is)
     (is_written page new left.result.0 past left.result.2 left.ensures.written journal.ensures.followed
     journal.ensures.whole)
+
+pub returns-clause-opening : goal.returns-clause-opening
+returns-clause-opening g c = c.close_followed-journal.ensures.opening
+
+pub returns-clause-within : goal.returns-clause-within
+returns-clause-within g c = c.close_followed-journal.ensures.within
+
+pub returns-clause-drawn : goal.returns-clause-drawn
+returns-clause-drawn g c = c.close_followed-journal.ensures.drawn
