@@ -313,12 +313,7 @@ fn closed<
         all_began,
         crier,
     } = ended;
-    let began = if all_began {
-        Why::Stopped
-    } else {
-        Why::NoMemory
-    };
-    let why = first.why.or(second.why).or(third.why).or(began);
+    let why = why_ended(first.why, second.why, third.why, all_began);
     let is_stopped = first.is_stopped | second.is_stopped | third.is_stopped;
     let (hearer, hearing, heard) = first.sender.leave();
     let (sender, knocking) = second.ticker.leave();
@@ -349,4 +344,16 @@ fn closed<
         gallery: recorded.gallery,
         reporter: recorded.reporter,
     }
+}
+
+/// Why a life ended: the gravest of its workers' reasons, and of this, that one got no thread.
+fn why_ended(receiver: Why, ticker: Why, controller: Why, all_began: bool) -> Why
+    ensures { result ≡ why_of receiver ticker controller all_began }
+{
+    let began = if all_began {
+        Why::Stopped
+    } else {
+        Why::NoMemory
+    };
+    receiver.or(ticker).or(controller).or(began)
 }

@@ -3,13 +3,9 @@ use Rattle.std.proofs.lemmas.Bool.{not-false}
 use Rattle.swim_life.proofs.Fullness.{life_full}
 use Rattle.swim_life.proofs.LifeFiles.{is_left}
 use Rattle.swim_life.proofs.life.closed.Goals as goal
-use Rattle.swim_life.proofs.life.closed.Goals.{then-all_began, else-all_began}
 
 pub returns-clause-why : goal.returns-clause-why
-returns-clause-why g c = elim c.if-all_began.branch [
-  | then-all_began w ↦ rw (c.or-why.ensures, c.or-2.ensures, c.or.ensures, w.began-is, w.if-all_began.true) refl
-  | else-all_began w ↦ rw (c.or-why.ensures, c.or-2.ensures, c.or.ensures, w.began-is, w.if-all_began.false) refl
-]
+returns-clause-why g c = c.why_ended-why.ensures
 
 pub returns-clause-written : goal.returns-clause-written
 returns-clause-written g c =
@@ -28,7 +24,7 @@ returns-clause-full g c =
     let journal = c.close_recorded-recorded in
     life_full g.N.Naming.limit journal.result.journal.past c.given_back-seats.result c.leave-hearer.result.0.seat
     c.leave-giver.result.0.seat ended.third.held.seat c.args.fourth.seat ended.first.why ended.second.why
-    ended.third.why ended.all_began c.or-why.result
+    ended.third.why ended.all_began c.why_ended-why.result
     journal.ensures.full c.given_back-seats.ensures.values
     (λ is. rw c.leave-hearer.ensures.seat (ended.first.full is))
     (λ is. rw (c.leave-giver.ensures.seat, c.leave-sender.ensures.sender) (ended.second.full is)) ended.third.full
