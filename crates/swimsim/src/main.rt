@@ -71,16 +71,29 @@ fn begin(rt: &HostRuntime) -> Result<ExitCode> {
         Err(error) => return Err(error.into()),
     };
     match read_options(rt.alloc(), words.as_slice()) {
-        Ok(options) if options.is_mixed() => print_answer(rt, &refuse_mixed(rt.alloc())?),
-        Ok(options) if options.is_unplaced() => print_answer(rt, &refuse_unplaced(rt.alloc())?),
-        Ok(options) if options.is_twofold() => print_answer(rt, &refuse_twofold(rt.alloc())?),
-        Ok(options) if !options.verify.is_empty() => verify(rt, options.verify.as_slice()),
-        Ok(options) => match options.script {
-            Some(path) if path != "-" => Ok(play_file(rt, path, &options)),
-            _ => Ok(play(rt, Script::Standard(rt.stdin()), &options)),
-        },
+        Ok(options) => obey(rt, &options),
         Err(answer) => print_answer(rt, &answer),
     }
+}
+
+/// Does what is asked for, where it goes together.
+fn obey(rt: &HostRuntime, options: &Options<'_>) -> Result<ExitCode> {
+    if options.is_mixed() {
+        return print_answer(rt, &refuse_mixed(rt.alloc())?);
+    }
+    if options.is_unplaced() {
+        return print_answer(rt, &refuse_unplaced(rt.alloc())?);
+    }
+    if options.is_twofold() {
+        return print_answer(rt, &refuse_twofold(rt.alloc())?);
+    }
+    if !options.verify.is_empty() {
+        return verify(rt, options.verify.as_slice());
+    }
+    Ok(match options.script {
+        Some(path) if path != "-" => play_file(rt, path, options),
+        _ => play(rt, Script::Standard(rt.stdin()), options),
+    })
 }
 
 /// Writes the answer to words that ask for no script: help, the version, or why they are refused.

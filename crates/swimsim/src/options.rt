@@ -136,16 +136,15 @@ fn copied<'a>(alloc: Global, paths: Option<&[&'a str]>) -> Result<Vec<&'a str>, 
 pub fn refuse_bytes(alloc: Global) -> Result<Error, AllocError>
     ensures { IfOk result (λ answer. kind_of answer ≡ ErrorKind.InvalidValue) }
 {
-    let mut command = command_line(alloc)?;
-    command.error(ErrorKind::InvalidValue, "a word is not UTF-8")
+    refuse(alloc, ErrorKind::InvalidValue, "a word is not UTF-8")
 }
 
 /// The answer to words that ask to verify files, and for something else beside that.
 pub fn refuse_mixed(alloc: Global) -> Result<Error, AllocError>
     ensures { IfOk result (λ answer. kind_of answer ≡ ErrorKind.ArgumentConflict) }
 {
-    let mut command = command_line(alloc)?;
-    command.error(
+    refuse(
+        alloc,
         ErrorKind::ArgumentConflict,
         "--verify stands beside journal files alone",
     )
@@ -155,8 +154,8 @@ pub fn refuse_mixed(alloc: Global) -> Result<Error, AllocError>
 pub fn refuse_unplaced(alloc: Global) -> Result<Error, AllocError>
     ensures { IfOk result (λ answer. kind_of answer ≡ ErrorKind.MissingRequiredArgument) }
 {
-    let mut command = command_line(alloc)?;
-    command.error(
+    refuse(
+        alloc,
         ErrorKind::MissingRequiredArgument,
         "--from and --around stand beside --timeline FILE",
     )
@@ -166,11 +165,19 @@ pub fn refuse_unplaced(alloc: Global) -> Result<Error, AllocError>
 pub fn refuse_twofold(alloc: Global) -> Result<Error, AllocError>
     ensures { IfOk result (λ answer. kind_of answer ≡ ErrorKind.ArgumentConflict) }
 {
-    let mut command = command_line(alloc)?;
-    command.error(
+    refuse(
+        alloc,
         ErrorKind::ArgumentConflict,
         "--from and --around don't stand beside each other",
     )
+}
+
+/// An answer of this kind.
+fn refuse(alloc: Global, kind: ErrorKind, text: &str) -> Result<Error, AllocError>
+    ensures { IfOk result (λ answer. kind_of answer ≡ kind) }
+{
+    let mut command = command_line(alloc)?;
+    command.error(kind, text)
 }
 
 /// What the program takes on its command line.
