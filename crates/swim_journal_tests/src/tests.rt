@@ -62,26 +62,30 @@ fn header(alloc: Global) -> Result<Page, Fail> {
 #[test]
 fn what_is_written_is_played(rt: HostRuntime) -> Result<(), Fail> {
     let alloc = rt.alloc();
-    let page = write_calls::<Brand, _>(
-        rt,
-        alloc,
-        Parts::make(alloc, 2000)?,
-        opening()?,
-        header(alloc)?,
-    )?;
-    let Some(calls) = page.text().strip_prefix(HEADER) else {
-        return Err(Fail::new("the header"));
-    };
-    assert!(rt; calls.starts_with(WORKED));
+    let page = header(alloc)?;
+    let opening = opening()?;
+    let parts = Parts::make(alloc, 2000)?;
+    let page = write_calls::<Brand, _>(rt, alloc, parts, opening, page)?;
+    assert_written(&rt, page.text());
+    assert_played(&rt, alloc, page.text());
+    Ok(())
+}
+
+fn assert_written<R: Abort>(rt: &R, text: &[u8]) {
+    match text.strip_prefix(HEADER) {
+        Some(calls) => assert!(rt; calls.starts_with(WORKED)),
+        None => panic!(rt; "the header"),
+    }
+}
+
+fn assert_played<R: Abort>(rt: &R, alloc: Global, text: &[u8]) {
     let mut session = Session::new(alloc);
     let mut output = Page::new(alloc);
-    let played = run(&mut session, &mut Text::new(page.text()), &mut output);
-    assert!(rt; played.is_ok());
-    let Some(journal) = session.into_journal() else {
-        return Err(Fail::new("a journal"));
-    };
-    assert_eq!(rt; journal.len(), 1506);
-    Ok(())
+    let is_played = run(&mut session, &mut Text::new(text), &mut output).is_ok();
+    drop(output);
+    let journal = session.into_journal();
+    assert!(rt; is_played);
+    assert_eq!(rt; journal.map(|journal| journal.len()), Some(1506));
 }
 
 // Three of a node's seats.
@@ -153,12 +157,12 @@ fn make_calls<N: PageNaming, R: Wait + Copy + Drop>(
         number: PeriodNumber::new(1).unwrap_or_default(),
         at: None,
     };
-    let _sent = node.hear(rt, hears, encode(&ping).as_slice(), at(2))?;
-    let _started = node.tick(rt, ticks)?;
-    let _removed = node.remove(rt, changes, id(2))?;
-    let _quiet = node.tick(rt, ticks)?;
-    let _refused = node.remove(rt, changes, id(2))?;
-    let _joined = node.join(rt, changes, id(2), at(2))?;
+    drop(node.hear(rt, hears, encode(&ping).as_slice(), at(2))?);
+    drop(node.tick(rt, ticks)?);
+    drop(node.remove(rt, changes, id(2))?);
+    drop(node.tick(rt, ticks)?);
+    drop(node.remove(rt, changes, id(2))?);
+    drop(node.join(rt, changes, id(2), at(2))?);
     Ok(())
 }
 
@@ -168,7 +172,7 @@ fn tick_often<N: PageNaming, R: Wait + Copy + Drop>(
     ticks: &mut Seat<N>,
 ) -> Result<(), CallFault> {
     for _ in 0..1500 {
-        let _answered = node.tick(rt, ticks)?;
+        drop(node.tick(rt, ticks)?);
     }
     Ok(())
 }
