@@ -6,6 +6,7 @@ use crate::tests::entries::{
     start,
 };
 use crate::tests::expected::{exposition, stats};
+use std::fmt::Debug;
 use std::process::Abort;
 use std::test::Fail;
 use swim_doubles::FailingPage;
@@ -14,124 +15,123 @@ use swim_metrics::{Hearings, HistogramBucket, Metrics, put_exposition, put_stats
 use swim_text::Page;
 use swim_wire::Kind;
 
+// The two are the same. A call of this is proved at once, and an `assert_eq!` in some seconds.
+fn assert_same<T: PartialEq + Debug, R: Abort>(rt: &R, left: &T, right: &T) {
+    assert_eq!(rt; *left, *right);
+}
+
 // Reads an entry. It says nothing of what it does, so that the proofs of long tests stay short.
 fn read(metrics: &mut Metrics, call: Call, reply: Reply) {
     metrics.read(&call, &reply);
 }
 
 // Member 2 answers its probe itself at once, and once more by member 3.
-fn read_period_8(metrics: &mut Metrics) -> Result<(), Fail> {
-    read(metrics, Call::Tick, start(None, 2, 8)?);
-    read(metrics, heard(Kind::Ack, 2, 1, 2, 8)?, Reply::Heard);
+fn read_period_8(metrics: &mut Metrics) {
+    read(metrics, Call::Tick, start(None, 2, 8));
+    read(metrics, heard(Kind::Ack, 2, 1, 2, 8), Reply::Heard);
     read(metrics, Call::Tick, Reply::Quiet);
-    read(metrics, heard(Kind::Ack, 3, 1, 2, 8)?, Reply::Heard);
+    read(metrics, heard(Kind::Ack, 3, 1, 2, 8), Reply::Heard);
     read(metrics, Call::Tick, Reply::Quiet);
-    Ok(())
 }
 
 // Member 3 answers by 2, two ticks late.
-fn read_period_9(metrics: &mut Metrics) -> Result<(), Fail> {
-    read(metrics, Call::Tick, start(None, 3, 9)?);
-    read(metrics, Call::Tick, asked(3, 9, &[2])?);
+fn read_period_9(metrics: &mut Metrics) {
+    read(metrics, Call::Tick, start(None, 3, 9));
+    read(metrics, Call::Tick, asked(3, 9, &[2]));
     read(metrics, Call::Tick, Reply::Quiet);
-    read(metrics, heard(Kind::Ack, 2, 1, 3, 9)?, Reply::Heard);
-    Ok(())
+    read(metrics, heard(Kind::Ack, 2, 1, 3, 9), Reply::Heard);
 }
 
 // Member 2 answers nothing and is judged. Its ack comes too late.
-fn read_period_10(metrics: &mut Metrics) -> Result<(), Fail> {
-    read(metrics, Call::Tick, start(None, 2, 10)?);
-    read(metrics, Call::Tick, asked(2, 10, &[3, 5])?);
+fn read_period_10(metrics: &mut Metrics) {
+    read(metrics, Call::Tick, start(None, 2, 10));
+    read(metrics, Call::Tick, asked(2, 10, &[3, 5]));
     read(metrics, Call::Tick, Reply::Quiet);
-    read(metrics, Call::Tick, start(Some(id(2)?), 3, 11)?);
+    read(metrics, Call::Tick, start(Some(id(2)), 3, 11));
     read(
         metrics,
-        heard(Kind::Ack, 2, 1, 2, 10)?,
+        heard(Kind::Ack, 2, 1, 2, 10),
         dropped(DropReason::Stray),
     );
-    Ok(())
 }
 
 // Member 3 pings, asks for 5 before it is listed and after, and is answered.
-fn read_requests(metrics: &mut Metrics) -> Result<(), Fail> {
-    let answer = sent(3, message(Kind::Ack, 1, 3, 1, 40)?);
-    read(metrics, heard(Kind::Ping, 3, 3, 1, 40)?, answer);
+fn read_requests(metrics: &mut Metrics) {
+    let answer = sent(3, message(Kind::Ack, 1, 3, 1, 40));
+    read(metrics, heard(Kind::Ping, 3, 3, 1, 40), answer);
     read(
         metrics,
-        heard(Kind::PingReq, 3, 3, 5, 41)?,
+        heard(Kind::PingReq, 3, 3, 5, 41),
         dropped(DropReason::Unlisted),
     );
     read(
         metrics,
-        Call::Join(id(5)?, address(5)),
+        Call::Join(id(5), address(5)),
         Reply::Joined { place: 0 },
     );
-    let ping = sent(5, message(Kind::Ping, 1, 3, 5, 41)?);
-    read(metrics, heard(Kind::PingReq, 3, 3, 5, 41)?, ping);
-    let ack = sent(3, message(Kind::Ack, 1, 3, 5, 41)?);
-    read(metrics, heard(Kind::Ack, 5, 3, 5, 41)?, ack);
-    Ok(())
+    let ping = sent(5, message(Kind::Ping, 1, 3, 5, 41));
+    read(metrics, heard(Kind::PingReq, 3, 3, 5, 41), ping);
+    let ack = sent(3, message(Kind::Ack, 1, 3, 5, 41));
+    read(metrics, heard(Kind::Ack, 5, 3, 5, 41), ack);
 }
 
 // A known member is removed, and one that isn't known is not.
-fn read_removals(metrics: &mut Metrics) -> Result<(), Fail> {
-    read(metrics, Call::Remove(id(4)?), Reply::Removed);
+fn read_removals(metrics: &mut Metrics) {
+    read(metrics, Call::Remove(id(4)), Reply::Removed);
     read(
         metrics,
-        Call::Remove(id(9)?),
+        Call::Remove(id(9)),
         Reply::Refused(Refusal::Unknown),
     );
-    Ok(())
 }
 
 // Member 5 is probed, a ping comes that is for another member, and 6 joins.
-fn read_period_12(metrics: &mut Metrics) -> Result<(), Fail> {
-    read(metrics, Call::Tick, start(None, 5, 12)?);
+fn read_period_12(metrics: &mut Metrics) {
+    read(metrics, Call::Tick, start(None, 5, 12));
     read(
         metrics,
-        heard(Kind::Ping, 5, 5, 9, 3)?,
+        heard(Kind::Ping, 5, 5, 9, 3),
         dropped(DropReason::NotForMe),
     );
     read(
         metrics,
-        Call::Join(id(6)?, address(6)),
+        Call::Join(id(6), address(6)),
         Reply::Joined { place: 0 },
     );
-    Ok(())
 }
 
 // Both lives.
 fn read_lives() -> Result<Metrics, Fail> {
     let mut metrics = Metrics::new(&first_opening()?);
-    read_period_8(&mut metrics)?;
-    read_period_9(&mut metrics)?;
-    read_period_10(&mut metrics)?;
-    read_requests(&mut metrics)?;
-    read_removals(&mut metrics)?;
+    read_period_8(&mut metrics);
+    read_period_9(&mut metrics);
+    read_period_10(&mut metrics);
+    read_requests(&mut metrics);
+    read_removals(&mut metrics);
     metrics.begins(&second_opening()?);
-    read_period_12(&mut metrics)?;
+    read_period_12(&mut metrics);
     Ok(metrics)
 }
 
 #[test]
 fn tells_two_lives(rt: HostRuntime) -> Result<(), Fail> {
     let metrics = read_lives()?;
-    let outside = outside("0.9.1", id(1)?);
+    let outside = outside("0.9.1", id(1));
     let mut page = Page::new(rt.alloc());
     let is_told = put_exposition(&mut page, &metrics.measures(), &outside);
     assert!(rt; is_told);
-    assert_eq!(rt; page.text(), exposition().as_bytes());
+    assert_same(&rt, &page.text(), &exposition().as_bytes());
     Ok(())
 }
 
 #[test]
 fn tells_the_stats_of_who_begins(rt: HostRuntime) -> Result<(), Fail> {
     let metrics = Metrics::new(&first_opening()?);
-    let outside = outside("a\"b\\c\nd", id(1)?);
+    let outside = outside("a\"b\\c\nd", id(1));
     let mut page = Page::new(rt.alloc());
     let is_told = put_stats(&mut page, &metrics.measures(), &outside);
     assert!(rt; is_told);
-    assert_eq!(rt; page.text(), stats().as_bytes());
+    assert_same(&rt, &page.text(), &stats().as_bytes());
     Ok(())
 }
 
@@ -140,13 +140,18 @@ fn counts_are_there_to_be_read(rt: HostRuntime) -> Result<(), Fail> {
     let metrics = read_lives()?;
     let measures = metrics.measures();
     let counts = &measures.counts;
-    assert_eq!(rt; counts.ticks, 11);
-    assert_eq!(rt; counts.dropped.stray, 1);
-    assert_eq!(rt;
-        counts.waits.buckets[1],
-        HistogramBucket { bound: 2, count: 2 }
+    assert_same(&rt, &counts.ticks, &11);
+    assert_same(&rt, &counts.dropped.stray, &1);
+    assert_same(
+        &rt,
+        &counts.waits.buckets[1],
+        &HistogramBucket { bound: 2, count: 2 },
     );
-    assert_eq!(rt; (measures.up, measures.failed, measures.number), (3, 1, 12));
+    assert_same(
+        &rt,
+        &(measures.up, measures.failed, measures.number),
+        &(3, 1, 12),
+    );
     Ok(())
 }
 
@@ -154,7 +159,7 @@ fn counts_are_there_to_be_read(rt: HostRuntime) -> Result<(), Fail> {
 #[test]
 fn a_sink_that_fails_is_told(rt: HostRuntime) -> Result<(), Fail> {
     let metrics = Metrics::new(&first_opening()?);
-    let outside = outside("0.9.1", id(1)?);
+    let outside = outside("0.9.1", id(1));
     for puts in 0..20 {
         let mut page = FailingPage::new(rt.alloc(), Some(puts), None);
         let is_told = put_exposition(&mut page, &metrics.measures(), &outside);
@@ -165,29 +170,27 @@ fn a_sink_that_fails_is_told(rt: HostRuntime) -> Result<(), Fail> {
 
 // Member 2 was heard in periods 8 and 10, once by member 3; 3 was heard in 9, and then removed.
 #[test]
-fn members_are_heard_until_they_are_removed(rt: HostRuntime) -> Result<(), Fail> {
+fn members_are_heard_until_they_are_removed(rt: HostRuntime) {
     let mut hearings = Hearings::new();
     for (sender, target, number) in [(2, 2, 8), (3, 3, 9), (3, 2, 10)] {
-        hearings.read(&heard(Kind::Ack, sender, 1, target, number)?, &Reply::Heard);
+        hearings.read(&heard(Kind::Ack, sender, 1, target, number), &Reply::Heard);
     }
-    hearings.read(&Call::Remove(id(3)?), &Reply::Removed);
+    hearings.read(&Call::Remove(id(3)), &Reply::Removed);
     for (member, number) in [(2, Some(10)), (3, None), (4, None)] {
-        assert_eq!(rt; hearings.last(id(member)?), number);
+        assert_same(&rt, &hearings.last(id(member)), &number);
     }
-    Ok(())
 }
 
 #[test]
-fn as_many_are_heard_as_may_be_known(rt: HostRuntime) -> Result<(), Fail> {
+fn as_many_are_heard_as_may_be_known(rt: HostRuntime) {
     let mut hearings = Hearings::new();
     for member in 2..130 {
         hearings.read(
-            &heard(Kind::Ack, member, 1, member, u64::from(member))?,
+            &heard(Kind::Ack, member, 1, member, u64::from(member)),
             &Reply::Heard,
         );
     }
     for member in 2..130 {
-        assert_eq!(rt; hearings.last(id(member)?), Some(u64::from(member)));
+        assert_same(&rt, &hearings.last(id(member)), &Some(u64::from(member)));
     }
-    Ok(())
 }

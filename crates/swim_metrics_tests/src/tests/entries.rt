@@ -6,8 +6,8 @@ use swim_history::{Call, DropReason, Opening, Probe, Relay, Reply};
 use swim_metrics::Outside;
 use swim_wire::{Id, Kind, Message, Peer, PeriodNumber, Version};
 
-pub(crate) fn id(member: u8) -> Result<Id, Fail> {
-    Ok(Id::new(u32::from(member)).ok_or("an id is not 0")?)
+pub(crate) fn id(member: u8) -> Id {
+    Id::new(u32::from(member)).unwrap_or_default()
 }
 
 pub(crate) fn address(member: u8) -> Peer {
@@ -20,16 +20,16 @@ pub(crate) fn address(member: u8) -> Peer {
 // Of member 1, where a period lasts 3 ticks. Of the three others the last failed.
 fn opening(up: [u8; 2], failed: u8, failed_in: u64, last: u64) -> Result<Opening, Fail> {
     let rows = [
-        (id(up[0])?, address(up[0])),
-        (id(up[1])?, address(up[1])),
-        (id(failed)?, address(failed)),
+        (id(up[0]), address(up[0])),
+        (id(up[1]), address(up[1])),
+        (id(failed), address(failed)),
     ];
-    let all_up = Opening::check(id(1)?, 2, 1, 3, &rows, last, Version::One).map_err(
+    let all_up = Opening::check(id(1), 2, 1, 3, &rows, last, Version::One).map_err(
         |_| "an opening",
     )?;
     Ok(
         all_up
-            .with_failed(id(failed)?, failed_in)
+            .with_failed(id(failed), failed_in)
             .ok_or("a known member")?,
     )
 }
@@ -65,65 +65,53 @@ pub(crate) fn outside(version: &str, me: Id) -> Outside<'_> {
     }
 }
 
-pub(crate) fn start(judged: Option<Id>, target: u8, number: u64) -> Result<Reply, Fail> {
+pub(crate) fn start(judged: Option<Id>, target: u8, number: u64) -> Reply {
     let probe = Probe {
-        target: id(target)?,
+        target: id(target),
         peer: address(target),
         number,
     };
-    Ok(Reply::Started {
+    Reply::Started {
         judged,
         probe: Some(probe),
-    })
+    }
 }
 
-pub(crate) fn asked(target: u8, number: u64, members: &[u8]) -> Result<Reply, Fail> {
+pub(crate) fn asked(target: u8, number: u64, members: &[u8]) -> Reply {
     let mut relays = ArrayVec::new();
     for member in members {
         let relay = Relay {
-            id: id(*member)?,
+            id: id(*member),
             peer: address(*member),
         };
         let _ = relays.try_push(relay);
     }
-    Ok(Reply::Asked {
-        target: id(target)?,
+    Reply::Asked {
+        target: id(target),
         peer: address(target),
         number,
         relays,
-    })
+    }
 }
 
 // A message of that sender, for a probe of the initiator.
-pub(crate) fn message(
-    kind: Kind,
-    sender: u8,
-    initiator: u8,
-    target: u8,
-    number: u64,
-) -> Result<Message, Fail> {
-    Ok(Message {
+pub(crate) fn message(kind: Kind, sender: u8, initiator: u8, target: u8, number: u64) -> Message {
+    Message {
         version: Version::One,
         kind,
-        sender: id(sender)?,
-        initiator: id(initiator)?,
-        target: id(target)?,
-        number: PeriodNumber::new(number).ok_or("a number is not 0")?,
+        sender: id(sender),
+        initiator: id(initiator),
+        target: id(target),
+        number: PeriodNumber::new(number).unwrap_or_default(),
         at: None,
-    })
+    }
 }
 
-pub(crate) fn heard(
-    kind: Kind,
-    sender: u8,
-    initiator: u8,
-    target: u8,
-    number: u64,
-) -> Result<Call, Fail> {
-    Ok(Call::Hear(
+pub(crate) fn heard(kind: Kind, sender: u8, initiator: u8, target: u8, number: u64) -> Call {
+    Call::Hear(
         address(sender),
-        message(kind, sender, initiator, target, number)?,
-    ))
+        message(kind, sender, initiator, target, number),
+    )
 }
 
 pub(crate) fn sent(member: u8, message: Message) -> Reply {
