@@ -1,5 +1,6 @@
 ghost use Rattle.std.specs.Prelude.{None};
 
+use std::fmt::Debug;
 use std::process::Abort;
 use std::test::Fail;
 use swim_events::{
@@ -8,8 +9,13 @@ use swim_events::{
 use swim_history::{Call, Change, Opening, Reply, Row, RowState, change_by};
 use swim_wire::{Id, Peer, Version};
 
-fn id(value: u32) -> Result<Id, Fail> {
-    Ok(Id::new(value).ok_or("an id is not 0")?)
+// The two are the same. A call of this is proved at once, and an `assert_eq!` in some seconds.
+fn assert_same<T: PartialEq + Debug, R: Abort>(rt: &R, left: &T, right: &T) {
+    assert_eq!(rt; *left, *right);
+}
+
+fn id(value: u32) -> Id {
+    Id::new(value).unwrap_or_default()
 }
 
 fn address(last: u8) -> Peer {
@@ -22,12 +28,12 @@ fn address(last: u8) -> Peer {
 // Of member 1, after period 7. Members 3 and 2 are up, and 4 failed in period 5.
 fn opening() -> Result<Opening, Fail> {
     let rows = [
-        (id(3)?, address(3)),
-        (id(2)?, address(2)),
-        (id(4)?, address(4)),
+        (id(3), address(3)),
+        (id(2), address(2)),
+        (id(4), address(4)),
     ];
-    let all_up = Opening::check(id(1)?, 1, 1, 3, &rows, 7, Version::One).map_err(|_| "an opening")?;
-    Ok(all_up.with_failed(id(4)?, 5).ok_or("a known member")?)
+    let all_up = Opening::check(id(1), 1, 1, 3, &rows, 7, Version::One).map_err(|_| "an opening")?;
+    Ok(all_up.with_failed(id(4), 5).ok_or("a known member")?)
 }
 
 fn start(judged: Option<Id>) -> Reply {
@@ -38,50 +44,49 @@ fn start(judged: Option<Id>) -> Reply {
 }
 
 #[test]
-fn writes_each_event(rt: HostRuntime) -> Result<(), Fail> {
+fn writes_each_event(rt: HostRuntime) {
     let widest = Peer {
         ip: [255, 255, 255, 255],
         port: 65535,
     };
     let lines = [
         (
-            Event::Changed(Change::Up(id(3)?, address(3))),
+            Event::Changed(Change::Up(id(3), address(3))),
             "up 3 10.0.0.3:7000\n",
         ),
         (
-            Event::Changed(Change::Up(id(u32::MAX)?, widest)),
+            Event::Changed(Change::Up(id(u32::MAX), widest)),
             "up 4294967295 255.255.255.255:65535\n",
         ),
-        (Event::Changed(Change::Failed(id(3)?, 17)), "failed 3 17\n"),
+        (Event::Changed(Change::Failed(id(3), 17)), "failed 3 17\n"),
         (
-            Event::Changed(Change::Failed(id(u32::MAX)?, u64::MAX)),
+            Event::Changed(Change::Failed(id(u32::MAX), u64::MAX)),
             "failed 4294967295 18446744073709551615\n",
         ),
-        (Event::Changed(Change::Gone(id(3)?)), "gone 3\n"),
+        (Event::Changed(Change::Gone(id(3))), "gone 3\n"),
         (Event::Life(2), "life 2\n"),
         (Event::Lost, "lost\n"),
         (Event::Ended, "ended\n"),
     ];
     for (event, text) in lines {
-        assert_eq!(rt; line_of(&event).as_str(), text);
+        assert_same(&rt, &line_of(&event).as_str(), &text);
     }
-    Ok(())
 }
 
 #[test]
-fn tells_a_row_as_it_stands(rt: HostRuntime) -> Result<(), Fail> {
+fn tells_a_row_as_it_stands(rt: HostRuntime) {
     let mut row = Row {
-        id: id(5)?,
+        id: id(5),
         peer: address(5),
         state: RowState::Up,
     };
-    assert_eq!(rt;
-        line_of(&event_of_row(&row)).as_str(),
-        "up 5 10.0.0.5:7000\n"
+    assert_same(
+        &rt,
+        &line_of(&event_of_row(&row)).as_str(),
+        &"up 5 10.0.0.5:7000\n",
     );
     row.state = RowState::Failed(9);
-    assert_eq!(rt; line_of(&event_of_row(&row)).as_str(), "failed 5 9\n");
-    Ok(())
+    assert_same(&rt, &line_of(&event_of_row(&row)).as_str(), &"failed 5 9\n");
 }
 
 #[test]
@@ -90,10 +95,10 @@ fn tells_the_table_and_then_each_change(rt: HostRuntime) -> Result<(), Fail> {
     let mut early = Watcher::new(rt.alloc(), watching.rows())?;
     let calls = [
         (Call::Tick, start(None)),
-        (Call::Join(id(5)?, address(5)), Reply::Joined { place: 0 }),
+        (Call::Join(id(5), address(5)), Reply::Joined { place: 0 }),
         (Call::Tick, Reply::Quiet),
-        (Call::Remove(id(4)?), Reply::Removed),
-        (Call::Tick, start(Some(id(3)?))),
+        (Call::Remove(id(4)), Reply::Removed),
+        (Call::Tick, start(Some(id(3)))),
     ];
     for (call, reply) in calls {
         if let Some(change) = watching.next(&call, &reply) {
@@ -104,11 +109,12 @@ fn tells_the_table_and_then_each_change(rt: HostRuntime) -> Result<(), Fail> {
     let told =
         b"up 2 10.0.0.2:7000\nup 3 10.0.0.3:7000\nfailed 4 5\n.\nup 5 10.0.0.5:7000\ngone 4\nfailed 3 8\n".as_slice();
     let table = b"up 2 10.0.0.2:7000\nfailed 3 8\nup 5 10.0.0.5:7000\n.\n".as_slice();
-    assert_eq!(rt; early.pending(), told);
-    assert_eq!(rt; late.pending(), table);
-    assert_eq!(rt;
-        change_by(&Call::Tick, &start(Some(id(2)?)), 8),
-        Some(Change::Failed(id(2)?, 8))
+    assert_same(&rt, &early.pending(), &told);
+    assert_same(&rt, &late.pending(), &table);
+    assert_same(
+        &rt,
+        &change_by(&Call::Tick, &start(Some(id(2))), 8),
+        &Some(Change::Failed(id(2), 8)),
     );
     Ok(())
 }
@@ -143,7 +149,7 @@ impl Outlet for Pipe {
 fn who_is_slow_is_lost(rt: HostRuntime) -> Result<(), Fail> {
     let mut slow = Watcher::new(rt.alloc(), &[])?;
     // Its line has 16 bytes. Behind the two bytes of the table 4,095 of them fit, with 14 bytes left.
-    let line = line_of(&Event::Changed(Change::Gone(id(4_000_000_000)?)));
+    let line = line_of(&Event::Changed(Change::Gone(id(4_000_000_000))));
     for _ in 0..4096 {
         slow.put(line.as_str().as_bytes());
     }
@@ -152,24 +158,23 @@ fn who_is_slow_is_lost(rt: HostRuntime) -> Result<(), Fail> {
 }
 
 #[test]
-fn who_is_slow_leaves_and_the_others_stay(rt: HostRuntime) -> Result<(), Fail> {
+fn who_is_slow_leaves_and_the_others_stay(rt: HostRuntime) {
     let mut gallery = Gallery::new(rt.alloc());
     for pipe in [Pipe::Quick, Pipe::Slow(4097), Pipe::Quick] {
         assert!(rt; gallery.admit(rt.alloc(), &[], pipe));
     }
-    let event = Event::Changed(Change::Gone(id(4_000_000_000)?));
+    let event = Event::Changed(Change::Gone(id(4_000_000_000)));
     for _ in 0..4096 {
         gallery.tell(&event);
         gallery.send();
     }
-    assert_eq!(rt; gallery.len(), 3);
+    assert_same(&rt, &gallery.len(), &3);
     gallery.send();
-    assert_eq!(rt; gallery.len(), 3);
+    assert_same(&rt, &gallery.len(), &3);
     gallery.send();
-    assert_eq!(rt; gallery.len(), 2);
+    assert_same(&rt, &gallery.len(), &2);
     gallery.clear();
-    assert_eq!(rt; gallery.len(), 0);
-    Ok(())
+    assert_same(&rt, &gallery.len(), &0);
 }
 
 #[test]
@@ -182,21 +187,22 @@ fn tells_entries_to_all_of_them(rt: HostRuntime) -> Result<(), Fail> {
     assert!(rt; gallery.admit(rt.alloc(), watching.rows(), Pipe::Gone));
     assert!(rt; gallery.is_full());
     assert!(rt; !gallery.admit(rt.alloc(), watching.rows(), Pipe::Quick));
-    let judged = start(Some(id(3)?));
+    let judged = start(Some(id(3)));
     let change = tell_next(&mut watching, &mut gallery, &Call::Tick, &judged);
-    assert_eq!(rt; change, Some(Change::Failed(id(3)?, 7)));
+    assert_same(&rt, &change, &Some(Change::Failed(id(3), 7)));
     gallery.send();
-    assert_eq!(rt; gallery.len(), 63);
+    assert_same(&rt, &gallery.len(), &63);
     Ok(())
 }
 
 // It was told 4,095 lines and of its loss, and it is over once all was sent.
 fn assert_lost<R: Abort>(rt: &R, slow: &mut Watcher) {
     assert!(rt; !slow.keeps_up());
-    assert_eq!(rt; slow.pending().len(), 65_527);
-    assert_eq!(rt;
-        &slow.pending()[65_506..],
-        b"gone 4000000000\nlost\n".as_slice()
+    assert!(rt; slow.pending().len() == 65_527);
+    assert_same(
+        rt,
+        &&slow.pending()[65_506..],
+        &b"gone 4000000000\nlost\n".as_slice(),
     );
     slow.sent(65_526);
     assert!(rt; !slow.is_over());
@@ -211,14 +217,14 @@ fn is_told_of_its_loss_as_soon_as_that_fits(rt: HostRuntime) -> Result<(), Fail>
     watcher.put(&[b'x'; 65_531]);
     watcher.put(b"yyyy");
     // Three bytes are left.
-    assert_eq!(rt; watcher.pending().len(), 65_533);
+    assert!(rt; watcher.pending().len() == 65_533);
     watcher.sent(1);
-    assert_eq!(rt; watcher.pending().len(), 65_532);
+    assert!(rt; watcher.pending().len() == 65_532);
     watcher.put(b"z");
     watcher.sent(1);
-    assert_eq!(rt; watcher.pending().len(), 65_536);
-    assert_eq!(rt; &watcher.pending()[65_529..], b"xxlost\n".as_slice());
+    assert!(rt; watcher.pending().len() == 65_536);
+    assert_same(&rt, &&watcher.pending()[65_529..], &b"xxlost\n".as_slice());
     watcher.put(b"z");
-    assert_eq!(rt; watcher.pending().len(), 65_536);
+    assert!(rt; watcher.pending().len() == 65_536);
     Ok(())
 }

@@ -1,5 +1,7 @@
 ghost use Rattle.std.specs.Prelude.{None};
 
+use std::fmt::Debug;
+use std::process::Abort;
 use std::test::Fail;
 use swim_doubles::FailingPage;
 use swim_events::Event;
@@ -28,12 +30,22 @@ impl<'a> Feed for Lines<'a> {
     }
 }
 
-fn id(value: u32) -> Result<Id, Fail> {
-    Ok(Id::new(value).ok_or("an id is not 0")?)
+// The two are the same. A call of this is proved at once, and an `assert_eq!` in some seconds.
+fn assert_same<T: PartialEq + Debug, R: Abort>(rt: &R, left: &T, right: &T) {
+    assert_eq!(rt; *left, *right);
+}
+
+// The same of a line.
+fn assert_same_at<T: PartialEq + Debug, R: Abort>(rt: &R, left: &T, right: &T, line: &str) {
+    assert_eq!(rt; *left, *right, "at {line}");
+}
+
+fn id(value: u32) -> Id {
+    Id::new(value).unwrap_or_default()
 }
 
 #[test]
-fn reads_each_line(rt: HostRuntime) -> Result<(), Fail> {
+fn reads_each_line(rt: HostRuntime) {
     let peer = Peer {
         ip: [10, 0, 0, 4],
         port: 7000,
@@ -41,15 +53,15 @@ fn reads_each_line(rt: HostRuntime) -> Result<(), Fail> {
     for (line, said) in [
         (
             "up 4 10.0.0.4:7000",
-            FeedEvent::Event(Event::Changed(Change::Up(id(4)?, peer))),
+            FeedEvent::Event(Event::Changed(Change::Up(id(4), peer))),
         ),
         (
             "failed 3 17",
-            FeedEvent::Event(Event::Changed(Change::Failed(id(3)?, 17))),
+            FeedEvent::Event(Event::Changed(Change::Failed(id(3), 17))),
         ),
         (
             "gone 4294967295",
-            FeedEvent::Event(Event::Changed(Change::Gone(id(4_294_967_295)?))),
+            FeedEvent::Event(Event::Changed(Change::Gone(id(4_294_967_295)))),
         ),
         (
             "life 18446744073709551615",
@@ -60,9 +72,8 @@ fn reads_each_line(rt: HostRuntime) -> Result<(), Fail> {
         (".", FeedEvent::TableEnds),
         ("again", FeedEvent::Again),
     ] {
-        assert_eq!(rt; read_said(line.as_bytes()), Ok(said), "at {line}");
+        assert_same_at(&rt, &read_said(line.as_bytes()), &Ok(said), line);
     }
-    Ok(())
 }
 
 #[test]
@@ -89,7 +100,7 @@ fn reads_no_other_line(rt: HostRuntime) {
         "..",
         "again again",
     ] {
-        assert_eq!(rt; read_said(line.as_bytes()), Err(NoEvent), "at {line}");
+        assert_same_at(&rt, &read_said(line.as_bytes()), &Err(NoEvent), line);
     }
 }
 
@@ -113,7 +124,7 @@ fn shows_each_line_as_an_object(rt: HostRuntime) -> Result<(), Fail> {
         ("again\"", "{\"event\":\"other\",\"time\":\"t\"}"),
     ] {
         let text = show(rt.alloc(), line.as_bytes(), "t")?;
-        assert_eq!(rt; text.as_str(), object, "at {line}");
+        assert_same_at(&rt, &text.as_str(), &object, line);
     }
     Ok(())
 }
@@ -125,10 +136,11 @@ fn writes_lines_up_to_the_last(rt: HostRuntime) {
     };
     let mut page = Page::new(rt.alloc());
     let ended = watch(&rt, rt.alloc(), &mut feed, false, &mut page);
-    assert_eq!(rt; ended, WatchEnd::Over);
-    assert_eq!(rt;
-        page.text(),
-        b"up 4 10.0.0.4:7000\n.\nwhat\nagain\n".as_slice()
+    assert_same(&rt, &ended, &WatchEnd::Over);
+    assert_same(
+        &rt,
+        &page.text(),
+        &b"up 4 10.0.0.4:7000\n.\nwhat\nagain\n".as_slice(),
     );
 }
 
@@ -139,7 +151,7 @@ fn writes_objects_up_to_the_last(rt: HostRuntime) {
     };
     let mut page = Page::new(rt.alloc());
     let ended = watch(&rt, rt.alloc(), &mut feed, true, &mut page);
-    assert_eq!(rt; ended, WatchEnd::Over);
+    assert_same(&rt, &ended, &WatchEnd::Over);
     let front = b"{\"event\":\"gone\",\"id\":4,\"time\":\"2".as_slice();
     assert!(rt; page.text().starts_with(front));
     assert!(rt; page.text().ends_with(b"Z\"}\n".as_slice()));
@@ -152,6 +164,6 @@ fn ends_where_a_line_cant_be_written(rt: HostRuntime) {
     };
     let mut page = FailingPage::new(rt.alloc(), None, Some(1));
     let ended = watch(&rt, rt.alloc(), &mut feed, false, &mut page);
-    assert_eq!(rt; ended, WatchEnd::Unwritten);
-    assert_eq!(rt; feed.left.len(), 1);
+    assert_same(&rt, &ended, &WatchEnd::Unwritten);
+    assert_same(&rt, &feed.left.len(), &1);
 }
