@@ -60,7 +60,7 @@ pub struct Config {
 }
 
 /// Who this member is, and where it listens.
-#[derive(Debug, Drop)]
+#[derive(Drop)]
 pub struct OwnPlace {
     pub id: Id,
     pub listen: Peer,
@@ -70,7 +70,7 @@ pub struct OwnPlace {
 }
 
 /// How many relays are asked, and how long things last.
-#[derive(Clone, Copy, Debug, PartialEq, Eq)]
+#[derive(Clone, Copy)]
 pub struct Times {
     pub k: u32,
     pub rtt: u32,
@@ -79,7 +79,7 @@ pub struct Times {
 }
 
 /// What is drawn from and written down.
-#[derive(Clone, Copy, Debug, PartialEq, Eq)]
+#[derive(Clone, Copy)]
 pub struct JournalSettings {
     pub seed: [u8; 32],
     pub journal: u32,
@@ -89,7 +89,7 @@ pub struct JournalSettings {
 }
 
 /// What is thrown away before it is looked at.
-#[derive(Clone, Copy, Debug, PartialEq, Eq)]
+#[derive(Clone, Copy)]
 pub struct FenceSettings {
     /// How many datagrams a second of an address are handed on; 0 for all.
     pub rate: u32,
@@ -98,7 +98,7 @@ pub struct FenceSettings {
 }
 
 /// How members come back.
-#[derive(Clone, Copy, Debug, PartialEq, Eq)]
+#[derive(Clone, Copy)]
 pub struct Rejoin {
     /// At every how manieth start of a period a failed member is knocked at; 0 for none.
     pub periods: u32,
@@ -116,7 +116,7 @@ pub struct JournalFiles {
 }
 
 /// All of it, but for the members.
-#[derive(Debug, Drop)]
+#[derive(Drop)]
 pub struct Settings {
     pub place: OwnPlace,
     pub times: Times,

@@ -16,7 +16,7 @@ use swim_text::Sink;
 use toml::Table;
 
 /// A document of which lines are shown.
-#[derive(Clone, Copy, Debug)]
+#[derive(Clone, Copy)]
 struct Document<'a> {
     bytes: &'a [u8],
     /// Whether it may have keys, which aren't shown.

@@ -69,7 +69,7 @@ pub enum ValueForm {
 }
 
 /// What the table of keys says of one.
-#[derive(Clone, Copy, Debug)]
+#[derive(Clone, Copy)]
 struct KeyEntry {
     /// Its name in the table where it stands.
     name: &'static str,

@@ -5,7 +5,7 @@ use toml_parser::text::{byte_at, first, skip, skip_blank, skip_ws};
 use toml_parser::{dotted_key, quoted, starts_string};
 
 /// What is looked for in a document.
-#[derive(Clone, Copy, Debug)]
+#[derive(Clone, Copy)]
 pub enum StatementPlace<'a> {
     /// A key of the document, or a table of that name.
     Top(&'a str),
@@ -16,7 +16,7 @@ pub enum StatementPlace<'a> {
 }
 
 /// To what the keys belong that follow.
-#[derive(Clone, Copy, Debug, PartialEq, Eq)]
+#[derive(Clone, Copy, PartialEq, Eq)]
 enum Scope {
     /// To the document.
     Top,
@@ -27,7 +27,7 @@ enum Scope {
 }
 
 /// The beginning of a statement: a key, or the header of a table.
-#[derive(Debug, Drop)]
+#[derive(Drop)]
 struct StatementHead {
     /// The first part of its key.
     name: String,

@@ -7,7 +7,7 @@ use strsim::osa_distance;
 use toml::{Table, Value};
 
 /// A key that isn't known, and the known ones in whose place it stands.
-#[derive(Clone, Copy, Debug)]
+#[derive(Clone, Copy)]
 pub struct Unknown<'a> {
     pub name: &'a str,
     pub place: StatementPlace<'a>,

@@ -12,7 +12,7 @@ use swim_wire::{nothing_left, take_id, take_peer};
 pub const LINE_BYTES: usize = 128;
 
 /// The first word of a line.
-#[derive(Clone, Copy, Debug, PartialEq, Eq)]
+#[derive(Clone, Copy)]
 pub enum ControlWord {
     List,
     Join,
@@ -23,7 +23,7 @@ pub enum ControlWord {
 }
 
 /// What a line says.
-#[derive(Clone, Copy, Debug, PartialEq, Eq)]
+#[derive(Clone, Copy)]
 pub enum Said {
     /// That serving is to end.
     Stop,

@@ -4,7 +4,7 @@ ghost use Rattle.std.specs.Prelude.{◌≡◌};
 ghost use Rattle.swim_control.specs.Commands.{fault_number};
 
 /// What is wrong with the words of a line.
-#[derive(Clone, Copy, Debug, PartialEq, Eq)]
+#[derive(Clone, Copy)]
 pub enum WordFault {
     /// An unknown first word.
     UnknownWord,
@@ -17,7 +17,7 @@ pub enum WordFault {
 }
 
 /// What is wrong with a line.
-#[derive(Clone, Copy, Debug, PartialEq, Eq)]
+#[derive(Clone, Copy)]
 pub enum Fault {
     /// A byte more than a line may have came before a line feed.
     LongLine,

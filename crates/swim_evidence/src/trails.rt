@@ -12,7 +12,7 @@ use swim_history::{Call, DropReason, Entry, Opening, Probe, Reply};
 use swim_wire::Id;
 
 /// A start that probed, and its place.
-#[derive(Clone, Copy, Debug, PartialEq, Eq)]
+#[derive(Clone, Copy)]
 pub struct Probing {
     pub place: u32,
     pub probe: Probe,

@@ -8,7 +8,7 @@ const PRICE: u64 = 1_000_000_000;
 
 /// What was left in a bucket, and the latest time, in nanoseconds, at which a datagram asked. It holds what the
 /// datagrams of a second cost, and no more.
-#[derive(Clone, Copy, Debug, PartialEq, Eq)]
+#[derive(Clone, Copy)]
 pub(crate) struct Bucket {
     amount: u64,
     at: u64,

@@ -57,7 +57,7 @@ impl Why {
 }
 
 /// What happened to a worker beside its calls. Each count stops at 2^64-1.
-#[derive(Clone, Copy, Debug, PartialEq, Eq)]
+#[derive(Clone, Copy)]
 pub(crate) struct Counts {
     /// Datagrams that couldn't be sent.
     pub(crate) unsent: u64,
@@ -91,7 +91,7 @@ impl Counts {
 }
 
 /// How many faults in a row a worker's gate answered last. The count stops at 2^32-1.
-#[derive(Clone, Copy, Debug)]
+#[derive(Clone, Copy)]
 pub(crate) struct Faults {
     in_a_row: u32,
 }

@@ -19,7 +19,7 @@ const TRIES: u32 = 100;
 const PAUSE_MS: u64 = 10;
 
 /// What stands at a path. No link is followed.
-#[derive(Clone, Copy, Debug, PartialEq, Eq)]
+#[derive(Clone, Copy)]
 pub enum Found {
     /// Nothing.
     Nothing,
@@ -32,7 +32,7 @@ pub enum Found {
 }
 
 /// Whom a connection to a path met.
-#[derive(Clone, Copy, Debug, PartialEq, Eq)]
+#[derive(Clone, Copy)]
 pub enum Presence {
     /// Somebody who listens there, also where too many wait already.
     Somebody,

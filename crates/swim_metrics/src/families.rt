@@ -86,7 +86,7 @@ pub enum MetricKind {
 }
 
 /// The values of a metric.
-#[derive(Clone, Copy, Debug)]
+#[derive(Clone, Copy)]
 pub(crate) enum Samples<'a> {
     One(u64),
     /// A time in milliseconds, which is told in seconds.
@@ -99,7 +99,7 @@ pub(crate) enum Samples<'a> {
 }
 
 /// What the table says of a metric.
-#[derive(Clone, Copy, Debug)]
+#[derive(Clone, Copy)]
 pub(crate) struct Family<'a> {
     pub(crate) name: &'static str,
     /// What it tells.

@@ -12,7 +12,7 @@ use crate::tests_of_entries::{is_heard, is_start, is_tick};
 use swim_history::{Call, Reply};
 
 /// How many ticks there were since the period began, and whether its aim was heard.
-#[derive(Clone, Copy, Debug, PartialEq, Eq)]
+#[derive(Clone, Copy)]
 pub(crate) struct Period {
     pub(crate) waited: u64,
     pub(crate) heard: bool,

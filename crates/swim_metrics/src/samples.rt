@@ -14,7 +14,7 @@ use swim_text::Sink;
 use swim_wire::{Piece, put_pieces};
 
 /// A value, and what stands between the metric's name and it.
-#[derive(Clone, Copy, Debug)]
+#[derive(Clone, Copy)]
 pub(crate) struct Labelled(&'static str, u64);
 
 /// A line for each value of a metric.

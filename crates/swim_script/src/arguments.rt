@@ -41,7 +41,7 @@ pub struct OpenArguments {
 }
 
 /// An `open` line: its number, counted from 1, and its arguments.
-#[derive(Clone, Copy, Debug, PartialEq, Eq)]
+#[derive(Clone, Copy)]
 pub struct Opened {
     pub line: u32,
     pub arguments: OpenArguments,

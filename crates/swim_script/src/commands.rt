@@ -54,7 +54,7 @@ impl LineFault {
 }
 
 /// What a header has told of who chooses.
-#[derive(Clone, Copy, Debug, PartialEq, Eq)]
+#[derive(Clone, Copy, Debug)]
 pub enum Draws {
     /// Nothing.
     Unsaid,
@@ -65,7 +65,7 @@ pub enum Draws {
 }
 
 /// How far a script has come.
-#[derive(Clone, Copy, Debug, PartialEq, Eq)]
+#[derive(Clone, Copy)]
 pub enum Stage {
     /// No line but skipped ones.
     Blank,

@@ -25,7 +25,7 @@ pub enum FeedEvent {
 pub struct NoEvent;
 
 /// The first word of a line.
-#[derive(Clone, Copy, Debug, PartialEq, Eq)]
+#[derive(Clone, Copy)]
 pub enum EventWord {
     Up,
     Failed,

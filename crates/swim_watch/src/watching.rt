@@ -24,7 +24,7 @@ pub enum WatchEnd {
 }
 
 /// What became of a line that was to be written.
-#[derive(Clone, Copy, Debug, PartialEq, Eq)]
+#[derive(Clone, Copy)]
 pub enum Passed {
     /// It was written and handed on.
     Whole,
