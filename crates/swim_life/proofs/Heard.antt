@@ -1,5 +1,6 @@
 -- Those who watch lives, life by life, and the reporter who hears of them.
 use Rattle.std.proofs.Common.{◌≡◌, ℕ, ◌+◌, ◌-◌, ◌^◌, min, true, false, List, [], ◌∷◌, Option, Some, None, sym, subst}
+use Rattle.std.proofs.Common.{inl, inr}
 use Rattle.swim_history.specs.After.{setting_after}
 use Rattle.swim_history.specs.Setting.{Setting}
 use Rattle.swim_node.specs.declared.receipts.OpenFault.{OpenFault}
@@ -9,7 +10,7 @@ use Rattle.swim_life.specs.declared.lives.LivesEnd.{LivesEnd}
 use Rattle.swim_life.specs.declared.lives.LivesEnd.TheVariants as life_ends
 use Rattle.swim_life.specs.declared.pasts.Past.{Past}
 use Rattle.swim_life.specs.Endings.{TellsLife, TellsText, Written, stopped_text}
-use Rattle.swim_life.specs.Lives.{IsDrawnLife, end_after, end_without, number_after}
+use Rattle.swim_life.specs.Lives.{IsDrawnLife, TellsEnd, end_after, end_without, number_after}
 use Rattle.swim_life.specs.Reports.{Report, HearsLives, HearsOf}
 use Rattle.swim_life.specs.Watched.{AreToldLife, lived as life_of}
 use Rattle.swim_life.specs.Watching.{AreWatched, told_lives}
@@ -104,6 +105,23 @@ stopped_watched first limit seed next number old mid told new before there now h
           (so.told none);
       reported = heard_more next so.lived.lives past heard between hears is.0.opening of_it so.reported;
     }
+
+pub ended_watched : (first : Setting) (limit : ℕ) (seed : List ℕ) (next : Setting) (number : ℕ)
+    (old mid new : Written)
+    (before there now : List AtGuest) (heard between hears : Option (List Report)) (past : Past) (end : LivesEnd) →
+    HaveWatched first limit seed next number old mid before there heard between →
+    IsDrawnLife next limit seed number past →
+    AreToldLife number next there past.journal.past now → HearsOf past.is_read next past.journal.past between hears →
+    TellsEnd number past mid new (Some end) → AreWatched first limit seed old new end before now heard hears
+ended_watched first limit seed next number old mid new before there now heard between hears past end so is told of_it
+    (inl (line, ends)) =
+    last_watched first limit seed next number old mid new before there now heard between hears past end so is told of_it
+    ends line
+ended_watched first limit seed next number old mid new before there now heard between hears past end so is told of_it
+    (inr (told_by, line, goes_on, stopped, text, end_is)) =
+    subst (λ e. AreWatched first limit seed old new e before now heard hears) (sym end_is)
+    (stopped_watched first limit seed next number old mid told_by new before there now heard between hears past so is
+    told of_it goes_on stopped line text)
 
 pub opened_watched : (first : Setting) (limit : ℕ) (seed : List ℕ) (next : Setting) (number : ℕ) (old new : Written)
     (before there now : List AtGuest) (heard between hears : Option (List Report)) (fault : OpenFault)

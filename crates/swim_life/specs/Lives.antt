@@ -79,6 +79,16 @@ IsStopped (past ∷ before) old new end =
     AreFull before × (past.why ≡ whys.JournalFull) × (past.is_stopped ≡ true) × TellsText stopped_text old new
     × (end ≡ Stopped)
 
+-- how a life ended was told; and with it how the daemon did, where none follows: by this life, or as if the next one
+-- had been stopped at once
+abbrev pub TellsEnd : ℕ → Past → Written → Written → Option LivesEnd → Type 0
+TellsEnd number past old new None =
+    TellsLife number past old new × (end_after past.why ≡ None) × (past.is_stopped ≡ false)
+TellsEnd number past old new (Some end) =
+    (TellsLife number past old new × (end_after past.why ≡ Some end))
+    ⊎ ((between : Written) × TellsLife number past old between × (end_after past.why ≡ None)
+    × (past.is_stopped ≡ true) × TellsText stopped_text between new × (end ≡ Stopped))
+
 -- and whose next life got no node
 abbrev pub end_without : OpenFault → LivesEnd
 end_without faults.NoMemory = NoMemory

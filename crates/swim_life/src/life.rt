@@ -17,6 +17,7 @@ use crate::criers::Crier;
 use crate::gates::{Door, Line, Pace, Post};
 use crate::halls::Hall;
 use crate::holding::{Held, Seats};
+use crate::lives::Lived;
 use crate::lookouts::Lookout;
 use crate::meters::Meters;
 use crate::naming::GuestNaming;
@@ -68,22 +69,26 @@ impl<N: GuestNaming, O: Post + Drop, W: Sink + Drop, E: Outlet + Drop, Y: Report
     E,
     Y,
 > {
-    /// What goes on when the seats and the posts are let go: what stays of it, its knocks, its sink, those who watch,
-    /// and the reporter.
-    pub(crate) fn leave(self) -> (Past, u64, W, Gallery<E>, Y)
-        ensures past { result.0 ≡ self.past }
-        ensures knocks { result.1 ≡ self.knocks }
-        ensures writer { result.2 ≡ self.writer }
-        ensures gallery { result.3 ≡ self.gallery }
-        ensures reporter { result.4 ≡ self.reporter }
+    /// Gives back what goes on from life to life: those who watch, and the reporter; and counts the knocks. The seats and
+    /// the posts are let go, and what is left stays.
+    pub(crate) fn leave(
+        self,
+        returning: &mut Returning,
+        gallery: &mut Gallery<E>,
+        reporter: &mut Y,
+    ) -> Lived<W>
+        ensures past { result.past ≡ self.past }
+        ensures writer { result.writer ≡ self.writer }
+        ensures gallery { gallery.new ≡ self.gallery }
+        ensures reporter { reporter.new ≡ self.reporter }
     {
-        (
-            self.past,
-            self.knocks,
-            self.writer,
-            self.gallery,
-            self.reporter,
-        )
+        *gallery = self.gallery;
+        *reporter = self.reporter;
+        returning.add_knocks(self.knocks);
+        Lived {
+            past: self.past,
+            writer: self.writer,
+        }
     }
 }
 
@@ -306,6 +311,8 @@ fn closed<
         ≡ both (both ended.first.sender.counts.refused ended.second.ticker.sender.counts.refused)
         ended.third.refused }
 {
+    let is_stopped = ended.is_stopped();
+    let counts = ended.counts();
     let Over {
         first,
         second,
@@ -314,12 +321,10 @@ fn closed<
         crier,
     } = ended;
     let why = why_ended(first.why, second.why, third.why, all_began);
-    let is_stopped = first.is_stopped | second.is_stopped | third.is_stopped;
-    let (hearer, hearing, heard) = first.sender.leave();
+    let (hearer, hearing) = first.sender.leave();
     let (sender, knocking) = second.ticker.leave();
-    let (giver, ticking, ticked) = sender.leave();
+    let (giver, ticking) = sender.leave();
     let (knocking, knocks) = knocking.leave();
-    let counts = heard.and(ticked);
     let seats = given_back(hearer, giver, third.held, fourth);
     let recorded = close_recorded(rt, node, seats, meters, crier);
     Life {
@@ -329,7 +334,7 @@ fn closed<
             journal: recorded.journal,
             unsent: counts.unsent,
             wire: counts.wire,
-            refused: counts.refused.saturating_add(third.refused),
+            refused: counts.refused,
             is_cut: !recorded.is_whole,
             is_read: recorded.is_read,
         },

@@ -3,7 +3,7 @@
 ghost use Rattle.std.specs.Prelude.{◌≡◌, IfOk, MatchResult, false, true};
 ghost use Rattle.swim_targets.specs.Draws.{DrawsOrder, DrawsPlace};
 ghost use Rattle.swim_life.specs.Draws.{WasDrawn};
-ghost use Rattle.swim_life.specs.Lives.{AreLived, IsLife, end_after, end_without};
+ghost use Rattle.swim_life.specs.Lives.{AreLived, IsLife, TellsEnd, end_after, end_without};
 ghost use Rattle.swim_life.specs.Notices.{Notices};
 ghost use Rattle.swim_life.specs.Reports.{HearsOf};
 ghost use Rattle.swim_life.specs.Watched.{AreToldLife};
@@ -129,18 +129,27 @@ pub fn run_lives<
             Ok(past) => past,
             Err(fault) => return end_without(fault),
         };
-        tell_life(writer, number, &past);
-        if let Some(end) = end_of(past.why) {
+        if let Some(end) = told_end(writer, number, &past) {
             return end;
-        }
-        if past.is_stopped {
-            tell_stopped(writer);
-            return LivesEnd::Stopped;
         }
         opening = Opening::after(&past.journal);
         number = number.saturating_add(1);
     }
     unreachable!()
+}
+
+/// Tells how a life ended, and with it how the daemon did, where no other life follows: why it ended then.
+fn told_end<W: Sink>(writer: &mut W, number: u64, past: &Past) -> Option<LivesEnd>
+    ensures { TellsEnd number past.now (W.written writer.old, W.failures writer.old)
+        (W.written writer.new, W.failures writer.new) result }
+{
+    tell_life(writer, number, past);
+    let end = end_of(past.why);
+    if end.is_none() && past.is_stopped {
+        tell_stopped(writer);
+        return Some(LivesEnd::Stopped);
+    }
+    end
 }
 
 /// Why no other life follows, where none does.

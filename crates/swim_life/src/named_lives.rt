@@ -1,11 +1,14 @@
 //! One life of a node that its types know by a name: it is opened, those who watch are told, and it is run.
 
-ghost use Rattle.std.specs.Prelude.{◌≡◌, IfOk, MatchResult, false, true, map};
+ghost use Rattle.std.specs.Prelude.{◌≡◌, [], IfOk, MatchResult, box_value, false, true, map};
+ghost use Rattle.swim_history.specs.Setting.{Setting};
 ghost use Rattle.swim_targets.specs.Draws.{DrawsOrder, DrawsPlace};
 ghost use Rattle.swim_node.specs.Draws.{DrawsAll};
+ghost use Rattle.swim_node.specs.Seats.{AreNew};
 ghost use Rattle.swim_events.specs.Guests.{put_text};
 ghost use Rattle.swim_events.specs.Texts.{life_text};
 ghost use Rattle.swim_life.specs.Lives.{IsLife};
+ghost use Rattle.swim_life.specs.Posts.{IsFresh};
 ghost use Rattle.swim_life.specs.Reports.{HearsOf};
 ghost use Rattle.swim_life.specs.Watched.{AreToldLife};
 ghost use Rattle.swim_life.specs.Written.{IsWritten};
@@ -24,7 +27,7 @@ use std::sync::Wait;
 use std::thread::Threads;
 use swim_events::{Entrance, Event, Gallery, Outlet};
 use swim_history::Opening;
-use swim_node::{Node, OpenFault, Parts};
+use swim_node::{Node, OpenFault, Parts, Seat, Viewer};
 use swim_targets::Seeded;
 use swim_text::Sink;
 
@@ -82,23 +85,63 @@ pub(crate) fn live_so<
         (λ fault. Y.heard reporter.new ≡ Y.heard reporter.old) }
     ensures read { IfOk result (λ lived. lived.past.is_cut ≡ false → lived.past.is_read ≡ true) }
 {
-    let Ok(posts) = Posts::of(alloc, post) else {
-        return Err(OpenFault::NoMemory);
-    };
-    let (node, seats, viewers) = Node::<N, Seeded, &R>::open(
-        alloc, rt, parts, opening, chooser, limit,
+    let (node, seats, viewers, posts) = opened::<N, R, O>(
+        rt, alloc, parts, opening, chooser, limit, post,
     )?;
-    gallery.tell(&Event::Life(number));
-    let guests = mem::replace(gallery, Gallery::new(alloc));
+    let guests = told_of_life(alloc, number, gallery);
     let stand_in = reporter.fresh();
     let own = mem::replace(reporter, stand_in);
     let life = run_life(
         rt, alloc, node, seats, viewers, line, posts, returning, pace, hall, writer, pause, guests,
         own, speaker, entrance,
     );
-    let (past, knocks, writer, left, heard) = life.leave();
-    *gallery = left;
-    *reporter = heard;
-    returning.add_knocks(knocks);
-    Ok(Lived { past, writer })
+    Ok(life.leave(returning, gallery, reporter))
+}
+
+/// A node with its seats and its viewers, and posts of its workers. There are none where memory is refused, or no reader
+/// of the member table is to be had.
+fn opened<'r, N: GuestNaming, R: Wait, O: Post + Drop>(
+    rt: &'r R,
+    alloc: Global,
+    parts: Parts,
+    opening: Opening,
+    chooser: Seeded,
+    limit: u32,
+    post: &O,
+) -> Result<
+    (
+        Node<N, Seeded, &'r R>,
+        [Seat<N>; 4],
+        [Viewer<N>; 4],
+        Posts<O>,
+    ),
+    OpenFault,
+>
+    requires parts { parts ≡ record { limit = N.limit; ledgers = N.ledgers; log = N.log; cells = N.cells } }
+    requires opening { opening ≡ N.opening }
+    requires limit { limit ≡ N.limit }
+    requires drawn { DrawsAll DrawsOrder DrawsPlace N.opening chooser N.drawn }
+    ensures seats { IfOk result (λ opened. AreNew opened.1) }
+    ensures hearing { IfOk result (λ opened. IsFresh (O.posted (box_value opened.3.hearing))) }
+    ensures ticking { IfOk result (λ opened. IsFresh (O.posted (box_value opened.3.ticking))) }
+    ensures knocking { IfOk result (λ opened. IsFresh (O.posted (box_value opened.3.knocking))) }
+{
+    let Ok(posts) = Posts::of(alloc, post) else {
+        return Err(OpenFault::NoMemory);
+    };
+    let (node, seats, viewers) = Node::open(alloc, rt, parts, opening, chooser, limit)?;
+    Ok((node, seats, viewers, posts))
+}
+
+/// Those who watch, who are told that the life of this number begins. None is left behind.
+fn told_of_life<E: Outlet + Drop>(
+    alloc: Global,
+    number: u64,
+    gallery: &mut Gallery<E>,
+) -> Gallery<E>
+    ensures exact { result ≡ map (put_text (life_text number)) gallery.old }
+    ensures life { (opening : Setting) → AreToldLife number opening gallery.old [] result }
+{
+    gallery.tell(&Event::Life(number));
+    mem::replace(gallery, Gallery::new(alloc))
 }

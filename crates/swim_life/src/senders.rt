@@ -121,12 +121,18 @@ impl<N: Naming, O: Post + Drop, const SEAT: u8> Sender<N, O, SEAT> {
         meter.show(self.held.seat.calls().len(), self.counts);
     }
 
-    /// The seat, the post, and the counts.
-    pub(crate) fn leave(self) -> (Held<N, SEAT>, Box<O>, Counts)
-        ensures seat { result.0.seat ≡ self.seat }
-        ensures counts { result.2 ≡ self.counts }
-        ensures sent { HasSent N.opening result.0.seat.calls (O.posted (box_value result.1)) result.2.unsent }
+    /// What it counted.
+    pub(crate) fn counts(&self) -> Counts
+        ensures { result ≡ self.now.counts }
     {
-        (self.held, self.post, self.counts)
+        self.counts
+    }
+
+    /// The seat and the post.
+    pub(crate) fn leave(self) -> (Held<N, SEAT>, Box<O>)
+        ensures seat { result.0.seat ≡ self.seat }
+        ensures sent { HasSent N.opening result.0.seat.calls (O.posted (box_value result.1)) self.counts.unsent }
+    {
+        (self.held, self.post)
     }
 }

@@ -73,12 +73,9 @@ impl<S: Sleeper + Drop> SleepingPace<S> {
             left_ms: tick_ms,
         }
     }
-}
 
-impl<S: Sleeper + Drop> Pace for SleepingPace<S> {
-    ghost beats = { λ p. None };
-
-    fn next<R: Wait>(&mut self, _rt: &R) -> Beat
+    /// Sleeps on, for a tenth of a second at most: a tick where it is over then.
+    fn sleep_on(&mut self) -> Beat
         ensures { Beats self.old result self.new }
     {
         let time = self.left_ms.min(LONGEST_MS);
@@ -89,5 +86,15 @@ impl<S: Sleeper + Drop> Pace for SleepingPace<S> {
         }
         self.left_ms = self.tick_ms;
         Beat::Tick
+    }
+}
+
+impl<S: Sleeper + Drop> Pace for SleepingPace<S> {
+    ghost beats = { λ p. None };
+
+    fn next<R: Wait>(&mut self, _rt: &R) -> Beat
+        ensures { Beats self.old result self.new }
+    {
+        self.sleep_on()
     }
 }

@@ -2,8 +2,11 @@
 //! them.
 
 ghost use denote.Param.Send.{IsSend, IsSync};
+ghost use Rattle.std.specs.Prelude.{◌≡◌, ◌||◌};
+ghost use Rattle.swim_life.specs.Ends.{both};
 
 use crate::controlling::control;
+use crate::counts::Counts;
 use crate::criers::Crier;
 use crate::gates::{Door, Line, Pace, Post};
 use crate::halls::Hall;
@@ -126,6 +129,38 @@ pub(crate) struct Over<
     pub(crate) third: Left<N, 2>,
     pub(crate) all_began: bool,
     pub(crate) crier: Crier<N, W, E, Y>,
+}
+
+impl<N: GuestNaming, O: Post + Drop, W: Sink + Drop, E: Outlet + Drop, Y: Reporter + Drop> Over<
+    N,
+    O,
+    W,
+    E,
+    Y,
+> {
+    /// Whether one of the workers was told to stop.
+    pub(crate) fn is_stopped(&self) -> bool
+        ensures { result ≡ (self.now.first.is_stopped || self.now.second.is_stopped || self.now.third.is_stopped) }
+    {
+        self.first.is_stopped | self.second.is_stopped | self.third.is_stopped
+    }
+
+    /// What the workers counted.
+    pub(crate) fn counts(&self) -> Counts
+        ensures unsent { result.unsent
+            ≡ both self.now.first.sender.counts.unsent self.now.second.ticker.sender.counts.unsent }
+        ensures wire { result.wire ≡ both self.now.first.sender.counts.wire self.now.second.ticker.sender.counts.wire }
+        ensures refused { result.refused
+            ≡ both (both self.now.first.sender.counts.refused self.now.second.ticker.sender.counts.refused)
+            self.now.third.refused }
+    {
+        let sent = self.first.sender.counts().and(self.second.ticker.counts());
+        Counts {
+            unsent: sent.unsent,
+            wire: sent.wire,
+            refused: sent.refused.saturating_add(self.third.refused),
+        }
+    }
 }
 
 fn run_hearing<

@@ -4,7 +4,7 @@ ghost use Rattle.std.specs.Prelude.{◌≡◌, ◌<◌, [], Some};
 ghost use Rattle.swim_life.specs.Calling.{Ticks};
 ghost use Rattle.swim_life.specs.Knocking.{IsInStep};
 
-use crate::counts::Why;
+use crate::counts::{Counts, Why};
 use crate::gates::Post;
 use crate::knocking::{KnockNaming, Knocking};
 use crate::meters::Meter;
@@ -63,6 +63,13 @@ impl<N: KnockNaming, O: Post + Drop> Ticker<N, O> {
     pub(crate) fn show(&self, meter: &Meter) {
         self.sender.show(meter);
         meter.show_knocks(self.knocking.knocks());
+    }
+
+    /// What the caller counted.
+    pub(crate) fn counts(&self) -> Counts
+        ensures { result ≡ self.now.sender.counts }
+    {
+        self.sender.counts()
     }
 
     /// The caller, and who knocks.
