@@ -15,18 +15,16 @@ class BadEdit(Exception):
 
 class Edit:
     """An edit of a crate: its name, its pairs (file, old, new), the one function whose body alone it changes, if it is
-    so, and what it is near to: that function, or all in its files."""
+    so, and what it is near to: the functions whose bodies it changes, or where there is none, all in its files."""
 
     def __init__(self, path, texts):
         """Reads it, and plants it for once: one that can't be planted is a bad one."""
         self.name, self.pairs = Path(path).name, read_pairs(Path(path).read_text(encoding="utf-8"))
         self.planted(texts)
-        paths = {function_around(old, file, texts) for file, old, _ in self.pairs}
-        self.function = paths.pop() if len(paths) == 1 else None
-        files = sorted({file for file, _, _ in self.pairs})
-        self.near = [self.function] if self.function else [
-            path for it in files for path, _, _ in functions_in(it, texts)
-        ]
+        around = {function_around(old, file, texts) for file, old, _ in self.pairs}
+        bodies, files = sorted(around - {None}), sorted({file for file, _, _ in self.pairs})
+        self.function = bodies[0] if around == set(bodies[:1]) else None
+        self.near = bodies or [path for it in files for path, _, _ in functions_in(it, texts)]
 
     def planted(self, texts):
         """The texts of a crate's files, by their path, with this edit in them."""
