@@ -79,6 +79,11 @@ IsStopped (past ∷ before) old new end =
     AreFull before × (past.why ≡ whys.JournalFull) × (past.is_stopped ≡ true) × TellsText stopped_text old new
     × (end ≡ Stopped)
 
+-- and whose next life got no node
+abbrev pub end_without : OpenFault → LivesEnd
+end_without faults.NoMemory = NoMemory
+end_without faults.NoPlace = NoPlace
+
 -- how a life ended was told; and with it how the daemon did, where none follows: by this life, or as if the next one
 -- had been stopped at once
 abbrev pub TellsEnd : ℕ → Past → Written → Written → Option LivesEnd → Type 0
@@ -88,11 +93,6 @@ TellsEnd number past old new (Some end) =
     (TellsLife number past old new × (end_after past.why ≡ Some end))
     ⊎ ((between : Written) × TellsLife number past old between × (end_after past.why ≡ None)
     × (past.is_stopped ≡ true) × TellsText stopped_text between new × (end ≡ Stopped))
-
--- and whose next life got no node
-abbrev pub end_without : OpenFault → LivesEnd
-end_without faults.NoMemory = NoMemory
-end_without faults.NoPlace = NoPlace
 
 -- how lives ended that were told so far: by the last one; as the next one got no node; or as the last one was told to
 -- stop. Only the last writes more

@@ -74,7 +74,7 @@ impl<S: Sleeper + Drop> SleepingPace<S> {
         }
     }
 
-    /// Sleeps on, for a tenth of a second at most: a tick where it is over then.
+    /// Sleeps for what is left of the tick, or for a tenth of a second of it, and gives the tick where that is over.
     fn sleep_on(&mut self) -> Beat
         ensures { Beats self.old result self.new }
     {
