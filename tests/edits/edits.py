@@ -23,7 +23,7 @@ class Edit:
         self.planted(texts)
         around = {function_around(old, file, texts) for file, old, _ in self.pairs}
         bodies, files = sorted(around - {None}), sorted({file for file, _, _ in self.pairs})
-        self.function = bodies[0] if around == set(bodies[:1]) else None
+        self.function = bodies[0] if bodies and len(around) == 1 else None
         self.near = bodies or [path for it in files for path, _, _ in functions_in(it, texts)]
 
     def planted(self, texts):
