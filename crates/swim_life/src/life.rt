@@ -81,6 +81,7 @@ impl<N: GuestNaming, O: Post + Drop, W: Sink + Drop, E: Outlet + Drop, Y: Report
         ensures writer { result.writer ≡ self.writer }
         ensures gallery { gallery.new ≡ self.gallery }
         ensures reporter { reporter.new ≡ self.reporter }
+        ensures knocks { returning.new ≡ record returning.old { knocks = both returning.old.knocks self.knocks } }
     {
         *gallery = self.gallery;
         *reporter = self.reporter;

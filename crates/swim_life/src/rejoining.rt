@@ -8,6 +8,7 @@ ghost use Rattle.swim_history.specs.Setting.{Setting};
 ghost use Rattle.swim_rejoin.specs.Histories.{Event, table_in};
 ghost use Rattle.swim_rejoin.specs.Histories.Event.{Joined};
 ghost use Rattle.swim_rejoin.specs.Rejoiners.{Follows};
+ghost use Rattle.swim_life.specs.Ends.{both};
 ghost use Rattle.swim_life.specs.Rejoining.{HearsAndJoins, IsOfSame, IsReturning, JoinsAgain, Learns, LearnsOn, whom};
 
 use crate::counts::Why;
@@ -74,7 +75,7 @@ impl Returning {
 
     /// A life is over, in which there were so many knocks.
     pub(crate) fn add_knocks(&mut self, knocks: u64)
-        ensures same { IsOfSame self.old self.new }
+        ensures { self.new ≡ record self.old { knocks = both self.old.knocks knocks } }
     {
         self.knocks = self.knocks.saturating_add(knocks);
     }
