@@ -1,6 +1,6 @@
 -- Lives that went on one from the other, step by step.
 use Rattle.std.proofs.Common.{◌≡◌, ℕ, ◌+◌, ◌-◌, ◌^◌, min, true, false, List, [], ◌∷◌, length, Some, None}
-use Rattle.std.proofs.Common.{Option, refl, subst, inl, inr, arith}
+use Rattle.std.proofs.Common.{refl, subst, inl, inr, arith}
 use Rattle.swim_history.specs.After.{setting_after}
 use Rattle.swim_history.specs.Setting.{Setting}
 use Rattle.swim_node.specs.declared.receipts.OpenFault.{OpenFault}
@@ -10,7 +10,7 @@ use Rattle.swim_life.specs.declared.lives.LivesEnd.{LivesEnd}
 use Rattle.swim_life.specs.declared.lives.LivesEnd.TheVariants as life_ends
 use Rattle.swim_life.specs.declared.pasts.Past.{Past}
 use Rattle.swim_life.specs.Endings.{TellsLife, TellsText, Written, stopped_text}
-use Rattle.swim_life.specs.Lives.{AreLived, AreLives, AreFull, AreTold, IsDrawnLife, TellsEnd}
+use Rattle.swim_life.specs.Lives.{AreLived, AreLives, AreFull, AreTold, IsDrawnLife}
 use Rattle.swim_life.specs.Lives.{end_after, end_without, number_after, opening_after}
 
 -- all lives so far were ended by a full journal; the next one begins so, and has this number
@@ -111,9 +111,3 @@ last_opened first limit seed next number old new fault end so is = record {
   told = so.told;
   ended = inr (inl (refl, so.full, (fault, is)));
 }
-
--- no end was told
-pub no_end : (number : ℕ) (past : Past) (old new : Written) (found : Option LivesEnd) →
-    TellsEnd number past old new found → ((end : LivesEnd) → found ≡ Some end → ⊥) → TellsEnd number past old new None
-no_end number past old new None tells none = tells
-no_end number past old new (Some end) tells none = absurd (none end refl)

@@ -1,6 +1,7 @@
 //! Lives: one node after another, each of which goes on from the journal of the one before.
 
-ghost use Rattle.std.specs.Prelude.{◌≡◌, IfOk, MatchResult, false, true};
+ghost use Rattle.std.specs.Prelude.{◌≡◌, IfOk, IfErr, MatchResult, Some, None, false, true};
+ghost use Rattle.swim_history.specs.After.{setting_after};
 ghost use Rattle.swim_targets.specs.Draws.{DrawsOrder, DrawsPlace};
 ghost use Rattle.swim_life.specs.Draws.{WasDrawn};
 ghost use Rattle.swim_life.specs.Lives.{AreLived, IsLife, TellsEnd, end_after, end_without};
@@ -129,13 +130,27 @@ pub fn run_lives<
             Ok(past) => past,
             Err(fault) => return end_without(fault),
         };
-        if let Some(end) = told_end(writer, number, &past) {
-            return end;
-        }
-        opening = Opening::after(&past.journal);
+        opening = match opening_behind(writer, number, past) {
+            Ok(next) => next,
+            Err(end) => return end,
+        };
         number = number.saturating_add(1);
     }
     unreachable!()
+}
+
+/// Tells how a life ended: with what the next one begins, and where none follows, why the daemon ended.
+fn opening_behind<W: Sink>(writer: &mut W, number: u64, past: Past) -> Result<Opening, LivesEnd>
+    ensures goes_on { IfOk result (λ next. TellsEnd number past (W.written writer.old, W.failures writer.old)
+        (W.written writer.new, W.failures writer.new) None
+        × (next ≡ setting_after past.journal.opening past.journal.past)) }
+    ensures ends { IfErr result (λ end. TellsEnd number past (W.written writer.old, W.failures writer.old)
+        (W.written writer.new, W.failures writer.new) (Some end)) }
+{
+    match told_end(writer, number, &past) {
+        Some(end) => Err(end),
+        None => Ok(Opening::after(&past.journal)),
+    }
 }
 
 /// Tells how a life ended, and with it how the daemon did, where no other life follows: why it ended then.
