@@ -1,12 +1,13 @@
-"""Which program tests/support/build and tests/support/play take, what they build, and what tests/support/check checks.
-Each test has a copy of the sources in a folder of its own, where `rt` is a stand-in that writes down what it is asked
-for: nothing is proved here."""
+"""Which program tests/support/build and tests/support/play take, what they build, what tests/support/check checks, and
+that tests/reference/build may run twice at a time. Each test has a copy of the sources in a folder of its own, where
+`rt` is a stand-in that writes down what it is asked for, and `rustc` one that links a part: nothing is proved here."""
 
 import os
 import re
 import shutil
 import subprocess
 import time
+from concurrent.futures import ThreadPoolExecutor
 
 from tests.support.crates import Crates
 from tests.support.parts import TOP
@@ -31,6 +32,16 @@ case $1 in
 esac
 """
 
+# As rustc does, it writes what it links beside the program, under a name that is the same each time, and takes it away.
+LINKER = """\
+#!/bin/sh
+while [ "$1" != -o ]; do shift; done
+part=$(dirname "$2")/part.o
+echo part > "$part"
+sleep 0.5
+cp "$part" "$2" && chmod +x "$2" && rm "$part"
+"""
+
 
 class Copy:
     """A copy of what programs are built of, with a stand-in of `rt`."""
@@ -43,10 +54,14 @@ class Copy:
             os.makedirs(os.path.dirname(f"{self.top}/{path}"), exist_ok=True)
             shutil.copy2(f"{TOP}/{path}", f"{self.top}/{path}")
         os.makedirs(self.bin)
-        with open(f"{self.bin}/rt", "w", encoding="utf-8") as file:
-            file.write(STAND_IN)
-        os.chmod(f"{self.bin}/rt", 0o755)
+        self.put("rt", STAND_IN)
         self.crates = Crates(self.top)
+
+    def put(self, name, text):
+        """From now on that is the command of this name."""
+        with open(f"{self.bin}/{name}", "w", encoding="utf-8") as file:
+            file.write(text)
+        os.chmod(f"{self.bin}/{name}", 0o755)
 
     def run(self, *words):
         variables = {**os.environ, "PATH": f"{self.bin}:{os.environ['PATH']}"}
@@ -208,6 +223,21 @@ def a_failed_check_fails_all_above_it(_programs, folder):
     return said + unlike("the next end", (0, "5 passed, 0 failed", {"swim_life", *above}), (status, last, set(order)))
 
 
+def two_build_the_reference_at_a_time(_programs, folder):
+    """Parts of the tests do: each gets it, and nothing else is left."""
+    copy = Copy(folder)
+    shutil.copytree(f"{TOP}/tests/reference", f"{copy.top}/tests/reference", ignore=shutil.ignore_patterns("out"))
+    copy.put("rustc", LINKER)
+    with ThreadPoolExecutor(2) as pool:
+        first = pool.submit(copy.run, "tests/reference/build")
+        time.sleep(0.2)
+        second = pool.submit(copy.run, "tests/reference/build")
+    said, path = [], "tests/reference/out/reference"
+    for ran in (first.result(), second.result()):
+        said += unlike("what is printed", (f"{path}\n", "", 0), (ran.stdout, ran.stderr, ran.returncode))
+    return said + unlike("what lies there", ["reference"], os.listdir(f"{copy.top}/tests/reference/out"))
+
+
 BUILDING = [
     a_fresh_program_is_taken,
     another_program_s_sources_make_none_older,
@@ -219,4 +249,5 @@ BUILDING = [
     sources_play_where_no_program_is_fresh,
     a_change_is_checked_with_all_above_it,
     a_failed_check_fails_all_above_it,
+    two_build_the_reference_at_a_time,
 ]
