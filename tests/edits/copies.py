@@ -2,9 +2,10 @@
 function.
 
 A function is proved against the contracts of what it calls, and nobody calls a copy. So the prover says of a copy what
-it would say of the function with that body. That it does is tried: beside them stands a copy without an edit. A method
-of a trait has no copy, since an `impl` of a trait has its methods and no others; nor has a function that calls itself,
-or stands neither at the margin nor in an `impl`.
+it would say of the function with that body. Where the function's proof has files of its own, whose lines name it, that
+is tried: beside them stands a copy without an edit. Any other function is proved from its text alone. A method of a
+trait has no copy, since an `impl` of a trait has its methods and no others; nor has a function that calls itself, or
+stands neither at the margin nor in an `impl`.
 """
 
 import os
@@ -14,10 +15,10 @@ from tests.edits.functions import matches_in, without_arguments
 
 def with_copies(crate, made, texts, edits):
     """What is made of the texts of a crate, and beside it copies of the functions that these edits change: one with
-    each edit, and one of each as it is. The path of each edit's copy, and of each function's."""
+    each edit, and one as it is of each whose proof has files. The path of each edit's copy, and of each function's."""
     made, of_edits, of_functions = dict(made), {}, {}
     for number, edit in enumerate(it for it in edits if is_copyable(it, texts)):
-        if edit.function not in of_functions:
+        if edit.function not in of_functions and proof_files(edit, texts):
             of_functions[edit.function] = with_copy(crate, made, texts, edit, "as_it_is")
         of_edits[edit] = with_copy(crate, made, edit.planted(texts), edit, f"edit_{number}")
     return made, of_edits, of_functions
@@ -30,6 +31,16 @@ def file_of(edit):
 def found_in(edit, texts):
     """The head of the `impl` that an edit's function stands in, if it stands in one, and the function's match."""
     return next((head, found) for path, head, found in matches_in(file_of(edit), texts) if path == edit.function)
+
+
+def home_of_proof(path):
+    """The folder of the files of a function's proof."""
+    return f"proofs/{path.replace('::', '/')}/"
+
+
+def proof_files(edit, texts):
+    """The paths of the files that the proof of an edit's function has."""
+    return [it for it in texts if it.startswith(home_of_proof(edit.function))]
 
 
 def is_copyable(edit, texts):
@@ -48,11 +59,11 @@ def with_copy(crate, made, texts, edit, word):
     _, found = found_in(edit, made)
     text, end = made[file_of(edit)], found.end()
     made[file_of(edit)] = f"{text[:end]}\n\n{item(edit, texts, name, copied)}{text[end:]}"
-    home, beside = (f"{'/'.join(['proofs', *above, it])}/" for it in (name, copied))
+    beside = "::".join([*above, copied])
     said, says = (".".join(["Rattle", crate, "proofs", *above, it, ""]) for it in (name, copied))
-    for path in [it for it in texts if it.startswith(home)]:
-        made[path.replace(home, beside, 1)] = texts[path].replace(said, says)
-    return "::".join([*above, copied])
+    for path in proof_files(edit, texts):
+        made[path.replace(home_of_proof(edit.function), home_of_proof(beside), 1)] = texts[path].replace(said, says)
+    return beside
 
 
 def item(edit, texts, name, copied):

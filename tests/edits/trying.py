@@ -56,16 +56,17 @@ def try_edits(room, paths):
 
 
 def try_beside(room, edits):
-    """Tries by one check the first edit of each function, where it stands, and the others in copies. An error of a
-    copy tells something only where none is told of the copy of its function as it is. Where the check doesn't reach the
-    prover, as an edit isn't read or typed, half of them is tried after the other."""
+    """Tries by one check the first edit of each function, where it stands, and the others in copies. Where a copy of
+    the function as it is stands beside them, an error of a copy tells something only if none is told of that one. Where
+    the check doesn't reach the prover, as an edit isn't read or typed, half of them is tried after the other."""
     own = [it for it in edits if it.function]
     first, texts = together(own, room.texts)
     texts, copies, bases = with_copies(room.name, texts, room.texts, [it for it in own if it not in first])
     said = checked(room, texts, sorted([*(it.function for it in first), *copies.values(), *bases.values()]))
     if said.is_told:
         refused = {it: said.refusal(room.name, it.function) for it in first}
-        clear = [it for it in copies if not said.refusal(room.name, bases[it.function])]
+        unclear = {it for it, base in bases.items() if said.refusal(room.name, base)}
+        clear = [it for it in copies if it.function not in unclear]
         refused.update({it: said.refusal(room.name, copies[it]) for it in clear})
         return Beside({*first, *copies}, {it: why for it, why in refused.items() if why})
     if len(own) < 2:
