@@ -1,5 +1,5 @@
-# The commands of this repository. They need `rt`, the command of the Rattle toolchain, and python3 on PATH; `compare`, `fuzz` and
-# `bench` also `rustc`, the Rust compiler, and `compare` and `fuzz` Python 3.11.
+# The commands of this repository. They need `rt`, the command of the Rattle toolchain, and python3 on PATH; `test` also `chrt`
+# (util-linux), `compare`, `fuzz` and `bench` `rustc`, the Rust compiler, and `compare` and `fuzz` Python 3.11.
 
 PREFIX = /usr/local
 # Programs that were built already, to be installed in place of those that tests/support/build prints.
