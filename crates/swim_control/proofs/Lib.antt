@@ -2,4 +2,5 @@ pub mod Courses
 pub mod CourseEnds
 pub mod Heard
 pub mod Known
+pub mod Steps
 pub mod LineTurns
