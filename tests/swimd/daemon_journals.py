@@ -1,4 +1,4 @@
-"""Journal files of daemons: a file for each life, what stands in it and since when, and which of them stay."""
+"""Journal files of daemons: a file for each life, what stands in it and since when."""
 
 import datetime
 import itertools
@@ -296,74 +296,6 @@ def killed_at_any_moment(machine):
     must(count > KILLED, f"the files have {count} pings")
 
 
-def lies_in(machine, name, make):
-    path = f"{machine.journals}/{name}"
-    make(path)
-    return path
-
-
-def a_file(path):
-    with open(path, "w") as file:
-        file.write("kept")
-
-
-def the_newest_files_stay(machine):
-    """As many as are to stay, those of earlier starts among them; older ones go as a life begins."""
-    names = [f"{id}-{seconds}-{life}.swim"
-             for id in (1, 2, 11) for seconds, life in ((5, 0), (5, 3), (40, 2), (40, 10))]
-    others = ["1-5.swim", "1-5-0", "1-5-0.swim.old", "01-5-0.swim", "1-05-0.swim", "1-5-0.swimx", "x1-5-0.swim",
-              "-1-5-0.swim"]
-    others += ["1-5-0.swim\n", "\n1-5-0.swim", "\udcff-5-0.swim", "+1-5-0.swim", " 1-5-0.swim", "1-5-0.swim ",
-               "0-5-0.swim", ".swim"]
-    others += ["1-5-0-0.swim", "1--0.swim", "1-5-18446744073709551616.swim", "1-5-0.swim" + "x" * 200, "1" * 250]
-    for keep, stay in ((1, []), (2, [(40, 10)]), (4, [(5, 3), (40, 2), (40, 10)]), (0, None), (None, None)):
-        for it in (*names, *others):
-            lies_in(machine, it, a_file)
-        values = {} if keep is None else {"journal_keep": keep}
-        daemon = machine.started(1, tick_ms=MINUTE, journal=9, **{"journal_keep": 16, **values})
-        daemon.stop()
-        found = [(it.seconds, it.life)
-                 for it in journals(machine.journals, 1) if os.path.basename(it.path) not in others]
-        old = [(5, 0), (5, 3), (40, 2), (40, 10)] if stay is None else stay
-        must(found[:-1] == old and found[-1][0] > 40, f"with {keep} there stay {found}, and not {old} and a new one")
-        kept = [it for it in (*names[4:], *others) if not os.path.exists(f"{machine.journals}/{it}")]
-        must(not kept, f"with {keep} these are gone: {kept}")
-        for it in os.listdir(machine.journals):
-            os.remove(f"{machine.journals}/{it}")
-
-
-def sixteen_stay_by_themselves(machine):
-    """Where nothing is said of it. In each life there is its own file beside the newest that ended."""
-    daemon, peer = machine.daemon(1, tick_ms=MINUTE, journal=2), machine.socket()
-    del daemon.values["journal_keep"]
-    daemon.write()
-    daemon.start()
-    filled(daemon, peer, 20)
-    daemon.stop()
-    lives = [it.life for it in journals(machine.journals)]
-    must(lives == list(range(lives[-1] - 15, lives[-1] + 1)) and lives[-1] >= 20,
-         f"there stay the files of the lives {lives}")
-
-
-def what_is_no_file_stays(machine):
-    """Folders, links, pipes and sockets of such names are no files of this member: they stay, and hinder nothing."""
-    target = lies_in(machine, "target", a_file)
-    odd = {"1-3-0.swim": os.mkdir, "1-3-1.swim": lambda it: os.symlink(target, it), "1-3-2.swim": os.mkfifo}
-    odd["1-3-3.swim"] = lambda it: os.symlink(f"{machine.journals}/nowhere", it)
-    for name, make in odd.items():
-        lies_in(machine, name, make)
-    for life in range(5):
-        lies_in(machine, f"1-4-{life}.swim", a_file)
-    daemon, peer = machine.started(tick_ms=MINUTE, journal=2, journal_keep=2), machine.socket()
-    filled(daemon, peer, 4)
-    daemon.stop()
-    gone = [it for it in (*odd, "target") if not os.path.lexists(f"{machine.journals}/{it}")]
-    must(not gone, f"these are gone: {gone}")
-    files = [it for it in journals(machine.journals) if it.seconds > 3]
-    must([it.life for it in files] == [4, 5] or [it.life for it in files] == [3, 4],
-         f"there stay {[it[1:] for it in files]}")
-
-
 def many_lives_quickly(machine):
     """No file is lost, no descriptor stays open, and memory doesn't grow."""
     peer, how = machine.socket(), {"env": {**os.environ, **ONE_ARENA}}
@@ -393,9 +325,6 @@ JOURNALS = [
         a_call_is_soon_in_its_file,
         a_player_of_ones_own,
         killed_at_any_moment,
-        the_newest_files_stay,
-        sixteen_stay_by_themselves,
-        what_is_no_file_stays,
         many_lives_quickly,
     )
 ]
