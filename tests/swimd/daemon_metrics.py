@@ -1,5 +1,4 @@
-"""What a daemon counts: the metrics' file and `stats` beside what its journal files say, and what becomes of the file
-where it can't be written."""
+"""What a daemon counts: the metrics' file and `stats` beside what its journal files say."""
 
 import os
 import re
@@ -15,7 +14,6 @@ from tests.support.journals import journals
 from tests.support.parts import leave_out
 from tests.support.watchers import Watcher
 from tests.swimd.daemon_groups import Answerer
-from tests.swimd.daemon_starting import must_say, refusal, told_lines
 
 MINUTE = 60_000
 # The file is written as soon as a life has begun, and then every ten seconds.
@@ -266,51 +264,6 @@ def the_file_is_never_half(machine):
     must([it for it in os.listdir(machine.folder) if ".prom" in it] == ["1.prom"], f"{os.listdir(machine.folder)}")
 
 
-def a_folder_that_is_gone(machine):
-    """The daemon goes on, says so once, and goes on to count."""
-    path = f"{machine.folder}/gone/1.prom"
-    daemon = machine.started(members=[(2, "10.0.0.2:7000")], metrics=path)
-    until(lambda: b"metrics " in daemon.told_so_far(), "it is told", AT_ONCE)
-    until(lambda: daemon.states()[2] == "failed", "member 2 is judged")
-    time.sleep(PAUSE + 1)
-    stats = stats_of(daemon)
-    told = stats["swimd_verdicts_total", None], stats["swimd_metrics_unwritten_total", None]
-    must(told == (1, 2), f"it says {stats}")
-    os.mkdir(os.path.dirname(path))
-    must(daemon.stop().status == 0, "it ended otherwise")
-    told = [it for it in told_lines(daemon, daemon.told) if it.startswith("metrics ")]
-    must(told == [f"metrics {path}: no such file or folder"], f"it tells {told}")
-    must(written(path)["swimd_verdicts_total", None] == 1, "once the folder is there, the file isn't written")
-
-
-def a_disk_that_is_full(machine):
-    """Where the system takes nothing, what stood there before stays whole."""
-    path = f"{machine.folder}/1.prom"
-    os.symlink("/dev/full", f"{path}.new")
-    daemon = machine.started(tick_ms=MINUTE, metrics=path)
-    until(lambda: b"metrics " in daemon.told_so_far(), "it is told", AT_ONCE)
-    must(daemon.stop().status == 0 and not os.path.exists(path), "half a file is there")
-    told = [it for it in told_lines(daemon, daemon.told) if it.startswith("metrics ")]
-    must(told == [f"metrics {path}: no space is left"], f"it tells {told}")
-
-
-def a_path_that_is_a_folder(machine):
-    path = f"{machine.folder}/1.prom"
-    os.mkdir(path)
-    daemon = machine.started(tick_ms=MINUTE, metrics=path)
-    until(lambda: b"metrics " in daemon.told_so_far(), "it is told", AT_ONCE)
-    must(daemon.stop().status == 0 and os.path.isdir(path), "it ended otherwise")
-
-
-def a_path_of_a_socket(machine):
-    """A file would take the socket's place."""
-    for other in ("control", "events"):
-        daemon = machine.daemon(1, events=f"{machine.folder}/1.events")
-        daemon.values["metrics"] = daemon.values[other]
-        daemon.write()
-        must_say(refusal(daemon).split(b"\n")[0] + b"\n", "configuration 6 metrics")
-
-
 def promtool_agrees(machine):
     """`promtool check metrics` has nothing to say of the file."""
     promtool = shutil.which("promtool")
@@ -324,15 +277,11 @@ def promtool_agrees(machine):
 
 
 METRICS = [
-    a_folder_that_is_gone,
     the_file_is_never_half,
     metrics_of_a_group,
     a_histogram_of_waits,
     stats_say_the_same,
     what_nobody_sent_is_counted,
     watchers_are_counted,
-    a_disk_that_is_full,
-    a_path_that_is_a_folder,
-    a_path_of_a_socket,
     promtool_agrees,
 ]

@@ -24,6 +24,7 @@ mod metrics_files;
 mod notices;
 mod old_files;
 mod outcomes;
+mod plain_files;
 mod program_commands;
 mod sockets;
 mod stacks;

@@ -1,10 +1,11 @@
 //! The file where metrics are told.
 
 use crate::notices::Notice;
+use crate::plain_files::is_file;
 use arrayvec::ArrayString;
 use std::fs;
 use std::fs::{File, OpenOptions};
-use std::io::{ErrorKind, Write};
+use std::io::{self, ErrorKind, Write};
 use std::os::unix::fs::OpenOptionsExt;
 use std::rt::{Clock, Files};
 use std::time::{Duration, Instant};
@@ -76,18 +77,25 @@ fn put<R: Files<File = File>>(
             return Err(ErrorKind::InvalidFilename);
         }
     }
-    let file = OpenOptions::new()
-        .write(true)
-        .create(true)
-        .truncate(true)
-        .mode(0o644)
-        .open(rt, new.as_str())
-        .map_err(|fault| fault.kind())?;
+    let file = make(rt, new.as_str()).map_err(|fault| fault.kind())?;
     let mut sink = WriteSink::new(&file);
     if !put_exposition(&mut sink, measures, outside) || !sink.flush() {
         return Err(why_unwritten(&file));
     }
     fs::rename(rt, new.as_str(), path).map_err(|fault| fault.kind())
+}
+
+/// Makes a file for all to read. One that was left at its path goes before. Anything else stays there, and no file is
+/// made: by a link what is written would go elsewhere, and at a pipe it would wait for a reader.
+fn make<R: Files<File = File>>(rt: &R, path: &str) -> io::Result<File> {
+    if is_file(rt, path) {
+        rt.remove_file(path)?;
+    }
+    OpenOptions::new()
+        .write(true)
+        .create_new(true)
+        .mode(0o644)
+        .open(rt, path)
 }
 
 /// Why the system takes nothing of a file: by one byte more.

@@ -3,6 +3,7 @@
 ghost use Rattle.std.specs.Prelude.{◌≡◌};
 ghost use Rattle.swimd.specs.OldFiles.{removed};
 
+use crate::plain_files::is_file;
 use arrayvec::{ArrayString, ArrayVec};
 use std::alloc::{AllocError, Global};
 use std::fmt::Write;
@@ -77,7 +78,7 @@ pub fn others_in<R: Files>(
         match names.byte() {
             Byte::One(0) => {
                 if let Some(stamp) = stamp_in(name.as_slice(), me) {
-                    if stamp != new && is_file(rt, dir, me, stamp) {
+                    if stamp != new && is_file(rt, path_of(dir, me, stamp).as_str()) {
                         files.push(stamp)?;
                     }
                 }
@@ -91,14 +92,6 @@ pub fn others_in<R: Files>(
     }
     files.sort()?;
     Ok(files)
-}
-
-/// Whether a file stands at the path of a member's file, and nothing else.
-fn is_file<R: Files>(rt: &R, dir: &str, me: Id, stamp: Stamp) -> bool {
-    match rt.symlink_metadata(path_of(dir, me, stamp).as_str()) {
-        Ok(metadata) => metadata.is_file(),
-        Err(_) => false,
-    }
 }
 
 /// Which life of a member a file of this name is of, if it is one: ID-SECONDS-LIFE.swim.

@@ -1,0 +1,125 @@
+"""What becomes of a daemon's metrics' file where it can't be written."""
+
+import os
+import socket
+import stat
+import subprocess
+import time
+
+from tests.support.daemons import SECONDS, must, until
+from tests.swimd.daemon_journal_faults import limited
+from tests.swimd.daemon_metrics import AT_ONCE, MINUTE, PAUSE, counted, file_of, stats_of, written
+from tests.swimd.daemon_starting import must_say, refusal, told_lines
+
+# The file has more.
+FEW_BYTES = 4_096
+
+
+def a_folder_that_is_gone(machine):
+    """The daemon goes on, says so once, and goes on to count."""
+    path = f"{machine.folder}/gone/1.prom"
+    daemon = machine.started(members=[(2, "10.0.0.2:7000")], metrics=path)
+    until(lambda: b"metrics " in daemon.told_so_far(), "it is told", AT_ONCE)
+    until(lambda: daemon.states()[2] == "failed", "member 2 is judged")
+    time.sleep(PAUSE + 1)
+    stats = stats_of(daemon)
+    told = stats["swimd_verdicts_total", None], stats["swimd_metrics_unwritten_total", None]
+    must(told == (1, 2), f"it says {stats}")
+    os.mkdir(os.path.dirname(path))
+    must(daemon.stop().status == 0, "it ended otherwise")
+    told = [it for it in told_lines(daemon, daemon.told) if it.startswith("metrics ")]
+    must(told == [f"metrics {path}: no such file or folder"], f"it tells {told}")
+    must(written(path)["swimd_verdicts_total", None] == 1, "once the folder is there, the file isn't written")
+
+
+def must_be_unwritten(daemon, path, why):
+    """Until its end it says once why there is no file, and goes on."""
+    until(lambda: b"metrics " in daemon.told_so_far(), "it is told", AT_ONCE)
+    must(daemon.stop().status == 0 and not os.path.exists(path), "half a file is there")
+    told = [it for it in told_lines(daemon, daemon.told) if it.startswith("metrics ")]
+    must(told == [f"metrics {path}: {why}"], f"it tells {told}")
+
+
+def a_disk_that_is_full(machine):
+    """It takes less than the file has."""
+    folder = f"{machine.folder}/full"
+    os.mkdir(folder)
+    words = ["mount", "-t", "tmpfs", "-o", f"size={FEW_BYTES},mode=700", "tmpfs", folder]
+    if os.getuid() != 0 or subprocess.run(words, capture_output=True, timeout=SECONDS).returncode:
+        print("  not tried, since no file system may be mounted here")
+        return
+    try:
+        path = f"{folder}/1.prom"
+        must_be_unwritten(machine.started(tick_ms=MINUTE, metrics=path), path, "no space is left")
+    finally:
+        subprocess.run(["umount", "-l", folder], timeout=SECONDS)
+
+
+def a_file_that_may_not_be_so_large(machine):
+    path, how = f"{machine.folder}/1.prom", {"preexec_fn": lambda: limited(FEW_BYTES)}
+    daemon = machine.started(how=how, tick_ms=MINUTE, metrics=path, journal_dir=None)
+    must_be_unwritten(daemon, path, "the file would be too large")
+
+
+def a_file(path, text="kept"):
+    with open(path, "w", encoding="utf-8") as file:
+        file.write(text)
+
+
+def a_file_that_was_left(machine):
+    """Where the new one is made. Nothing shows of it."""
+    a_file(f"{machine.folder}/1.prom.new", "left\n" * FEW_BYTES)
+    daemon, path = counted(machine, tick_ms=MINUTE)
+    written(path)
+    must(stat.S_IMODE(os.lstat(path).st_mode) == 0o644, f"{os.lstat(path)}")
+    must(daemon.stop().status == 0 and not os.path.lexists(f"{path}.new"), "it is left again")
+
+
+def what_is_no_file_is_in_its_way(machine):
+    """Where the new one is made: it stays, no link is followed, and nobody waits at a pipe."""
+    other, none = f"{machine.folder}/other", f"{machine.folder}/none"
+    a_file(other)
+    ways = [
+        os.mkdir,
+        os.mkfifo,
+        lambda it: os.symlink(other, it),
+        lambda it: os.symlink(none, it),
+        lambda it: socket.socket(socket.AF_UNIX).bind(it),
+    ]
+    for id, make in enumerate(ways, 1):
+        path = f"{machine.folder}/{id}.prom"
+        make(f"{path}.new")
+        kind = os.lstat(f"{path}.new").st_mode
+        daemon = machine.started(id, tick_ms=MINUTE, metrics=path)
+        must(stats_of(daemon), "it isn't asked")
+        must_be_unwritten(daemon, path, "it exists already")
+        must(os.lstat(f"{path}.new").st_mode == kind, f"{path}.new is something else now")
+    must(file_of(other) == "kept" and not os.path.exists(none), "a link was followed")
+
+
+def a_path_that_is_a_folder(machine):
+    path = f"{machine.folder}/1.prom"
+    os.mkdir(path)
+    daemon = machine.started(tick_ms=MINUTE, metrics=path)
+    until(lambda: b"metrics " in daemon.told_so_far(), "it is told", AT_ONCE)
+    must(daemon.stop().status == 0 and os.path.isdir(path), "it ended otherwise")
+
+
+def a_path_of_a_socket(machine):
+    """A file would take the socket's place."""
+    for other in ("control", "events"):
+        daemon = machine.daemon(1, events=f"{machine.folder}/1.events")
+        daemon.values["metrics"] = daemon.values[other]
+        daemon.write()
+        must_say(refusal(daemon).split(b"\n")[0] + b"\n", "configuration 6 metrics")
+
+
+METRICS_FILES = [
+    a_folder_that_is_gone,
+    a_disk_that_is_full,
+    a_file_that_may_not_be_so_large,
+    a_file_that_was_left,
+    what_is_no_file_is_in_its_way,
+    a_path_that_is_a_folder,
+    a_path_of_a_socket,
+]
