@@ -115,19 +115,24 @@ abbrev pub seconds_in : List Row → Option ℕ
 seconds_in rows =
     option_map_or (λ text. option_and_then nonzero (number_of 86400 text)) (first_of (codes "timeout") rows) (Some 5)
 
-abbrev pub asking_in : List Row → Option Wanted
-asking_in rows = option_and_then (λ path. option_and_then (λ line. option_map (Ask path line) (seconds_in rows))
+-- what the arguments of each command ask
+abbrev pub run_in : List Row → Option Wanted
+run_in rows = option_map (λ file. Run file (flag_of (codes "quiet") rows)) (first_of (codes "config") rows)
+
+abbrev pub request_in : List Row → Option Wanted
+request_in rows = option_and_then (λ path. option_and_then (λ line. option_map (Ask path line) (seconds_in rows))
     (line_in rows)) (first_of (codes "control") rows)
+
+abbrev pub watch_in : List Row → Option Wanted
+watch_in rows = option_map (λ path. Watch path (flag_of (codes "json") rows)) (first_of (codes "events") rows)
 
 -- what is asked by the command that was met, and its arguments
 abbrev pub asked_in : Option (Text × List Row) → Option Wanted
 asked_in None = Some Check
 asked_in (Some met) =
-    if bytes_eq met.0 (codes "run")
-    then option_map (λ file. Run file (flag_of (codes "quiet") met.1)) (first_of (codes "config") met.1)
-    else if bytes_eq met.0 (codes "ask") then asking_in met.1
-    else if bytes_eq met.0 (codes "watch")
-    then option_map (λ path. Watch path (flag_of (codes "json") met.1)) (first_of (codes "events") met.1)
+    if bytes_eq met.0 (codes "run") then run_in met.1
+    else if bytes_eq met.0 (codes "ask") then request_in met.1
+    else if bytes_eq met.0 (codes "watch") then watch_in met.1
     else if bytes_eq met.0 (codes "key") then Some MakeKey
     else Some Check
 

@@ -9,10 +9,8 @@ ghost use Rattle.clap.specs.Walk.{rows_of, rule_of};
 ghost use Rattle.clap.specs.declared.builder.command.Command.TheViews.{out-Command};
 ghost use Rattle.swim_text.specs.Lines.{has_feed};
 ghost use Rattle.swimd.specs.Words.{IsAsked, answer_to, ask_app, asked_in, flag_of, flag_rule, line_in, line_of};
-ghost use Rattle.swimd.specs.Words.{needed_rule};
-ghost use Rattle.swimd.specs.Words.{option_rule, program, program_alone, run_app, seconds_in, unasked_by, wanted};
-ghost use Rattle.swimd.specs.Words.{watch_app};
-ghost use Rattle.swimd.specs.Words.{words_rule};
+ghost use Rattle.swimd.specs.Words.{needed_rule, option_rule, program, program_alone, request_in, run_app, run_in};
+ghost use Rattle.swimd.specs.Words.{seconds_in, unasked_by, wanted, watch_app, watch_in, words_rule};
 
 use crate::control_lines::{ControlLine, line_of};
 use clap::error::ErrorKind;
@@ -230,30 +228,53 @@ fn asked_in<'a>(matches: &ArgMatches<'a>) -> Option<Asked<'a>>
 }
 
 /// What is asked by a command of that name, which was given these options.
-#[tactic(auto, using(crate::proofs::Given::first_given))]
 fn asked_by<'a>(name: &str, given: &ArgMatches<'a>) -> Option<Asked<'a>>
     ensures { option_map wanted result ≡ asked_in (Some (name.now, rows_of (found_of given.now))) }
 {
     if name == "run" {
-        let file = given.get_str("config")?;
-        Some(Asked::Run(file, is_set(given, "quiet")))
+        run_in(given)
     } else if name == "ask" {
-        let path = given.get_str("control")?;
-        let line = line_in(given)?;
-        let seconds = seconds_in(given)?;
-        Some(Asked::Ask(Request {
-            path,
-            line,
-            seconds,
-        }))
+        request_in(given)
     } else if name == "watch" {
-        let path = given.get_str("events")?;
-        Some(Asked::Watch(path, is_set(given, "json")))
+        watch_in(given)
     } else if name == "key" {
         Some(Asked::MakeKey)
     } else {
         Some(Asked::Check)
     }
+}
+
+/// What the options of `run` ask.
+#[tactic(auto, using(crate::proofs::Given::first_given))]
+fn run_in<'a>(given: &ArgMatches<'a>) -> Option<Asked<'a>>
+    ensures { option_map wanted result ≡ run_in (rows_of (found_of given.now)) }
+{
+    let file = given.get_str("config")?;
+    Some(Asked::Run(file, is_set(given, "quiet")))
+}
+
+/// What the options and the words of `ask` ask.
+#[tactic(auto, using(crate::proofs::Given::first_given))]
+fn request_in<'a>(given: &ArgMatches<'a>) -> Option<Asked<'a>>
+    ensures { option_map wanted result ≡ request_in (rows_of (found_of given.now)) }
+{
+    let path = given.get_str("control")?;
+    let line = line_in(given)?;
+    let seconds = seconds_in(given)?;
+    Some(Asked::Ask(Request {
+        path,
+        line,
+        seconds,
+    }))
+}
+
+/// What the options of `watch` ask.
+#[tactic(auto, using(crate::proofs::Given::first_given))]
+fn watch_in<'a>(given: &ArgMatches<'a>) -> Option<Asked<'a>>
+    ensures { option_map wanted result ≡ watch_in (rows_of (found_of given.now)) }
+{
+    let path = given.get_str("events")?;
+    Some(Asked::Watch(path, is_set(given, "json")))
 }
 
 /// Whether a word of that name was given.
