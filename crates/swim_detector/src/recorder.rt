@@ -27,7 +27,6 @@ pub enum ApplyFault {
 /// The sequential detector, which keeps the journal of its calls (sections 3.1 and 4.3 of the SWIM paper).
 /// What it draws, it asks of its chooser. A contract sees its opening, the entries, newest first, how many
 /// there may be, how many more take no memory, and the chooser.
-#[derive(Drop)]
 pub struct Recorder<C: Chooser> {
     journal: Journal,
     state: State,
@@ -37,6 +36,20 @@ pub struct Recorder<C: Chooser> {
     counts: [u32; SEATS as usize],
     chooser: C,
     limit: u32,
+}
+
+// By hand, so that whoever holds one proves a single call where it is dropped, and not each field.
+impl<C: Chooser> Drop for Recorder<C> {
+    fn drop(self) {
+        let Recorder {
+            journal: _,
+            state: _,
+            reply: _,
+            counts: _,
+            chooser: _,
+            limit: _,
+        } = self;
+    }
 }
 
 impl<C: Chooser> Model for Recorder<C> {
@@ -191,7 +204,15 @@ impl<C: Chooser> Recorder<C> {
         ensures past { result.past ≡ self.past }
         ensures within { length result.past ≤ self.limit }
     {
-        self.journal
+        let Recorder {
+            journal,
+            state: _,
+            reply: _,
+            counts: _,
+            chooser: _,
+            limit: _,
+        } = self;
+        journal
     }
 }
 

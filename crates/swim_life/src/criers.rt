@@ -19,7 +19,6 @@ use swim_text::Sink;
 
 /// Reads a node's journal: its scribe writes it, those who watch are told what it changes of the member table, and its
 /// reporter hears of each call. A contract sees its scribe, what is known, those who watch, and the reporter.
-#[derive(Drop)]
 pub(crate) struct Crier<N: GuestNaming, W: Sink + Drop, E: Outlet + Drop, Y: Reporter + Drop> {
     scribe: Scribe<N, W>,
     watching: Watching,
@@ -29,6 +28,21 @@ pub(crate) struct Crier<N: GuestNaming, W: Sink + Drop, E: Outlet + Drop, Y: Rep
     read: u64,
     // How many watchers of this life didn't keep up.
     lost: u64,
+}
+
+// By hand, so that whoever holds one proves a single call where it is dropped, and not each field.
+impl<N: GuestNaming, W: Sink + Drop, E: Outlet + Drop, Y: Reporter + Drop> Drop
+    for Crier<N, W, E, Y> {
+    fn drop(self) {
+        let Crier {
+            scribe: _,
+            watching: _,
+            gallery: _,
+            reporter: _,
+            read: _,
+            lost: _,
+        } = self;
+    }
 }
 
 impl<N: GuestNaming, W: Sink + Drop, E: Outlet + Drop, Y: Reporter + Drop> Model

@@ -12,12 +12,23 @@ use crate::tickers::Ticker;
 use swim_node::{Naming, Seat};
 
 /// The four seats of a node, in order.
-#[derive(Drop)]
 pub struct Seats<N: Naming> {
     pub first: Seat<N>,
     pub second: Seat<N>,
     pub third: Seat<N>,
     pub fourth: Seat<N>,
+}
+
+// By hand, so that whoever holds one proves a single call where it is dropped, and not each field.
+impl<N: Naming> Drop for Seats<N> {
+    fn drop(self) {
+        let Seats {
+            first: _,
+            second: _,
+            third: _,
+            fourth: _,
+        } = self;
+    }
 }
 
 /// These seats.

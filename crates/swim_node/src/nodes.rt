@@ -35,11 +35,21 @@ use swim_wire::{Id, Peer, decode};
 /// which their type says.
 ///
 /// `H` is with what it waits for readers that look at an old table, also where it is closed or dropped.
-#[derive(Drop)]
 pub struct Node<N: Naming, C: Chooser, H: Wait + Drop> {
     start: NodeOpening<N>,
     cells: Cells<N>,
     locked: Mutex<Locked<N, C, H>>,
+}
+
+// By hand, so that whoever holds one proves a single call where it is dropped, and not each field.
+impl<N: Naming, C: Chooser, H: Wait + Drop> Drop for Node<N, C, H> {
+    fn drop(self) {
+        let Node {
+            start: _,
+            cells: _,
+            locked: _,
+        } = self;
+    }
 }
 
 impl<N: Naming, C: Chooser, H: Wait + Drop> Node<N, C, H> {
@@ -169,7 +179,12 @@ impl<N: Naming, C: Chooser, H: Wait + Drop> Node<N, C, H> {
         ensures full { AreFullWhereMet N.limit result.0.past seats }
         ensures drawn { N.drawn result.0.past }
     {
-        self.locked.into_inner().close(rt, seats)
+        let Node {
+            start: _,
+            cells: _,
+            locked,
+        } = self;
+        locked.into_inner().close(rt, seats)
     }
 
     /// Someone who is to read its journal while it runs, and has read nothing yet. There may be several; what one of
@@ -219,7 +234,12 @@ impl<N: Naming, C: Chooser, H: Wait + Drop> Node<N, C, H> {
         ensures whole { length follower ≡ length result.0.past → follower ≡ filings_of result.0.past }
         ensures drawn { N.drawn result.0.past }
     {
-        self.locked.into_inner().close_followed(rt, seats, follower)
+        let Node {
+            start: _,
+            cells: _,
+            locked,
+        } = self;
+        locked.into_inner().close_followed(rt, seats, follower)
     }
 
     fn call<R: Wait>(

@@ -17,12 +17,22 @@ use swim_history::Kept;
 /// A caller of a node. There are four, numbered 0 to 3; each may go to a thread of its own, and none can be copied.
 /// It keeps what it was answered, so that at the end its calls can be compared with the journal. A contract sees its
 /// number, its answered calls, oldest first, and how many of its calls met a full journal.
-#[derive(Drop)]
 pub struct Seat<N: Naming> {
     pub(crate) tally: Tally<N>,
     pub(crate) calls: Vec<Kept>,
     // One of each call: that it stands in the cell of its place.
     pub(crate) notes: Vec<CellNote>,
+}
+
+// By hand, so that whoever holds one proves a single call where it is dropped, and not each field.
+impl<N: Naming> Drop for Seat<N> {
+    fn drop(self) {
+        let Seat {
+            tally: _,
+            calls: _,
+            notes: _,
+        } = self;
+    }
 }
 
 impl<N: Naming> Model for Seat<N> {

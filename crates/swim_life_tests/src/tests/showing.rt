@@ -11,13 +11,25 @@ use swim_life::{Beat, Door, Got, Knock};
 use swim_text::Sink;
 
 // Who was shown, by the last octets of the addresses: each is a bit.
-#[derive(Drop)]
 struct Shown {
     latest: AtomicU32,
     at_first_receive: AtomicU32,
     before_the_tick: AtomicU32,
     times: AtomicU32,
     is_joined: AtomicBool,
+}
+
+// By hand, so that whoever holds one proves a single call where it is dropped, and not each field.
+impl Drop for Shown {
+    fn drop(self) {
+        let Shown {
+            latest: _,
+            at_first_receive: _,
+            before_the_tick: _,
+            times: _,
+            is_joined: _,
+        } = self;
+    }
 }
 
 impl Shown {
