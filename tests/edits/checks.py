@@ -80,25 +80,25 @@ def prover_words(crates, name):
 
 
 class Room:
-    """A place in which a crate is checked with edits in it. What its checks prove is kept for the next ones. It keeps
-    the functions that the prover doesn't know by the names that they have here."""
+    """A place in which a crate is checked with edits in it. What its checks prove is kept for the next ones, but for
+    what the first proves: mostly there is no other, and to keep it takes a twelfth of its time. The room keeps the
+    functions that the prover doesn't know by the names that they have here."""
 
     def __init__(self, crates, name, folder):
         self.name, self.folder, self.seconds, self.misnamed = name, Path(folder), [], set()
-        self.words = [*prover_words(crates, name), "--incremental", f"{folder}/kept"]
-        self.texts = texts_of(crates.folder(name))
+        self.words, self.texts = prover_words(crates, name), texts_of(crates.folder(name))
         Path(folder, "kept").mkdir(parents=True)
 
     def check(self, texts, *words):
         """Checks the crate with these texts for its own."""
-        began = time.monotonic()
+        began, kept = time.monotonic(), ["--incremental", f"{self.folder}/kept"] if self.seconds else []
         for it in SOURCES:
             shutil.rmtree(self.folder / it, ignore_errors=True)
         for path, text in ((self.folder / it, text) for it, text in texts.items()):
             path.parent.mkdir(parents=True, exist_ok=True)
             path.write_text(text, encoding="utf-8")
         how = {"stdin": subprocess.DEVNULL, "stdout": subprocess.PIPE, "stderr": subprocess.STDOUT, "errors": "replace"}
-        said = subprocess.run([*self.words, *words], cwd=self.folder, **how).stdout
+        said = subprocess.run([*self.words, *kept, *words], cwd=self.folder, **how).stdout
         self.seconds.append(time.monotonic() - began)
         check = Check(said.split("\n"))
         self.misnamed |= check.misnamed
