@@ -5,17 +5,19 @@ ghost use Rattle.std.specs.Prelude.{◌≡◌, None};
 use crate::journal_files::JournalFile;
 use crate::notices::Notice;
 use crate::old_files::{Stamp, others_in, path_of, removed};
+use crate::plain_files::make_file;
 use std::alloc::Global;
-use std::fs::{File, OpenOptions};
-use std::io;
+use std::fs::File;
 use std::io::ErrorKind;
 use std::net::Net;
-use std::os::unix::fs::OpenOptionsExt;
 use std::rt::{Clock, Files};
 use swim_config::JournalFiles;
 use swim_life::{Past, Shelf, Terms};
 use swim_text::Sink;
 use swim_wire::Id;
+
+/// The mode of a journal file: its owner alone may read and write it.
+const OWNER_ALONE: u32 = 0o600;
 
 /// The folder in which a daemon makes a file for each of its lives, if it does. Each is new and its owner's alone. At a
 /// life's beginning old files of this member are removed. What fails is told among the notices.
@@ -62,15 +64,6 @@ fn remove_old<R: Files<File = File>>(
     }
 }
 
-/// Makes a file that its owner alone may read; none may be there.
-fn make<R: Files<File = File>>(rt: &R, path: &str) -> io::Result<File> {
-    OpenOptions::new()
-        .write(true)
-        .create_new(true)
-        .mode(0o600)
-        .open(rt, path)
-}
-
 impl<'r, R: Files<File = File> + Net + Clock> Shelf<JournalFile<'r, R>> for Folder<'r, R> {
     ghost fresh = { None };
 
@@ -84,7 +77,7 @@ impl<'r, R: Files<File = File> + Net + Clock> Shelf<JournalFile<'r, R>> for Fold
             life: number,
         };
         let path = path_of(dir.as_str(), self.me, stamp);
-        match make(self.rt, path.as_str()) {
+        match make_file(self.rt, path.as_str(), OWNER_ALONE) {
             Ok(file) => {
                 remove_old(
                     self.rt,

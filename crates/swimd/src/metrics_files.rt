@@ -1,17 +1,19 @@
 //! The file where metrics are told.
 
 use crate::notices::Notice;
-use crate::plain_files::is_file;
+use crate::plain_files::{is_file, make_file};
 use arrayvec::ArrayString;
 use std::fs;
-use std::fs::{File, OpenOptions};
+use std::fs::File;
 use std::io::{self, ErrorKind, Write};
-use std::os::unix::fs::OpenOptionsExt;
 use std::rt::{Clock, Files};
 use std::time::{Duration, Instant};
 use swim_config::SocketPath;
 use swim_metrics::{Measures, Outside, put_exposition};
 use swim_text::{Sink, WriteSink};
+
+/// The mode of the file: its owner may write it, and all may read it.
+const FOR_ALL_TO_READ: u32 = 0o644;
 
 /// How often the file is written, in seconds.
 const PAUSE_SECONDS: u64 = 10;
@@ -91,11 +93,7 @@ fn make<R: Files<File = File>>(rt: &R, path: &str) -> io::Result<File> {
     if is_file(rt, path) {
         rt.remove_file(path)?;
     }
-    OpenOptions::new()
-        .write(true)
-        .create_new(true)
-        .mode(0o644)
-        .open(rt, path)
+    make_file(rt, path, FOR_ALL_TO_READ)
 }
 
 /// Why the system takes nothing of a file: by one byte more.
