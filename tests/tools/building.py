@@ -1,6 +1,7 @@
-"""Which program tests/support/build and tests/support/play take, what they build, what tests/support/check checks, and
-that tests/reference/build may run twice at a time. Each test has a copy of the sources in a folder of its own, where
-`rt` is a stand-in that writes down what it is asked for, and `rustc` one that links a part: nothing is proved here."""
+"""Which program tests/support/build and tests/support/play take, what they build, what tests/support/check checks, that
+tests/reference/build may run twice at a time, and when tests/edits/run tries nothing. A test that builds has a copy of
+the sources in a folder of its own, where `rt` is a stand-in that writes down what it is asked for, and `rustc` one that
+links a part: nothing is proved here."""
 
 import os
 import re
@@ -238,6 +239,14 @@ def two_build_the_reference_at_a_time(_programs, folder):
     return said + unlike("what lies there", ["reference"], os.listdir(f"{copy.top}/tests/reference/out"))
 
 
+def no_edit_is_tried_for_who_is_gone(_programs, _folder):
+    """A run names the crates that it proved, and a line `.` last. If it is killed, its names just end."""
+    words = {"cwd": TOP, "input": "", "capture_output": True, "text": True, "timeout": SECONDS}
+    ran = subprocess.run(["tests/edits/run", "--as-named"], **words)
+    last = (ran.stdout.splitlines() or [""])[-1]
+    return unlike("the end", (1, "0 passed, 1 failed"), (ran.returncode, last))
+
+
 BUILDING = [
     a_fresh_program_is_taken,
     another_program_s_sources_make_none_older,
@@ -250,4 +259,5 @@ BUILDING = [
     a_change_is_checked_with_all_above_it,
     a_failed_check_fails_all_above_it,
     two_build_the_reference_at_a_time,
+    no_edit_is_tried_for_who_is_gone,
 ]
