@@ -81,7 +81,7 @@ def prover_words(crates, name):
 
 class Room:
     """A place in which a crate is checked with edits in it. What its checks prove is kept for the next ones, but for
-    what the first proves: mostly there is no other, and to keep it takes a twelfth of its time. The room keeps the
+    what the first proves: mostly there is no other, and to keep it takes some tenth of its time. The room keeps the
     functions that the prover doesn't know by the names that they have here."""
 
     def __init__(self, crates, name, folder):
