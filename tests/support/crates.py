@@ -15,6 +15,7 @@ from tests.support.parts import NoProgram, timed
 # On four processors, from nothing: some take half a minute, and some five.
 MINUTES_A_CRATE = 2
 SOURCES = ("src", "specs", "proofs")
+BESIDE = f"{os.path.dirname(os.path.abspath(__file__))}/beside"
 
 
 @functools.lru_cache(maxsize=None)
@@ -86,11 +87,12 @@ def say(text):
     print(text, file=sys.stderr, flush=True)
 
 
-def prove(crates, name):
-    """Proves and builds one crate. Where that fails, what was said is shown, but for what was proved. What is made is
-    dated back to when the proof began: `rt` leaves it as it was where sources have only newer times, and may not see
-    what changes meanwhile."""
+def prove(crates, name, jobs=0):
+    """Proves and builds one crate; beside others where it is told how many processes it may have. Where that fails,
+    what was said is shown, but for what was proved. What is made is dated back to when the proof began: `rt` leaves it
+    as it was where sources have only newer times, and may not see what changes meanwhile."""
     words, stored = crates.command(name)
+    words = [BESIDE, words[1], "--jobs", str(jobs), *words[2:]] if jobs else words
     began, made = time.time(), crates.made(name)
     with tempfile.TemporaryFile() as log, open(stored, "rb") as source:
         status = subprocess.run(words, cwd=crates.folder(name), stdin=source, stdout=log, stderr=log).returncode

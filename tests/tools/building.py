@@ -16,6 +16,7 @@ from tests.support.parts import TOP
 SECONDS = 60
 # What stands on swim_life.
 ABOVE_LIFE = ["swim_guard", "swim_guard_tests", "swim_life_tests", "swimd"]
+WITH_LIFE = 1 + len(ABOVE_LIFE)
 # It makes a library or a program where there is none, as `rt` leaves what is there where only times are newer. It fails
 # where a file `refused` lies.
 STAND_IN = """\
@@ -41,6 +42,17 @@ part=$(dirname "$2")/part.o
 echo part > "$part"
 sleep 0.5
 cp "$part" "$2" && chmod +x "$2" && rm "$part"
+"""
+
+
+# As `rt` does, it has the folder of a crate for itself while it works.
+LOCKING = """\
+#!/usr/bin/env python3
+import fcntl, os, time
+fcntl.flock(os.open("crates/swim_text", os.O_RDONLY), fcntl.LOCK_EX)
+print(time.monotonic())
+time.sleep(1)
+print(time.monotonic())
 """
 
 
@@ -206,7 +218,7 @@ def a_change_is_checked_with_all_above_it(_programs, folder):
     said += unlike("the second check", (0, "0 passed, 0 failed", []), copy.check())
     os.utime(f"{copy.top}/crates/swim_life/src/lib.rt")
     status, last, order = copy.check()
-    said += unlike("the third end", (0, "5 passed, 0 failed"), (status, last))
+    said += unlike("the third end", (0, f"{WITH_LIFE} passed, 0 failed"), (status, last))
     said += unlike("what is checked then", ("swim_life", ABOVE_LIFE), (order[0], sorted(order[1:])))
     return said + unlike("the last check", (0, "0 passed, 0 failed", []), copy.check())
 
@@ -217,11 +229,27 @@ def a_failed_check_fails_all_above_it(_programs, folder):
     refused = f"{copy.crates.folder('swim_life')}/refused"
     open(refused, "w").close()
     count, (status, last, order) = len(copy.crates.below), copy.check()
-    said = unlike("the end", (1, f"{count - 5} passed, 5 failed"), (status, last))
+    said = unlike("the end", (1, f"{count - WITH_LIFE} passed, {WITH_LIFE} failed"), (status, last))
     said += unlike("what is checked", set(copy.crates.below) - above, set(order))
     os.remove(refused)
     status, last, order = copy.check()
-    return said + unlike("the next end", (0, "5 passed, 0 failed", {"swim_life", *above}), (status, last, set(order)))
+    return said + unlike("the next end", (0, f"{WITH_LIFE} passed, 0 failed", {"swim_life", *above}), (status, last, set(order)))
+
+
+def crates_are_checked_beside_one_another(_programs, folder):
+    """What a check runs has the lowest crate's folder at the same time. An `rt` that it doesn't run waits for them."""
+    copy = Copy(folder)
+    copy.put("rt", LOCKING)
+    with ThreadPoolExecutor(3) as pool:
+        beside = [pool.submit(copy.run, "tests/support/beside", "lib") for _ in range(2)]
+        time.sleep(0.5)
+        alone = pool.submit(copy.run, "rt", "lib")
+    times = [[float(it) for it in ran.result().stdout.split()] for ran in (*beside, alone)]
+    if [len(it) for it in times] != [2, 2, 2]:
+        return [f"what was written is {times!r}"]
+    (one, one_end), (other, other_end), (last, _) = times
+    said = [] if max(one, other) < min(one_end, other_end) else ["they go on one after the other"]
+    return said + ([] if last >= max(one_end, other_end) else ["another doesn't wait for them"])
 
 
 def two_build_the_reference_at_a_time(_programs, folder):
@@ -258,6 +286,7 @@ BUILDING = [
     sources_play_where_no_program_is_fresh,
     a_change_is_checked_with_all_above_it,
     a_failed_check_fails_all_above_it,
+    crates_are_checked_beside_one_another,
     two_build_the_reference_at_a_time,
     no_edit_is_tried_for_who_is_gone,
 ]
