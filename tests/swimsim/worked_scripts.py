@@ -193,6 +193,9 @@ def joins_and_removals():
     script = TWO + "join 5 10.0.0.5:7000\ntick\n"
     stdout = "joined 2\n" + probed(5, 1)
     yield good("a joiner before the first tick", script, stdout)
+    script = "open 1 1 1 3 0 1000\nrow 2 10.0.0.2:7000\nrow 4 10.0.0.4:7000\njoin 3 10.0.0.3:7000\ntable\ntick\n"
+    rows = "".join(f"{id} 10.0.0.{id}:7000 up\n" for id in (2, 3, 4))
+    yield good("a joiner between two others", script, "joined 2\n" + rows + ".\n" + probed(3, 1))
     calls = "join 1 10.0.0.9:7000\njoin 2 10.0.0.9:7000\nremove 1\nremove 9\ntable\n"
     refused = "refused 1\nrefused 2\nrefused 1\nrefused 4\n2 10.0.0.2:7000 up\n3 10.0.0.3:7000 up\n.\n"
     yield good("refused joins and removals", TWO + calls, refused)

@@ -79,8 +79,8 @@ def faults_of_bytes():
 
 def a_relay_pings_whom_it_does_not_list():
     for name, head in ANY_VERSION.items():
-        yield good(f"a relay pings whom it does not list: {name}", head + REQUEST_2 + ACK_1, PINGED_2 + FORWARDED_2)
         twice = PINGED_2 + FORWARDED_2 + "dropped 7\n"
+        yield good(f"a relay pings whom it does not list: {name}", head + REQUEST_2 + ACK_1 * 2, twice)
         yield good(f"the same, and an ack of version 2, twice: {name}", head + REQUEST_2 + ACK_2 * 2, twice)
         yield good(f"in version 1 it doesn't: {name}", head + REQUEST_1 + ACK_1, "dropped 4\ndropped 7\n")
     nobody = "open 1 0 1 3 0 100\n"
@@ -109,6 +109,12 @@ def where_a_target_is():
     yield good("a target that failed, in version 2", TWO + FOUR_TICKS + failed, SILENT_1 + pinged)
     in_1 = "hear 10.0.0.3:7000 535701020000000300000003000000020000000000000009\n"
     yield good("a target that failed, in version 1", TWO + FOUR_TICKS + in_1, SILENT_1 + "dropped 4\n")
+    # Who asks is listed nowhere, and tells 10.0.0.9:7000 of both.
+    by_4 = lambda target: f"hear 10.0.0.4:7000 535702020000000400000004{target:08x}00000000000000090a0000091b58\n"
+    for_4 = lambda peer, target: f"sent\n> {peer}:7000 535702010000000100000004{target:08x}0000000000000009\n"
+    calls = by_4(2) + by_4(3) + "hear 10.0.0.4:7000 535701020000000400000004000000020000000000000008\n"
+    stdout = SILENT_1 + for_4("10.0.0.9", 2) + for_4("10.0.0.3", 3) + "dropped 4\n"
+    yield good("one that is listed nowhere asks for both", TWO + FOUR_TICKS + calls, stdout)
     own = "hear 10.0.0.9:1 5357020200000009000000090000000900000000000000090a0000091b58\n"
     ping = "sent\n> 10.0.0.9:7000 535702010000000100000009000000090000000000000009\n"
     yield good("a target that asks for itself", TWO + own, ping)
@@ -147,6 +153,20 @@ hear 10.0.0.2:7000 5357020200000002000000020000000100000000000000090a0000011b58
     stdout = PINGED_3_IN_2 + PINGED_3_IN_1 + FORWARDED_3_IN_1.replace("10.0.0.2:7000", "10.0.0.5:5")
     full, waiting = "".join(map(ask, range(100, 163))), "".join(map(pinged, range(100, 163)))
     yield good("the last of 64, again in version 1", head + full + last, waiting + stdout)
+
+
+def requests_of_version_1_wait():
+    """64 of 2 about 3, and then some of both versions, of which those that wait are served."""
+    head = TWO.replace(" 100\n", " 1000\n")
+    about_3 = lambda kind, sender, number: f"{kind:02x}{sender:08x}0000000200000003{number:016x}\n"
+    in_1 = lambda number: "hear 10.0.0.2:7000 535701" + about_3(2, 2, number)
+    in_2 = lambda number: "hear 10.0.0.2:7000 535702" + about_3(2, 2, number).rstrip() + "0a0000091b58\n"
+    ack = lambda number: "hear 10.0.0.3:7000 535701" + about_3(3, 3, number)
+    pinged = lambda version, number: f"sent\n> 10.0.0.3:7000 53570{version}" + about_3(1, 1, number)
+    forwarded = lambda version, number: f"sent\n> 10.0.0.2:7000 53570{version}" + about_3(3, 1, number)
+    calls = "".join(map(in_1, range(1, 65))) + in_2(65) + REQUEST_2 + in_2(1) + in_1(65) + ack(1) + ack(2)
+    stdout = "".join(pinged(1, number) for number in range(1, 65)) + "dropped 5\n" * 2 + pinged(2, 1) + "dropped 5\n"
+    yield good("64 of version 1 wait", head + calls, stdout + forwarded(2, 1) + forwarded(1, 2))
 
 
 def requests_again():
@@ -192,6 +212,17 @@ dropped 1
             script = f"{TWO}wire {own}\n{ack}tick\n{ack}tick\n{ack}"
             name = f"an ack of version {version} for a probe in version {own}"
             yield good(name, script, f"dropped 6\n{started}heard\nquiet\nheard\n")
+    own, of_3 = (
+        f"hear 10.0.0.{member}:7000 53570203{member:08x}{initiator:08x}{member:08x}{number:016x}\n"
+        for member, initiator, number in ((2, 1, 1), (3, 2, 9))
+    )
+    script = "tick\n" + own + LISTED_1 + of_3 + "tick\n" * 3
+    stdout = STARTED_1 + "heard\n" + PINGED_3_IN_1 + FORWARDED_3_IN_1 + "quiet\nquiet\n"
+    probed = "started judged - probe 3 2\n> 10.0.0.3:7000 535701010000000100000001000000030000000000000002\n"
+    yield good("acks of version 2 count in version 1, one's own and another's", TWO + script, stdout + probed)
+    script = "tick\ntick\nhear 10.0.0.2:7000 535701030000000200000001000000020000000000000001\n"
+    stdout = STARTED_2 + ASKED_2 + "heard\n"
+    yield good("an ack of version 1 behind the ask in version 2", OPEN + "wire 2\n" + ROWS + script, stdout)
 
 
 def probes_in_version_2():
@@ -311,6 +342,7 @@ def worked_versions():
         a_relay_pings_whom_it_does_not_list,
         where_a_target_is,
         requests_that_are_dropped,
+        requests_of_version_1_wait,
         requests_again,
     ):
         yield from part()

@@ -1,13 +1,10 @@
+mod changes;
 mod entries;
 mod limits;
 mod lives;
 mod long_journals;
-mod members;
-mod periods;
 mod refusals;
-mod requests;
 mod steps;
-mod versions;
 
 use arrayvec::ArrayVec;
 use std::alloc::Global;

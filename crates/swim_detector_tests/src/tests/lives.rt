@@ -119,3 +119,18 @@ fn a_journal_may_end_anywhere(rt: HostRuntime) {
         assert_goes_on(&rt, rt.alloc(), &calls[..count]);
     }
 }
+
+// The detector that goes on after one has its version.
+#[test]
+fn the_version_goes_on(rt: HostRuntime) {
+    for version in [Version::One, Version::Two] {
+        assert_version_goes_on(&rt, rt.alloc(), version);
+    }
+}
+
+fn assert_version_goes_on<R: Abort>(rt: &R, alloc: Global, version: Version) {
+    let mut first = opened(alloc, opening_in(rt, 1, &[2, 3], 0, version), 100);
+    call_each(rt, &mut first, &[Call::Tick; 4]);
+    let later = Opening::after(&first.into_journal());
+    assert_same(rt, &later.version(), &version);
+}

@@ -3,7 +3,6 @@
 //! was refused. Where a test met a refusal of a call that it names, it writes a line.
 
 use super::entries::{assert_entries, entry};
-use super::requests::{ack, forwarded, pinged, request};
 use super::*;
 use std::alloc::AllocError;
 use swim_detector::ApplyFault;
@@ -40,12 +39,26 @@ fn drawing_calls() -> [Entry; 6] {
     ]
 }
 
+// A message of a member about the probe of member 3 by member 2, in its period 9.
+fn heard(kind: Kind, from: u8) -> Call {
+    Call::Hear(at(from), message(kind, u32::from(from), 2, 3, 9))
+}
+
+// What member 1 sends for that probe.
+fn sent(kind: Kind, to: u8) -> Reply {
+    Reply::Send {
+        peer: at(to),
+        message: message(kind, 1, 2, 3, 9),
+    }
+}
+
 // A request of member 2 is served, the ack is forwarded once, and the second one is dropped.
 fn relayed_ack() -> [Entry; 3] {
+    let dropped = Reply::Dropped(DropReason::NoRequest);
     [
-        undrawn(0, request(9), pinged(9)),
-        undrawn(1, ack(9), forwarded(9)),
-        undrawn(2, ack(9), Reply::Dropped(DropReason::NoRequest)),
+        undrawn(0, heard(Kind::PingReq, 2), sent(Kind::Ping, 3)),
+        undrawn(1, heard(Kind::Ack, 3), sent(Kind::Ack, 2)),
+        undrawn(2, heard(Kind::Ack, 3), dropped),
     ]
 }
 

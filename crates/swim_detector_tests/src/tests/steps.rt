@@ -9,8 +9,6 @@ use swim_history::Change;
 pub enum Step {
     /// So many ticks, each of which gets some reply.
     Ticks(u32),
-    /// A call that gets some reply.
-    Made(Call),
     /// A call that gets this reply.
     Told(Call, Reply),
     /// A call that would make this change now, or none.
@@ -45,7 +43,6 @@ pub fn take_steps<R: Abort>(rt: &R, recorder: &mut Recorder<Scripted>, steps: &[
 fn take<R: Abort>(rt: &R, recorder: &mut Recorder<Scripted>, step: &Step) {
     match step {
         Step::Ticks(count) => tick(rt, recorder, *count),
-        Step::Made(call) => assert!(rt; recorder.apply(0, *call).is_ok()),
         Step::Told(call, reply) => assert_told(rt, recorder, *call, reply),
         Step::Changes(call, change) => assert_same(rt, &recorder.change(call), change),
         Step::Knows(rows) => assert_knows(rt, recorder, rows.as_slice()),
