@@ -1,12 +1,10 @@
 ghost use Rattle.std.specs.Prelude.{None};
 
-use super::gates::{Signals, is_set, pause, set};
-use super::lives::{assert_ended, line, pace, post};
+use super::lives::assert_ended;
 use super::*;
 use arrayvec::ArrayVec;
-use std::sync::atomic::{AtomicBool, Ordering};
 use swim_doubles::Text;
-use swim_life::{Door, Hall, Knock};
+use swim_life::{Door, Knock};
 use swim_text::Sink;
 
 // A list, a join of no id, and a line that is cut off.

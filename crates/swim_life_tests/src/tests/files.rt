@@ -4,19 +4,12 @@ ghost use Rattle.std.specs.Prelude.{◌≡◌, None};
 ghost use Rattle.std.specs.Io.KnownBytes.{Keeps};
 ghost use Rattle.swim_text.specs.Streams.{Puts, failures_if};
 
-use super::gates::{Counter, NoDoor, Signals};
-use super::lives::{line, pace};
+use super::short_lives::live_shortly;
 use super::*;
-use std::sync::atomic::AtomicBool;
 use swim_doubles::Text;
-use swim_events::Gallery;
-use swim_life::{
-    ClockSleeper, Hall, LivesEnd, NoEntrance, NoOutlet, NoReporter, Shelf, SleepingPace, Terms,
-    run_lives,
-};
+use swim_life::{ClockSleeper, NoEntrance, NoOutlet, NoReporter, Shelf, SleepingPace};
 use swim_script::{Session, run};
-use swim_text::{Page, Sink};
-use swim_wire::Version;
+use swim_text::Sink;
 
 // A file that takes so many bytes, and no text that is longer than what is left.
 #[derive(Drop)]
@@ -99,73 +92,39 @@ impl Shelf<File> for Player {
     }
 }
 
-// A post that takes whatever it is handed.
-#[derive(Drop)]
-struct TakingPost {}
-
-impl Post for TakingPost {
-    ghost posted = { λ post. None };
-
-    fn fresh(&self) -> TakingPost {
-        TakingPost {}
-    }
-
-    fn send<R: Wait>(&mut self, _rt: &R, _bytes: &[u8], _to: Peer) -> bool {
-        true
-    }
-}
-
 // Two lives of two entries each, with files that take so many bytes: what was told of them, and what was played.
 fn live_twice<R: Threads + Wait + Clock + Send + Sync + Copy + Drop>(
     rt: R,
     alloc: Global,
     room: usize,
 ) -> Result<(Player, Page), Fail> {
-    let rows = [(id(2), at(2))];
-    let opening = Opening::check(id(1), 0, 1, 3, &rows, 0, Version::One).map_err(|_| "an opening")?;
-    let signals = Signals::new(false);
-    let is_told = AtomicBool::new(true);
-    let mut line = line(rt, &signals, 0);
-    let mut pace = pace(rt, &is_told, 5);
-    let mut hall = Hall::new(alloc, NoDoor { clock: rt });
     let mut shelf = Player {
         alloc,
         room,
         played: 0,
         calls: 0,
     };
-    let mut pause = SleepingPace::new(ClockSleeper::new(rt), 1);
-    let mut page = Page::new(alloc);
-    let mut herald = Counter { begun: 0 };
-    let mut notices = Page::new(alloc);
-    let terms = Terms {
-        seed: [0; 32],
-        limit: 2,
-    };
-    let end = run_lives(
+    // Five ticks and then a stop, with a line that is always idle.
+    let signals = Signals::new(false);
+    let is_told = AtomicBool::new(true);
+    let mut line = line(rt, &signals, 0);
+    let mut pace = pace(rt, &is_told, 5);
+    let lived = live_shortly(
         &rt,
         alloc,
-        opening,
-        terms,
         &mut line,
         &TakingPost {},
-        &mut nobody_returns(),
         &mut pace,
-        &mut hall,
         &mut shelf,
-        &mut pause,
-        &mut page,
-        &mut herald,
-        &mut notices,
+        &mut SleepingPace::new(ClockSleeper::new(rt), 1),
         &mut Gallery::<NoOutlet>::new(alloc),
         &mut NoReporter {},
-        &NoReporter {},
         &mut NoEntrance {},
-    );
-    if end != LivesEnd::Stopped {
+    )?;
+    if lived.end != LivesEnd::Stopped {
         return Err(Fail::new("an end"));
     }
-    Ok((shelf, page))
+    Ok((shelf, lived.page))
 }
 
 // The file of each life is played without a difference, and has all of its calls.

@@ -6,13 +6,9 @@ ghost use Rattle.swim_node.specs.Seats.{AreNew};
 ghost use Rattle.swim_life.specs.Gates.{FitsInto};
 ghost use Rattle.swim_life.specs.Posts.{IsFresh};
 
-use super::gates::{ACK, NoDoor, PING, pause, set};
-use super::lives::pace;
 use super::*;
 use std::alloc::AllocError;
 use std::marker::{Brand, Model};
-use std::sync::atomic::AtomicBool;
-use swim_events::Gallery;
 use swim_life::{
     Door, Got, GuestNaming, Life, Never, NoEntrance, NoOutlet, NoReporter, Nowhere, Posts, run_life,
 };

@@ -4,8 +4,7 @@
 ghost use Rattle.std.specs.Prelude.{None};
 ghost use Rattle.swim_life.specs.Gates.{FitsInto};
 
-use super::gates::{OneDoor, PING, Signals, TURNS, is_set, pause};
-use super::lives::{assert_ended, pace, post};
+use super::lives::assert_ended;
 use super::*;
 use swim_life::Got;
 

@@ -3,15 +3,13 @@
 ghost use Rattle.std.specs.Prelude.{None};
 ghost use Rattle.swim_life.specs.Gates.{FitsInto};
 
-use super::gates::{NoDoor, TURNS, is_set, pause, set};
 use super::*;
-use std::sync::atomic::{AtomicBool, AtomicU32, Ordering};
-use swim_events::Gallery;
+use std::sync::atomic::AtomicU32;
 use swim_history::RowState;
 use swim_life::{
-    Beat, Got, Never, NoEntrance, NoOutlet, NoReporter, Nowhere, live_recorded,
-    with_0_nobody_is_knocked_at,
+    Got, NoEntrance, NoOutlet, NoReporter, Nowhere, live_recorded, with_0_nobody_is_knocked_at,
 };
+use swim_wire::Peer;
 
 /// An ack of member 2 for member 1, number 2.
 const ACK_OF_A_KNOCK: [u8; 24] = [
@@ -125,8 +123,7 @@ fn live_knocking<R: Threads + Wait + Clock + Send + Sync + Copy + Drop>(
     visit: &Visit,
     returning: &mut Returning,
 ) -> Option<Past> {
-    let rows = [(id(2), at(2))];
-    let opening = Opening::check(id(1), 0, 1, 3, &rows, 0, Version::One).ok()?;
+    let opening = pair().ok()?;
     let mut line = AckLine {
         clock: rt,
         visit,

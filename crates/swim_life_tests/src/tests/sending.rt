@@ -3,10 +3,8 @@
 ghost use Rattle.std.specs.Prelude.{None};
 
 use super::desk::Expecting;
-use super::gates::{Signals, TURNS, is_set, pause, set};
-use super::lives::{assert_ended, line, pace};
+use super::lives::assert_ended;
 use super::*;
-use std::sync::atomic::AtomicBool;
 use swim_doubles::Text;
 use swim_life::{Door, Knock};
 

@@ -3,11 +3,10 @@
 ghost use Rattle.std.specs.Prelude.{None};
 ghost use Rattle.swim_life.specs.Gates.{FitsInto};
 
-use super::gates::{TURNS, is_set, pause, set};
 use super::*;
-use std::sync::atomic::{AtomicBool, AtomicU32, Ordering};
+use std::sync::atomic::AtomicU32;
 use swim_doubles::Text;
-use swim_life::{Beat, Door, Got, Knock};
+use swim_life::{Door, Got, Knock};
 use swim_text::Sink;
 
 // Who was shown, by the last octets of the addresses: each is a bit.
@@ -176,22 +175,6 @@ impl<'s> Sink for Told<'s> {
 
     fn flush(&mut self) -> bool {
         set(&self.shown.is_joined);
-        true
-    }
-}
-
-// A post that takes everything.
-#[derive(Drop)]
-struct TakingPost {}
-
-impl Post for TakingPost {
-    ghost posted = { λ post. None };
-
-    fn fresh(&self) -> TakingPost {
-        TakingPost {}
-    }
-
-    fn send<R: Wait>(&mut self, _rt: &R, _bytes: &[u8], _to: Peer) -> bool {
         true
     }
 }

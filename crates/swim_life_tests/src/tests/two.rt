@@ -1,10 +1,8 @@
 ghost use Rattle.std.specs.Prelude.{None};
 ghost use Rattle.swim_life.specs.Gates.{FitsInto};
 
-use super::gates::{StopPace, TURNS, is_set, pause, set};
 use super::*;
 use std::net::{Net, UdpSocket};
-use std::sync::atomic::AtomicBool;
 use std::thread::join;
 use swim_life::{Beat, Got, Post, UdpLine};
 

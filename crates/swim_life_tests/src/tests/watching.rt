@@ -2,18 +2,12 @@
 
 ghost use Rattle.std.specs.Prelude.{None};
 
-use super::gates::{Counter, NoDoor, Signals, TURNS, pause};
-use super::lives::{line, pace, post};
 use super::operators::{Lines, OneOperator};
 use super::readers::{Gate, Moment, Reader, Seen, Who};
+use super::short_lives::live_shortly;
 use super::*;
-use std::sync::atomic::AtomicBool;
-use swim_events::{Event, Gallery, Watching};
-use swim_life::{
-    Beat, ClockSleeper, LivesEnd, NoReporter, NoShelf, Nowhere, SleepingPace, Terms, live_recorded,
-    run_lives,
-};
-use swim_text::Page;
+use swim_events::{Event, Watching};
+use swim_life::{ClockSleeper, NoReporter, NoShelf, Nowhere, SleepingPace, live_recorded};
 
 // Who came before the life: the table then, that the life begins, and each of its changes.
 const EARLY: &[u8] =
@@ -74,12 +68,6 @@ impl<'s, K: Clock + Drop> Pace for FourTicks<'s, K> {
         }
         Beat::Stop
     }
-}
-
-// Member 1, which knows member 2 and asks no relay. It hears of nobody, so that it judges member 2 at the fourth tick.
-fn pair() -> Result<Opening, Fail> {
-    let rows = [(id(2), at(2))];
-    Ok(Opening::check(id(1), 0, 1, 3, &rows, 0, Version::One).map_err(|_| "an opening")?)
 }
 
 // Fills the buffer of who has come and was told no member: 2 bytes of the table, 2,520 lines of 26 bytes, and one of
@@ -186,36 +174,26 @@ fn one_watcher<'s>(
 #[test]
 fn who_watches_stays_from_life_to_life(rt: HostRuntime) -> Result<(), Fail> {
     let text = b"up 2 10.0.0.2:7000\n.\nlife 0\nlife 1\nended\n";
-    let opening = pair()?;
     let seen = Seen::new();
-    let (mut gallery, mut nobody) = one_watcher(rt.alloc(), &seen, &opening, text);
+    let (mut gallery, mut nobody) = one_watcher(rt.alloc(), &seen, &pair()?, text);
+    // Five ticks and then a stop, with a line that is always idle.
     let signals = Signals::new(false);
     let is_told = AtomicBool::new(true);
-    let terms = Terms {
-        seed: [0; 32],
-        limit: 2,
-    };
-    let end = run_lives(
+    let (mut line, post) = (line(rt, &signals, 0), post(&signals));
+    let mut pace = pace(rt, &is_told, 5);
+    let lived = live_shortly(
         &rt,
         rt.alloc(),
-        opening,
-        terms,
-        &mut line(rt, &signals, 0),
-        &post(&signals),
-        &mut nobody_returns(),
-        &mut pace(rt, &is_told, 5),
-        &mut Hall::new(rt.alloc(), NoDoor { clock: rt }),
+        &mut line,
+        &post,
+        &mut pace,
         &mut NoShelf {},
         &mut SleepingPace::new(ClockSleeper::new(rt), 1),
-        &mut Page::new(rt.alloc()),
-        &mut Counter { begun: 0 },
-        &mut Page::new(rt.alloc()),
         &mut gallery,
         &mut NoReporter {},
-        &NoReporter {},
         &mut nobody,
-    );
-    assert_same(&rt, &end, &LivesEnd::Stopped);
+    )?;
+    assert_same(&rt, &lived.end, &LivesEnd::Stopped);
     gallery.tell(&Event::Ended);
     gallery.send();
     assert!(rt; seen.is_all(Who::Early, text.len()));

@@ -2,9 +2,6 @@
 
 ghost use Rattle.std.specs.Prelude.{◌≡◌};
 
-use super::draws::Draws;
-use super::jobs::{Job, all_four, both};
-use super::steps::make;
 use super::*;
 use swim_targets::Seeded;
 
@@ -33,11 +30,14 @@ impl Asked {
 /// What a seat asks, and how often.
 #[derive(Drop)]
 pub(crate) struct Work {
-    pub(crate) asked: Asked,
-    pub(crate) times: u32,
+    /// What it asks.
+    pub asked: Asked,
+    /// So many calls.
+    pub times: u32,
 }
 
 impl Work {
+    /// That, so often.
     pub(crate) fn of(asked: Asked, times: u32) -> Work {
         Work { asked, times }
     }
@@ -46,10 +46,14 @@ impl Work {
 /// A seat, and the work that it does.
 #[derive(Drop)]
 pub(crate) struct Working<'n, N: Naming, C: Chooser, R: Wait + Copy + Drop> {
-    rt: R,
-    node: &'n Node<N, C, R>,
-    seat: Seat<N>,
-    work: Work,
+    /// What it waits by.
+    pub rt: R,
+    /// Whom it calls.
+    pub node: &'n Node<N, C, R>,
+    /// By which seat.
+    pub seat: Seat<N>,
+    /// What it asks.
+    pub work: Work,
 }
 
 // What is sent to a thread may not rest on `Chooser` as a bound, so there is one for each chooser.

@@ -9,6 +9,7 @@ pub(crate) struct Draws {
 }
 
 impl Draws {
+    /// Those that follow from that seed.
     pub(crate) fn new(seed: u64) -> Draws {
         Draws { state: seed }
     }

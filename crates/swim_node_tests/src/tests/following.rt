@@ -3,7 +3,6 @@ ghost use mathlib.Core.List.{IsPrefix};
 ghost use Rattle.swim_history.specs.declared.entries.Entry.{Entry};
 ghost use Rattle.swim_node.specs.Following.{filings_of};
 
-use super::jobs::{Job, both};
 use super::*;
 
 // What was read of a journal, and who read it.
@@ -16,25 +15,24 @@ struct Reading<N: Naming> {
 // One thread ticks while another reads what was called, and what comes later is read later: all of it was read.
 #[test]
 fn reading_while_ticking(rt: HostRuntime) -> Result<(), Fail> {
-    read_in_threads::<Brand, _>(
-        rt,
-        rt.alloc(),
-        Parts::make(rt.alloc(), 1000)?,
-        opening(1)?,
-        0,
-    )
+    follow(rt, rt.alloc(), 0)
 }
 
 // Calls that nobody read are no loss: the journal is handed back all the same.
 #[test]
 fn a_call_that_is_not_read(rt: HostRuntime) -> Result<(), Fail> {
-    read_in_threads::<Brand, _>(
-        rt,
-        rt.alloc(),
-        Parts::make(rt.alloc(), 1000)?,
-        opening(1)?,
-        1,
-    )
+    follow(rt, rt.alloc(), 1)
+}
+
+fn follow<R: Threads + Wait + Abort + Send + Sync + Copy + Drop>(
+    rt: R,
+    alloc: Global,
+    unread: u32,
+) -> Result<(), Fail> {
+    let opening = opening(1)?;
+    let parts = Parts::make(alloc, 1000)?;
+    read_in_threads::<Brand, R>(rt, alloc, parts, opening, unread)?;
+    Ok(())
 }
 
 fn read_in_threads<N: Naming + Send + Sync, R: Threads + Wait + Abort + Send + Sync + Copy + Drop>(
@@ -43,7 +41,7 @@ fn read_in_threads<N: Naming + Send + Sync, R: Threads + Wait + Abort + Send + S
     parts: Parts,
     opening: Opening,
     unread: u32,
-) -> Result<(), Fail>
+) -> Result<(), OpenFault>
     requires parts { parts ≡ record { limit = N.limit; ledgers = N.ledgers; log = N.log; cells = N.cells } }
     requires opening { opening ≡ N.opening }
     requires limit { N.limit ≡ 1000 }

@@ -1,4 +1,4 @@
-use super::steps::{Step, assert_length, take_and_close};
+use super::steps::{ByTwo, Step};
 use super::*;
 use swim_history::Gap;
 
@@ -7,19 +7,18 @@ use swim_history::Gap;
 #[test]
 fn gaps_are_those_of_all_calls(rt: HostRuntime) -> Result<(), Fail> {
     let alloc = rt.alloc();
-    let opening = opening(0)?;
-    let chooser = two_orders(alloc)?;
-    let parts = Parts::make(alloc, 1000)?;
     let (first, second) = (periods_and_gaps(), [gap_of_2(), gap_of_3(), no_gap()]);
-    let steps = (&first[..], &second[..]);
-    let journal = take_and_close::<Brand, _>(rt, alloc, parts, opening, chooser, 1000, steps);
-    assert_length(&rt, journal, 13)
+    let trial = ByTwo {
+        steps: &first,
+        others_steps: &second,
+    };
+    let journal = try_on_node(rt, alloc, 1000, opening(0)?, two_orders(alloc)?, trial)?;
+    assert_same(&rt, &journal.len(), &13);
+    Ok(())
 }
 
 fn two_orders(alloc: Global) -> Result<Scripted, Fail> {
-    let mut orders = Vec::new(alloc);
-    orders.push(order_of(&[2, 3])?)?;
-    orders.push(order_of(&[3, 2])?)?;
+    let orders = vec![in alloc; order_of(&[2, 3]), order_of(&[3, 2])]?;
     Ok(Scripted::new(orders, Vec::new(alloc)))
 }
 

@@ -1,6 +1,6 @@
 //! Bytes that are no datagram come while a call holds the node's lock.
 
-ghost use Rattle.std.specs.Prelude.{◌≡◌, ℕ, List, ◌≤◌, IsPermutation};
+ghost use Rattle.std.specs.Prelude.{◌≡◌, List};
 ghost use Rattle.swim_history.specs.declared.entries.Entry.{Entry};
 
 use super::*;
@@ -93,13 +93,14 @@ fn lets_join<N: Naming, C: Chooser, R: Wait + Copy + Drop>(
     node.join(rt, &mut seat, id(4), at(4)).is_ok()
 }
 
+// One thread joins a member, and another hears bytes meanwhile: what those are answered.
 fn join_and_hear<N: Naming + Send + Sync, R: Threads + Wait + Clock + Send + Sync + Copy + Drop>(
     rt: R,
     alloc: Global,
     parts: Parts,
     opening: Opening,
     hold: &Hold,
-) -> Result<Option<CallFault>, Fail>
+) -> Result<Option<CallFault>, OpenFault>
     requires parts { parts ≡ record { limit = N.limit; ledgers = N.ledgers; log = N.log; cells = N.cells } }
     requires opening { opening ≡ N.opening }
     requires limit { N.limit ≡ 8 }

@@ -12,6 +12,7 @@ pub(crate) trait Job {
     /// What is known of what comes of a job.
     ghost does: { Self → Self.Done → Type 0 };
 
+    /// Does it.
     fn carry_out(self) -> Self::Done
         ensures { does self result };
 }

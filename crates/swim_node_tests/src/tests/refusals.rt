@@ -2,11 +2,9 @@
 //! second and so on; else none is. Whatever is refused changes nothing, and made again it is answered as where none was
 //! refused. Where a test met a refusal of what it names, it writes a line.
 
-ghost use Rattle.std.specs.Prelude.{◌≡◌, IfOk, List};
-ghost use Rattle.swim_history.specs.declared.entries.Entry.{Entry};
+ghost use Rattle.std.specs.Prelude.{◌≡◌};
 
 use super::plans::*;
-use super::steps::{assert_full, make};
 use super::*;
 
 fn tell(rt: &HostRuntime, refused: Result<bool, Fail>) -> Result<(), Fail> {
@@ -142,67 +140,50 @@ fn open_and_call<R: Wait + Abort + Copy + Drop>(
     alloc: Global,
     plan: &Plan,
 ) -> Result<Option<bool>, Fail> {
-    let parts = parts_of(alloc, plan.limit)?;
-    Ok(called_again::<Brand, R>(rt, alloc, parts, opening(1)?, plan.limit, plan))
-}
-
-fn parts_of(alloc: Global, limit: u32) -> Result<Parts, Fail>
-    ensures { IfOk result (λ parts. parts.limit ≡ limit) }
-{
-    match Parts::make(alloc, limit) {
-        Ok(parts) => Ok(parts),
-        Err(_) => Ok(Parts::make(alloc, limit)?),
-    }
-}
-
-fn called_again<N: Naming, R: Wait + Abort + Copy + Drop>(
-    rt: R,
-    alloc: Global,
-    parts: Parts,
-    opening: Opening,
-    limit: u32,
-    plan: &Plan,
-) -> Option<bool>
-    requires parts { parts ≡ record { limit = N.limit; ledgers = N.ledgers; log = N.log; cells = N.cells } }
-    requires opening { opening ≡ N.opening }
-    requires limit { limit ≡ N.limit }
-    requires drawn { (h : List Entry) → N.drawn h }
-{
-    match Node::<N, Scripted, R>::open(alloc, rt, parts, opening, no_script(alloc), limit) {
-        Ok(opened) => {
-            let (node, seats, viewers) = opened;
-            let callers = callers_of(seats);
-            Some(call_and_close(&rt, node, callers, two_by_two(viewers), plan))
-        }
+    match try_on_node(
+        rt,
+        alloc,
+        plan.limit,
+        opening(1)?,
+        no_script(alloc),
+        Carried { plan },
+    ) {
+        Ok(refused) => Ok(Some(refused)),
         Err(fault) => {
             assert_same(&rt, &fault, &OpenFault::NoMemory);
-            None
+            Ok(None)
         }
     }
 }
 
-// The third seat changes, then the first one listens, and at last it meets a full journal.
-fn call_and_close<N: Naming, R: Wait + Abort + Copy + Drop>(
-    rt: &R,
-    node: Node<N, Scripted, R>,
-    callers: Four<Seat<N>>,
-    viewers: Four<Viewer<N>>,
-    plan: &Plan,
-) -> bool
-    requires listening { (callers.0.0.number ≡ 0) × (callers.0.1.number ≡ 1) }
-    requires changing { (callers.1.0.number ≡ 2) × (callers.1.1.number ≡ 3) }
-{
-    let ((first, second), (third, fourth)) = callers;
-    let ((other, viewer), others) = viewers;
-    drop((other, others));
-    let (third, viewer, changing) = answer_all(rt, &node, third, viewer, plan.changing);
-    let (first, viewer, listening) = answer_all(rt, &node, first, viewer, plan.listening);
-    let (first, viewer) = meet_full(rt, &node, first, viewer, plan);
-    assert_listed_twice(rt, viewer, plan.rows);
-    let (journal, callers) = close(rt, node, ((first, second), (third, fourth)));
-    drop(callers);
-    assert_journal(rt, &journal, plan);
-    changing || listening
+// A plan that is carried out: the third seat changes, then the first one listens, and at last it meets a full journal.
+#[derive(Drop)]
+struct Carried<'p, 'a> {
+    plan: &'p Plan<'a>,
+}
+
+impl<'p, 'a, R: Wait + Abort + Copy + Drop> Trial<R> for Carried<'p, 'a> {
+    // Whether a call was refused.
+    type Told = bool;
+
+    fn run<N: Naming>(self, rt: &R, opened: Opened<N, Scripted, R>) -> bool
+        requires listening { (opened.1.0.0.number ≡ 0) × (opened.1.0.1.number ≡ 1) }
+        requires changing { (opened.1.1.0.number ≡ 2) × (opened.1.1.1.number ≡ 3) }
+    {
+        let plan = self.plan;
+        let (node, callers, viewers) = opened;
+        let ((first, second), (third, fourth)) = callers;
+        let ((other, viewer), others) = viewers;
+        drop((other, others));
+        let (third, viewer, changing) = answer_all(rt, &node, third, viewer, plan.changing);
+        let (first, viewer, listening) = answer_all(rt, &node, first, viewer, plan.listening);
+        let (first, viewer) = meet_full(rt, &node, first, viewer, plan);
+        assert_listed_twice(rt, viewer, plan.rows);
+        let (journal, callers) = close(rt, node, ((first, second), (third, fourth)));
+        drop(callers);
+        assert_journal(rt, &journal, plan);
+        changing || listening
+    }
 }
 
 // Whether one of the calls was refused.
@@ -287,6 +268,11 @@ fn meet_full<N: Naming, R: Wait + Abort + Copy + Drop>(
         assert_listed(rt, &mut viewer, plan.rows);
     }
     (seat, viewer)
+}
+
+// A call is refused, as the journal is full.
+fn assert_full<N: Naming, R: Abort>(rt: &R, answer: Result<Receipt<N>, CallFault>) {
+    assert!(rt; matches!(answer, Err(CallFault::JournalFull)));
 }
 
 fn listed<N: Naming, R: Abort>(rt: &R, viewer: &mut Viewer<N>) -> Table {

@@ -81,7 +81,7 @@ fn meet_all(lists: &mut [Watched], table: &Table) {
 fn script_of(alloc: Global, journal: &Journal) -> Result<Scripted, Fail> {
     let mut orders = Vec::new(alloc);
     let mut places = Vec::new(alloc);
-    let mut up = order_of(&[2, 3])?;
+    let mut up = order_of(&[2, 3]);
     for place in 0..journal.len() {
         let entry = journal.entry(place).ok_or("an entry")?;
         if let Some(order) = order_drawn(&entry, up.as_slice()) {

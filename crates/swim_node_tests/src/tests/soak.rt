@@ -3,9 +3,6 @@
 ghost use Rattle.std.specs.Prelude.{◌≡◌, List};
 ghost use Rattle.swim_history.specs.declared.entries.Entry.{Entry};
 
-use super::at_once::{Asked, Work, four_working};
-use super::draws::Draws;
-use super::jobs::{Job, all_eight};
 use super::replays::{Watched, assert_replays};
 use super::*;
 use swim_targets::Seeded;
@@ -20,23 +17,19 @@ const TABLES: usize = 1_000;
 #[test]
 fn four_callers_and_four_readers(rt: HostRuntime) -> Result<(), Fail> {
     let alloc = rt.alloc();
-    let (start, again) = (opening(1)?, opening(1)?);
+    let start = opening(1)?;
     let parts = Parts::make(alloc, 4 * CALLS)?;
     let (journal, lists) = soaked::<Brand, _>(rt, alloc, parts, start)?;
-    assert_length(&rt, &journal);
-    assert_replays(&rt, alloc, again, &journal, in_a_row(lists))
+    assert_same(&rt, &journal.len(), &(4 * CALLS));
+    assert_replays(&rt, alloc, opening(1)?, &journal, in_a_row(lists))
 }
 
-fn assert_length<R: Abort>(rt: &R, journal: &Journal) {
-    assert_same(rt, &journal.len(), &(4 * CALLS));
-}
-
-fn soaked<N: Naming + Send + Sync, R: Threads + Wait + Abort + Send + Sync + Copy + Drop>(
+fn soaked<N: Naming + Send + Sync, R: Threads + Wait + Send + Sync + Copy + Drop>(
     rt: R,
     alloc: Global,
     parts: Parts,
     start: Opening,
-) -> Result<(Journal, Four<Watched>), Fail>
+) -> Result<(Journal, Four<Watched>), OpenFault>
     requires parts { parts ≡ record { limit = N.limit; ledgers = N.ledgers; log = N.log; cells = N.cells } }
     requires opening { start ≡ N.opening }
     requires limit { N.limit ≡ 400000 }

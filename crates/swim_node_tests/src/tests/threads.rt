@@ -1,14 +1,16 @@
 ghost use Rattle.std.specs.Prelude.{◌≡◌, List};
 ghost use Rattle.swim_history.specs.declared.entries.Entry.{Entry};
 
-use super::at_once::{Asked, Work, four_at_once, two_at_once};
 use super::*;
 use swim_history::{Judged, Refusal};
 
 // One thread hears pings while another ticks. Members 2 and 3 never answer.
 #[test]
 fn two_threads(rt: HostRuntime) -> Result<(), Fail> {
-    two_in_threads::<Brand, _>(rt, rt.alloc(), Parts::make(rt.alloc(), 1000)?, opening(1)?)
+    let opening = opening(1)?;
+    let parts = Parts::make(rt.alloc(), 1000)?;
+    two_in_threads::<Brand, _>(rt, rt.alloc(), parts, opening)?;
+    Ok(())
 }
 
 fn two_in_threads<N: Naming + Send + Sync, R: Threads + Wait + Abort + Send + Sync + Copy + Drop>(
@@ -16,7 +18,7 @@ fn two_in_threads<N: Naming + Send + Sync, R: Threads + Wait + Abort + Send + Sy
     alloc: Global,
     parts: Parts,
     opening: Opening,
-) -> Result<(), Fail>
+) -> Result<(), OpenFault>
     requires parts { parts ≡ record { limit = N.limit; ledgers = N.ledgers; log = N.log; cells = N.cells } }
     requires opening { opening ≡ N.opening }
     requires limit { N.limit ≡ 1000 }
@@ -101,7 +103,10 @@ fn assert_in_order<R: Abort>(rt: &R, calls: &[Kept]) {
 // Four threads at once: pings, ticks, joins of a member that joined already, removals of one that nobody knows.
 #[test]
 fn four_threads(rt: HostRuntime) -> Result<(), Fail> {
-    four_in_threads::<Brand, _>(rt, rt.alloc(), Parts::make(rt.alloc(), 1000)?, opening(1)?)
+    let opening = opening(1)?;
+    let parts = Parts::make(rt.alloc(), 1000)?;
+    four_in_threads::<Brand, _>(rt, rt.alloc(), parts, opening)?;
+    Ok(())
 }
 
 fn four_in_threads<N: Naming + Send + Sync, R: Threads + Wait + Abort + Send + Sync + Copy + Drop>(
@@ -109,7 +114,7 @@ fn four_in_threads<N: Naming + Send + Sync, R: Threads + Wait + Abort + Send + S
     alloc: Global,
     parts: Parts,
     opening: Opening,
-) -> Result<(), Fail>
+) -> Result<(), OpenFault>
     requires parts { parts ≡ record { limit = N.limit; ledgers = N.ledgers; log = N.log; cells = N.cells } }
     requires opening { opening ≡ N.opening }
     requires limit { N.limit ≡ 1000 }

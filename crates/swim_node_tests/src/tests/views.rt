@@ -1,45 +1,38 @@
-ghost use Rattle.std.specs.Prelude.{◌≡◌, List};
-ghost use Rattle.swim_history.specs.declared.entries.Entry.{Entry};
+ghost use Rattle.std.specs.Prelude.{◌≡◌};
 
-use super::steps::{Step, make, take_steps};
+use super::steps::{Step, take_steps};
 use super::*;
+
+// A member joins, and is listed by who learns of it; when the node is closed, nobody lists anything.
+#[derive(Drop)]
+struct Joining {}
+
+impl<R: Wait + Abort + Copy + Drop> Trial<R> for Joining {
+    type Told = ();
+
+    fn run<N: Naming>(self, rt: &R, opened: Opened<N, Scripted, R>)
+        requires listening { (opened.1.0.0.number ≡ 0) × (opened.1.0.1.number ≡ 1) }
+        requires changing { (opened.1.1.0.number ≡ 2) × (opened.1.1.1.number ≡ 3) }
+    {
+        let (node, callers, readers) = opened;
+        let ((first, second), (third, fourth)) = callers;
+        let ((other, viewer), others) = readers;
+        drop(others);
+        let (third, viewer) = join_and_list(rt, &node, third, viewer);
+        let first = take_steps(rt, &node, first, &[probes_the_joiner()]);
+        let (journal, callers) = close(rt, node, ((first, second), (third, fourth)));
+        drop(callers);
+        lists_nothing(rt, other);
+        lists_nothing(rt, viewer);
+        assert_same(rt, &journal.len(), &2);
+    }
+}
 
 #[test]
 fn a_viewer_lists_a_join_it_learnt_of(rt: HostRuntime) -> Result<(), Fail> {
-    joined_then_listed::<Brand, _>(rt, rt.alloc(), Parts::make(rt.alloc(), 1000)?, opening(1)?)
-}
-
-fn joined_then_listed<N: Naming, R: Wait + Abort + Copy + Drop>(
-    rt: R,
-    alloc: Global,
-    parts: Parts,
-    opening: Opening,
-) -> Result<(), Fail>
-    requires parts { parts ≡ record { limit = N.limit; ledgers = N.ledgers; log = N.log; cells = N.cells } }
-    requires opening { opening ≡ N.opening }
-    requires limit { N.limit ≡ 1000 }
-    requires drawn { (h : List Entry) → N.drawn h }
-{
-    let opened = open::<N, Scripted, R>(rt, alloc, parts, opening, no_script(alloc), 1000)?;
-    join_and_close(&rt, opened);
+    let alloc = rt.alloc();
+    try_on_node(rt, alloc, 1000, opening(1)?, no_script(alloc), Joining {})?;
     Ok(())
-}
-
-fn join_and_close<N: Naming, R: Wait + Abort + Copy + Drop>(rt: &R, opened: Opened<N, Scripted, R>)
-    requires listening { (opened.1.0.0.number ≡ 0) × (opened.1.0.1.number ≡ 1) }
-    requires changing { (opened.1.1.0.number ≡ 2) × (opened.1.1.1.number ≡ 3) }
-{
-    let (node, callers, readers) = opened;
-    let ((first, second), (third, fourth)) = callers;
-    let ((other, viewer), others) = readers;
-    drop(others);
-    let (third, viewer) = join_and_list(rt, &node, third, viewer);
-    let first = take_steps(rt, &node, first, &[probes_the_joiner()]);
-    let (journal, callers) = close(rt, node, ((first, second), (third, fourth)));
-    drop(callers);
-    lists_nothing(rt, other);
-    lists_nothing(rt, viewer);
-    assert_same(rt, &journal.len(), &2);
 }
 
 // Member 5 joins last in the round, and is seen at once by who learns of it, also later.
@@ -103,40 +96,33 @@ fn lists_nothing<N: Naming, R: Abort>(rt: &R, viewer: Viewer<N>) {
     assert!(rt; viewer.list().is_none());
 }
 
-// The last call makes no change; who learns its news lists all that the journal's rows show.
+// A member joins, and the last call makes no change: who learns its news lists all that the journal's rows show.
+#[derive(Drop)]
+struct Waiting {}
+
+impl<R: Wait + Abort + Copy + Drop> Trial<R> for Waiting {
+    type Told = ();
+
+    fn run<N: Naming>(self, rt: &R, opened: Opened<N, Scripted, R>)
+        requires listening { (opened.1.0.0.number ≡ 0) × (opened.1.0.1.number ≡ 1) }
+        requires changing { (opened.1.1.0.number ≡ 2) × (opened.1.1.1.number ≡ 3) }
+    {
+        let (node, callers, readers) = opened;
+        let ((first, second), changing) = callers;
+        let ((viewer, other), others) = readers;
+        drop((other, others));
+        let (first, table) = join_and_wait(rt, &node, first, viewer);
+        let (journal, callers) = close(rt, node, ((first, second), changing));
+        drop(callers);
+        assert_shows(rt, &journal, &table);
+    }
+}
+
 #[test]
 fn the_last_news_shows_all(rt: HostRuntime) -> Result<(), Fail> {
-    listed_as_the_journal::<Brand, _>(rt, rt.alloc(), Parts::make(rt.alloc(), 1000)?, opening(1)?)
-}
-
-fn listed_as_the_journal<N: Naming, R: Wait + Abort + Copy + Drop>(
-    rt: R,
-    alloc: Global,
-    parts: Parts,
-    opening: Opening,
-) -> Result<(), Fail>
-    requires parts { parts ≡ record { limit = N.limit; ledgers = N.ledgers; log = N.log; cells = N.cells } }
-    requires opening { opening ≡ N.opening }
-    requires limit { N.limit ≡ 1000 }
-    requires drawn { (h : List Entry) → N.drawn h }
-{
-    let opened = open::<N, Scripted, R>(rt, alloc, parts, opening, no_script(alloc), 1000)?;
-    wait_and_close(&rt, opened);
+    let alloc = rt.alloc();
+    try_on_node(rt, alloc, 1000, opening(1)?, no_script(alloc), Waiting {})?;
     Ok(())
-}
-
-fn wait_and_close<N: Naming, R: Wait + Abort + Copy + Drop>(rt: &R, opened: Opened<N, Scripted, R>)
-    requires listening { (opened.1.0.0.number ≡ 0) × (opened.1.0.1.number ≡ 1) }
-    requires changing { (opened.1.1.0.number ≡ 2) × (opened.1.1.1.number ≡ 3) }
-{
-    let (node, callers, readers) = opened;
-    let ((first, second), changing) = callers;
-    let ((viewer, other), others) = readers;
-    drop((other, others));
-    let (first, table) = join_and_wait(rt, &node, first, viewer);
-    let (journal, callers) = close(rt, node, ((first, second), changing));
-    drop(callers);
-    assert_shows(rt, &journal, &table);
 }
 
 fn assert_shows<R: Abort>(rt: &R, journal: &Journal, table: &Table) {

@@ -1,8 +1,8 @@
-use Rattle.swim_node_tests.proofs.tests.views.the_last_news_shows_all.Given as goal
+use Rattle.swim_node_tests.proofs.tests.following.follow.Given as goal
 
 -- the node of these parts and this opening
-abbrev pub ghosts-listed_as_the_journal : goal.ghosts-listed_as_the_journal
-ghosts-listed_as_the_journal g a =
+abbrev pub ghosts-read_in_threads : goal.ghosts-read_in_threads
+ghosts-read_in_threads g a =
     record {
       opening = a.opening;
       limit = a.parts.limit;

@@ -1,8 +1,8 @@
-use Rattle.swim_node_tests.proofs.tests.views.a_viewer_lists_a_join_it_learnt_of.Given as goal
+use Rattle.swim_node_tests.proofs.tests.trials.try_on_node.Given as goal
 
 -- the node of these parts and this opening
-abbrev pub ghosts-joined_then_listed : goal.ghosts-joined_then_listed
-ghosts-joined_then_listed g a =
+abbrev pub ghosts-try_on_parts : goal.ghosts-try_on_parts
+ghosts-try_on_parts g a =
     record {
       opening = a.opening;
       limit = a.parts.limit;
