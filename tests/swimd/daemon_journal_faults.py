@@ -17,8 +17,9 @@ from tests.swimd.daemon_starting import NOBODY
 MINUTE = 60_000
 SECONDS_AHEAD = 4
 TRIES = 5
-# A user of whom nothing else runs.
-STRANGER = 54_321
+# Users of whom nothing else runs. All threads of a user count where they are limited, and tests are run two at a time.
+# So each test that limits them has a user of its own.
+STRANGERS = {"callers": 54_321, "writer": 54_322}
 # A file that may have so many bytes holds the header, and then some calls.
 FEW_BYTES = 1_000
 UNTOLD = re.compile(TIME + rb" journal ([^\n]*): ([^\n:]+)\n")
@@ -136,12 +137,12 @@ def a_folder_of_others(machine):
     must(daemon.cut == [0] and not journals(machine.journals), f"the lives {daemon.cut} are cut")
 
 
-def launched_with_threads(machine, most, id=1):
+def launched_with_threads(machine, most, user, id=1):
     """A daemon that is launched as another user, who may have so many threads."""
 
     def as_a_stranger():
         resource.setrlimit(resource.RLIMIT_NPROC, (most, most))
-        os.setuid(STRANGER)
+        os.setuid(STRANGERS[user])
 
     os.chmod(machine.folder, 0o777)
     os.chmod(machine.journals, 0o777)
@@ -158,7 +159,7 @@ def no_thread_for_a_caller(machine):
         print("  not tried, since it needs another user than this one")
         return
     for most in (1, 2):
-        daemon = launched_with_threads(machine, most, id=most)
+        daemon = launched_with_threads(machine, most, "callers", id=most)
         stdout, stderr = daemon.child.communicate(timeout=SECONDS)
         found = stdout, first_line_of(stderr), daemon.child.returncode
         wanted = b"ended no memory entries 0 judged 0 unsent 0 wire 0 refused 0\n", b"no memory\n", 4
@@ -170,7 +171,7 @@ def no_thread_for_the_writer(machine):
     if os.getuid() != 0:
         print("  not tried, since it needs another user than this one")
         return
-    daemon, peer = launched_with_threads(machine, 3), machine.socket()
+    daemon, peer = launched_with_threads(machine, 3, "writer"), machine.socket()
     daemon.ready()
     number = filled(daemon, peer, 1)
     pinged(peer, daemon, number)
