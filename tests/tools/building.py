@@ -3,6 +3,7 @@ tests/reference/build may run twice at a time, and when tests/edits/run tries no
 the sources in a folder of its own, where `rt` is a stand-in that writes down what it is asked for, and `rustc` one that
 links a part: nothing is proved here."""
 
+import fcntl
 import os
 import re
 import shutil
@@ -52,14 +53,14 @@ for program; do [ -x "$program" ] || exit 1; done
 echo '1 passed, 0 failed'
 """
 
-# As `rt` does, it has the folder of a crate for itself while it works.
+# As `rt` does, it has the folder of a crate for itself while it works: here until a file `go` lies there.
 LOCKING = """\
 #!/usr/bin/env python3
 import fcntl, os, time
 fcntl.flock(os.open("crates/swim_text", os.O_RDONLY), fcntl.LOCK_EX)
-print(time.monotonic())
-time.sleep(1)
-print(time.monotonic())
+open(f"has-{os.getpid()}", "w").close()
+while not os.path.exists("go"):
+    time.sleep(0.01)
 """
 
 
@@ -240,7 +241,8 @@ def a_failed_check_fails_all_above_it(_programs, folder):
     said += unlike("what is checked", set(copy.crates.below) - above, set(order))
     os.remove(refused)
     status, last, order = copy.check()
-    return said + unlike("the next end", (0, f"{WITH_LIFE} passed, 0 failed", {"swim_life", *above}), (status, last, set(order)))
+    wanted = 0, f"{WITH_LIFE} passed, 0 failed", {"swim_life", *above}
+    return said + unlike("the next end", wanted, (status, last, set(order)))
 
 
 def short_parts_take_what_the_check_built(_programs, folder):
@@ -259,19 +261,31 @@ def short_parts_take_what_the_check_built(_programs, folder):
 
 
 def crates_are_checked_beside_one_another(_programs, folder):
-    """What a check runs has the lowest crate's folder at the same time. An `rt` that it doesn't run waits for them."""
+    """What a check runs has the lowest crate's folder at the same time, and nobody else has it meanwhile."""
     copy = Copy(folder)
     copy.put("rt", LOCKING)
-    with ThreadPoolExecutor(3) as pool:
-        beside = [pool.submit(copy.run, "tests/support/beside", "lib") for _ in range(2)]
-        time.sleep(0.5)
-        alone = pool.submit(copy.run, "rt", "lib")
-    times = [[float(it) for it in ran.result().stdout.split()] for ran in (*beside, alone)]
-    if [len(it) for it in times] != [2, 2, 2]:
-        return [f"what was written is {times!r}"]
-    (one, one_end), (other, other_end), (last, _) = times
-    said = [] if max(one, other) < min(one_end, other_end) else ["they go on one after the other"]
-    return said + ([] if last >= max(one_end, other_end) else ["another doesn't wait for them"])
+    with ThreadPoolExecutor(2) as pool:
+        for _ in range(2):
+            pool.submit(copy.run, "tests/support/beside", "lib")
+        end, count = time.monotonic() + SECONDS / 2, 0
+        while count < 2 and time.monotonic() < end:
+            time.sleep(0.01)
+            count = sum(it.startswith("has-") for it in os.listdir(copy.top))
+        is_lent = can_lock(f"{copy.top}/crates/swim_text")
+        open(f"{copy.top}/go", "w").close()
+    said = unlike("how many have it", 2, count)
+    return said + unlike("whether another gets it", False, is_lent)
+
+
+def can_lock(folder):
+    opened = os.open(folder, os.O_RDONLY)
+    try:
+        fcntl.flock(opened, fcntl.LOCK_EX | fcntl.LOCK_NB)
+        return True
+    except BlockingIOError:
+        return False
+    finally:
+        os.close(opened)
 
 
 def two_build_the_reference_at_a_time(_programs, folder):
