@@ -1,29 +1,32 @@
-# The commands of this repository. They need `rt`, the command of the Rattle toolchain, and python3 on PATH; `test` also `chrt`
-# (util-linux), `compare`, `fuzz` and `bench` `rustc`, the Rust compiler, and `compare` and `fuzz` Python 3.11.
+# The commands of this repository. They need `rt`, the command of the Rattle toolchain, and python3 on PATH; `compare`, `fuzz`
+# and `bench` also `rustc`, the Rust compiler, and `compare` and `fuzz` Python 3.11.
 
 PREFIX = /usr/local
 # Programs that were built already, to be installed in place of those that tests/support/build prints.
 SWIMSIM =
 SWIMD =
+# Words for tests/all, as --with-edits.
+WITH =
 
 BIN = $(DESTDIR)$(PREFIX)/bin
 MAN = $(DESTDIR)$(PREFIX)/share/man/man1
 DOC = $(DESTDIR)$(PREFIX)/share/doc
 UNIT = $(DESTDIR)$(PREFIX)/lib/systemd/system
 
-.PHONY: help build run demo check test compare fuzz bench install uninstall
+.PHONY: help build run demo check test edits compare fuzz bench install uninstall
 
 help:
 	@echo 'make run        plays examples/first.swim: by the proved swimsim where that was built, and else by its sources, as'
-	@echo '                they are before any proof, within a minute or so'
-	@echo 'make demo       proves and builds both programs if need be, which takes half an hour at first and says how far it is,'
-	@echo '                and shows a group of five at work, of which one is killed, and what their journal files tell of it'
+	@echo '                they are before any proof, within a minute'
+	@echo 'make demo       shows a group of five at work, of which one is killed, and what their journal files tell of it; where'
+	@echo '                no proved programs were built, by their sources as they are, within three minutes'
 	@echo 'make build      proves and builds swimsim and swimd if need be, which takes half an hour at first and says how far'
 	@echo '                it is, and prints where they lie'
 	@echo 'make check      for people at work: checks what changed since it was last proved here and what stands on it, with the'
 	@echo '                tests of those, and runs the short parts of tests/; it takes what was proved before as it is'
-	@echo 'make test       rt ci (every proof and test), the edits, and then the parts of tests/ that run the built programs;'
-	@echo '                tests/all --list names them, and tests/all --only NAME runs one'
+	@echo 'make test       rt ci (every proof and test), and the parts of tests/ that run the built programs, in some 40 minutes'
+	@echo '                with four processors; tests/all --list names them, and tests/all --only NAME runs one'
+	@echo 'make edits      tries wrong bodies, each of which the prover has to refuse: 20 minutes behind a make test'
 	@echo 'make compare    runs swimsim and tests/reference on random scripts, and swimd on random configurations and'
 	@echo '                control lines beside models of both, and compares what they write'
 	@echo 'make fuzz       gives both programs mutations of valid scripts, datagrams, configurations and control lines, for ten'
@@ -48,7 +51,10 @@ check:
 	@tests/all --short
 
 test:
-	@tests/all
+	@tests/all $(WITH)
+
+edits:
+	@tests/edits/run
 
 compare:
 	@tests/swimsim/compare

@@ -9,6 +9,8 @@ import random
 LARGEST_ID = 2**32 - 1
 MOST_BYTES = 65_536
 HEX = "0123456789abcdefABCDEF"
+# One byte again and again, or nearly.
+PLAIN = ["0" * 64, "a5" * 32, "aA" * 32, "1" * 63 + "2"]
 PATHS = ["control", "events", "metrics", "journal_dir"]
 STRINGS = ["listen", "seed", "at", *PATHS]
 # Keys that may be left out, with values.
@@ -122,12 +124,13 @@ class Config:
             "listen": f"127.0.0.{r.randint(0, 255)}:{r.randint(1, 65_535)}", "control": path(), "seed": seed_text(r)
         }
         if r.random() < 0.3:
-            texts["journal_dir"] = path()
-        if r.random() < 0.3:
             texts["events"] = texts["control"] if r.random() < 0.2 else path()
         if r.random() < 0.3:
             others = [texts["control"], texts.get("events", texts["control"])]
             texts["metrics"] = r.choice(others) if r.random() < 0.2 else path()
+        if r.random() < 0.3:
+            others = [texts[key] for key in ("control", "events", "metrics") if key in texts]
+            texts["journal_dir"] = r.choice(others) if r.random() < 0.2 else path()
         self.r = r
         self.top = [[key, number(r, it)] for key, it in values.items()] + [
             [key, text(r, it)] for key, it in texts.items()
@@ -266,7 +269,9 @@ def doubtful(r):
         if pair[0] == "rtt":
             pair[1] = number(r, r.choice([1, 2, 100]))
         if pair[0] == "seed" and r.random() < 0.5:
-            pair[1] = text(r, r.choice(["0" * 64, "a5" * 32, "aA" * 32, "1" * 63 + "2"]))
+            pair[1] = text(r, r.choice(PLAIN))
+        if pair[0] == "keys" and r.random() < 0.5:
+            pair[1] = keys_text(r, [seed_text(r)] * r.randint(0, 2) + [r.choice(PLAIN)])
     return config
 
 

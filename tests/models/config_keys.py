@@ -34,7 +34,7 @@ TOP = [
     Key("keys", "keys", (), (), "the keys of the group, of which the first signs"),
     Key("fence", "integer", (0, LARGEST_ID), 1000, "datagrams a second of an address, 0 for all"),
     Key("rejoin", "integer", (0, 65_535), 0, "periods between knocks at failed members, 0 for none"),
-    Key("journal_dir", "path", (), "", "the folder of the journal files"),
+    Key("journal_dir", "path", (), "", "the folder of the journal files, not the path of another key"),
     Key("journal_keep", "integer", (0, LARGEST_ID), 16, "how many journal files stay, 0 for all"),
     Key("member", "members", (), [], "the other members, at most 128"),
 ]

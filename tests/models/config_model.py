@@ -22,6 +22,10 @@ LINE_BYTES = 160
 # What parts the words of a line, and from how many hexadecimal digits on one isn't shown.
 MARKS = re.compile(rb"([\"'\[\]{},=#])")
 HIDDEN_DIGITS = 32
+# The digits in a row that aren't shown but as the value of a number, where such a value begins, and its most digits.
+DIGITS_IN_A_ROW = re.compile(rb"[0-9A-Fa-f]{12,}")
+VALUE_BEGINS = re.compile(rb"=[ +-]*$")
+NUMBER_DIGITS = 19
 
 
 # What a document may have since TOML 1.1, which Python's reader doesn't know: lines and a last comma within an inline
@@ -50,30 +54,21 @@ def misquoted(document, found):
     """The lines below a fault that say they are a line of the document and aren't."""
     lines = document.split(b"\n")
     quotes = re.findall(rb"^  line ([0-9]+): (.*)$", found, re.MULTILINE)
-    hides = [True] if has_keys(document) else [False]
-    # Of an unknown key the line may have been meant to be that of the keys.
-    hides += [True] if found.startswith(b"configuration 3\n") else []
-    right = lambda number: [quoted(number, lines[int(number) - 1], it) for it in hides]
-    return [(number, text) for number, text in quotes if text not in right(number)]
+    return [(number, text) for number, text in quotes if text != quoted(number, lines[int(number) - 1])]
 
 
-def has_keys(document):
-    """Whether a document may have keys, which aren't shown: it names one, in front of a `#`, or has the key of them."""
-    if re.search(rb"^[^#\n]*key", document, re.MULTILINE | re.IGNORECASE):
-        return True
-    try:
-        return "keys" in tables_of(document)
-    except (Fault, OtherVersion):
-        return False
-
-
-def quoted(number, line, hides):
-    """A line of a document as it is quoted: as much of it as there is room for behind its number. It may hide keys."""
+def quoted(number, line):
+    """A line of a document as it is quoted: as much of it as there is room for behind its number, without keys."""
     line = line[:-1] if line.endswith(b"\r") else line
-    if hides:
-        line = b"".join(b".." if has_many_digits(it) else it for it in MARKS.split(line))
+    line = b"".join(b".." if has_many_digits(it) else it for it in MARKS.split(line))
     shown = bytes(it if 0x20 <= it < 0x7F else ord("?") for it in line)
-    return shown[: LINE_BYTES - len(b"line %s: " % number)]
+    return DIGITS_IN_A_ROW.sub(shown_digits, shown)[: LINE_BYTES - len(b"line %s: " % number)]
+
+
+def shown_digits(found):
+    """What is shown of many hexadecimal digits in a row: the value of a number, and of others nothing."""
+    is_value = found[0].isdigit() and len(found[0]) <= NUMBER_DIGITS
+    return found[0] if is_value and VALUE_BEGINS.search(found.string[: found.start()]) else b".."
 
 
 def has_many_digits(text):
@@ -156,6 +151,9 @@ def values(table, keys, before):
             raise Fault("6 events")
         if key.name == "metrics" and found["metrics"] in (found["control"], found["events"]) and found["metrics"]:
             raise Fault("6 metrics")
+        others = [found.get(it) for it in ("control", "events", "metrics")]
+        if key.name == "journal_dir" and found["journal_dir"] in others and found["journal_dir"]:
+            raise Fault("6 journal_dir")
     return found
 
 
@@ -256,5 +254,13 @@ def warnings(config):
         yield f"k {k} is greater than the members that could relay, {len(members) - 1}"
     if period * config["tick_ms"] > DAY_MS:
         yield f"a period has {period * config['tick_ms']} milliseconds, which is beyond a day"
+    if config["rtt"] * config["tick_ms"] < 10:
+        yield f"rtt has {config['rtt'] * config['tick_ms']} milliseconds, which is below 10"
+    if config["rtt"] == 1 and config["tick_ms"] < 20:
+        yield f"rtt is one tick of {config['tick_ms']} milliseconds, which is below 20"
+    if k == 0 and len(members) > 2:
+        yield f"k is 0, so that none of {len(members)} members is asked to relay"
     if len(set(bytes.fromhex(config["seed"]))) == 1:
         yield "seed is one byte again and again, which anybody may guess"
+    if any(len(set(bytes.fromhex(key))) == 1 for key in config["keys"]):
+        yield "a key of the group is one byte again and again, which anybody may guess"

@@ -1,6 +1,7 @@
 """What programs have to write and do where one call of the system fails, once, or several in a row. Each function
 gives, for one run after the other, how it ended and what isn't as it has to be."""
 
+import contextlib
 import itertools
 import os
 import re
@@ -184,28 +185,31 @@ def of_a_daemon(failer, programs, name, pool):
         must(place < MOST, f"each of {MOST} daemons met a failure")
 
 
-def of_a_broken_line(failer, programs):
-    """A line that fails so many times in a row: after fifteen the daemon goes on, and with the sixteenth it ends."""
+def of_a_broken_gate(failer, programs, name, first):
+    """A line or a door that fails so many times in a row, from the first such call on: after fifteen the daemon goes on,
+    and with the sixteenth it ends."""
     for count, way, wanted in ((15, AS_EVER, (0, b"stopped")), (16, BROKEN, (5, b"socket"))):
         try:
-            met = how_it_endures(failer, programs, count)
-            yield way, [] if met == (count, *wanted) else [f"after {count} receives that failed it ended {met}"]
+            met = how_it_endures(failer, programs, f"{name} {first} {count}")
+            yield way, [] if met == (count, *wanted) else [f"after {count} times that {name} failed it ended {met}"]
         except (DaemonFault, OSError, subprocess.SubprocessError) as fault:
             yield way, [f"{type(fault).__name__}: {fault}"]
 
 
-def how_it_endures(failer, programs, count):
-    """How many receives of a daemon failed, its status, and why it ended. Where it goes on it is stopped, once it has
-    acked a ping."""
+def how_it_endures(failer, programs, failing):
+    """How many calls of a daemon failed, its status, and why it ended. Where it goes on it is stopped, once it has acked
+    a ping."""
     with Machine(*programs) as machine:
         daemon, peer, numbers = machine.daemon(1, tick_ms=60_000), machine.socket(), itertools.count(1)
         peer.settimeout(0.2)
-        daemon.launch(env={**os.environ, "LD_PRELOAD": failer, "FAIL": f"recvfrom 0 {count}"})
+        daemon.launch(env={**os.environ, "LD_PRELOAD": failer, "FAIL": failing})
         until(
             lambda: daemon.child.poll() is not None or is_acked(daemon, peer, next(numbers)), "it acks a ping or ends"
         )
         if daemon.child.poll() is None:
-            daemon.ask(b"stop\n")
+            # Where it ends meanwhile, nobody is asked.
+            with contextlib.suppress(OSError):
+                daemon.ask(b"stop\n")
         stdout, stderr = daemon.child.communicate(timeout=20)
     closing = LIVES_AND_CLOSING.fullmatch(stdout)
     must(closing, f"it writes {stdout!r} and {stderr!r}")

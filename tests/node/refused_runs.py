@@ -30,6 +30,7 @@ EXPLAINED_MEMORY = re.compile(EXPLAINED, re.S)
 WORDS = re.compile(rb"^  .*\n", re.M)
 NAME = re.compile(rb"^((?:dropped|refused|wire) [0-9]+) [a-z].*$", re.M)
 NO_PROGRAM = re.compile(rb"(swimsim|error): out of memory\n")
+UNVERIFIED = re.compile(rb"swimsim: -: no memory (behind entry \d+|before entry 0)\n")
 
 
 def of_a_test(refuser, words):
@@ -93,7 +94,7 @@ def of_a_script(refuser, program, script, played, *options):
         elif ran.status == 1 and not ran.stdout and line and lines[int(line[1]) - 1].startswith(("order ", "place ")):
             yield NOT_KEPT, []
         else:
-            is_good = ran.status == 1 and not ran.stdout and NO_PROGRAM.fullmatch(ran.stderr)
+            is_good = ran.status == 4 and not ran.stdout and NO_PROGRAM.fullmatch(ran.stderr)
             yield NOT_BEGUN, [] if is_good else [f"request {number}: {str(ran)[-1_000:]}"]
 
 
@@ -117,7 +118,7 @@ def of_an_explained_script(refuser, program, script, played):
         elif ran.status == 1 and not answered and line and lines[int(line[1]) - 1].startswith(("order ", "place ")):
             yield NOT_KEPT, []
         else:
-            is_good = ran.status == 1 and not answered and NO_PROGRAM.fullmatch(ran.stderr)
+            is_good = ran.status == 4 and not answered and NO_PROGRAM.fullmatch(ran.stderr)
             yield NOT_BEGUN, [] if is_good else [f"request {number}: {str(ran)[-1_000:]}"]
 
 
@@ -139,7 +140,23 @@ def of_a_journal_file(refuser, program, file, wanted):
         elif ran.status == 1 and not ran.stdout and line and lines[int(line[1]) - 1].startswith(("order ", "place ")):
             yield NOT_KEPT, []
         else:
-            is_good = ran.status == 1 and not ran.stdout and NO_PROGRAM.fullmatch(ran.stderr)
+            is_good = ran.status == 4 and not ran.stdout and NO_PROGRAM.fullmatch(ran.stderr)
+            yield NOT_BEGUN, [] if is_good else [f"request {number}: {str(ran)[-1_000:]}"]
+
+
+def of_a_verified_file(refuser, program, file):
+    """Either it is verified as ever; or want of memory is told, with a status of its own, and nothing speaks against
+    the file; or its own fault is told as ever, below a report of less."""
+    words = [program, "--verify", "-"]
+    whole = refuser.run(words, file)
+    yield AS_EVER, [] if whole.status in (0, 1) else [f"without a refusal: {whole}"]
+    for number, ran in refuser.refusals(words, file):
+        if ran == whole or (ran.stderr, ran.status) == (whole.stderr, whole.status) == (ran.stderr, 1):
+            yield AS_EVER, []
+        elif ran.status == 4 and UNVERIFIED.fullmatch(ran.stderr):
+            yield NO_MEMORY, []
+        else:
+            is_good = ran.status == 4 and not ran.stdout and NO_PROGRAM.fullmatch(ran.stderr)
             yield NOT_BEGUN, [] if is_good else [f"request {number}: {str(ran)[-1_000:]}"]
 
 

@@ -14,7 +14,9 @@ THROWN_AWAY = rb"datagrams from [\d.]+:\d+ (?:" + WHY_THROWN + rb") \d+"
 CHANGES = rb"judged \d+ in period \d+(?:, last heard in period \d+)?|joined \d+ at [\d.]+:\d+"
 CHANGES += rb"|joined \d+ again, after \d+ periods|\d+ changes more, too many at once to tell each"
 FILES = rb"(?:journal|metrics) [^\n]*: [^\n]*"
-NOTICES = rb"swimd [\d.]+ listens [^\n]*|life \d+ begins|removed [^\n]*|" + b"|".join([CHANGES, FILES, THROWN_AWAY])
+TURNED_AWAY = rb"connections are turned away, as too few descriptors are left, refused \d+"
+STARTS = rb"swimd [\d.]+ listens [^\n]*|life \d+ begins|removed [^\n]*"
+NOTICES = b"|".join([STARTS, CHANGES, FILES, THROWN_AWAY, TURNED_AWAY])
 NOTICE = re.compile(rb"warning: [^\n]*\n|" + TIME + rb" (?:" + NOTICES + rb")\n")
 
 

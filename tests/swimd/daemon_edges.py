@@ -155,16 +155,6 @@ def what_cannot_be_sent(machine):
     must((closing.status, closing.judged, closing.unsent) == (0, 1, 1), f"it ended {closing}")
 
 
-def a_socket_that_fails(machine):
-    """Where no connection can be accepted, sixteen times in a row, the daemon ends."""
-    daemon = machine.started(tick_ms=MINUTE)
-    daemon.table()
-    resource.prlimit(daemon.child.pid, resource.RLIMIT_NOFILE, (3, 3))
-    with daemon.connect():
-        closing = daemon.ended()
-    must(closing == (5, "socket", 0, 0, 0, 0, 0), f"it ended {closing}")
-
-
 def seconds_of_processor(child):
     """What all threads of a process took so far."""
     total = 0
@@ -356,7 +346,6 @@ EDGES = [
     a_journal_that_fills_by_lines,
     period_numbers_go_on,
     what_cannot_be_sent,
-    a_socket_that_fails,
     another_port_of_the_member,
     the_last_number_goes_on,
     an_idle_daemon_sleeps,

@@ -144,9 +144,28 @@ def a_life_begins_with_what_was_left(machine):
         must_play(machine.simulator, it.text, it.path)
     must(state == f"failed {failed.get(2)}", f"the silent member is {state}, and its file tells {failed}")
     must_verify(machine.simulator, *files)
-    swapped = subprocess.run([machine.simulator, "--verify", files[1].path, files[0].path], capture_output=True,
+    swapped = subprocess.run([machine.simulator, "--verify", files[2].path, files[1].path], capture_output=True,
                              timeout=SECONDS)
     must(swapped.returncode == 1 and b"does not follow" in swapped.stderr, f"two lives that are swapped: {swapped}")
+
+
+def restarts_are_verified_together(machine):
+    """The files of a daemon that was killed and started again: each start is told, and nothing speaks against any."""
+    peer = machine.socket()
+    for _ in range(3):
+        daemon = machine.started(members=ROWS, tick_ms=MINUTE, journal=5)
+        filled(daemon, peer, 2)
+        daemon.kill()
+        # A start within the same second has no file of its own.
+        time.sleep(1.1)
+    files = journals(machine.journals)
+    firsts = [it.path.encode() for it in files if it.life == 0]
+    must(len(firsts) == 3 and len(files) >= 9, f"three starts of three lives left {[it.path for it in files]}")
+    must_verify(machine.simulator, *files)
+    ran = subprocess.run([machine.simulator, "--verify", *(it.path for it in files)], capture_output=True,
+                         timeout=SECONDS)
+    found = re.findall(rb"^(.*): a new start$", ran.stdout, re.MULTILINE)
+    must(found == firsts[1:], f"of the starts {firsts} it tells {found}")
 
 
 def comments_tell_the_time(machine):
@@ -321,6 +340,7 @@ JOURNALS = [
         each_life_has_a_file,
         each_kind_of_call_is_told,
         a_life_begins_with_what_was_left,
+        restarts_are_verified_together,
         comments_tell_the_time,
         a_call_is_soon_in_its_file,
         a_player_of_ones_own,

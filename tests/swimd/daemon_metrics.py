@@ -12,8 +12,10 @@ from tests.support.daemons import SECONDS, must, until
 from tests.support.datagrams import ACK, PING, datagram, fields
 from tests.support.journals import journals
 from tests.support.parts import leave_out
+from tests.support.tags import FIRST, key_texts
 from tests.support.watchers import Watcher
 from tests.swimd.daemon_groups import Answerer
+from tests.swimd.daemon_returning import Silent
 
 MINUTE = 60_000
 # The file is written as soon as a life has begun, and then every ten seconds.
@@ -235,6 +237,42 @@ def what_nobody_sent_is_counted(machine):
     must_be_counted(written(path), daemon, wire_total=7, pings_heard_total=7)
 
 
+def what_is_thrown_away_is_counted_apart(machine):
+    """Datagrams without a tag by a key of the group, and those that come faster than the fence lets in."""
+    sealed_one, path = counted(machine, keys=key_texts(FIRST), tick_ms=MINUTE)
+    peer = machine.socket()
+    for number in range(1, 6):
+        peer.sendto(datagram(PING, 9, 9, 1, number), sealed_one.address)
+    until(lambda: stats_of(sealed_one)["swimd_forged_total", None] == 5, "five are counted", AT_ONCE)
+    must(sealed_one.stop().entries == 0, "one of them is an entry")
+    must_be_counted(written(path), sealed_one, forged_total=5, fenced_total=0, wire_total=0)
+    fenced_one, path = counted(machine, 2, fence=1, tick_ms=MINUTE)
+    for number in range(1, 51):
+        peer.sendto(datagram(PING, 9, 9, 2, number), fenced_one.address)
+    told = lambda: (it := stats_of(fenced_one))["swimd_fenced_total", None] + it["swimd_pings_heard_total", None] == 50
+    until(told, "fifty are counted", AT_ONCE)
+    entries = fenced_one.stop().entries
+    must(0 < entries < 10, f"of fifty at once {entries} pass")
+    must_be_counted(written(path), fenced_one, forged_total=0, fenced_total=50 - entries, wire_total=0)
+
+
+def knocks_and_own_joins_are_counted(machine):
+    """Each knock, and of the joins those that the daemon makes by itself; an operator's isn't one of them."""
+    path = f"{machine.folder}/1.prom"
+    silent = Silent(machine, rejoin=1, metrics=path)
+    daemon, numbers = silent.daemon, [silent.knock() for _ in range(4)]
+    first = stats_of(daemon)
+    must(first["swimd_own_joins_total", None] == 0, f"it says {first}")
+    silent.socket.sendto(datagram(ACK, 2, 1, 2, numbers[-1]), daemon.address)
+    until(silent.is_up, "it is joined again")
+    must(daemon.ask(b"remove 2\njoin 2 10.0.0.2:7000\n").startswith(b"removed\njoined"), "a join is refused")
+    samples = until(lambda: (it := stats_of(daemon))["swimd_joins_total", None] == 2 and it, "both are counted", AT_ONCE)
+    must(samples["swimd_own_joins_total", None] == 1, f"it says {samples}")
+    must(samples["swimd_knocks_total", None] >= 4, f"it says {samples}")
+    must(daemon.stop().status == 0, "it ended otherwise")
+    must_be_counted(written(path), daemon, own_joins_total=1)
+
+
 def watchers_are_counted(machine):
     daemon, path = counted(machine, tick_ms=MINUTE, events=f"{machine.folder}/events")
     watchers = [Watcher(daemon.values["events"]) for _ in range(3)]
@@ -282,6 +320,8 @@ METRICS = [
     a_histogram_of_waits,
     stats_say_the_same,
     what_nobody_sent_is_counted,
+    what_is_thrown_away_is_counted_apart,
+    knocks_and_own_joins_are_counted,
     watchers_are_counted,
     promtool_agrees,
 ]

@@ -13,11 +13,12 @@ from tests.support.configurations import HOST
 from tests.support.daemons import free_ports, must, stop_all, until
 from tests.support.datagrams import ACK, PING, datagram, fields
 from tests.support.journals import journals
-from tests.swimd.daemon_groups import all_up
+from tests.support.tags import FIRST, key_texts, sealed, sealing
+from tests.swimd.daemon_groups import Answerer, all_up
 
 QUICK = {"tick_ms": 10, "rtt": 3, "period": 12, "k": 1}
 SLACK_SECONDS = 1.5
-CUTS, ROUNDS = 10, 3
+CUTS, ROUNDS, RECORDED_PERIODS = 10, 3, 64
 SOON, MOST_TIMES = 16, 64
 
 
@@ -153,6 +154,14 @@ def a_wire_cut_one_way(machine):
     stop_all(daemons)
 
 
+def must_stay_failed(daemon, periods, what):
+    """Looks again and again, for about so many periods, that member 2 isn't up."""
+    end = time.monotonic() + periods * daemon.period_seconds
+    while time.monotonic() < end:
+        must(daemon.states()[2] == "failed", f"{what}: it is up")
+        time.sleep(0.01)
+
+
 class Silent:
     """A member that isn't a daemon and answers nothing, and a daemon that judged it."""
 
@@ -175,10 +184,7 @@ class Silent:
         return self.daemon.states()[2] == "up"
 
     def must_stay_failed(self, periods, what):
-        end = time.monotonic() + periods * self.daemon.period_seconds
-        while time.monotonic() < end:
-            must(not self.is_up(), f"{what}: it is up")
-            time.sleep(0.01)
+        must_stay_failed(self.daemon, periods, what)
 
 
 def who_never_answers_is_knocked_at(machine):
@@ -213,29 +219,73 @@ def knocks_in_turn(machine):
 
 
 def a_stranger_is_not_believed(machine):
-    """Acks and pings in a failed member's name from another address join nobody; its own ack does, and its own ping."""
+    """Acks in a failed member's name from another address join nobody, and no ping does; its own ack does."""
     silent, stranger = Silent(machine, rejoin=1), machine.socket()
     for _ in range(5):
         number = silent.knock()
         stranger.sendto(datagram(ACK, 2, 1, 2, number), silent.daemon.address)
         stranger.sendto(datagram(PING, 2, 2, 1, number), silent.daemon.address)
     silent.must_stay_failed(3, "a stranger spoke in its name")
-    # Acks of no knock, of others' probes, of itself in others' names, and pings for others.
+    # Acks of no knock, of others' probes, of itself in others' names, and pings of its own and for others.
     for text in (
         datagram(ACK, 2, 1, 2, number + 1_000),
         datagram(ACK, 2, 3, 2, number),
         datagram(ACK, 3, 1, 2, number),
         datagram(PING, 2, 3, 1, number),
+        *(datagram(PING, 2, 2, 1, it) for it in (1, number, number + 1)),
     ):
         silent.socket.sendto(text, silent.daemon.address)
     silent.must_stay_failed(3, "no datagram shows that it is there")
     silent.socket.sendto(datagram(ACK, 2, 1, 2, number), silent.daemon.address)
     until(silent.is_up, "it is up after an ack of a knock", 2)
     silent.daemon.stop()
-    other = Silent(machine, rejoin=1)
-    other.socket.sendto(datagram(PING, 2, 2, 1, 77), other.daemon.address)
-    until(other.is_up, "it is up after a ping of its own", 2)
-    other.daemon.stop()
+
+
+def acks_of_no_knock_are_not_believed(machine):
+    """Where it is knocked at in each third period, an ack with the number of another period joins nobody, though that
+    is above the verdict's."""
+    silent = Silent(machine, rejoin=3)
+    for _ in range(4):
+        number = silent.knock()
+        for other in (number - 2, number - 1, number + 1, number + 2):
+            silent.socket.sendto(datagram(ACK, 2, 1, 2, other), silent.daemon.address)
+    silent.must_stay_failed(3, "it was knocked at in no such period")
+    silent.socket.sendto(datagram(ACK, 2, 1, 2, number), silent.daemon.address)
+    until(silent.is_up, "it is up after an ack of a knock", 2)
+    silent.daemon.stop()
+
+
+def what_was_recorded_is_not_believed(machine):
+    """In a group with keys a member is judged, comes back, and is judged again. While it is dead, what it may have sent
+    before is sent again from its address, sealed as it was: acks of all probes and knocks up to the verdict, and pings
+    of its own. It stays failed, and is up again in its turn once it answers a knock."""
+    is_dead = [True]
+    member = Answerer(machine.socket(), 2, lambda *_: not is_dead, sealing(FIRST))
+    usual = {**QUICK, "members": [(2, member.port)], "keys": key_texts(FIRST), "rejoin": 1}
+    daemon = machine.started(1, **usual)
+    state = lambda: daemon.states()[2]
+    until(lambda: state() == "failed", "who is dead is judged")
+    is_dead.clear()
+    until(lambda: state() == "up", "who answers a knock is up again")
+    probed = len(member.came) + ROUNDS
+    until(lambda: len(member.came) >= probed, "it is probed again")
+    is_dead.append(True)
+    until(lambda: state() == "failed", "who is dead is judged again")
+    verdict = int(daemon.table()[2].state.split(" ")[1])
+    asked = [it for it in (fields(text)[4] for text in list(member.came)) if it <= verdict]
+    must(asked[-1] == verdict, f"it was judged in {verdict}, and was last pinged in {asked[-1]}")
+    texts = [datagram(ACK, 2, 1, 2, it) for it in asked]
+    texts += [datagram(PING, 2, 2, 1, it) for it in (1, 2, *asked[-4:])]
+    for _ in range(RECORDED_PERIODS):
+        for text in texts:
+            member.socket.sendto(sealed(FIRST, text), daemon.address)
+        must_stay_failed(daemon, 1, "what is recorded is sent again")
+    is_dead.clear()
+    began = time.monotonic()
+    until(lambda: state() == "up", "who answers a knock is up again", daemon.period_seconds + SLACK_SECONDS)
+    print(f"  up again after {(time.monotonic() - began) / daemon.period_seconds:.1f} periods")
+    closing = daemon.stop()
+    must(closing.judged == 2 and closing[4:] == (0, 0, 0), f"it ended {closing}")
 
 
 def verdicts_and_joins(daemon):
@@ -311,6 +361,8 @@ RETURNS = [
     who_never_answers_is_knocked_at,
     knocks_in_turn,
     a_stranger_is_not_believed,
+    acks_of_no_knock_are_not_believed,
+    what_was_recorded_is_not_believed,
     who_flaps_waits,
     without_the_key_nobody_comes_back,
 ]

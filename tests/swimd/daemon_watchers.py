@@ -23,6 +23,8 @@ MANY = 10_000
 LINES_AT_A_TIME = 2_000
 LIVES = 10
 AT_ONCE = 0.2
+# One to whom nothing could be sent for so many seconds is given up.
+PATIENCE = 10
 
 
 def watched(machine, id=1, **values):
@@ -95,13 +97,8 @@ def verdicts_and_a_return(machine):
     must_be_told(watcher, files_of(daemon))
 
 
-def sixty_four_watch(machine):
-    """Some of them never read: the others are told everything, and those a beginning of it, and last that they were
-    lost."""
-    daemon, path = watched(machine, members=[(2, "10.0.0.2:7000")], tick_ms=MINUTE)
-    watchers = [Watcher(path) for _ in range(MOST_WATCHERS)]
-    slow, quick = watchers[:NEVER_READ], watchers[NEVER_READ:]
-    hear(quick, lambda: all("." in it.lines for it in quick), "the table is told to each")
+def change_much(daemon):
+    """Has a member join and leave again and again, and tells how often that was done before each part of it."""
     pair = f"join {LARGEST_ID} 127.127.127.127:65535\nremove {LARGEST_ID}\n".encode()
     for place in range(0, MANY, LINES_AT_A_TIME):
         with daemon.connect() as connection:
@@ -111,16 +108,56 @@ def sixty_four_watch(machine):
             joined == LINES_AT_A_TIME == answer.count(b"removed\n"),
             f"the lines from {place} on are answered {answer[-99:]}",
         )
+        yield place
+
+
+def sixty_four_watch(machine):
+    """Some of them never read: the others are told everything, and those a beginning of it, and last that they were
+    lost."""
+    daemon, path = watched(machine, members=[(2, "10.0.0.2:7000")], tick_ms=MINUTE)
+    watchers = [Watcher(path) for _ in range(MOST_WATCHERS)]
+    slow, quick = watchers[:NEVER_READ], watchers[NEVER_READ:]
+    hear(quick, lambda: all("." in it.lines for it in quick), "the table is told to each")
+    began = time.monotonic()
+    for place in change_much(daemon):
         wanted = 2 + 2 * (place + LINES_AT_A_TIME)
         hear(quick, lambda: all(it.count == wanted for it in quick), f"the first {wanted} lines are told to each")
     hear_all(slow, "those who didn't read are closed")
+    is_slow = time.monotonic() - began > PATIENCE - 2
     must(daemon.stop().status == 0, "it ended otherwise")
     hear_all(quick)
     files = files_of(daemon)
     must(len({it.text for it in quick}) == 1, "those who read were told several things")
     must_be_told(quick[0], files)
-    for it in slow:
-        must_be_told(it, files, "lost")
+    if is_slow:
+        print("  of those who didn't read nothing is said, since this took too long: they were given up")
+    else:
+        for it in slow:
+            must_be_told(it, files, "lost")
+
+
+def who_never_reads_is_given_up(machine):
+    """As many as may watch, of whom only one reads. The others are closed ten seconds after nothing more could be sent
+    to them; so one who came later is told the table then. The one who reads stays."""
+    daemon, path = watched(machine, members=[(2, "10.0.0.2:7000")], tick_ms=MINUTE)
+    watchers = [Watcher(path) for _ in range(MOST_WATCHERS)]
+    hear(watchers, lambda: all("." in it.lines for it in watchers), "the table is told to each")
+    quick, silent = watchers[0], watchers[1:]
+    late, began = Watcher(path), time.monotonic()
+    for place in change_much(daemon):
+        wanted = 2 + 2 * (place + LINES_AT_A_TIME)
+        hear([quick], lambda: quick.count == wanted, f"the first {wanted} lines are told")
+    hear([late], lambda: "." in late.lines, "the one who came later is told the table")
+    took = time.monotonic() - began
+    must(took > PATIENCE - 1, f"they are given up after {took:.1f} seconds")
+    hear_all(silent, "those who never read are closed")
+    must(not any("ended" in it.lines for it in silent), "one of them was told the end before it")
+    must(daemon.ask(b"remove 2\n") == b"removed\n", "a removal is refused")
+    hear([quick, late], lambda: all(it.lines[-1] == "gone 2" for it in (quick, late)), "the removal is told")
+    must(daemon.stop().status == 0, "it ended otherwise")
+    hear_all([quick, late])
+    for it in (quick, late):
+        must_be_told(it, files_of(daemon))
 
 
 def a_65th_waits(machine):
@@ -244,10 +281,11 @@ def without_the_key(machine):
     """No socket more is opened."""
     plain = machine.started(1, tick_ms=MINUTE)
     daemon, path = watched(machine, 2, tick_ms=MINUTE)
-    count = lambda it: sum(
-        os.readlink(f"/proc/{it.child.pid}/fd/{fd}").startswith("socket:")
-        for fd in os.listdir(f"/proc/{it.child.pid}/fd")
-    )
+    # A socket is counted once, however many descriptors it has.
+    links = lambda it: {
+        os.readlink(f"/proc/{it.child.pid}/fd/{fd}") for fd in os.listdir(f"/proc/{it.child.pid}/fd")
+    }
+    count = lambda it: sum(link.startswith("socket:") for link in links(it))
     until(lambda: count(daemon) == count(plain) + 1, "one socket more is open")
     must(
         os.path.exists(path) and sorted(os.listdir(machine.folder)).count("1.events") == 0,
@@ -258,6 +296,7 @@ def without_the_key(machine):
 
 WATCHERS = [
     sixty_four_watch,
+    who_never_reads_is_given_up,
     over_ten_lives,
     verdicts_and_a_return,
     the_table_and_each_change,

@@ -53,6 +53,12 @@ def keys():
     yield caused(
         "an unknown key of a member", more, "3", "found: adress; the nearest known key: id", "line 14: adress = 3"
     )
+    for line in ("rejoin = 3", "journal_dir = '/tmp'", "k = 1", "member = []"):
+        found = f"found: {line.split()[0]}; it stands below [[member]]: move it up"
+        yield caused(f"`{line}` of a member", f"{FULL}{line}\n", "3", found, f"line 18: {line}")
+    inline = ALONE + "member = [{id = 3, rejoin = 3}]\n"
+    found = "found: rejoin; it stands below [[member]]: move it up"
+    yield caused("`rejoin` of a member in a line", inline, "3", found, "line 10: member = [{id = 3, rejoin = 3}]")
 
 
 def values():
@@ -102,7 +108,8 @@ def values():
     yield caused("many paths of events", with_keys("events = [\n]"), "5 events", path, "line 1: events = [")
     both = FULL.replace("k = 1\n", "k = 1\nevents = '/tmp/swimd.sock'\n")
     yield caused("events on the control socket", both, "6 events", path, "line 5: events = '/tmp/swimd.sock'")
-    folder = "expected: a string of 1 to 100 characters of ASCII that print (the folder of the journal files)"
+    folder = "expected: a string of 1 to 100 characters of ASCII that print"
+    folder += " (the folder of the journal files, not the path of another key)"
     yield caused("no folder", with_keys('journal_dir = ""'), "6 journal_dir", folder, 'line 1: journal_dir = ""')
     yield caused(
         "a folder in two lines",
@@ -124,6 +131,24 @@ def values():
     yield caused("a key within a text", hidden, "5 listen", port, "line 4: listen = 2 # ??")
 
 
+def other_paths():
+    """A folder that is the path of another key, byte for byte, is a fault; it comes in its turn."""
+    folder = "expected: a string of 1 to 100 characters of ASCII that print"
+    folder += " (the folder of the journal files, not the path of another key)"
+    at = lambda path, lines="": with_keys(f"{lines}journal_dir = '{path}'")
+    dir = lambda path, line=1: (folder, f"line {line}: journal_dir = '{path}'")
+    yield caused("a folder at control", at("/tmp/swimd.sock"), "6 journal_dir", *dir("/tmp/swimd.sock"))
+    yield caused("a folder at events", at("/e", "events = '/e'\n"), "6 journal_dir", *dir("/e", 2))
+    yield caused("a folder at metrics", at("/m", "metrics = '/m'\n"), "6 journal_dir", *dir("/m", 2))
+    both = at("/m", "events = '/e'\nmetrics = '/m'\n")
+    yield caused("a folder at metrics, beside events", both, "6 journal_dir", *dir("/m", 3))
+    rejoin = "expected: an integer from 0 to 65535 (periods between knocks at failed members, 0 for none)"
+    before = at("/e", "rejoin = -1\nevents = '/e'\n")
+    yield caused("`rejoin` before it", before, "6 rejoin", rejoin, "line 1: rejoin = -1")
+    keep = at("/e", "journal_keep = -1\nevents = '/e'\n")
+    yield caused("`journal_keep` behind it", keep, "6 journal_dir", *dir("/e", 3))
+
+
 def hidden_keys():
     """No digit of a key is shown, whatever the fault is; nor that of another value in such a document."""
     key, form = "00112233445566778899aabbccddeeff" * 2, "expected: an array of 1 to 4 strings of 64 hexadecimal digits"
@@ -143,11 +168,12 @@ def hidden_keys():
     yield caused("`key`", with_keys(f'key = ["{key}"]'), "3", near("key", "keys"), 'line 1: key = [".."]')
     yield caused("`kesy`", with_keys(f'kesy = ["{key}"]'), "3", near("kesy", "keys"), 'line 1: kesy = [".."]')
     of_member = FULL + f"keys = ['{key}']\n"
-    yield caused("keys of a member", of_member, "3", near("keys", "id"), "line 18: keys = ['..']")
+    above = "found: keys; it stands below [[member]]: move it up"
+    yield caused("keys of a member", of_member, "3", above, "line 18: keys = ['..']")
     seed = "expected: a string of 64 hexadecimal digits (what orders and places are drawn from)"
     short = with_value("seed", f'"{SEED[1:]}"')
     yield caused("a seed beside keys", with_keys(one, short), "8 seed", seed, 'line 9: seed = ".."')
-    yield caused("a seed without keys", with_keys("# keys = []", short), "8 seed", seed, f'line 9: seed = "{SEED[1:]}"')
+    yield caused("a seed without keys", with_keys("# none", short), "8 seed", seed, 'line 9: seed = ".."')
     tick = "expected: an integer from 1 to 60000 (milliseconds of a tick)"
     remark = with_keys(one, with_value("tick_ms", f"0 # key {key}"))
     yield caused("a key in a comment", remark, "6 tick_ms", tick, "line 8: tick_ms = 0 #..")
@@ -155,6 +181,44 @@ def hidden_keys():
     why = "invalid value, expected a string, number, boolean, date-time, array or inline table"
     bare = with_keys(f"keys = [\n  x{key}\n]")
     yield caused("a key without quotes", bare, "2", toml, f"line 2, column 3: {why}", "line 2: ..")
+
+
+def hidden_digits():
+    """Nor is one where nothing is called a key. 12 hexadecimal digits in a row are shown as the value of a number
+    alone."""
+    key = "00112233445566778899AABBCCDDEEFF" * 2
+    near = lambda name, known: f"found: {name}; the nearest known key: {known}"
+    for name, known in {"secret": "seed", "psk": "k", "password": "period", "token": "listen", "ksy": "k"}.items():
+        yield caused(f"`{name}`", with_keys(f'{name} = "{key}"'), "3", near(name, known), f'line 1: {name} = ".."')
+    me = "expected: an integer from 1 to 4294967295 (this member)"
+    yield caused("a key as an id", with_value("id", f"'{key}'"), "5 id", me, "line 1: id = '..'")
+    yield caused("twelve digits as an id", with_value("id", '"123456789012"'), "5 id", me, 'line 1: id = ".."')
+    yield caused("eleven", with_value("id", '"12345678901"'), "5 id", me, 'line 1: id = "12345678901"')
+    yield caused("twelve of either case", with_value("id", '"0aAbBcCdDeE9"'), "5 id", me, 'line 1: id = ".."')
+    yield caused("twelve and more", with_value("id", '"x0123456789abcz-0"'), "5 id", me, 'line 1: id = "x..z-0"')
+    twice = '"12345678901 12345678901"'
+    yield caused("eleven twice", with_value("id", twice), "5 id", me, f"line 1: id = {twice}")
+    # the value of a number
+    yield caused("a long id", with_value("id", "123456789012"), "6 id", me, "line 1: id = 123456789012")
+    yield caused("the least id", with_value("id", f"-{2**63}"), "6 id", me, "line 1: id = -9223372036854775808")
+    more = with_value("id", "  1234567890123 # 1234567890123")
+    yield caused("a long id, and a remark", more, "6 id", me, "line 1: id =   1234567890123 # ..")
+    yield caused("a long id of base 16", with_value("id", "0x123456789abc"), "6 id", me, "line 1: id = 0x..")
+    remark = "# of 2026-11-28, "
+    yield caused(
+        "a remark", with_value("id", f"0 {remark}0123456789abcdef"), "6 id", me, f"line 1: id = 0 {remark}.."
+    )
+    toml = "expected: a TOML document, in UTF-8"
+    latin = f'psk = "{key}\xe9"\n{FULL}'.encode("latin-1")
+    why = "line 1, column 72: invalid UTF-8"
+    yield caused("a Latin-1 byte behind a key", latin, "2", toml, why, 'line 1: psk = ".."')
+    alone = f'psk = "\xe9{key[:30]}"\n{FULL}'.encode("latin-1")
+    yield caused("and one before it", alone, "2", toml, "line 1, column 8: invalid UTF-8", 'line 1: psk = "?.."')
+    # of the 152 characters for which there is room these are 147
+    front = "-" * 141
+    last = lambda digits: with_value("id", f'"{front}{digits}"')
+    yield caused("twelve at the end", last("0123456789ab"), "5 id", me, f'line 1: id = "{front}.."')
+    yield caused("eleven at the end", last("0123456789a"), "5 id", me, f'line 1: id = "{front}01234')
 
 
 def members():
@@ -209,8 +273,10 @@ def warnings():
     # 6 periods of 3 ticks of 7 milliseconds, so 126 milliseconds, in which 15 datagrams a second are 1.89
     quick = lambda journal: fenced(journal, "15", with_value("tick_ms", "7"))
     quickly = lambda journal: told(journal, "15").replace("tick_ms 1000", "tick_ms 7")
-    yield warned("a part of an entry", quick("1"), quickly("1"), short.replace("41", "1"), flood.format(1, 15, 2))
-    yield warned("no part of an entry", quick("2"), quickly("2"), short.replace("41", "2"))
+    waits = ["rtt has 7 milliseconds, which is below 10", "rtt is one tick of 7 milliseconds, which is below 20"]
+    few = [short.replace("41", "1"), flood.format(1, 15, 2)]
+    yield warned("a part of an entry", quick("1"), quickly("1"), *few, *waits)
+    yield warned("no part of an entry", quick("2"), quickly("2"), short.replace("41", "2"), *waits)
     alone = with_keys("fence = 4294967295", with_value("journal", "1", ALONE))
     yield warned(
         "a fence, and nobody is listed", alone, SUMMARY_ALONE.replace("journal 1000", "journal 1 fence 4294967295")
@@ -232,11 +298,42 @@ def warnings():
     )
     yield warned("more than a day", long, wanted, "a period has 86460000 milliseconds, which is beyond a day")
     yield warned("a day", long.replace("1441", "1440"), wanted.replace("1441", "1440"))
+    ticks = lambda rtt, tick_ms: with_value("rtt", rtt, with_value("period", "9", with_value("tick_ms", tick_ms)))
+    numbers = lambda rtt, tick_ms: SUMMARY.replace(
+        "rtt 1 period 3 tick_ms 1000", f"rtt {rtt} period 9 tick_ms {tick_ms}"
+    )
+    waits = "rtt has {} milliseconds, which is below 10"
+    yield warned("an rtt of nine milliseconds", ticks("3", "3"), numbers(3, 3), waits.format(9))
+    yield warned("an rtt of ten in two ticks", ticks("2", "5"), numbers(2, 5))
+    one = "rtt is one tick of {} milliseconds, which is below 20"
+    yield warned("one tick of 19", ticks("1", "19"), numbers(1, 19), one.format(19))
+    yield warned("one tick of 20", ticks("1", "20"), numbers(1, 20))
+    yield warned("one tick of nine", ticks("1", "9"), numbers(1, 9), waits.format(9), one.format(9))
+    three = with_value("k", "0", ALONE) + numbered_members(2, 3)
+    told_of = lambda count: SUMMARY_ALONE.replace("k 1 ", "k 0 ").replace("members 0", f"members {count}") + "".join(
+        f"{id} 10.0.0.2:{id}\n" for id in range(2, 2 + count)
+    )
+    nobody = "k is 0, so that none of 3 members is asked to relay"
+    yield warned("three members and no relay", three, told_of(3), nobody)
+    yield warned("two", with_value("k", "0", ALONE) + numbered_members(2, 2), told_of(2))
     plain = with_value("seed", '"' + "a5" * 32 + '"')
     yield warned("one byte", plain, SUMMARY, "seed is one byte again and again, which anybody may guess")
     yield warned("one digit but the last", with_value("seed", '"' + "1" * 63 + '2"'), SUMMARY)
+    told = lambda count: SUMMARY.replace(" last 0 journal 1000", f" journal 1000 keys {count}")
+    plain_key = "a key of the group is one byte again and again, which anybody may guess"
+    yield warned("a key of zeros", with_keys(f"keys = ['{'0' * 64}']"), told(1), plain_key)
+    yield warned("the second key", with_keys(f"keys = ['{SEED}', '{'aA' * 32}']"), told(2), plain_key)
+    yield warned("two such keys", with_keys(f"keys = ['{'00' * 32}', '{'11' * 32}']"), told(2), plain_key)
+    yield warned("a key of 16 bytes again", with_keys(f"keys = ['{'5c' * 16}{'5d' * 16}']"), told(1))
+    yield warned("one byte but the last", with_keys(f"keys = ['{'5c' * 31}5d']"), told(1))
+    both = with_keys(f"keys = ['{'0' * 64}']", plain)
+    plain_seed = "seed is one byte again and again, which anybody may guess"
+    yield warned("a seed and a key", both, told(1), plain_seed, plain_key)
+    folder = SUMMARY.replace("\nk 1 ", "\njournal_dir /tmp/swimd.sock/\nk 1 ")
+    folder = folder.replace("\nmembers", "\njournal_keep 16\nmembers")
+    yield warned("a folder that is spelt otherwise", with_keys("journal_dir = '/tmp/swimd.sock/'"), folder)
 
 
 def worked_causes():
-    for part in (texts, keys, values, hidden_keys, members, openings, warnings):
+    for part in (texts, keys, values, other_paths, hidden_keys, hidden_digits, members, openings, warnings):
         yield from part()

@@ -187,7 +187,7 @@ def versions():
 def group_keys():
     """How many keys there are stands behind the version. Where the last number isn't given it is the clock's, and isn't
     told."""
-    one, other = "0123456789abcdefABCDEF9876543210" * 2, "f" * 64
+    one, other = "0123456789abcdefABCDEF9876543210" * 2, "f" * 63 + "e"
     told = lambda keys, last="": with_summary(" last 0 journal 1000\n", f"{last} journal 1000{keys}\n")
     yield good("a key", with_keys(f'keys = ["{one}"]'), told(" keys 1"))
     yield good(

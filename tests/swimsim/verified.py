@@ -7,6 +7,8 @@ them that may be asked is the relay.
 """
 
 import os
+import re
+import resource
 import subprocess
 import tempfile
 from typing import NamedTuple
@@ -198,6 +200,8 @@ ALONE = told(STARTED, (TICK, "asked 2 1 by -"), QUIET, (TICK, "started judged 2 
 NEXT = "row 2 10.0.0.2:7000 failed 1\n"
 ONE = "".join([FIRST, "open 1 1 1 3 0 4\n", LIFE, *ALONE])
 TWO = "".join([FIRST, "open 1 1 1 3 2 4\n", NEXT, f"seed {SEED} 1\n", *told((TICK, "started judged - probe -"))])
+# The life behind it begins with period 4, as that one used 3.
+THREE = "".join([FIRST, "open 1 1 1 3 3 4\n", NEXT, f"seed {SEED} 2\n", *told((TICK, "started judged - probe -"))])
 ONE_TELLS = "one: entries 4 confirmed 4 periods 2 judged 1\n"
 ONE_TELLS += "judged 2 in period 1: probed at entry 0, no relays asked at entry 1, no ack of period 1 until entry 3\n"
 TWO_TELLS = "two: entries 1 confirmed 1 periods 1 judged 0\n"
@@ -207,8 +211,13 @@ def lives():
     """Files of one daemon, whose second life goes on from what the first left."""
     both = lambda one, two: [("one", one), ("two", two)]
     yield Verified("two lives", both(ONE, TWO), 0, ONE_TELLS + TWO_TELLS)
-    swapped = "swimsim: one: does not follow two: the members aren't those that were left\n"
-    yield Verified("two lives, swapped", both(ONE, TWO)[::-1], 1, TWO_TELLS + ONE_TELLS, swapped)
+    three_tells = TWO_TELLS.replace("two", "three")
+    three = [*both(ONE, TWO), ("three", THREE)]
+    yield Verified("three lives", three, 0, ONE_TELLS + TWO_TELLS + three_tells)
+    stderr = "swimsim: two: does not follow three: the last period number isn't the one that was left\n"
+    yield Verified("two lives, swapped", three[:0:-1], 1, three_tells + TWO_TELLS, stderr)
+    stderr = "swimsim: three: does not follow one: the last period number isn't the one that was left\n"
+    yield Verified("three lives without the second", three[::2], 1, ONE_TELLS + three_tells, stderr)
     breaks = {
         "it is another member's": ("open 1 1", "open 9 1"),
         "another number of relays is asked": ("open 1 1", "open 1 2"),
@@ -255,6 +264,48 @@ def lives():
     )
 
 
+def starts():
+    """Files of one daemon that was started again: the header of a start's first life tells LIFE 0."""
+    again = ("again", ONE)
+    anew = "again: a new start\n" + ONE_TELLS.replace("one:", "again:")
+    yield Verified("two starts", [("one", ONE), again], 0, ONE_TELLS + anew)
+    files = [("one", ONE), ("two", TWO), again]
+    yield Verified("a start behind two lives", files, 0, ONE_TELLS + TWO_TELLS + anew)
+    later = ("later", TWO)
+    tells = ONE_TELLS + TWO_TELLS + anew + TWO_TELLS.replace("two", "later")
+    yield Verified("two starts of two lives", [*files, later], 0, tells)
+    killed = [("one", ONE), ("two", TWO + "ti"), again]
+    yield Verified(
+        "a start behind a life that is cut", killed, 0, ONE_TELLS + TWO_TELLS + "cut behind entry 0\n" + anew
+    )
+    other = ONE.replace("open 1 1 1 3 0 4", "open 1 1 1 3 7 4").replace("probe 2 1", "probe 2 8")
+    other = ("again", other.replace("asked 2 1 ", "asked 2 8 "))
+    tells = anew.replace("period 1:", "period 8:").replace("of period 1 ", "of period 8 ")
+    yield Verified("a start with another last number", [("one", ONE), other], 0, ONE_TELLS + tells)
+    wrong = ONE.replace("quiet", "quie")
+    faulty = "one: entries 3 confirmed 2 periods 1 judged 0\n"
+    stderr = "swimsim: one: line 10: differs, behind entry 1\n"
+    yield Verified("a start behind a life with a fault", [("one", wrong), again], 1, faulty + anew, stderr)
+    foreign = "swimsim: one: it is no journal file: its first line isn't `journal 1`\n"
+    yield Verified("a start behind what is no journal file", [("one", "notes\n"), again], 1, anew, foreign)
+    stderr = "swimsim: later: does not follow again: its life isn't the next\n"
+    skipped = TWO.replace(f"{SEED} 1", f"{SEED} 2")
+    yield Verified(
+        "a life that isn't the next of its start", [("one", ONE), again, ("later", skipped)], 1,
+        ONE_TELLS + anew + TWO_TELLS.replace("two", "later"), stderr
+    )
+    unseeded = ONE.replace(f"seed {SEED} 0\n", "")
+    stderr = "swimsim: again: does not follow one: the members aren't those that were left\n"
+    tells = ONE_TELLS + ONE_TELLS.replace("one:", "again:")
+    yield Verified("a life that tells no seed begins no start", [("one", ONE), ("again", unseeded)], 1, tells, stderr)
+    shorter, header = "".join(ONE.splitlines(True)[:-1]), "".join(ONE.splitlines(True)[:2])
+    cut = ONE_TELLS.splitlines(True)[0].replace("4 confirmed 4 periods 2 judged 1", "4 confirmed 3 periods 1 judged 0")
+    tells = cut + "cut behind entry 2\nagain: entries 0 confirmed 0 periods 0 judged 0\n"
+    yield Verified("a header that is cut, behind a life that is", [("one", shorter), ("again", header)], 0, tells)
+    tells = cut + "cut behind entry 2\nagain: entries 0 confirmed 0 periods 0 judged 0\ncut before entry 0\n"
+    yield Verified("an empty file behind a life that is cut", [("one", shorter), ("again", "")], 0, tells)
+
+
 def expected_of_front(text):
     """What a front of WHOLE, with times, tells: calls are `tick` lines, and lines of answers are told rightly."""
     whole = text[: text.rfind("\n") + 1]
@@ -280,7 +331,14 @@ def cuts():
             yield one(f"cut behind {count} bytes{name}", [file[:count]], 0, expected_of_front(file[:count]))
 
 
-CASES = [judgements, versions, times, differences, lives, cuts]
+CASES = [judgements, versions, times, differences, lives, starts, cuts]
+
+# Of member 1, which knows nobody and has periods of three ticks: so many of them, each with its time, and what is told.
+PERIODS = 20_000
+LONG_TELLS = f"a: entries {3 * PERIODS} confirmed {3 * PERIODS} periods {PERIODS} judged 0\n".encode()
+# Limits of a program's memory in KiB: with the first it can't be loaded, with the last there is enough.
+LIMITS = [*range(1_000, 12_000, 250), 64_000]
+WANTS = re.compile(rb"swimsim: a: no memory (?:before entry 0|behind entry (\d+))\n|(?:swimsim|error): out of memory\n")
 
 
 def verified(program, case):
@@ -338,6 +396,44 @@ def same_or_told(program, text):
     return [] if is_told or is_same else [f"{text!r}: status {ran.returncode}, {ran.stdout!r} and {ran.stderr!r}"]
 
 
+def long_file():
+    """A good file."""
+    yield f"{FIRST}open 1 0 1 3 0 {3 * PERIODS}\n"
+    for period in range(PERIODS):
+        yield f"tick\n= {3 * period} started judged - probe -\n# {1764072000 + period}\n"
+        yield f"tick\n= {3 * period + 1} quiet\ntick\n= {3 * period + 2} quiet\n"
+
+
+def verified_in_little_memory(program):
+    """A good file is verified, or want of memory is told with a status of its own: it is never accused. A limit with
+    which the program can't be loaded says nothing."""
+    said, met = [], set()
+    with tempfile.TemporaryDirectory() as folder:
+        with open(f"{folder}/a", "w", encoding="ascii") as file:
+            file.writelines(long_file())
+        for limit in LIMITS:
+            ran = subprocess.run(
+                [os.path.abspath(program), "--verify", "a"], cwd=folder, capture_output=True, timeout=SECONDS,
+                preexec_fn=lambda limit=limit: resource.setrlimit(resource.RLIMIT_AS, (limit << 10, limit << 10))
+            )
+            met.add(how_it_ended(ran))
+            said += [] if None not in met else [f"{limit} KiB: {ran}"]
+            met.discard(None)
+    wanted = {"verified", "wanting behind an entry"}
+    return said + [f"with none of these limits it is {it}" for it in sorted(wanted - met)]
+
+
+def how_it_ended(ran):
+    """How a program ended that verified the long file; None where it may not end so."""
+    wants = WANTS.fullmatch(ran.stderr)
+    if (ran.returncode, ran.stdout, ran.stderr) == (0, LONG_TELLS, b""):
+        return "verified"
+    if ran.returncode == 4 and wants:
+        return "wanting behind an entry" if wants[1] else "wanting"
+    is_unloaded = ran.returncode < 0 or ran.returncode == 127
+    return "not loaded" if is_unloaded and not ran.stdout and b"a:" not in ran.stderr else None
+
+
 def verified_with_other_words(program):
     """`--verify` stands beside files alone, of which there is one at least, and which can be opened."""
     said = []
@@ -369,6 +465,7 @@ def verified_cases():
         for case in make():
             yield f"verified: {make.__name__}: {case.name}", lambda program, case=case: verified(program, case)
     for attempt in (
-        verified_with_other_digits, verified_with_another_version, verified_with_moved_lines, verified_with_other_words
+        verified_with_other_digits, verified_with_another_version, verified_with_moved_lines, verified_with_other_words,
+        verified_in_little_memory
     ):
         yield attempt.__name__, attempt

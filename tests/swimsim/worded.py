@@ -159,9 +159,6 @@ def with_a_picture(program):
         said = called(program, [
             Called(["--timeline", path], 1, b"", nothing, OPENED[: OPENED.index(b"tick")]),
             Called(["--timeline", nowhere, script], 1, wanted, named(nowhere, rb"[^\n]+")),
-            Called(
-                ["--timeline", "/dev/full", script], 1, wanted, named("/dev/full", rb"the picture can't be written")
-            ),
             Called(["--timeline", path, script], 0, wanted, b""),
             Called([f"--timeline={path}", "--explain", script], 0, wanted, rb"(?s)entries .*"),
         ])

@@ -1,7 +1,6 @@
-"""Which program tests/support/build and tests/support/play take, what they build, what tests/support/check checks, that
-tests/reference/build may run twice at a time, and when tests/edits/run tries nothing. A test that builds has a copy of
-the sources in a folder of its own, where `rt` is a stand-in that writes down what it is asked for, and `rustc` one that
-links a part: nothing is proved here."""
+"""Which program tests/support/build takes, what it builds, what tests/support/check checks, and that
+tests/reference/build may run twice at a time. A test that builds has a copy of the sources in a folder of its own, where
+`rt` is a stand-in that writes down what it is asked for, and `rustc` one that links a part: nothing is proved here."""
 
 import fcntl
 import os
@@ -11,30 +10,12 @@ import subprocess
 import time
 from concurrent.futures import ThreadPoolExecutor
 
-from tests.support.crates import Crates
 from tests.support.parts import TOP
+from tests.tools.copies import SECONDS, Copy, unlike
 
-SECONDS = 60
 # What stands on swim_life.
 ABOVE_LIFE = ["swim_guard", "swim_guard_tests", "swim_life_tests", "swimd"]
 WITH_LIFE = 1 + len(ABOVE_LIFE)
-# It makes a library or a program where there is none, as `rt` leaves what is there where only times are newer. It fails
-# where a file `refused` lies.
-STAND_IN = """\
-#!/bin/sh
-crate=$(basename "$PWD")
-echo "$crate $*" >> "$(dirname "$0")/calls"
-if [ -e refused ]; then echo 'it is not so' >&2; exit 1; fi
-case $1 in
-    lib) mkdir -p out/rlib/$crate.rlib ;;
-    run) mkdir -p out
-         [ -e out/$crate ] || printf '#!/bin/sh\\necho a proved program\\n' > out/$crate
-         chmod +x out/$crate ;;
-    test) mkdir -p out; touch out/${crate}_tests ;;
-    try) cat > /dev/null; echo sources ;;
-esac
-"""
-
 # As rustc does, it writes what it links beside the program, under a name that is the same each time, and takes it away.
 LINKER = """\
 #!/bin/sh
@@ -46,13 +27,6 @@ cp "$part" "$2" && chmod +x "$2" && rm "$part"
 """
 
 
-# It wants each program that it is given to be there.
-STAND_IN_PART = """\
-#!/bin/sh
-for program; do [ -x "$program" ] || exit 1; done
-echo '1 passed, 0 failed'
-"""
-
 # As `rt` does, it has the folder of a crate for itself while it works: here until a file `go` lies there.
 LOCKING = """\
 #!/usr/bin/env python3
@@ -62,68 +36,6 @@ open(f"has-{os.getpid()}", "w").close()
 while not os.path.exists("go"):
     time.sleep(0.01)
 """
-
-
-class Copy:
-    """A copy of what programs are built of, with a stand-in of `rt`."""
-
-    def __init__(self, folder):
-        self.top, self.bin = f"{folder}/copy", f"{folder}/bin"
-        shutil.copytree(f"{TOP}/crates", f"{self.top}/crates", ignore=shutil.ignore_patterns("out"))
-        shutil.copytree(f"{TOP}/tests/support", f"{self.top}/tests/support")
-        for path in ("crates.txt", "tests/__init__.py", "examples/first.swim"):
-            os.makedirs(os.path.dirname(f"{self.top}/{path}"), exist_ok=True)
-            shutil.copy2(f"{TOP}/{path}", f"{self.top}/{path}")
-        os.makedirs(self.bin)
-        self.put("rt", STAND_IN)
-        self.crates = Crates(self.top)
-
-    def put(self, name, text):
-        """From now on that is the command of this name."""
-        with open(f"{self.bin}/{name}", "w", encoding="utf-8") as file:
-            file.write(text)
-        os.chmod(f"{self.bin}/{name}", 0o755)
-
-    def run(self, *words):
-        variables = {**os.environ, "PATH": f"{self.bin}:{os.environ['PATH']}"}
-        words = {
-            "cwd": self.top, "env": variables, "capture_output": True, "text": True, "timeout": SECONDS, "args": words
-        }
-        return subprocess.run(**words)
-
-    def calls(self):
-        """What `rt` was asked for since this was asked last: pairs of a crate and words."""
-        path = f"{self.bin}/calls"
-        if not os.path.exists(path):
-            return []
-        with open(path, encoding="utf-8") as file:
-            lines = file.read().splitlines()
-        os.remove(path)
-        return [tuple(line.split(" ", 1)) for line in lines]
-
-    def with_program(self):
-        """The proved program of swimsim is there, a second newer than all that it is made of."""
-        subprocess.run([f"{self.bin}/rt", "run"], cwd=self.crates.folder("swimsim"), check=True, timeout=SECONDS)
-        self.calls()
-        newest = max(os.stat(it).st_mtime for it in self.crates.sources("swimsim"))
-        os.utime(self.crates.made("swimsim"), (newest + 1, newest + 1))
-        return self
-
-    def check(self):
-        """Checks what changed, and gives the status, the last line, and which crates `rt` was asked for."""
-        ran = self.run("tests/support/check", "--lanes", "3")
-        return ran.returncode, ran.stdout.splitlines()[-1], [crate for crate, _ in self.calls()]
-
-    def touch(self, path):
-        """From now on that file or folder is newer than the program."""
-        self.date(path, os.stat(self.crates.made("swimsim")).st_mtime + 1)
-
-    def date(self, path, seconds):
-        os.utime(f"{self.top}/{path}", (seconds, seconds))
-
-
-def unlike(what, wanted, found):
-    return [] if wanted == found else [f"{what} is {found!r}, and not {wanted!r}"]
 
 
 def a_fresh_program_is_taken(_programs, folder):
@@ -198,25 +110,6 @@ def a_failed_proof_ends_it(_programs, folder):
     return said + ([] if "it is not so" in ran.stderr and "swim_history" in ran.stderr else [f"it says {ran.stderr!r}"])
 
 
-def a_fresh_program_plays(_programs, folder):
-    copy = Copy(folder).with_program()
-    ran = copy.run("tests/support/play", "examples/first.swim")
-    said = unlike("what is written", ("a proved program\n", "", 0), (ran.stdout, ran.stderr, ran.returncode))
-    return said + unlike("what rt is asked for", [], copy.calls())
-
-
-def sources_play_where_no_program_is_fresh(_programs, folder):
-    """One that is missing, and one that is older. It is said that what ran isn't proved, and how it is."""
-    copy, said = Copy(folder), []
-    for make in (lambda: None, lambda: copy.with_program().touch("crates/swim_wire/src/lib.rt")):
-        make()
-        ran = copy.run("tests/support/play", "examples/first.swim")
-        said += unlike("what is written", ("sources\n", 0), (ran.stdout, ran.returncode))
-        said += unlike("what rt is asked for", [("swimsim", "try --")], copy.calls())
-        said += [f"standard error has no `{it}`" for it in ("not proved", "make build") if it not in ran.stderr]
-    return said
-
-
 def a_change_is_checked_with_all_above_it(_programs, folder):
     """All crates at first, then none, and then the changed one and those that stand on it."""
     copy = Copy(folder)
@@ -243,21 +136,6 @@ def a_failed_check_fails_all_above_it(_programs, folder):
     status, last, order = copy.check()
     wanted = 0, f"{WITH_LIFE} passed, 0 failed", {"swim_life", *above}
     return said + unlike("the next end", wanted, (status, last, set(order)))
-
-
-def short_parts_take_what_the_check_built(_programs, folder):
-    """Where no program lies there at first, each part is given the one that the check made. The parts are stand-ins."""
-    copy = Copy(folder)
-    parts = ["swimd/run", "swimsim/run", "swimsim/pictures", "tools/layout", "tools/contracts"]
-    for path in ("all", *parts):
-        os.makedirs(os.path.dirname(f"{copy.top}/tests/{path}"), exist_ok=True)
-        shutil.copy2(f"{TOP}/tests/{path}", f"{copy.top}/tests/{path}")
-    for path in parts:
-        with open(f"{copy.top}/tests/{path}", "w", encoding="utf-8") as file:
-            file.write(STAND_IN_PART)
-    ran = copy.run("tests/all", "--short")
-    last = f"{len(copy.crates.below) + len(parts)} passed, 0 failed"
-    return unlike("the end", (0, last), (ran.returncode, ran.stdout.splitlines()[-1]))
 
 
 def crates_are_checked_beside_one_another(_programs, folder):
@@ -303,14 +181,6 @@ def two_build_the_reference_at_a_time(_programs, folder):
     return said + unlike("what lies there", ["reference"], os.listdir(f"{copy.top}/tests/reference/out"))
 
 
-def no_edit_is_tried_for_who_is_gone(_programs, _folder):
-    """A run names the crates that it proved, and a line `.` last. If it is killed, its names just end."""
-    words = {"cwd": TOP, "input": "", "capture_output": True, "text": True, "timeout": SECONDS}
-    ran = subprocess.run(["tests/edits/run", "--as-named"], **words)
-    last = (ran.stdout.splitlines() or [""])[-1]
-    return unlike("the end", (1, "0 passed, 1 failed"), (ran.returncode, last))
-
-
 BUILDING = [
     a_fresh_program_is_taken,
     another_program_s_sources_make_none_older,
@@ -318,12 +188,8 @@ BUILDING = [
     what_was_built_anew_is_fresh,
     crates_are_proved_one_by_one,
     a_failed_proof_ends_it,
-    a_fresh_program_plays,
-    sources_play_where_no_program_is_fresh,
     a_change_is_checked_with_all_above_it,
     a_failed_check_fails_all_above_it,
-    short_parts_take_what_the_check_built,
     crates_are_checked_beside_one_another,
     two_build_the_reference_at_a_time,
-    no_edit_is_tried_for_who_is_gone,
 ]

@@ -1,4 +1,5 @@
 pub mod CauseLines
+pub mod HiddenDigits
 pub mod KeyViews
 pub mod LaterSettings
 pub mod Views

@@ -12,6 +12,7 @@ use Rattle.swim_config.specs.declared.keys.ValueForm.TheVariants.{Number, Peer, 
 use Rattle.swim_config.specs.declared.keys.ConfigKey.{ConfigKey}
 use Rattle.swim_config.specs.declared.keys.ConfigKey.TheVariants as keys
 use Rattle.swim_config.specs.Configuration.{is_printing}
+use Rattle.swim_config.specs.Hiding.{hides}
 use Rattle.swim_config.specs.Keys.{form_of, about_of}
 
 -- ---- lines
@@ -34,10 +35,17 @@ pub record AreIndented (text : List ℕ) : Type 0 where
   pub printing : are_printing lines ≡ true
   pub is : text ≡ indented_lines lines
 
+-- the text is such lines of what was found, in none of which a key shows
+pub record AreFound (text : List ℕ) : Type 0 where
+  pub lines : List (List ℕ)
+  pub printing : are_printing lines ≡ true
+  pub hiding : list_all hides lines ≡ true
+  pub is : text ≡ indented_lines lines
+
 -- such lines were written
 pub record PutsLines (old new : Option (List ℕ)) (done : Bool) : Type 0 where
   pub text : List ℕ
-  pub lines : AreIndented text
+  pub lines : AreFound text
   pub puts : Puts old new text done
 
 -- ---- what was expected
@@ -84,10 +92,10 @@ expected_text faults.NoMemory = []
 
 -- ---- the whole
 
--- the text is what was expected, and then lines that tell what stood there
+-- the text is what was expected, and then lines that tell what stood there, in none of which a key shows
 pub record IsCause (fault : ConfigFault) (text : List ℕ) : Type 0 where
   pub found : List ℕ
-  pub lines : AreIndented found
+  pub lines : AreFound found
   pub is : text ≡ expected_text fault ++ found
 
 -- such a text was written

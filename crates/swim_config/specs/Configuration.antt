@@ -143,6 +143,14 @@ metrics_at control events table = do
   other ← another_than keys.Metrics control path
   another_than_any keys.Metrics events other
 
+-- the folder of the journal files, which is none of the other paths
+abbrev pub dir_at : OwnPlace → Members → Result (Option (List ℕ)) ConfigFault
+dir_at place table = do
+  path ← path_if keys.JournalDir table
+  other ← another_than keys.JournalDir place.control path
+  another ← another_than_any keys.JournalDir place.events other
+  another_than_any keys.JournalDir place.metrics another
+
 -- the 32 bytes that 64 hexadecimal digits spell
 abbrev pub seed_at : Members → Result (List ℕ) ConfigFault
 seed_at table = do
@@ -224,9 +232,9 @@ version_in table = do
   Ok (version_of wire)
 
 -- where each life's journal is written to a file
-unfoldable pub files_in : Members → Result JournalFiles ConfigFault
-files_in table = do
-  dir ← path_if keys.JournalDir table
+unfoldable pub files_in : OwnPlace → Members → Result JournalFiles ConfigFault
+files_in place table = do
+  dir ← dir_at place table
   keep ← number_at keys.JournalKeep table
   Ok (record { dir = dir; keep = keep })
 
@@ -252,7 +260,7 @@ settings_in table = do
   group ← keys_at table
   fence ← fence_in table
   rejoin ← rejoin_in table
-  files ← files_in table
+  files ← files_in place table
   Ok (record {
     place = place;
     times = times;

@@ -11,7 +11,7 @@ use Rattle.std.proofs.lemmas.Str.Parse.{digit_from_value}
 use Rattle.swim_history.specs.Texts.{feed}
 use Rattle.swim_history.specs.declared.openings.OpeningFault.{OpeningFault}
 use Rattle.swim_history.specs.declared.openings.OpeningFault.TheVariants.{Relays, Timing, TooManyRows, Myself, Twice}
-use Rattle.swim_config.specs.Causes.{AreIndented, IsCause, expected_as, expected_of, expected_text, indented}
+use Rattle.swim_config.specs.Causes.{AreFound, AreIndented, IsCause, expected_as, expected_of, expected_text, indented}
 use Rattle.swim_config.specs.Causes.{indented_lines}
 use Rattle.swim_config.specs.Causes.{purpose_text, rule_text}
 use Rattle.swim_config.specs.Configuration.{is_printing}
@@ -26,7 +26,7 @@ use Rattle.swim_config.specs.declared.keys.ConfigKey.TheVariants as keys
 pub none_indented : AreIndented []
 none_indented = record { lines = []; printing = refl; is = refl }
 
-lines-append : (xs ys : List (List ℕ)) → indented_lines (xs ++ ys) ≡ indented_lines xs ++ indented_lines ys
+pub lines-append : (xs ys : List (List ℕ)) → indented_lines (xs ++ ys) ≡ indented_lines xs ++ indented_lines ys
 lines-append [] ys = refl
 lines-append (x ∷ xs) ys =
     ap (λ l. indented x ++ l) (lines-append xs ys) ∙
@@ -163,6 +163,11 @@ expected_indented faults.NoMemory = none_indented
 
 -- ---- the whole
 
+-- what was found is such lines, too
+found_indented : (text : List ℕ) → AreFound text → AreIndented text
+found_indented text found = record { lines = found.lines; printing = found.printing; is = found.is }
+
 pub cause_indented : (fault : ConfigFault) (text : List ℕ) → IsCause fault text → AreIndented text
 cause_indented fault text cause =
-    rw cause.is (both_indented (expected_text fault) cause.found (expected_indented fault) cause.lines)
+    rw cause.is
+    (both_indented (expected_text fault) cause.found (expected_indented fault) (found_indented cause.found cause.lines))

@@ -75,7 +75,8 @@ entry_of keys.Rejoin =
       about = codes "periods between knocks at failed members, 0 for none";
       begins_line = false;
     }
-entry_of keys.JournalDir = required (codes "journal_dir") Path (codes "the folder of the journal files")
+entry_of keys.JournalDir =
+    required (codes "journal_dir") Path (codes "the folder of the journal files, not the path of another key")
 entry_of keys.JournalKeep =
     record {
       name = codes "journal_keep";

@@ -3,6 +3,7 @@ pub mod Causes
 pub mod Configuration
 pub mod FaultTexts
 pub mod GroupKeys
+pub mod Hiding
 pub mod Indented
 pub mod Inputs
 pub mod Keys

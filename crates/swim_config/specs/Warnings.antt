@@ -2,7 +2,7 @@
 use Rattle.std.specs.Prelude.{ℕ, ◌+◌, ◌*◌, ◌-◌, ◌/◌, ◌^◌, min, Bool, ◌&&◌, ◌==◌, nat_lt, nat_le, List, [], ◌∷◌, ◌++◌}
 use Rattle.std.specs.Prelude.{length}
 use Rattle.std.specs.Prelude.{slice_index, if◌then◌else◌, codes, decimal}
-use Rattle.std.specs.List.{list_all}
+use Rattle.std.specs.List.{list_all, list_any}
 use Rattle.std.specs.Str.{bytes_eq}
 use Rattle.swim_wire.specs.Address.{Address, address_text}
 use Rattle.swim_history.specs.Setting.{Setting}
@@ -89,7 +89,7 @@ abbrev pub shared_addresses_text : List Row → List ℕ
 shared_addresses_text [] = []
 shared_addresses_text (row ∷ rows) = shared_address_text row rows ++ shared_addresses_text rows
 
--- ---- relays, periods and the seed
+-- ---- relays, periods, the seed and the keys
 
 -- so many are asked, and fewer of the members that are listed could relay a ping: all but the one that is probed
 abbrev pub has_few_relays : ℕ → ℕ → Bool
@@ -111,8 +111,6 @@ period_text milliseconds =
 abbrev pub is_plain : List ℕ → Bool
 is_plain bytes = list_all (λ byte. byte == slice_index bytes 0) bytes
 
--- ---- all of them
-
 abbrev pub long_period_text : ℕ → List ℕ
 long_period_text milliseconds = text_if (nat_lt 86400000 milliseconds) (period_text milliseconds)
 
@@ -120,9 +118,60 @@ abbrev pub plain_seed_text : List ℕ → List ℕ
 plain_seed_text seed =
     text_if (is_plain seed) (codes "warning: seed is one byte again and again, which anybody may guess\n")
 
--- of the period and the seed
+-- one of the keys is
+abbrev pub plain_keys_text : List (List ℕ) → List ℕ
+plain_keys_text keys =
+    text_if (list_any is_plain keys)
+    (codes "warning: a key of the group is one byte again and again, which anybody may guess\n")
+
+-- of the seed and the keys
+abbrev pub guesses_text : Config → List ℕ
+guesses_text config = plain_seed_text config.seed ++ plain_keys_text config.keys.items
+
+-- ---- waits
+
+-- how long a direct ack is waited for, in milliseconds
+abbrev pub rtt_ms : Config → ℕ
+rtt_ms config = config.opening.rtt * config.tick_ms
+
+abbrev pub short_rtt_line : ℕ → List ℕ
+short_rtt_line milliseconds =
+    codes "warning: rtt has " ++ (decimal milliseconds ++ codes " milliseconds, which is below 10\n")
+
+abbrev pub short_rtt_text : ℕ → List ℕ
+short_rtt_text milliseconds = text_if (nat_lt milliseconds 10) (short_rtt_line milliseconds)
+
+abbrev pub one_tick_line : ℕ → List ℕ
+one_tick_line tick_ms =
+    codes "warning: rtt is one tick of " ++ (decimal tick_ms ++ codes " milliseconds, which is below 20\n")
+
+-- it is waited for a short tick alone, which may begin just before or just behind the ping
+abbrev pub one_tick_text : ℕ → ℕ → List ℕ
+one_tick_text rtt tick_ms = text_if (rtt == 1 && nat_lt tick_ms 20) (one_tick_line tick_ms)
+
+abbrev pub no_relays_line : ℕ → List ℕ
+no_relays_line members =
+    codes "warning: k is 0, so that none of " ++ (decimal members ++ codes " members is asked to relay\n")
+
+abbrev pub no_relays_text : ℕ → ℕ → List ℕ
+no_relays_text relays members = text_if (relays == 0 && nat_lt 2 members) (no_relays_line members)
+
+abbrev pub ticks_and_relays_text : Config → List ℕ
+ticks_and_relays_text config =
+    one_tick_text config.opening.rtt config.tick_ms ++ no_relays_text config.opening.k (length config.opening.rows)
+
+abbrev pub waits_text : Config → List ℕ
+waits_text config = short_rtt_text (rtt_ms config) ++ ticks_and_relays_text config
+
+-- ---- all of them
+
+-- of waits, and what follows
+abbrev pub waits_and_guesses_text : Config → List ℕ
+waits_and_guesses_text config = waits_text config ++ guesses_text config
+
+-- of the period, and what follows
 abbrev pub times_text : Config → List ℕ
-times_text config = long_period_text (period_ms config) ++ plain_seed_text config.seed
+times_text config = long_period_text (period_ms config) ++ waits_and_guesses_text config
 
 -- of the relays, and what follows
 abbrev pub relays_and_times_text : Config → List ℕ

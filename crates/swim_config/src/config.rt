@@ -13,11 +13,10 @@ ghost use Rattle.swim_config.specs.Configuration.{version_in};
 use crate::config_fault::ConfigFault;
 use crate::group_keys::{GroupKeys, take_keys};
 use crate::keys::ConfigKey;
-use crate::paths::{take_events, take_metrics};
+use crate::paths::{take_dir, take_events, take_metrics};
 use crate::socket_path::SocketPath;
 use crate::values::{
-    find, take_id, take_number, take_path, take_path_if, take_peer, take_seed, take_small,
-    take_small_or,
+    find, take_id, take_number, take_path, take_peer, take_seed, take_small, take_small_or,
 };
 use swim_history::Opening;
 use swim_wire::{Id, Peer, Version};
@@ -109,7 +108,7 @@ pub struct Rejoin {
 /// The journal files.
 #[derive(Debug, Drop)]
 pub struct JournalFiles {
-    /// The folder in which they are made. `None`: none are.
+    /// The folder in which they are made; not the path of another key. `None`: none are.
     pub dir: Option<SocketPath>,
     /// How many of them stay, the newest; 0 for all.
     pub keep: u64,
@@ -227,7 +226,7 @@ pub fn take_settings(table: &Table) -> Result<Settings, ConfigFault>
     let keys = take_keys(table)?;
     let fence = take_fence(table)?;
     let rejoin = take_rejoin(table)?;
-    let files = take_files(table)?;
+    let files = take_files(table, &place)?;
     Ok(Settings {
         place,
         times,
@@ -328,10 +327,10 @@ fn take_rejoin(table: &Table) -> Result<Rejoin, ConfigFault>
 }
 
 #[tactic(auto, unfolding(crate::specs::Configuration::files_in))]
-fn take_files(table: &Table) -> Result<JournalFiles, ConfigFault>
-    ensures { result ≡ files_in (table_view table.now) }
+fn take_files(table: &Table, place: &OwnPlace) -> Result<JournalFiles, ConfigFault>
+    ensures { result ≡ files_in place.now (table_view table.now) }
 {
-    let dir = take_path_if(table, ConfigKey::JournalDir)?;
+    let dir = take_dir(table, place)?;
     let keep = take_number(table, ConfigKey::JournalKeep)?;
     Ok(JournalFiles { dir, keep })
 }

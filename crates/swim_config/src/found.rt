@@ -7,21 +7,13 @@ ghost use Rattle.swim_config.specs.Causes.{PutsLines};
 use crate::config_fault::ConfigFault;
 use crate::detail_lines::DetailLine;
 use crate::fault_places::places_of;
-use crate::hiding::{add_without_keys, has_keys, names_key};
+use crate::hiding::add_without_keys;
 use crate::keys::ConfigKey;
 use crate::statements::{StatementPlace, line_at, line_of};
 use crate::unknown_keys::{first_unknown, nearest};
 use std::alloc::Global;
 use swim_text::Sink;
 use toml::Table;
-
-/// A document of which lines are shown.
-#[derive(Clone, Copy)]
-struct Document<'a> {
-    bytes: &'a [u8],
-    /// Whether it may have keys, which aren't shown.
-    has_keys: bool,
-}
 
 /// Writes what stood there, and in which line; and answers whether the sink took it.
 pub fn put_found<W: Sink>(alloc: Global, writer: &mut W, bytes: &[u8], fault: ConfigFault) -> bool
@@ -31,22 +23,10 @@ pub fn put_found<W: Sink>(alloc: Global, writer: &mut W, bytes: &[u8], fault: Co
     if fault == ConfigFault::Size || fault == ConfigFault::NoMemory {
         return put_nothing(writer);
     }
-    let names_key = names_key(bytes);
     match toml::table_from_slice(alloc, bytes) {
-        Ok(table) => {
-            let has_keys = names_key || has_keys(alloc, &table);
-            put_found_in(alloc, writer, Document { bytes, has_keys }, &table, fault)
-        }
+        Ok(table) => put_found_in(alloc, writer, bytes, &table, fault),
         Err(error) => match error.span() {
-            Some(span) => {
-                let has_keys = names_key;
-                put_stop(
-                    writer,
-                    Document { bytes, has_keys },
-                    span.start,
-                    error.message(),
-                )
-            }
+            Some(span) => put_stop(writer, bytes, span.start, error.message()),
             None => put_nothing(writer),
         },
     }
@@ -62,16 +42,16 @@ fn put_nothing<W: Sink>(writer: &mut W) -> bool
 }
 
 /// Where a document stops being TOML, and why.
-fn put_stop<W: Sink>(writer: &mut W, document: Document<'_>, index: usize, why: &str) -> bool
+fn put_stop<W: Sink>(writer: &mut W, document: &[u8], index: usize, why: &str) -> bool
     ensures lines { PutsLines (W.written writer.old) (W.written writer.new) result }
     ensures failures { W.failures writer.new ≡ failures_if (W.failures writer.old) result }
 {
-    let number = line_at(document.bytes, index);
+    let number = line_at(document, index);
     let mut line = DetailLine::new();
     line.add(b"line ");
     line.add_number(number as u64);
     line.add(b", column ");
-    line.add_number(column_at(document.bytes, index) as u64);
+    line.add_number(column_at(document, index) as u64);
     line.add(b": ");
     line.add(why.as_bytes());
     if !line.put(writer) {
@@ -97,14 +77,14 @@ fn column_at(bytes: &[u8], index: usize) -> usize {
 fn put_found_in<W: Sink>(
     alloc: Global,
     writer: &mut W,
-    document: Document<'_>,
+    document: &[u8],
     table: &Table,
     fault: ConfigFault,
 ) -> bool
     ensures lines { PutsLines (W.written writer.old) (W.written writer.new) result }
     ensures failures { W.failures writer.new ≡ failures_if (W.failures writer.old) result }
 {
-    if !put_words(alloc, writer, document, table, fault) {
+    if !put_words(alloc, writer, table, fault) {
         return false;
     }
     put_places(alloc, writer, document, table, fault)
@@ -114,7 +94,7 @@ fn put_found_in<W: Sink>(
 fn put_places<W: Sink>(
     alloc: Global,
     writer: &mut W,
-    document: Document<'_>,
+    document: &[u8],
     table: &Table,
     fault: ConfigFault,
 ) -> bool
@@ -132,7 +112,7 @@ fn put_places<W: Sink>(
 fn put_both<W: Sink>(
     alloc: Global,
     writer: &mut W,
-    document: Document<'_>,
+    document: &[u8],
     places: [Option<StatementPlace<'static>>; 2],
 ) -> bool
     ensures lines { PutsLines (W.written writer.old) (W.written writer.new) result }
@@ -146,13 +126,7 @@ fn put_both<W: Sink>(
 }
 
 /// What no line of the document tells.
-fn put_words<W: Sink>(
-    alloc: Global,
-    writer: &mut W,
-    document: Document<'_>,
-    table: &Table,
-    fault: ConfigFault,
-) -> bool
+fn put_words<W: Sink>(alloc: Global, writer: &mut W, table: &Table, fault: ConfigFault) -> bool
     ensures lines { PutsLines (W.written writer.old) (W.written writer.new) result }
     ensures failures { W.failures writer.new ≡ failures_if (W.failures writer.old) result }
 {
@@ -164,8 +138,10 @@ fn put_words<W: Sink>(
                 return put_nothing(writer);
             };
             line.add(b"found: ");
-            add_text(&mut line, document, unknown.name.as_bytes());
-            if let Some(key) = nearest(alloc, unknown.name, unknown.known) {
+            add_without_keys(&mut line, unknown.name.as_bytes());
+            if unknown.belongs_above() {
+                line.add(b"; it stands below [[member]]: move it up");
+            } else if let Some(key) = nearest(alloc, unknown.name, unknown.known) {
                 line.add(b"; the nearest known key: ");
                 line.add(key.name().as_bytes());
             }
@@ -179,13 +155,13 @@ fn put_words<W: Sink>(
 fn put_place<W: Sink>(
     alloc: Global,
     writer: &mut W,
-    document: Document<'_>,
+    document: &[u8],
     place: Option<StatementPlace<'_>>,
 ) -> bool
     ensures lines { PutsLines (W.written writer.old) (W.written writer.new) result }
     ensures failures { W.failures writer.new ≡ failures_if (W.failures writer.old) result }
 {
-    let Ok(text) = std::str::from_utf8(document.bytes) else {
+    let Ok(text) = std::str::from_utf8(document) else {
         return put_nothing(writer);
     };
     match place.and_then(|place| nearest_line(alloc, text, place)) {
@@ -209,7 +185,7 @@ fn nearest_line(alloc: Global, text: &str, place: StatementPlace<'_>) -> Option<
 }
 
 /// A line of a document, with its number.
-fn put_line<W: Sink>(writer: &mut W, document: Document<'_>, number: usize) -> bool
+fn put_line<W: Sink>(writer: &mut W, document: &[u8], number: usize) -> bool
     ensures lines { PutsLines (W.written writer.old) (W.written writer.new) result }
     ensures failures { W.failures writer.new ≡ failures_if (W.failures writer.old) result }
 {
@@ -217,22 +193,9 @@ fn put_line<W: Sink>(writer: &mut W, document: Document<'_>, number: usize) -> b
     line.add(b"line ");
     line.add_number(number as u64);
     line.add(b": ");
-    let mut lines = document.bytes.split(|byte| *byte == b'\n');
+    let mut lines = document.split(|byte| *byte == b'\n');
     if let Some(text) = lines.nth(number.saturating_sub(1)) {
-        add_text(
-            &mut line,
-            document,
-            text.strip_suffix(b"\r").unwrap_or(text),
-        );
+        add_without_keys(&mut line, text.strip_suffix(b"\r").unwrap_or(text));
     }
     line.put(writer)
-}
-
-/// Adds what stands in a document.
-fn add_text(line: &mut DetailLine, document: Document<'_>, text: &[u8]) {
-    if document.has_keys {
-        add_without_keys(line, text);
-    } else {
-        line.add(text);
-    }
 }

@@ -1,50 +1,15 @@
-//! What isn't shown of a document that has keys: whoever reads a fault is to learn none of them.
+//! Which parts of a line aren't shown: whoever reads a fault is to learn no key, and no seed.
 
 ghost use Rattle.std.specs.Prelude.{◌≡◌};
 ghost use Rattle.swim_config.specs.GroupKeys.{may_be_key};
 
 use crate::detail_lines::DetailLine;
-use crate::keys::{ConfigKey, TOP_KEYS};
-use crate::unknown_keys::{Unknown, first_unknown, nearest};
-use crate::values::find;
-use std::alloc::Global;
-use toml::Table;
 
 /// From how many hexadecimal digits on a part of a line isn't shown. A key has 64 of them.
 const HIDDEN_DIGITS: usize = 32;
 
-/// Whether a table may have keys: it has the key `keys`, or an unknown one that was to be it.
-pub fn has_keys(alloc: Global, table: &Table) -> bool {
-    if find(table, ConfigKey::Keys).is_some() {
-        return true;
-    }
-    match first_unknown(table) {
-        Some(unknown) => is_like_keys(alloc, unknown),
-        None => false,
-    }
-}
-
-/// Whether an unknown key is nearest to `keys`. It may be where memory is refused.
-fn is_like_keys(alloc: Global, unknown: Unknown<'_>) -> bool {
-    match nearest(alloc, unknown.name, &TOP_KEYS) {
-        Some(key) => key == ConfigKey::Keys,
-        None => true,
-    }
-}
-
-/// Whether a document names a key in any way: `key` stands in a line, in front of a `#`, in letters of either case.
-pub fn names_key(bytes: &[u8]) -> bool {
-    bytes.split(|byte| *byte == b'\n').any(is_key_line)
-}
-
-fn is_key_line(line: &[u8]) -> bool {
-    let statement = line.split(|byte| *byte == b'#').next().unwrap_or(line);
-    statement
-        .windows(3)
-        .any(|word| word.eq_ignore_ascii_case(b"key"))
-}
-
-/// Adds a line of a document, with `..` for each part that may be a key.
+/// Adds a line of a document, or a part of one, with `..` for each part that may be a key: between marks, with many
+/// hexadecimal digits, whatever stands among these. Digits in a row are hidden in each line (`DetailLine`).
 pub fn add_without_keys(line: &mut DetailLine, text: &[u8]) {
     for part in text.split_inclusive(|byte| is_mark(*byte)) {
         add_part(line, part);

@@ -219,7 +219,7 @@ impl ConfigKey {
             ConfigKey::JournalDir => required(
                 "journal_dir",
                 ValueForm::Path,
-                "the folder of the journal files",
+                "the folder of the journal files, not the path of another key",
             ),
             ConfigKey::JournalKeep => KeyEntry {
                 name: "journal_keep",

@@ -2,8 +2,9 @@
 
 ghost use Rattle.std.specs.Prelude.{◌≡◌};
 ghost use Rattle.toml.specs.View.{table_view};
-ghost use Rattle.swim_config.specs.Configuration.{another_than, another_than_any, events_at, metrics_at};
+ghost use Rattle.swim_config.specs.Configuration.{another_than, another_than_any, dir_at, events_at, metrics_at};
 
+use crate::config::OwnPlace;
 use crate::config_fault::ConfigFault;
 use crate::keys::ConfigKey;
 use crate::socket_path::SocketPath;
@@ -32,6 +33,16 @@ pub(crate) fn take_metrics(
     let path = take_path_if(table, ConfigKey::Metrics)?;
     let path = another_than(ConfigKey::Metrics, control, path)?;
     another_than_any(ConfigKey::Metrics, events, path)
+}
+
+/// The folder of the journal files, if it is given.
+pub(crate) fn take_dir(table: &Table, place: &OwnPlace) -> Result<Option<SocketPath>, ConfigFault>
+    ensures { result ≡ dir_at place.now (table_view table.now) }
+{
+    let path = take_path_if(table, ConfigKey::JournalDir)?;
+    let path = another_than(ConfigKey::JournalDir, &place.control, path)?;
+    let path = another_than_any(ConfigKey::JournalDir, &place.events, path)?;
+    another_than_any(ConfigKey::JournalDir, &place.metrics, path)
 }
 
 /// The path of this key, where it isn't the other one.

@@ -14,6 +14,14 @@ pub struct Unknown<'a> {
     pub known: &'static [ConfigKey],
 }
 
+impl Unknown<'_> {
+    /// Whether it stands in a member and is a key of the whole.
+    pub fn belongs_above(&self) -> bool {
+        matches!(self.place, StatementPlace::InMember(_, _))
+            && TOP_KEYS.iter().any(|key| key.name() == self.name)
+    }
+}
+
 /// The first unknown key of a table, or else of its first member that has one.
 pub fn first_unknown(table: &Table) -> Option<Unknown<'_>> {
     if let Some(name) = unknown_in(table, &TOP_KEYS) {

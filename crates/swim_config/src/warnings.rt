@@ -4,16 +4,19 @@ ghost use Rattle.std.specs.Prelude.{◌≡◌, length};
 ghost use Rattle.swim_text.specs.Streams.{Puts, failures_if};
 ghost use Rattle.swim_config.specs.Warnings.{addresses_and_more_text, few_relays_text, flood_entries, flood_text};
 ghost use Rattle.swim_config.specs.Warnings.{floods_and_more_text};
-ghost use Rattle.swim_config.specs.Warnings.{floods_text, is_plain, is_same_address, rounds_ms, short_for_a_flood_text};
+ghost use Rattle.swim_config.specs.Warnings.{floods_text, is_same_address, rounds_ms, short_for_a_flood_text};
 ghost use Rattle.swim_config.specs.Warnings.{journal_text, long_period_text, own_address_text, own_addresses_text};
 ghost use Rattle.swim_config.specs.Warnings.{own_line};
-ghost use Rattle.swim_config.specs.Warnings.{period_ms, period_text, plain_seed_text, relays_and_times_text};
+ghost use Rattle.swim_config.specs.Warnings.{period_ms, period_text, relays_and_times_text};
 ghost use Rattle.swim_config.specs.Warnings.{relays_text};
 ghost use Rattle.swim_config.specs.Warnings.{shared_address_text, shared_addresses_text, shared_and_more_text};
 ghost use Rattle.swim_config.specs.Warnings.{shared_line};
-ghost use Rattle.swim_config.specs.Warnings.{short_journal_text, three_rounds, times_text, warnings_text};
+ghost use Rattle.swim_config.specs.Warnings.{short_journal_text, three_rounds, times_text, waits_and_guesses_text};
+ghost use Rattle.swim_config.specs.Warnings.{warnings_text};
 
 use crate::config::Config;
+use crate::guesses::put_guesses;
+use crate::waits::put_waits;
 use swim_history::{Opening, Row};
 use swim_text::Sink;
 use swim_wire::{Id, Peer, Piece, put_pieces};
@@ -85,7 +88,18 @@ fn put_times<W: Sink>(writer: &mut W, config: &Config) -> bool
     if !put_period(writer, config) {
         return false;
     }
-    put_seed(writer, &config.seed)
+    put_waits_and_guesses(writer, config)
+}
+
+/// That an ack is hardly waited for, and what follows.
+fn put_waits_and_guesses<W: Sink>(writer: &mut W, config: &Config) -> bool
+    ensures bytes { Puts (W.written writer.old) (W.written writer.new) (waits_and_guesses_text config.now) result }
+    ensures failures { W.failures writer.new ≡ failures_if (W.failures writer.old) result }
+{
+    if !put_waits(writer, config) {
+        return false;
+    }
+    put_guesses(writer, config)
 }
 
 /// That the journal is shorter than three rounds.
@@ -350,24 +364,4 @@ fn put_period_line<W: Sink>(writer: &mut W, milliseconds: u64) -> bool
         Piece::Text(b" milliseconds, which is beyond a day\n"),
     ];
     put_pieces(writer, &pieces)
-}
-
-/// That a seed is one byte again and again.
-fn put_seed<W: Sink>(writer: &mut W, seed: &[u8; 32]) -> bool
-    ensures bytes { Puts (W.written writer.old) (W.written writer.new) (plain_seed_text seed.now) result }
-    ensures failures { W.failures writer.new ≡ failures_if (W.failures writer.old) result }
-{
-    if is_plain(seed) {
-        writer.put(b"warning: seed is one byte again and again, which anybody may guess\n")
-    } else {
-        writer.put(b"")
-    }
-}
-
-/// Whether all bytes are the first one.
-fn is_plain(seed: &[u8; 32]) -> bool
-    ensures { result ≡ is_plain seed.now }
-{
-    let first = seed[0];
-    seed.iter().all(|byte| *byte == first)
 }

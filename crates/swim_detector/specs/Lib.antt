@@ -1,3 +1,4 @@
 pub mod Recording
 pub mod Mirrors
 pub mod OneRun
+pub mod Faults

@@ -2,6 +2,7 @@
 
 ghost use Rattle.std.specs.Prelude.{◌≡◌, ◌↔◌, ◌<◌, ◌≤◌, ◌∷◌, [], length, Err, IfOk, IsOk, OnOk, OnErr};
 ghost use Rattle.swim_history.specs.Changes.{table};
+ghost use Rattle.swim_detector.specs.Faults.{apply_number};
 ghost use Rattle.swim_detector.specs.Recording.{IsKept, IsLatest, Records, RecordsCall, IsChangeOf};
 ghost use Rattle.swim_detector.specs.Mirrors.{entry_of, round_entry};
 ghost use Rattle.swim_history.specs.Run.{Continues};
@@ -22,6 +23,18 @@ pub enum ApplyFault {
     /// Memory for one more entry was refused.
     #[error("memory was refused")]
     NoMemory,
+}
+
+impl ApplyFault {
+    /// The number of this fault, from 1 on in the order in which they are looked at.
+    pub fn number(self) -> u8
+        ensures { result ≡ apply_number self }
+    {
+        match self {
+            ApplyFault::JournalFull => 1,
+            ApplyFault::NoMemory => 2,
+        }
+    }
 }
 
 /// The sequential detector, which keeps the journal of its calls (sections 3.1 and 4.3 of the SWIM paper).

@@ -200,20 +200,20 @@ telling_sent lives sent count w is = record {
   stream = sent_streams is.first is.texts sent count w is.stream;
 }
 
-told_turn : (lives : List Lived) (old new : AtGuest) (offer : Offer) (goes_on : Bool) → IsTurn old offer new goes_on →
-    IsGuestTold lives old → IsGuestTold lives new
-told_turn lives old new (Took count) goes_on turn is = (
+told_turn : (time : ℕ) (lives : List Lived) (old new : AtGuest) (offer : Offer) (goes_on : Bool) →
+    IsTurn time old offer new goes_on → IsGuestTold lives old → IsGuestTold lives new
+told_turn time lives old new (Took count) goes_on turn is = (
   is.0 ++ take count old.watcher.pending,
   taken_more old.taken new.taken is.0 (take count old.watcher.pending) is.1 turn.takes.1,
   subst (λ (w : AtWatcher). IsTellingOver lives (is.0 ++ take count old.watcher.pending) w) (sym turn.watcher)
       (telling_sent lives is.0 count old.watcher is.2),
 )
-told_turn lives old new Full goes_on turn is = (
+told_turn time lives old new Full goes_on turn is = (
   is.0,
   taken_none old.taken new.taken is.0 is.1 turn.takes,
   subst (λ (w : AtWatcher). IsTellingOver lives is.0 w) (sym turn.watcher) is.2,
 )
-told_turn lives old new Gone goes_on turn is = (
+told_turn time lives old new Gone goes_on turn is = (
   is.0,
   taken_none old.taken new.taken is.0 is.1 turn.takes,
   subst (λ (w : AtWatcher). IsTellingOver lives is.0 w) (sym turn.watcher) is.2,
@@ -226,12 +226,13 @@ told_kept lives true g rest is are = (is, are)
 told_kept lives false g rest is are = are
 
 -- all who watch, as bytes are sent
-pub told_sent : (lives : List Lived) (old new : List AtGuest) → AreSent old new → AreTold lives old → AreTold lives new
-told_sent lives [] new sent are = subst (λ (l : List AtGuest). AreTold lives l) (sym sent) tt
-told_sent lives (first ∷ others) new sent are =
+pub told_sent : (time : ℕ) (lives : List Lived) (old new : List AtGuest) → AreSent time old new → AreTold lives old →
+    AreTold lives new
+told_sent time lives [] new sent are = subst (λ (l : List AtGuest). AreTold lives l) (sym sent) tt
+told_sent time lives (first ∷ others) new sent are =
     subst (λ (l : List AtGuest). AreTold lives l) (sym sent.4.2)
-    (told_kept lives sent.2 sent.1 sent.4.0 (told_turn lives first sent.1 sent.0 sent.2 sent.3 are.0)
-    (told_sent lives others sent.4.0 sent.4.1 are.1))
+    (told_kept lives sent.2 sent.1 sent.4.0 (told_turn time lives first sent.1 sent.0 sent.2 sent.3 are.0)
+    (told_sent time lives others sent.4.0 sent.4.1 are.1))
 
 -- ---- what who keeps up was told
 

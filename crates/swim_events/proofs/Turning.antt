@@ -35,50 +35,51 @@ one_changed {A} f old now new i within is changed =
     ∙ append_assoc (drop (suc i) old) (map f (take i old)) (f here.x ∷ [])
     ∙ ap (λ l. drop (suc i) old ++ l) (map_one f (take i old) here.x ∙ ap (map f) (sym here.front)))
 
-sent_more : (old done : List AtGuest) (first : AtGuest) (offer : Offer) (then_so : AtGuest) (goes_on : Bool) →
-    AreSent old done →
-    IsTurn first offer then_so goes_on → AreSent (old ++ first ∷ []) (done ++ kept_if goes_on then_so)
-sent_more [] done first offer then_so goes_on are turn = (
+sent_more : (time : ℕ) (old done : List AtGuest) (first : AtGuest) (offer : Offer) (then_so : AtGuest)
+    (goes_on : Bool) → AreSent time old done →
+    IsTurn time first offer then_so goes_on → AreSent time (old ++ first ∷ []) (done ++ kept_if goes_on then_so)
+sent_more time [] done first offer then_so goes_on are turn = (
   offer,
   then_so,
   goes_on,
   turn,
   ([], refl, ap (λ l. l ++ kept_if goes_on then_so) are ∙ sym (append-nil (kept_if goes_on then_so))),
 )
-sent_more (g ∷ old) done first offer then_so goes_on are turn = (
+sent_more time (g ∷ old) done first offer then_so goes_on are turn = (
   are.0,
   are.1,
   are.2,
   are.3,
   (
     are.4.0 ++ kept_if goes_on then_so,
-    sent_more old are.4.0 first offer then_so goes_on are.4.1 turn,
+    sent_more time old are.4.0 first offer then_so goes_on are.4.1 turn,
     ap (λ l. l ++ kept_if goes_on then_so) are.4.2 ∙
         append_assoc (kept_if are.2 are.1) are.4.0 (kept_if goes_on then_so),
   ),
 )
 
 -- so many had their turn
-pub record AreSentSoFar (old now : List AtGuest) (i : ℕ) : Type 0 where
+pub record AreSentSoFar (time : ℕ) (old now : List AtGuest) (i : ℕ) : Type 0 where
   pub done : List AtGuest
-  pub sent : AreSent (take i old) done
+  pub sent : AreSent time (take i old) done
   pub are : now ≡ drop i old ++ done
 
 -- one more had its turn
-pub one_sent : (old now new : List AtGuest) (i : ℕ) → i < length old → AreSentSoFar old now i →
-    ((first : AtGuest) (others : List AtGuest) → now ≡ first ∷ others → TakesTurn first others new) →
-    AreSentSoFar old new (i + 1)
-one_sent old now new i within so turns =
+pub one_sent : (time : ℕ) (old now new : List AtGuest) (i : ℕ) → i < length old → AreSentSoFar time old now i →
+    ((first : AtGuest) (others : List AtGuest) → now ≡ first ∷ others → TakesTurn time first others new) →
+    AreSentSoFar time old new (i + 1)
+one_sent time old now new i within so turns =
     let e : suc i ≡ i + 1 = omega arith in
     let here = at_place old i within in
     let there : now ≡ here.x ∷ (drop (suc i) old ++ so.done) = so.are ∙ ap (λ l. l ++ so.done) here.rest in
     let turn = turns here.x (drop (suc i) old ++ so.done) there in
-    subst (λ n. AreSentSoFar old new n) e (record {
+    subst (λ n. AreSentSoFar time old new n) e (record {
       done = so.done ++ kept_if turn.goes_on turn.then_so;
-      sent = subst (λ (l : List AtGuest). AreSent l (so.done ++ kept_if turn.goes_on turn.then_so)) (sym here.front)
-          (sent_more (take i old) so.done here.x turn.offer turn.then_so turn.goes_on so.sent turn.turn);
+      sent = subst (λ (l : List AtGuest). AreSent time l (so.done ++ kept_if turn.goes_on turn.then_so))
+          (sym here.front)
+          (sent_more time (take i old) so.done here.x turn.offer turn.then_so turn.goes_on so.sent turn.turn);
       are = turn.are ∙ append_assoc (drop (suc i) old) so.done (kept_if turn.goes_on turn.then_so);
     })
 
-pub none_sent : (old : List AtGuest) → AreSentSoFar old old 0
-none_sent old = record { done = []; sent = refl; are = sym (append-nil old) }
+pub none_sent : (time : ℕ) (old : List AtGuest) → AreSentSoFar time old old 0
+none_sent time old = record { done = []; sent = refl; are = sym (append-nil old) }

@@ -119,20 +119,21 @@ impl<E: Outlet + Drop> Gallery<E> {
         }
     }
 
-    /// Offers to each all that is to be sent to it. Who takes nothing more leaves, and who was told of its loss.
-    pub fn send(&mut self)
-        ensures exact { AreSent self.old self.new }
+    /// Offers to each all that is to be sent to it, at this time in milliseconds. Who takes nothing more leaves, who was
+    /// told of its loss, and to whom nothing of what waits could be sent for ten seconds.
+    pub fn send(&mut self, time: u64)
+        ensures exact { AreSent time self.old self.new }
         ensures told { (lives : List Lived) → AreTold lives self.old → AreTold lives self.new }
     {
-        self.turn_each()
+        self.turn_each(time)
     }
 
     /// The turn of each.
-    fn turn_each(&mut self)
-        ensures { AreSent self.old self.new }
+    fn turn_each(&mut self, time: u64)
+        ensures { AreSent time self.old self.new }
     {
         for _guest in 0..self.len() {
-            self.turn_first();
+            self.turn_first(time);
         }
     }
 
@@ -155,11 +156,12 @@ impl<E: Outlet + Drop> Gallery<E> {
     }
 
     /// The turn of the first, who is the last then, or leaves.
-    fn turn_first(&mut self)
-        ensures { (first : AtGuest) (others : List AtGuest) → self.old ≡ first ∷ others → TakesTurn first others self.new }
+    fn turn_first(&mut self, time: u64)
+        ensures { (first : AtGuest) (others : List AtGuest) → self.old ≡ first ∷ others →
+            TakesTurn time first others self.new }
     {
         if let Some(mut first) = self.queue.pop_front() {
-            if first.turn() {
+            if first.turn(time) {
                 self.queue.push_back_reserved(first);
             }
         }

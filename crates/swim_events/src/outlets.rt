@@ -32,9 +32,12 @@ pub trait Outlet {
         ensures offered { Grows (offers self.old) (offers self.new) (result ∷ []) };
 }
 
-/// Where those come in who watch.
+/// Where those come in who watch, and the clock by which they are given up.
 pub trait Entrance<E: Outlet> {
     /// The outlet of the next who has come, if one has.
     fn next(&mut self) -> Option<E>
         ensures { IfSome result (λ outlet. IsUntaken (E.taken outlet)) };
+
+    /// The time now, in milliseconds since some moment.
+    fn now(&mut self) -> u64;
 }

@@ -119,10 +119,11 @@ fn tells_the_table_and_then_each_change(rt: HostRuntime) -> Result<(), Fail> {
     Ok(())
 }
 
-// Takes all, but nothing while it is slow.
+// Takes all, but nothing while it is slow, and a byte each time where it trickles.
 #[derive(Drop)]
 enum Pipe {
     Quick,
+    Trickling,
     Slow(u32),
     Gone,
 }
@@ -135,6 +136,7 @@ impl Outlet for Pipe {
     fn offer(&mut self, bytes: &[u8]) -> Offer {
         match self {
             Pipe::Quick => Offer::Took(bytes.len()),
+            Pipe::Trickling => Offer::Took(bytes.len().min(1)),
             Pipe::Gone => Offer::Gone,
             Pipe::Slow(0) => Offer::Took(bytes.len()),
             Pipe::Slow(left) => {
@@ -166,15 +168,43 @@ fn who_is_slow_leaves_and_the_others_stay(rt: HostRuntime) {
     let event = Event::Changed(Change::Gone(id(4_000_000_000)));
     for _ in 0..4096 {
         gallery.tell(&event);
-        gallery.send();
+        gallery.send(0);
     }
     assert_same(&rt, &gallery.len(), &3);
-    gallery.send();
+    gallery.send(0);
     assert_same(&rt, &gallery.len(), &3);
-    gallery.send();
+    gallery.send(0);
     assert_same(&rt, &gallery.len(), &2);
     gallery.clear();
     assert_same(&rt, &gallery.len(), &0);
+}
+
+// Three are told a table of two bytes: the first takes none of them, the second one at a time, and the third all.
+#[test]
+fn who_takes_nothing_for_ten_seconds_leaves(rt: HostRuntime) {
+    let mut gallery = Gallery::new(rt.alloc());
+    for pipe in [Pipe::Slow(u32::MAX), Pipe::Trickling, Pipe::Quick] {
+        assert!(rt; gallery.admit(rt.alloc(), &[], pipe));
+    }
+    for time in [5, 9_000, 10_004] {
+        gallery.send(time);
+        assert_same(&rt, &gallery.len(), &3);
+    }
+    gallery.send(10_005);
+    assert_same(&rt, &gallery.len(), &2);
+    gallery.send(100_000);
+    assert_same(&rt, &gallery.len(), &2);
+}
+
+// What it takes at last ends the wait: the next one is ten seconds long again.
+#[test]
+fn who_takes_something_again_stays(rt: HostRuntime) {
+    let mut gallery = Gallery::new(rt.alloc());
+    assert!(rt; gallery.admit(rt.alloc(), &[], Pipe::Slow(2)));
+    for time in [0, 9_999, 10_000, 20_000] {
+        gallery.send(time);
+        assert_same(&rt, &gallery.len(), &1);
+    }
 }
 
 #[test]
@@ -190,7 +220,7 @@ fn tells_entries_to_all_of_them(rt: HostRuntime) -> Result<(), Fail> {
     let judged = start(Some(id(3)));
     let change = tell_next(&mut watching, &mut gallery, &Call::Tick, &judged);
     assert_same(&rt, &change, &Some(Change::Failed(id(3), 7)));
-    gallery.send();
+    gallery.send(0);
     assert_same(&rt, &gallery.len(), &63);
     Ok(())
 }

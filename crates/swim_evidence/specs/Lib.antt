@@ -3,3 +3,4 @@ pub mod Trail
 pub mod Confirming
 pub mod Verdicts
 pub mod Following
+pub mod Sequences

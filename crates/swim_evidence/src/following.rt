@@ -48,7 +48,9 @@ pub enum Break {
     Life,
 }
 
-/// In what an opening, and what stands beside it, isn't what a life left; `None` where it is.
+/// In what an opening, and what stands beside it, isn't that of the life which follows one that left this: the opening
+/// is what was left, the limit is the same, and where both tell from what they draw, the seed is the same and the life
+/// the next. `None` where it is.
 pub fn first_break(
     left: &Opening,
     before: &Heading,
@@ -63,7 +65,7 @@ pub fn first_break(
     }
 }
 
-/// The same of the opening alone.
+/// In what an opening isn't what a life left.
 #[tactic(auto, using(crate::proofs::Settings::same_setting))]
 fn opening_break(left: &Opening, opening: &Opening) -> Option<Break>
     ensures { (result ≡ None) ↔ (opening.now ≡ left.now) }

@@ -1,5 +1,8 @@
 -- What the receiver learns of members that come back, step by step.
-use Rattle.std.proofs.Common.{◌≡◌, ℕ, List, [], ◌∷◌, ◌++◌, refl, sym, ap, ◌∙◌, append_assoc}
+use Rattle.std.proofs.Common.{◌≡◌, ℕ, suc, ◌+◌, ◌<◌, List, [], ◌∷◌, ◌++◌, length, take, refl, sym, ap, ◌∙◌, subst}
+use Rattle.std.proofs.Common.{append_assoc, arith}
+use Rattle.std.specs.List.{slice_index_or}
+use Rattle.std.proofs.Math.Seq.{take-suc}
 use Rattle.std.proofs.lemmas.List.Elements.{All-nil, All-cons, All-append}
 use Rattle.swim_history.specs.declared.rows.Change.{Change}
 use Rattle.swim_history.specs.declared.rows.Row.{Row}
@@ -9,7 +12,8 @@ use Rattle.swim_rejoin.specs.Histories.{Event, table_in}
 use Rattle.swim_rejoin.specs.Rejoiners.{Follows, Kept}
 use Rattle.swim_rejoin.specs.Histories.Event.{Knocked, Looked}
 use Rattle.swim_life.specs.declared.rejoining.Returning.{Returning}
-use Rattle.swim_life.specs.Rejoining.{IsNews, IsReturning, Learns, LearnsOn}
+use Rattle.swim_life.specs.declared.tidings.Note.{Note}
+use Rattle.swim_life.specs.Rejoining.{IsNews, IsReturning, Learns, LearnsOn, with_knocks}
 
 pub none_on : (o : Setting) (h : List Event) → LearnsOn o h h
 none_on o h = ([], refl, All-nil (IsNews o))
@@ -43,23 +47,46 @@ looked_learnt o old new rows log table told =
 
 -- ---- knocks that the ticker told of
 
-abbrev pub KnocksOn : Kept → Kept → Type 0
-KnocksOn first now =
-    (o : Setting) (h : List Event) → Follows first h →
-    (told : List Event) × LearnsOn o h told × Follows now told × (table_in told ≡ table_in h)
+-- with these knocks
+abbrev pub TellsOf : Kept → Kept → List Note → Type 0
+TellsOf first now notes = (h : List Event) → Follows first h → Follows now (with_knocks notes h)
 
-pub none_on_yet : (k : Kept) → KnocksOn k k
-none_on_yet k = λ o h follows. (h, none_on o h, follows, refl)
+pub none_told : (k : Kept) → TellsOf k k []
+none_told k = λ h follows. follows
 
-pub one_more_on : (first old new : Kept) (id number : ℕ) → KnocksOn first old →
-    ((h : List Event) → Follows old h → Follows new (Knocked id number ∷ h)) → KnocksOn first new
-one_more_on first old new id number on grows = λ o h follows.
-    let a = on o h follows in
-    let one : LearnsOn o a.0 (Knocked id number ∷ a.0) = one_on o (Knocked id number) a.0 tt in
-    (Knocked id number ∷ a.0, more_on o h a.0 (Knocked id number ∷ a.0) a.1 one, grows a.0 a.2, a.3)
+with_one_more : (notes : List Note) (note : Note) (h : List Event) →
+    with_knocks (notes ++ note ∷ []) h ≡ Knocked note.id note.number ∷ with_knocks notes h
+with_one_more [] note h = refl
+with_one_more (first ∷ notes) note h = with_one_more notes note (Knocked first.id first.number ∷ h)
 
-pub taken_learnt : (o : Setting) (old new : Returning) → KnocksOn old.rejoiner new.rejoiner →
-    new.rows.items ≡ old.rows.items → Learns o old new
-taken_learnt o old new on same = λ h is.
-    let a = on o h is.0 in
-    (a.0, a.1, (a.2, same ∙ (is.1 ∙ sym a.3)))
+pub one_more_told : (first old new : Kept) (notes : List Note) (i : ℕ) (note : Note) → i < length notes →
+    note ≡ slice_index_or notes i note → TellsOf first old (take i notes) →
+    ((h : List Event) → Follows old h → Follows new (Knocked note.id note.number ∷ h)) →
+    TellsOf first new (take (i + 1) notes)
+one_more_told first old new notes i note within at told grows = λ h follows.
+    let next : i + 1 ≡ suc i = omega arith in
+    let is : with_knocks (take (i + 1) notes) h ≡ Knocked note.id note.number ∷ with_knocks (take i notes) h =
+    ap (λ n. with_knocks (take n notes) h) next
+    ∙ (ap (λ l. with_knocks l h) (take-suc notes i note within)
+    ∙ (with_one_more (take i notes) (slice_index_or notes i note) h
+    ∙ ap (λ (x : Note). Knocked x.id x.number ∷ with_knocks (take i notes) h) (sym at))) in
+    let P : List Event → Type 0 = λ l. Follows new l in
+    subst P (sym is) (grows (with_knocks (take i notes) h) (told h follows))
+
+table_with : (notes : List Note) (h : List Event) → table_in (with_knocks notes h) ≡ table_in h
+table_with [] h = refl
+table_with (note ∷ notes) h = table_with notes (Knocked note.id note.number ∷ h)
+
+pub knocks_told : (old new : Returning) (notes : List Note) → TellsOf old.rejoiner new.rejoiner notes →
+    new.rows.items ≡ old.rows.items → (h : List Event) → IsReturning old h → IsReturning new (with_knocks notes h)
+knocks_told old new notes told same h is = (told h is.0, same ∙ (is.1 ∙ sym (table_with notes h)))
+
+knocks_on : (o : Setting) (notes : List Note) (h : List Event) → LearnsOn o h (with_knocks notes h)
+knocks_on o [] h = none_on o h
+knocks_on o (note ∷ notes) h =
+    let one = Knocked note.id note.number in
+    more_on o h (one ∷ h) (with_knocks notes (one ∷ h)) (one_on o one h tt) (knocks_on o notes (one ∷ h))
+
+pub knocks_learnt : (o : Setting) (old new : Returning) (notes : List Note) →
+    ((h : List Event) → IsReturning old h → IsReturning new (with_knocks notes h)) → Learns o old new
+knocks_learnt o old new notes told = λ h is. (with_knocks notes h, knocks_on o notes h, told h is)

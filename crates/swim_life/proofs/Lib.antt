@@ -6,6 +6,7 @@ pub mod Knocked
 pub mod Learning
 pub mod LifeFiles
 pub mod Living
+pub mod Noting
 pub mod Posting
 pub mod Receiving
 pub mod Rejoined

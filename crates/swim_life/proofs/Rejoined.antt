@@ -64,10 +64,19 @@ pub message_so : {O N : Type 0} (posted : O → Option (List Posted)) (messages 
     IfOk answer (λ r. (m : Message) × IsTextOf bytes m
     × IsAnswered o old new (Hear source m) (kept r.position r.number r.call r.reply) r.news) →
     IfErr answer (λ fault. new ≡ refused fault old) → IsFinished posted answer messages post counts end after next →
-    IsMessage bytes (at_sender old boxed counts) end (at_sender new after next) (message_in answer)
+    IsMessage o bytes source (at_sender old boxed counts) end (at_sender new after next) (message_in answer)
 message_so posted messages o bytes source old new (Ok r) boxed post after counts next end ok err done =
-    subst (λ (c : Call). IsMessage bytes (at_sender old boxed counts) end (at_sender new after next) (message_by c))
-    (sym ok.2.asked) (ok.1, done.0)
+    subst (λ (c : Call). IsMessage o bytes source (at_sender old boxed counts) end (at_sender new after next)
+    (message_by c)) (sym ok.2.asked) (
+      ok.1,
+      record {
+        kept = kept r.position r.number r.call r.reply;
+        news = r.news;
+        answered = ok.2;
+        counted = count_kept posted (messages r) post after counts next done.1;
+        goes_on = done.0;
+      },
+    )
 message_so posted messages o bytes source old new (Err f) boxed post after counts next end ok err done =
     ap (λ (s : Seated). s.calls) err
 
@@ -110,7 +119,7 @@ not_joined o limit row returning old end new false joins is = (false, joins, λ 
 -- nobody is to be joined again
 pub none_joined : {O : Type 0} (o : Setting) (limit rejoin me : ℕ) (h : List Event) (bytes : List ℕ) (source : Address)
     (old : AtSender O) (heard : Option Why) (mid : AtSender O) (message : Option Message) (found : Option Row) →
-    Hears o limit bytes source old heard mid → IsMessage bytes old heard mid message → found ≡ None →
+    Hears o limit bytes source old heard mid → IsMessage o bytes source old heard mid message → found ≡ None →
     found ≡ whom rejoin me h source message → HearsAndJoins o limit rejoin me h bytes source old heard mid h
 none_joined o limit rejoin me h bytes source old heard mid message found hears is none found_is = record {
   mid = mid;
@@ -128,7 +137,7 @@ pub one_joined : {O : Type 0} (o : Setting) (limit rejoin me : ℕ) (h told : Li
     (old : AtSender O) (heard : Option Why) (mid : AtSender O) (message : Option Message) (found : Option Row)
     (row : Row)
     (end : Option Why) (new : AtSender O) → Hears o limit bytes source old heard mid →
-    IsMessage bytes old heard mid message →
+    IsMessage o bytes source old heard mid message →
     found ≡ Some row → found ≡ whom rejoin me h source message → (is_joined : Bool) →
     Joins o limit row mid end new is_joined →
     IsJoinTold row is_joined h told → HearsAndJoins o limit rejoin me h bytes source old end new told

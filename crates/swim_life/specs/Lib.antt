@@ -10,6 +10,7 @@ pub mod Gates
 pub mod Knocking
 pub mod Lives
 pub mod Notices
+pub mod Noting
 pub mod Pacing
 pub mod Places
 pub mod Posts

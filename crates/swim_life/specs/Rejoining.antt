@@ -1,9 +1,10 @@
 -- Which members the receiver of a life joins again by itself.
-use Rattle.std.specs.Prelude.{◌≡◌, ◌⊎◌, ℕ, Bool, true, false, All, List, ◌∷◌, ◌++◌, Option, Some, None, option_and_then}
+use Rattle.std.specs.Prelude.{◌≡◌, ◌⊎◌, ℕ, Bool, true, false, All, List, [], ◌∷◌, ◌++◌, Option, Some, None}
+use Rattle.std.specs.Prelude.{option_and_then}
 use Rattle.swim_wire.specs.Address.{Address}
 use Rattle.swim_wire.specs.Layout.{IsTextOf}
 use Rattle.swim_wire.specs.Messages.{Message}
-use Rattle.swim_history.specs.declared.calls.Call.TheVariants.{Join}
+use Rattle.swim_history.specs.declared.calls.Call.TheVariants.{Hear, Join}
 use Rattle.swim_history.specs.declared.rows.Change.{Change}
 use Rattle.swim_history.specs.declared.rows.Row.{Row}
 use Rattle.swim_history.specs.Changes.{table_after}
@@ -16,6 +17,7 @@ use Rattle.swim_rejoin.specs.Histories.Event.{Joined, Knocked, Looked}
 use Rattle.swim_rejoin.specs.Rejoiners.{Follows}
 use Rattle.swim_life.specs.declared.counts.Why.{Why}
 use Rattle.swim_life.specs.declared.rejoining.Returning.{Returning}
+use Rattle.swim_life.specs.declared.tidings.Note.{Note}
 use Rattle.swim_life.specs.Answers.{is_joining}
 use Rattle.swim_life.specs.Calling.{IsMade, IsRefused, Hears}
 use Rattle.swim_life.specs.Posts.{AtSender}
@@ -30,6 +32,11 @@ IsNews o (Joined id period) = ⊥
 abbrev pub LearnsOn : Setting → List Event → List Event → Type 0
 LearnsOn o h now = (more : List Event) × (now ≡ more ++ h) × All (IsNews o) more
 
+-- all that happened, and then these knocks, oldest first
+abbrev pub with_knocks : List Note → List Event → List Event
+with_knocks [] h = h
+with_knocks (note ∷ notes) h = with_knocks notes (Knocked note.id note.number ∷ h)
+
 -- what is remembered is what all that happened comes to, newest first, with the rows of the table that was last looked
 -- at
 abbrev pub IsReturning : Returning → List Event → Type 0
@@ -43,10 +50,11 @@ abbrev pub IsOfSame : Returning → Returning → Type 0
 IsOfSame old new =
     (new.rejoin ≡ old.rejoin) × (new.rejoiner.rejoin ≡ old.rejoiner.rejoin) × (new.rejoiner.me ≡ old.rejoiner.me)
 
--- the message of the datagram, where the node answered the call for it; there is none where it refused
-abbrev pub IsMessage : {O : Type 0} → List ℕ → AtSender O → Option Why → AtSender O → Option Message → Type 0
-IsMessage bytes old end new None = new.seat.calls ≡ old.seat.calls
-IsMessage bytes old end new (Some m) = IsTextOf bytes m × (end ≡ None)
+-- the message of the datagram from there, where the node answered the call for it; there is none where it refused
+abbrev pub IsMessage : {O : Type 0} → Setting → List ℕ → Address → AtSender O → Option Why → AtSender O →
+    Option Message → Type 0
+IsMessage o bytes source old end new None = new.seat.calls ≡ old.seat.calls
+IsMessage o bytes source old end new (Some m) = IsTextOf bytes m × IsMade o (Hear source m) old end new
 
 -- who is to be joined again after it, with the row that the table shows which was last looked at
 abbrev pub whom : ℕ → ℕ → List Event → Address → Option Message → Option Row
@@ -87,5 +95,5 @@ pub record HearsAndJoins {O : Type 0} (o : Setting) (limit rejoin me : ℕ) (h :
   pub heard : Option Why
   pub hears : Hears o limit bytes source old heard mid
   pub message : Option Message
-  pub is : IsMessage bytes old heard mid message
+  pub is : IsMessage o bytes source old heard mid message
   pub joins : JoinsThen o limit (whom rejoin me h source message) h mid heard end new told

@@ -136,6 +136,10 @@ fn let_in<R: Wait, D: Door + Drop>(
             faults.clear();
             Ok(false)
         }
+        Knock::Refused => {
+            faults.clear();
+            Ok(true)
+        }
         Knock::Fault => match shut_out(faults, hall.connections.len()) {
             Some(why) => Err(why),
             None => Ok(false),
@@ -143,8 +147,8 @@ fn let_in<R: Wait, D: Door + Drop>(
     }
 }
 
-/// What comes of a fault of the door while so many connections are open. Each of them has descriptors of the system, so
-/// while there are some it may be that no other is left: the fault doesn't count then, and the door is asked again.
+/// What comes of a fault of the door while so many connections are open. While there are some, operators are served, so
+/// the fault doesn't count then, and the door is asked again.
 fn shut_out(faults: &mut Faults, connections: usize) -> Option<Why>
     ensures shuts { ShutsOut connections faults.old.in_a_row result faults.new.in_a_row }
     ensures socket { IfSome result (λ why. why ≡ Why.Socket) }

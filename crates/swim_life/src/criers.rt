@@ -124,14 +124,15 @@ impl<N: GuestNaming, W: Sink + Drop, E: Outlet + Drop, Y: Reporter + Drop> Crier
         unreachable!()
     }
 
-    /// Takes in who has come to watch, and sends to each what it takes now. It waits for nobody.
+    /// Takes in who has come to watch, and sends to each what it takes now. It waits for nobody, and gives up to whom
+    /// nothing could be sent for ten seconds.
     pub(crate) fn serve<I: Entrance<E>>(&mut self, alloc: Global, entrance: &mut I) {
         for _newcomer in 0..MOST_WATCHERS {
             if !self.let_in(alloc, entrance) {
                 break;
             }
         }
-        self.send();
+        self.send(entrance.now());
     }
 
     /// The scribe, those who watch, who were told what it read, and the reporter, who heard of it.
@@ -217,8 +218,8 @@ impl<N: GuestNaming, W: Sink + Drop, E: Outlet + Drop, Y: Reporter + Drop> Crier
         true
     }
 
-    /// Sends to each who watches.
-    fn send(&mut self) {
-        self.gallery.send();
+    /// Sends to each who watches, at this time.
+    fn send(&mut self, time: u64) {
+        self.gallery.send(time);
     }
 }

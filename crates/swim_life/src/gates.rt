@@ -102,6 +102,9 @@ pub enum Knock<A: Drop, B: Drop> {
     Conn(A, B),
     /// Nobody came.
     Idle,
+    /// Somebody came and was turned away, for want of descriptors or memory. It is that one's loss, and no fault of the
+    /// door.
+    Refused,
     /// The door is out of order, for now or for good.
     Fault,
 }

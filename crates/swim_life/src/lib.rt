@@ -23,6 +23,7 @@ mod nowhere;
 mod pasts;
 mod places;
 mod posts;
+mod receptions;
 mod recording;
 mod rejoining;
 mod reporters;

@@ -87,6 +87,10 @@ impl Entrance<NoOutlet> for NoEntrance {
     fn next(&mut self) -> Option<NoOutlet> {
         None
     }
+
+    fn now(&mut self) -> u64 {
+        0
+    }
 }
 
 /// A reporter who keeps nothing.

@@ -5,16 +5,16 @@ ghost use Rattle.swim_wire.specs.Address.{Address};
 ghost use Rattle.swim_history.specs.declared.rows.Change.{Change};
 ghost use Rattle.swim_history.specs.Changes.{table_after};
 ghost use Rattle.swim_history.specs.Setting.{Setting};
-ghost use Rattle.swim_rejoin.specs.Histories.{Event, table_in};
+ghost use Rattle.swim_rejoin.specs.Histories.{Event};
 ghost use Rattle.swim_rejoin.specs.Histories.Event.{Joined};
 ghost use Rattle.swim_rejoin.specs.Rejoiners.{Follows};
 ghost use Rattle.swim_life.specs.Ends.{both};
-ghost use Rattle.swim_life.specs.Rejoining.{HearsAndJoins, IsOfSame, IsReturning, JoinsAgain, Learns, LearnsOn, whom};
+ghost use Rattle.swim_life.specs.Rejoining.{HearsAndJoins, IsOfSame, IsReturning, JoinsAgain, Learns, whom, with_knocks};
 
 use crate::counts::Why;
 use crate::gates::Post;
 use crate::senders::Sender;
-use crate::tidings::{Note, TidingsBoard};
+use crate::tidings::{Note, Tidings, TidingsBoard};
 use std::sync::Wait;
 use swim_history::{Row, Table, copy_table};
 use swim_node::{Naming, Node};
@@ -100,9 +100,19 @@ impl Returning {
     {
         if self.rejoin > 0 {
             let tidings = board.take(rt);
-            self.period = tidings.period;
-            knocked(&mut self.rejoiner, tidings.notes.as_slice());
+            self.learn(&tidings);
         }
+    }
+
+    /// Learns which period runs, and of these knocks, and of nothing else.
+    fn learn(&mut self, tidings: &Tidings)
+        ensures same { IsOfSame self.old self.new }
+        ensures period { self.new.period ≡ tidings.now.period }
+        ensures knocks { (h : List Event) → IsReturning self.old h
+            → IsReturning self.new (with_knocks tidings.now.notes.items h) }
+    {
+        self.period = tidings.period;
+        knocked(&mut self.rejoiner, tidings.notes.as_slice());
     }
 
     /// Who is to be joined again after the message from there, with its row.
@@ -142,12 +152,11 @@ fn are_same(rows: &[Row], others: &[Row]) -> bool
     true
 }
 
-/// Tells a rejoiner of knocks.
+/// Tells a rejoiner of these knocks, each once, in order.
 fn knocked(rejoiner: &mut Rejoiner, notes: &[Note])
     ensures rejoin { rejoiner.new.rejoin ≡ rejoiner.old.rejoin }
     ensures me { rejoiner.new.me ≡ rejoiner.old.me }
-    ensures follows { (o : Setting) (h : List Event) → Follows rejoiner.old h → (now : List Event) × LearnsOn o h now
-        × Follows rejoiner.new now × (table_in now ≡ table_in h) }
+    ensures follows { (h : List Event) → Follows rejoiner.old h → Follows rejoiner.new (with_knocks notes.now h) }
 {
     for note in notes {
         rejoiner.knocked(note.id, note.number);

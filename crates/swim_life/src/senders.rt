@@ -70,7 +70,7 @@ impl<N: Naming, O: Post + Drop, const SEAT: u8> Sender<N, O, SEAT> {
         source: Peer,
     ) -> (Option<Why>, Option<Message>)
         ensures hears { Hears N.opening N.limit bytes.now source self.old result.0 self.new }
-        ensures message { IsMessage bytes.now self.old result.0 self.new result.1 }
+        ensures message { IsMessage N.opening bytes.now source self.old result.0 self.new result.1 }
         ensures full { result.0 ≡ Some Why.JournalFull → 0 < self.new.seat.full }
     {
         let answer = node.hear(rt, &mut self.held.seat, bytes, source);

@@ -1,5 +1,8 @@
 //! What the ticker leaves for the receiver: that it's time to look at the member table, and its knocks.
 
+ghost use Rattle.std.specs.Prelude.{◌≡◌, [], Some};
+ghost use Rattle.swim_life.specs.Noting.{noted};
+
 use arrayvec::ArrayVec;
 use std::sync::atomic::{AtomicBool, Ordering};
 use std::sync::{Mutex, Wait};
@@ -25,19 +28,37 @@ pub(crate) struct Tidings {
 }
 
 impl Tidings {
-    fn none(period: u64) -> Tidings {
+    fn none(period: u64) -> Tidings
+        ensures period { result.period ≡ period }
+        ensures notes { result.notes.items ≡ [] }
+    {
         Tidings {
             period,
             notes: ArrayVec::new(),
         }
     }
 
-    /// A knock more. Where too many wait, it is forgotten: then its ack isn't believed.
-    fn add(&mut self, period: u64, knock: &Option<KnockPing>) {
+    /// The period that runs, and a knock more, if there is one. Where too many wait, it is forgotten: then its ack isn't
+    /// believed.
+    fn add(&mut self, period: u64, knock: &Option<KnockPing>)
+        ensures period { self.new.period ≡ period }
+        ensures notes { self.new.notes.items ≡ noted self.old.notes.items knock.now }
+    {
         self.period = period;
         if let Some(knock) = knock {
+            self.note(knock);
+        }
+    }
+
+    /// A knock more waits.
+    #[tactic(auto, using(crate::proofs::Noting::taken, crate::proofs::Noting::too_many))]
+    fn note(&mut self, knock: &KnockPing)
+        ensures period { self.new.period ≡ self.old.period }
+        ensures notes { self.new.notes.items ≡ noted self.old.notes.items (Some knock.now) }
+    {
+        if !self.notes.is_full() {
             let message = &knock.message;
-            let _is_told = self.notes.try_push(Note {
+            self.notes.push(Note {
                 id: message.target,
                 number: message.number,
             });

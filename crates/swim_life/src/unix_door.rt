@@ -1,29 +1,32 @@
 //! The door of a daemon: a Unix socket.
 
-ghost use Rattle.std.specs.Prelude.{◌≡◌, ◌↔◌, ◌⊎◌, None, IsTrue};
+ghost use Rattle.std.specs.Prelude.{None};
 
 use crate::gates::{Door, Knock};
+use crate::receptions::{Arrival, Guest, Reception};
 use crate::unix_streams::{StreamSink, StreamSource};
 use mio::unix::SourceFd;
 use mio::{Events, Interest, Poll, Token};
 use std::alloc::Global;
-use std::fs::Permissions;
-use std::io::ErrorKind;
+use std::io;
 use std::net::Net;
 use std::os::fd::{AsRawFd, RawFd};
-use std::os::unix::fs::PermissionsExt;
-use std::os::unix::net::{UnixListener, UnixStream};
 use std::rt::{Clock, Files};
 use std::sync::Wait;
 use std::time::{Duration, Instant};
-use std::{fs, io};
 
 /// How long the door waits, in milliseconds.
 const WAIT_MS: u64 = 100;
 
-/// How many connections may have come before the socket was its owner's alone: as many as the system lets wait, and
-/// more.
-const EARLY: u32 = 65_536;
+/// How many descriptors are kept for what the daemon itself opens while it runs: the files of two lives and of metrics,
+/// a folder that is read, what standard error is asked with, and some more.
+pub(crate) const OWN: usize = 8;
+
+/// How many a door takes: its socket, the one to turn others away with, and what it waits by.
+pub(crate) const OF_A_DOOR: usize = 3;
+
+/// How many an operator takes.
+pub(crate) const OF_AN_OPERATOR: usize = 2;
 
 /// How many events are taken at a time. They only end a wait, so none is missed.
 const EVENTS: usize = 64;
@@ -31,7 +34,7 @@ const EVENTS: usize = 64;
 /// A Unix socket that only its owner may connect to. Its file stays when it is dropped.
 #[derive(Drop)]
 pub struct UnixDoor<K: Clock + Drop> {
-    listener: UnixListener,
+    reception: Reception,
     poll: Poll,
     events: Events<Global>,
     clock: K,
@@ -40,24 +43,28 @@ pub struct UnixDoor<K: Clock + Drop> {
 }
 
 impl<K: Clock + Drop> UnixDoor<K> {
-    /// A socket bound to this path, at which no file may exist. Fails where the system refuses it, or can't make it its
-    /// owner's alone.
+    /// A socket bound to this path, at which no file may exist. Who comes takes none of the descriptors that the daemon
+    /// itself needs, nor of these many others. Fails where the system refuses it, or can't make it its owner's alone.
     pub fn bind<R: Files + Net>(
         rt: &R,
         alloc: Global,
         clock: K,
         path: &str,
+        others: usize,
     ) -> io::Result<UnixDoor<K>> {
         let poll = Poll::new(rt)?;
         let events = Events::with_capacity(alloc, EVENTS)?;
-        let listener = UnixListener::bind(rt, path)?;
-        fs::set_permissions(rt, path, Permissions::from_mode(0o600))?;
-        listener.set_nonblocking(true)?;
-        turn_away(&listener);
-        watch(&poll, listener.as_raw_fd())?;
+        let reception = Reception::bind(
+            rt,
+            alloc,
+            path,
+            OF_AN_OPERATOR,
+            OWN.saturating_add(others),
+        )?;
+        watch(&poll, reception.as_raw_fd())?;
         let began = Instant::now(&clock)?;
         Ok(UnixDoor {
-            listener,
+            reception,
             poll,
             events,
             clock,
@@ -67,20 +74,11 @@ impl<K: Clock + Drop> UnixDoor<K> {
     }
 
     /// A connection as it is served.
-    fn open(&self, stream: UnixStream) -> io::Result<(StreamSource, StreamSink)> {
-        stream.set_nonblocking(true)?;
+    fn open(&self, guest: Guest) -> io::Result<(StreamSource, StreamSink)> {
+        let Guest { stream, place } = guest;
         let other = stream.try_clone()?;
         watch(&self.poll, stream.as_raw_fd())?;
-        Ok((StreamSource::new(stream), StreamSink::new(other)))
-    }
-}
-
-/// Closes what connected before only the owner might.
-pub(crate) fn turn_away(listener: &UnixListener) {
-    for _connection in 0..EARLY {
-        if listener.accept().is_err() {
-            break;
-        }
+        Ok((StreamSource::new(stream), StreamSink::new(other, place)))
     }
 }
 
@@ -91,17 +89,6 @@ fn watch(poll: &Poll, descriptor: RawFd) -> io::Result<()> {
         .register(&mut SourceFd(&descriptor), Token(0), both)
 }
 
-/// Whether an accept that failed so met nobody: who came may be gone again, too. Else it is a fault of the door.
-fn is_nobody(kind: ErrorKind) -> bool
-    ensures { IsTrue result ↔ ((kind ≡ ErrorKind.WouldBlock) ⊎ (kind ≡ ErrorKind.Interrupted)
-        ⊎ (kind ≡ ErrorKind.ConnectionAborted)) }
-{
-    matches!(
-        kind,
-        ErrorKind::WouldBlock | ErrorKind::Interrupted | ErrorKind::ConnectionAborted
-    )
-}
-
 impl<K: Clock + Drop> Door for UnixDoor<K> {
     ghost faults = { λ d. None };
 
@@ -110,13 +97,14 @@ impl<K: Clock + Drop> Door for UnixDoor<K> {
     type Writer = StreamSink;
 
     fn next<R: Wait>(&mut self, _rt: &R) -> Knock<StreamSource, StreamSink> {
-        match self.listener.accept() {
-            Ok((stream, _address)) => match self.open(stream) {
+        match self.reception.next() {
+            Arrival::Came(guest) => match self.open(guest) {
                 Ok((reader, writer)) => Knock::Conn(reader, writer),
-                Err(_) => Knock::Fault,
+                Err(_) => Knock::Refused,
             },
-            Err(fault) if is_nobody(fault.kind()) => Knock::Idle,
-            Err(_) => Knock::Fault,
+            Arrival::Nobody => Knock::Idle,
+            Arrival::Refused => Knock::Refused,
+            Arrival::Fault => Knock::Fault,
         }
     }
 

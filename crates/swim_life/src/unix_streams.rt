@@ -9,6 +9,7 @@ use arrayvec::ArrayVec;
 use std::io::{ErrorKind, Read, Write};
 use std::net::Shutdown;
 use std::os::unix::net::UnixStream;
+use std::sync::Arc;
 use swim_text::{Byte, Look, Polled, Sink, Source};
 
 /// How many bytes are read at a time.
@@ -112,16 +113,19 @@ impl Polled for StreamSource {
 #[derive(Drop)]
 pub struct StreamSink {
     stream: UnixStream,
+    // The place of the connection, which it has as long as this stands.
+    _place: Arc<()>,
     held: ArrayVec<u8, ANSWER_BYTES>,
     sent: usize,
     failures: u64,
 }
 
 impl StreamSink {
-    /// A sink over a stream that doesn't wait.
-    pub fn new(stream: UnixStream) -> StreamSink {
+    /// A sink over a stream that doesn't wait, of a connection that has this place.
+    pub fn new(stream: UnixStream, place: Arc<()>) -> StreamSink {
         StreamSink {
             stream,
+            _place: place,
             held: ArrayVec::new(),
             sent: 0,
             failures: 0,

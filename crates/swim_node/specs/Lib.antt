@@ -8,3 +8,4 @@ pub mod ChangeLog
 pub mod Shown
 pub mod Following
 pub mod Draws
+pub mod Faults

@@ -1,5 +1,8 @@
 //! What a call of a node is answered.
 
+ghost use Rattle.std.specs.Prelude.{◌≡◌};
+ghost use Rattle.swim_node.specs.Faults.{call_number, open_number};
+
 use crate::naming::Naming;
 use crate::news::News;
 use std::alloc::AllocError;
@@ -36,6 +39,20 @@ pub enum CallFault {
     NoMemory,
 }
 
+impl CallFault {
+    /// The number of this fault, from 1 on in the order in which they are looked at. That of the bytes, which says why
+    /// they are no datagram, is `WireFault::number`.
+    pub fn number(self) -> u8
+        ensures { result ≡ call_number self }
+    {
+        match self {
+            CallFault::Wire(_) => 1,
+            CallFault::JournalFull => 2,
+            CallFault::NoMemory => 3,
+        }
+    }
+}
+
 impl From<AllocError> for CallFault {
     ghost use Rattle.std.specs.Prelude.{◌≡◌};
     ghost use Rattle.swim_node.specs.declared.receipts.CallFault.TheVariants.{NoMemory};
@@ -56,4 +73,16 @@ pub enum OpenFault {
     /// No reader of the table was to be had.
     #[error("no place for a reader")]
     NoPlace,
+}
+
+impl OpenFault {
+    /// The number of this fault.
+    pub fn number(self) -> u8
+        ensures { result ≡ open_number self }
+    {
+        match self {
+            OpenFault::NoMemory => 1,
+            OpenFault::NoPlace => 2,
+        }
+    }
 }

@@ -1,13 +1,15 @@
 -- What is so of a member that is joined again.
-use Rattle.std.proofs.Common.{◌≡◌, ◌≢◌, ℕ, ◌≤◌, ◌⊎◌, inl, inr, Bool, true, false, cond, ◌&&◌, ◌||◌, nat_eq, nat_le}
-use Rattle.std.proofs.Common.{nat_lt, List, Option, Some, None, refl, sym, ap, ◌∙◌, subst}
+use Rattle.std.proofs.Common.{◌≡◌, ◌≢◌, ℕ, ◌<◌, ◌≤◌, Bool, true, false, cond, ◌&&◌, nat_eq, nat_lt}
+use Rattle.std.proofs.Common.{List, Option, Some, None, refl, sym, ap, ◌∙◌, subst, arith}
 use Rattle.std.specs.List.{count_by}
 use Rattle.std.specs.Option.{is_some, option_and_then}
 use Rattle.std.specs.Str.{bytes_eq}
-use Rattle.std.proofs.lemmas.Bool.{and_parts, leb-true}
+use Rattle.std.proofs.lemmas.Bool.{and_parts, le-leb, leb-true, lt-ltb, ltb-true}
 use Rattle.std.proofs.lemmas.Slice.Eq.{bytes_eq-Decides}
 use Rattle.swim_wire.specs.Address.{Address}
 use Rattle.swim_wire.specs.Messages.{Message}
+use Rattle.swim_wire.specs.declared.messages.Kind.{Kind}
+use Rattle.swim_wire.specs.declared.messages.Kind.TheVariants.{Ping}
 use Rattle.swim_history.specs.Rows.{row_at}
 use Rattle.swim_history.specs.declared.rows.Row.{Row}
 use Rattle.swim_history.specs.declared.rows.RowState.{RowState}
@@ -16,7 +18,8 @@ use Rattle.swim_rejoin.specs.Believing.{believed, is_believed, is_ready, is_same
 use Rattle.swim_rejoin.specs.Failed.{is_failed, verdict_of}
 use Rattle.swim_rejoin.specs.Histories.{Event, last_knocks, table_in, times}
 use Rattle.swim_rejoin.specs.Waits.{has_waited}
-use Rattle.swim_rejoin.proofs.Finding.{same_number, some_is}
+use Rattle.swim_rejoin.proofs.Finding.{same_number, same_self, some_is}
+use Rattle.swim_rejoin.proofs.Showing.{believed-some, by_history}
 
 abbrev made : List ℕ → ℕ → Address
 made ip port = record { ip = ip; port = port }
@@ -64,16 +67,18 @@ believed-parts rejoin me h m from row e = by_zero (nat_eq rejoin 0) e where
 -- the three parts of a belief
 believed-of : (me : ℕ) (row : Row) (knocks : List ℕ) (times : ℕ) (m : Message) (from : Address) →
     is_believed me row knocks times m from ≡ true →
-    (is_ready row.state times knocks ≡ true) × (is_same row.peer from ≡ true) × (tells m.kind me knocks m ≡ true)
+    (is_ready row.state times knocks m.number ≡ true) × (is_same row.peer from ≡ true) ×
+    (tells m.kind me knocks m ≡ true)
 believed-of me row knocks times m from e =
-    let all = and_parts (is_ready row.state times knocks && is_same row.peer from) (tells m.kind me knocks m) e in
-    let two = and_parts (is_ready row.state times knocks) (is_same row.peer from) all.0 in
+    let ready = is_ready row.state times knocks m.number in
+    let all = and_parts (ready && is_same row.peer from) (tells m.kind me knocks m) e in
+    let two = and_parts ready (is_same row.peer from) all.0 in
     (two.0, two.1, all.1)
 
-failed_if_ready : (state : RowState) (times : ℕ) (knocks : List ℕ) → is_ready state times knocks ≡ true →
-    is_some (verdict_of state) ≡ true
-failed_if_ready Up times knocks e = cc
-failed_if_ready (Failed number) times knocks e = refl
+failed_if_ready : (state : RowState) (times : ℕ) (knocks : List ℕ) (number : ℕ) →
+    is_ready state times knocks number ≡ true → is_some (verdict_of state) ≡ true
+failed_if_ready Up times knocks number e = cc
+failed_if_ready (Failed verdict) times knocks number e = refl
 
 pub joined-row : (rejoin me : ℕ) (h : List Event) (m : Message) (from : Address) (row : Row) →
     believed rejoin me h m from ≡ Some row → row_at (table_in h) m.sender ≡ Some row
@@ -84,7 +89,7 @@ pub joined-failed : (rejoin me : ℕ) (h : List Event) (m : Message) (from : Add
 joined-failed rejoin me h m from row e =
     let parts = believed-of me row (last_knocks m.sender h) (times m.sender h) m from
     (believed-parts rejoin me h m from row e).1 in
-    failed_if_ready row.state (times m.sender h) (last_knocks m.sender h) parts.0
+    failed_if_ready row.state (times m.sender h) (last_knocks m.sender h) m.number parts.0
 
 pub joined-address : (rejoin me : ℕ) (h : List Event) (m : Message) (from : Address) (row : Row) →
     believed rejoin me h m from ≡ Some row → row.peer ≡ from
@@ -108,20 +113,73 @@ stranger rejoin me h m from row at other = by_result (believed rejoin me h m fro
       let same : row ≡ r = some_is row r (sym at ∙ joined-row rejoin me h m from r e) in
       absurd (other (ap (λ (x : Row). x.peer) same ∙ joined-address rejoin me h m from r e))
 
--- who waits was knocked at often enough
-waited : (times : ℕ) (knocks : List ℕ) (number : ℕ) → has_waited times knocks number ≡ true →
-    (times ≡ 1) ⊎ (times ≤ count_by (nat_lt number) knocks)
-waited times knocks number e = by_test (nat_eq times 1) refl e where
-  by_test : (b : Bool) → nat_eq times 1 ≡ b → (b || nat_le times (count_by (nat_lt number) knocks)) ≡ true →
-      (times ≡ 1) ⊎ (times ≤ count_by (nat_lt number) knocks)
-  by_test true is e = inl (same_number times 1 is)
-  by_test false is e = inr (leb-true times (count_by (nat_lt number) knocks) e)
-
-pub joined-waited : (rejoin me : ℕ) (h : List Event) (m : Message) (from : Address) (row : Row) (number : ℕ) →
-    believed rejoin me h m from ≡ Some row → row.state ≡ Failed number →
-    (times m.sender h ≡ 1) ⊎ (times m.sender h ≤ count_by (nat_lt number) (last_knocks m.sender h))
-joined-waited rejoin me h m from row number e failed =
+-- the ack is of a knock that was sent after the verdict, and there were enough of these
+joined-ready : (rejoin me : ℕ) (h : List Event) (m : Message) (from : Address) (row : Row) (verdict : ℕ) →
+    believed rejoin me h m from ≡ Some row → row.state ≡ Failed verdict →
+    (nat_lt verdict m.number ≡ true) × (has_waited (times m.sender h) (last_knocks m.sender h) verdict ≡ true)
+joined-ready rejoin me h m from row verdict e failed =
     let parts = believed-of me row (last_knocks m.sender h) (times m.sender h) m from
     (believed-parts rejoin me h m from row e).1 in
-    waited (times m.sender h) (last_knocks m.sender h) number
-    (ap (λ state. is_ready state (times m.sender h) (last_knocks m.sender h)) (sym failed) ∙ parts.0)
+    and_parts (nat_lt verdict m.number) (has_waited (times m.sender h) (last_knocks m.sender h) verdict)
+    (ap (λ state. is_ready state (times m.sender h) (last_knocks m.sender h) m.number) (sym failed) ∙ parts.0)
+
+pub joined-later : (rejoin me : ℕ) (h : List Event) (m : Message) (from : Address) (row : Row) (verdict : ℕ) →
+    believed rejoin me h m from ≡ Some row → row.state ≡ Failed verdict → verdict < m.number
+joined-later rejoin me h m from row verdict e failed =
+    ltb-true verdict m.number (joined-ready rejoin me h m from row verdict e failed).0
+
+pub joined-waited : (rejoin me : ℕ) (h : List Event) (m : Message) (from : Address) (row : Row) (verdict : ℕ) →
+    believed rejoin me h m from ≡ Some row → row.state ≡ Failed verdict →
+    times m.sender h ≤ count_by (nat_lt verdict) (last_knocks m.sender h)
+joined-waited rejoin me h m from row verdict e failed =
+    leb-true (times m.sender h) (count_by (nat_lt verdict) (last_knocks m.sender h))
+    (joined-ready rejoin me h m from row verdict e failed).1
+
+-- ---- who isn't
+
+pub recorded : (rejoin me : ℕ) (h : List Event) (m : Message) (from : Address) (row : Row) (verdict : ℕ) →
+    row_at (table_in h) m.sender ≡ Some row → row.state ≡ Failed verdict → m.number ≤ verdict →
+    believed rejoin me h m from ≡ None
+recorded rejoin me h m from row verdict at failed before = by_result (believed rejoin me h m from) refl where
+  by_result : (o : Option Row) → believed rejoin me h m from ≡ o → believed rejoin me h m from ≡ None
+  by_result None e = e
+  by_result (Some r) e =
+      let same : row ≡ r = some_is row r (sym at ∙ joined-row rejoin me h m from r e) in
+      let later = joined-later rejoin me h m from r verdict e (ap (λ (x : Row). x.state) (sym same) ∙ failed) in
+      absurd (omega (arith, later, before))
+
+pub pinged : (rejoin me : ℕ) (h : List Event) (m : Message) (from : Address) → m.kind ≡ Ping →
+    believed rejoin me h m from ≡ None
+pinged rejoin me h m from ping = by_result (believed rejoin me h m from) refl where
+  by_result : (o : Option Row) → believed rejoin me h m from ≡ o → believed rejoin me h m from ≡ None
+  by_result None e = e
+  by_result (Some r) e =
+      let told = joined-told rejoin me h m from r e in
+      let no : false ≡ true = ap (λ (kind : Kind). tells kind me (last_knocks m.sender h) m) (sym ping) ∙ told in
+      cc
+
+-- ---- who is
+
+same_address : (a : Address) → is_same a a ≡ true
+same_address a = ap (λ b. b && nat_eq a.port a.port) ((bytes_eq-Decides a.ip a.ip).1 refl) ∙ same_self a.port
+
+ready : (state : RowState) (times : ℕ) (knocks : List ℕ) (number verdict : ℕ) → state ≡ Failed verdict →
+    verdict < number → times ≤ count_by (nat_lt verdict) knocks → is_ready state times knocks number ≡ true
+ready state times knocks number verdict failed later waited =
+    ap (λ s. is_ready s times knocks number) failed
+    ∙ ap (λ b. b && has_waited times knocks verdict) (lt-ltb verdict number later)
+    ∙ le-leb times (count_by (nat_lt verdict) knocks) waited
+
+pub answered : (rejoin me : ℕ) (h : List Event) (m : Message) (row : Row) (verdict : ℕ) → 0 < rejoin →
+    row_at (table_in h) m.sender ≡ Some row → row.state ≡ Failed verdict → verdict < m.number →
+    tells m.kind me (last_knocks m.sender h) m ≡ true →
+    times m.sender h ≤ count_by (nat_lt verdict) (last_knocks m.sender h) →
+    believed rejoin me h m row.peer ≡ Some row
+answered rejoin me h m row verdict positive at failed later told waited =
+    let knocks = last_knocks m.sender h in
+    believed-some rejoin me h m row.peer positive
+    ∙ ap (by_history me h m row.peer) at
+    ∙ ap (λ b. cond (b && is_same row.peer row.peer && tells m.kind me knocks m) (Some row) None)
+    (ready row.state (times m.sender h) knocks m.number verdict failed later waited)
+    ∙ ap (λ b. cond (b && tells m.kind me knocks m) (Some row) None) (same_address row.peer)
+    ∙ ap (λ b. cond b (Some row) None) told

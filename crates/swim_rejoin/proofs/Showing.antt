@@ -1,5 +1,5 @@
 -- Whom a datagram shows to be there again, by what is kept and by the history.
-use Rattle.std.proofs.Common.{◌≡◌, ℕ, ◌<◌, Bool, true, false, cond, ◌&&◌, ◌||◌, nat_eq, nat_le, suc, List, [], ◌∷◌}
+use Rattle.std.proofs.Common.{◌≡◌, ℕ, ◌<◌, Bool, true, false, cond, ◌&&◌, nat_eq, nat_le, nat_lt, suc, List, [], ◌∷◌}
 use Rattle.std.proofs.Common.{take, Option, Some, None, refl, sym, ap, ◌∙◌, arith}
 use Rattle.std.specs.Option.{is_some, option_and_then, option_map}
 use Rattle.swim_wire.specs.Address.{Address}
@@ -26,18 +26,18 @@ tells-padded PingReq me knocks m positive = refl
 tells-padded Ack me knocks m positive =
     ap (λ b. nat_eq m.initiator me && nat_eq m.target m.sender && b) (list_any-padded m.number 64 knocks positive)
 
-is_ready-padded : (state : RowState) (times : ℕ) (knocks : List ℕ) →
-    is_ready state times (padded 64 knocks) ≡ is_ready state times (take 64 knocks)
-is_ready-padded Up times knocks = refl
-is_ready-padded (Failed number) times knocks =
-    ap (λ n. nat_eq times 1 || nat_le times n) (count_by-padded number 64 knocks)
+is_ready-padded : (state : RowState) (times : ℕ) (knocks : List ℕ) (number : ℕ) →
+    is_ready state times (padded 64 knocks) number ≡ is_ready state times (take 64 knocks) number
+is_ready-padded Up times knocks number = refl
+is_ready-padded (Failed verdict) times knocks number =
+    ap (λ n. nat_lt verdict number && nat_le times n) (count_by-padded verdict 64 knocks)
 
 is_believed-padded : (me : ℕ) (row : Row) (knocks : List ℕ) (times : ℕ) (m : Message) (from : Address) → 0 < m.number →
     is_believed me row (padded 64 knocks) times m from ≡ is_believed me row (take 64 knocks) times m from
 is_believed-padded me row knocks times m from positive =
     ap (λ b. b && is_same row.peer from && tells m.kind me (padded 64 knocks) m)
-    (is_ready-padded row.state times knocks)
-    ∙ ap (λ b. is_ready row.state times (take 64 knocks) && is_same row.peer from && b)
+    (is_ready-padded row.state times knocks m.number)
+    ∙ ap (λ b. is_ready row.state times (take 64 knocks) m.number && is_same row.peer from && b)
     (tells-padded m.kind me knocks m positive)
 
 -- the row of the sender, where the history believes it
@@ -87,10 +87,10 @@ not_failed (first ∷ rows) marks id row marked found mark =
           ∙ by_failed (is_failed first) refl (ap (is_marked marks) (same_number first.id id e) ∙ mark)
       by_test false e h rest = rest h mark
 
-not_ready : (state : RowState) (times : ℕ) (knocks : List ℕ) → is_some (verdict_of state) ≡ false →
-    is_ready state times knocks ≡ false
-not_ready Up times knocks e = refl
-not_ready (Failed number) times knocks e = cc
+not_ready : (state : RowState) (times : ℕ) (knocks : List ℕ) (number : ℕ) → is_some (verdict_of state) ≡ false →
+    is_ready state times knocks number ≡ false
+not_ready Up times knocks number e = refl
+not_ready (Failed verdict) times knocks number e = cc
 
 -- so a message of a sender without a mark isn't believed
 pub unmarked : (k : Kept) (h : List Event) (m : Message) (from : Address) → 0 < k.rejoin → Follows k h →
@@ -101,7 +101,7 @@ unmarked k h m from positive f mark = by_row (row_at (table_in h) m.sender) refl
   by_row None e = refl
   by_row (Some row) e =
       ap (λ b. cond (b && is_same row.peer from && tells m.kind k.me (last_knocks m.sender h) m) (Some row) None)
-      (not_ready row.state (times m.sender h) (last_knocks m.sender h)
+      (not_ready row.state (times m.sender h) (last_knocks m.sender h) m.number
       (not_failed (table_in h) k.marks m.sender row (f.marked positive) e mark))
 
 -- nobody is believed where rejoin is 0

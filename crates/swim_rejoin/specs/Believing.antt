@@ -1,11 +1,12 @@
 -- Whom a datagram shows to be there again.
-use Rattle.std.specs.Prelude.{ℕ, ◌==◌, Bool, false, ◌&&◌, List, Option, Some, None, if◌then◌else◌, option_and_then}
+use Rattle.std.specs.Prelude.{ℕ, ◌==◌, Bool, false, ◌&&◌, nat_lt, List, Option, Some, None, if◌then◌else◌}
+use Rattle.std.specs.Prelude.{option_and_then}
 use Rattle.std.specs.Str.{bytes_eq}
 use Rattle.swim_wire.specs.Address.{Address}
 use Rattle.swim_wire.specs.Ids.{has}
 use Rattle.swim_wire.specs.Messages.{Message}
 use Rattle.swim_wire.specs.declared.messages.Kind.{Kind}
-use Rattle.swim_wire.specs.declared.messages.Kind.TheVariants.{Ping, PingReq, Ack}
+use Rattle.swim_wire.specs.declared.messages.Kind.TheVariants.{Ack}
 use Rattle.swim_history.specs.Rows.{row_at}
 use Rattle.swim_history.specs.declared.rows.Row.{Row}
 use Rattle.swim_history.specs.declared.rows.RowState.{RowState}
@@ -17,21 +18,21 @@ use Rattle.swim_rejoin.specs.Waits.{has_waited}
 abbrev pub is_same : Address → Address → Bool
 is_same a b = bytes_eq a.ip b.ip && a.port == b.port
 
--- the message says that its sender is there: it is its own ack of one of these knocks, or a ping of its own
+-- the message says that its sender is there: it is its own ack of one of these knocks. A ping of its own says nothing,
+-- as it may be of any age
 abbrev pub tells : Kind → ℕ → List ℕ → Message → Bool
-tells Ping me knocks m = m.sender == m.initiator
-tells PingReq me knocks m = false
 tells Ack me knocks m = m.initiator == me && m.target == m.sender && has knocks m.number
+tells kind me knocks m = false
 
--- a verdict stands on the member, and it was knocked at often enough since
-abbrev pub is_ready : RowState → ℕ → List ℕ → Bool
-is_ready Up times knocks = false
-is_ready (Failed number) times knocks = has_waited times knocks number
+-- a verdict stands on the member, the knock with that number was sent after it, and there were enough knocks since
+abbrev pub is_ready : RowState → ℕ → List ℕ → ℕ → Bool
+is_ready Up times knocks number = false
+is_ready (Failed verdict) times knocks number = nat_lt verdict number && has_waited times knocks verdict
 
 -- the message is believed of the member with that row, its last knocks, and how long it waits
 abbrev pub is_believed : ℕ → Row → List ℕ → ℕ → Message → Address → Bool
 is_believed me row knocks times m from =
-    is_ready row.state times knocks && is_same row.peer from && tells m.kind me knocks m
+    is_ready row.state times knocks m.number && is_same row.peer from && tells m.kind me knocks m
 
 -- the member to be joined again after a datagram, with its row in the table that was last looked at. Where rejoin is 0
 -- nobody is

@@ -53,7 +53,7 @@ last_verdict id (Looked rows ∷ before) =
     option_or (verdict_in rows id) (if is_known id before then last_verdict id before else None)
 last_verdict id (Joined other period ∷ before) = last_verdict id before
 
--- how many times as many knocks as at first a member waits for before it is joined again
+-- how many knocks since the verdict a member waits for before it is joined again: one at first
 abbrev pub times : ℕ → List Event → ℕ
 times id [] = 1
 times id (Knocked other number ∷ before) = times id before

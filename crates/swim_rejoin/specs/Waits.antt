@@ -1,5 +1,5 @@
 -- How long a member waits that was judged again soon after it was joined again. Periods go by their numbers.
-use Rattle.std.specs.Prelude.{ℕ, ◌+◌, ◌*◌, ◌==◌, Bool, true, false, not, ◌&&◌, ◌||◌, nat_lt, nat_le, min, List}
+use Rattle.std.specs.Prelude.{ℕ, ◌+◌, ◌*◌, ◌==◌, Bool, true, false, not, ◌&&◌, nat_lt, nat_le, min, List}
 use Rattle.std.specs.Prelude.{Option, Some, None, count_by, if◌then◌else◌}
 
 -- within so many periods of a join that the daemon made by itself
@@ -10,7 +10,7 @@ soon = 16
 abbrev pub quiet : ℕ
 quiet = 256
 
--- at most so many times as many knocks as at first
+-- at most so many knocks
 abbrev pub most_times : ℕ
 most_times = 64
 
@@ -42,7 +42,6 @@ times_once_judged last joined shown None = last
 times_once_judged last joined shown (Some number) =
     if is_new number shown then times_after last joined shown number else last
 
--- it was knocked at often enough since the verdict: who waits as at first doesn't wait at all, and who waits so many
--- times as many waits for so many knocks
+-- so many knocks were sent since the verdict, or more
 abbrev pub has_waited : ℕ → List ℕ → ℕ → Bool
-has_waited times last number = times == 1 || nat_le times (count_by (nat_lt number) last)
+has_waited times last number = nat_le times (count_by (nat_lt number) last)

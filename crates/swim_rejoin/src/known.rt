@@ -12,7 +12,7 @@ use swim_history::{Row, RowState};
 use swim_wire::{Id, Kind, Message, Peer, PeriodNumber};
 
 /// A member of the table: its row, the last knocks at it, the period in which it was last joined again, the last
-/// verdict on it that a table showed, and how many times as many knocks as at first it waits for.
+/// verdict on it that a table showed, and how many knocks since a verdict it waits for.
 #[derive(Clone, Copy)]
 pub(crate) struct Known {
     row: Row,
@@ -83,30 +83,33 @@ impl Known {
         ensures { result
             ≡ is_believed me self.now.row self.now.knocks.numbers self.now.times message.now from.now }
     {
-        self.is_ready() && is_same(&self.row.peer, from) && self.knocks.are_told(me, message)
+        self.is_ready(message.number)
+            && is_same(&self.row.peer, from)
+            && self.knocks.are_told(me, message)
     }
 
-    /// Whether a verdict stands on it, and it was knocked at often enough since.
-    fn is_ready(&self) -> bool
-        ensures { result ≡ is_ready self.now.row.state self.now.times self.now.knocks.numbers }
+    /// Whether a verdict stands on it, the knock with that number was sent after it, and there were enough knocks
+    /// since.
+    fn is_ready(&self, number: PeriodNumber) -> bool
+        ensures { result ≡ is_ready self.now.row.state self.now.times self.now.knocks.numbers number }
     {
         match self.row.state {
             RowState::Up => false,
-            RowState::Failed(number) => {
-                self.times == 1 || usize::from(self.times) <= self.knocks.count_after(number)
+            RowState::Failed(verdict) => {
+                number.get() > verdict
+                    && usize::from(self.times) <= self.knocks.count_after(verdict)
             }
         }
     }
 }
 
 impl Knocks {
-    /// Whether the message is a ping of its sender's own, or its sender's ack of one of these knocks.
+    /// Whether the message is its sender's ack of one of these knocks.
     fn are_told(&self, me: Id, message: &Message) -> bool
         ensures { result ≡ tells message.now.kind me self.now.numbers message.now }
     {
         match message.kind {
-            Kind::Ping => message.sender == message.initiator,
-            Kind::PingReq => false,
+            Kind::Ping | Kind::PingReq => false,
             Kind::Ack => {
                 message.initiator == me
                     && message.target == message.sender

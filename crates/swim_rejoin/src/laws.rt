@@ -1,6 +1,6 @@
 //! Laws of knocks and of joins. Each is the contract of a function that does nothing, so that it stays proved.
 
-ghost use Rattle.std.specs.Prelude.{◌≡◌, ◌≢◌, ◌+◌, ◌*◌, ◌<◌, ◌≤◌, ◌⊎◌, ◌∷◌, ℕ, List, length, min, nat_lt, true};
+ghost use Rattle.std.specs.Prelude.{◌≡◌, ◌≢◌, ◌+◌, ◌*◌, ◌<◌, ◌≤◌, ◌∷◌, ℕ, List, length, min, nat_lt, true};
 ghost use Rattle.std.specs.Prelude.{count_by};
 ghost use Rattle.swim_history.specs.declared.rows.Row.{Row};
 ghost use Rattle.swim_history.specs.declared.rows.RowState.TheVariants.{Failed};
@@ -14,9 +14,10 @@ ghost use Rattle.swim_rejoin.specs.Turns.{StaysFailed, was_knocked_at};
 ghost use Rattle.swim_wire.specs.Address.{Address};
 ghost use Rattle.swim_wire.specs.Ids.{has};
 ghost use Rattle.swim_wire.specs.Messages.{Message};
+ghost use Rattle.swim_wire.specs.declared.messages.Kind.TheVariants.{Ping};
 
-/// Who is joined again is the sender, and failed by the table that was last looked at, and the datagram is from that
-/// row's address.
+/// Who is joined again is the sender, and failed by the table that was last looked at; the datagram is from that row's
+/// address, and is the sender's ack of one of the last 64 knocks at it, which was sent after the verdict.
 pub fn a_failed_member_is_joined()
     ensures row { (rejoin me : ℕ) (h : List Event) (m : Message) (from : Address) (row : Row)
         → believed rejoin me h m from ≡ Some row → row_at (table_in h) m.sender ≡ Some row }
@@ -26,6 +27,32 @@ pub fn a_failed_member_is_joined()
         → believed rejoin me h m from ≡ Some row → row.peer ≡ from }
     ensures told { (rejoin me : ℕ) (h : List Event) (m : Message) (from : Address) (row : Row)
         → believed rejoin me h m from ≡ Some row → tells m.kind me (last_knocks m.sender h) m ≡ true }
+    ensures later { (rejoin me : ℕ) (h : List Event) (m : Message) (from : Address) (row : Row) (verdict : ℕ)
+        → believed rejoin me h m from ≡ Some row → row.state ≡ Failed verdict → verdict < m.number }
+{}
+
+/// A failed member that answers, from its row's address, one of the last 64 knocks at it that was sent after the verdict
+/// is joined again, if there were enough knocks at it since.
+pub fn who_answers_a_knock_is_joined()
+    ensures { (rejoin me : ℕ) (h : List Event) (m : Message) (row : Row) (verdict : ℕ) → 0 < rejoin
+        → row_at (table_in h) m.sender ≡ Some row → row.state ≡ Failed verdict → verdict < m.number
+        → tells m.kind me (last_knocks m.sender h) m ≡ true
+        → times m.sender h ≤ count_by (nat_lt verdict) (last_knocks m.sender h)
+        → believed rejoin me h m row.peer ≡ Some row }
+{}
+
+/// No ping joins anybody, of whatever age it is and wherever it comes from.
+pub fn no_ping_is_believed()
+    ensures { (rejoin me : ℕ) (h : List Event) (m : Message) (from : Address) → m.kind ≡ Ping
+        → believed rejoin me h m from ≡ None }
+{}
+
+/// No ack joins anybody whose number isn't above the verdict's. So none that was recorded before the verdict does, as
+/// long as no number is used twice.
+pub fn a_recorded_ack_is_not_believed()
+    ensures { (rejoin me : ℕ) (h : List Event) (m : Message) (from : Address) (row : Row) (verdict : ℕ)
+        → row_at (table_in h) m.sender ≡ Some row → row.state ≡ Failed verdict → m.number ≤ verdict
+        → believed rejoin me h m from ≡ None }
 {}
 
 /// A message from an address that isn't the row's of its sender is never believed.
@@ -34,15 +61,15 @@ pub fn a_stranger_is_not_believed()
         → row_at (table_in h) m.sender ≡ Some row → row.peer ≢ from → believed rejoin me h m from ≡ None }
 {}
 
-/// Who waits is joined again only once it was knocked at so many times since the verdict.
+/// Who is joined again was knocked at since the verdict as many times as it has to wait for: at least once.
 pub fn who_waits_is_knocked_at()
-    ensures { (rejoin me : ℕ) (h : List Event) (m : Message) (from : Address) (row : Row) (number : ℕ)
-        → believed rejoin me h m from ≡ Some row → row.state ≡ Failed number
-        → (times m.sender h ≡ 1) ⊎ (times m.sender h ≤ count_by (nat_lt number) (last_knocks m.sender h)) }
+    ensures { (rejoin me : ℕ) (h : List Event) (m : Message) (from : Address) (row : Row) (verdict : ℕ)
+        → believed rejoin me h m from ≡ Some row → row.state ≡ Failed verdict
+        → times m.sender h ≤ count_by (nat_lt verdict) (last_knocks m.sender h) }
 {}
 
-/// A member waits at most 64 times as many knocks as at first, twice as many as the last time where it is judged within
-/// 16 periods of a join, and as many as at first after 256 periods without a verdict.
+/// A member waits for 1 to 64 knocks since the verdict: for twice as many as the last time where it is judged within 16
+/// periods of a join, and for one after 256 periods without a verdict.
 pub fn waits_double_up_to_64()
     ensures least { (id : ℕ) (h : List Event) → 1 ≤ times id h }
     ensures most { (id : ℕ) (h : List Event) → times id h ≤ 64 }

@@ -90,8 +90,8 @@ impl Rejoiner {
 
     /// The member that is to be joined again after that datagram, with its row: its address, and the verdict that
     /// stands on it. The table that was last looked at shows it as failed at the address that the datagram is from, the
-    /// datagram is an ack of one of the last 64 knocks at it or a ping of its own, and it waited for long enough. A
-    /// message of a sender that isn't failed costs some 20 instructions.
+    /// datagram is its ack of one of the last 64 knocks at it, that knock was sent after the verdict, and it waited for
+    /// long enough. A message of a sender that isn't failed costs some 20 instructions.
     pub fn believes(&self, message: &Message, from: &Peer) -> Option<Row>
         ensures { (h : List Event) → Follows self.now h
             → result ≡ believed self.now.rejoin self.now.me h message.now from.now }

@@ -9,12 +9,11 @@ const SOON: u64 = 16;
 /// After so many periods without a verdict a member waits as at first.
 const QUIET: u64 = 256;
 
-/// A member waits at most for so many times as many knocks as at first.
+/// A member waits for at most so many knocks.
 const MOST_TIMES: u8 = 64;
 
-/// How many times as many knocks as at first a member waits for, once the table shows that verdict on it, or none. It
-/// waited for so many times as many the last time; it was last joined in that period, and that was the last verdict on
-/// it that was shown before.
+/// How many knocks since the verdict a member waits for, once the table shows that verdict on it, or none. It waited for
+/// so many the last time; it was last joined in that period, and that was the last verdict on it that was shown before.
 pub(crate) fn times_once_judged(
     last: u8,
     joined: Option<u64>,

@@ -7,6 +7,8 @@ mod knocking;
 #[cfg(test)]
 mod rejoining;
 #[cfg(test)]
+mod returning;
+#[cfg(test)]
 mod rows;
 #[cfg(test)]
 mod waiting;

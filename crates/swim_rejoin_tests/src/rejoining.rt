@@ -1,4 +1,4 @@
-use crate::rows::{ack, assert_same, failed, id, message, peer, period, ping, up};
+use crate::rows::{ack, assert_same, failed, id, message, peer, period, up};
 use std::process::Abort;
 use swim_history::Row;
 use swim_rejoin::Rejoiner;
@@ -65,21 +65,32 @@ fn an_ack_of_anothers_probe_is_not(rt: HostRuntime) {
 }
 
 #[test]
-fn a_ping_of_its_own_is_believed(rt: HostRuntime) {
+fn no_ping_is_believed(rt: HostRuntime) {
     let rejoiner = waiting();
-    assert_joined(&rt, &rejoiner, &ping(3), peer(3), 3);
-    // Of whichever target, and in whichever of its periods.
+    // Of whichever initiator and target, and with the number of a knock or another one.
+    let of_a_knock = message(Kind::Ping, 3, 3, 1, 24);
     let of_another = message(Kind::Ping, 3, 3, 2, 999);
-    assert_joined(&rt, &rejoiner, &of_another, peer(3), 3);
+    let for_another = message(Kind::Ping, 3, 1, 3, 24);
+    assert_joined(&rt, &rejoiner, &of_a_knock, peer(3), 0);
+    assert_joined(&rt, &rejoiner, &of_another, peer(3), 0);
+    assert_joined(&rt, &rejoiner, &for_another, peer(3), 0);
 }
 
 #[test]
-fn a_ping_for_another_is_not(rt: HostRuntime) {
-    let rejoiner = waiting();
-    let for_another = message(Kind::Ping, 3, 2, 1, 24);
-    let by_another = message(Kind::Ping, 2, 3, 1, 24);
-    assert_joined(&rt, &rejoiner, &for_another, peer(3), 0);
-    assert_joined(&rt, &rejoiner, &by_another, peer(3), 0);
+fn an_ack_of_a_knock_before_the_verdict_is_not(rt: HostRuntime) {
+    // It was joined again after the knock of period 24, and judged again at the end of period 57.
+    let mut rejoiner = waiting();
+    rejoiner.joined(id(3), 24);
+    rejoiner.looked_at(&[up(2), up(3)]);
+    rejoiner.looked_at(&[up(2), failed(3, 57)]);
+    assert_joined(&rt, &rejoiner, &ack(3, 24), peer(3), 0);
+    rejoiner.knocked(id(3), period(58));
+    assert_joined(&rt, &rejoiner, &ack(3, 24), peer(3), 0);
+    assert_joined(&rt, &rejoiner, &ack(3, 21), peer(3), 0);
+    assert_joined(&rt, &rejoiner, &ack(3, 58), peer(3), 3);
+    // The number of the verdict itself isn't above it.
+    rejoiner.looked_at(&[up(2), failed(3, 58)]);
+    assert_joined(&rt, &rejoiner, &ack(3, 58), peer(3), 0);
 }
 
 #[test]
@@ -93,24 +104,24 @@ fn a_request_is_not(rt: HostRuntime) {
 fn a_stranger_is_not_believed(rt: HostRuntime) {
     let rejoiner = waiting();
     assert_joined(&rt, &rejoiner, &ack(3, 24), peer(4), 0);
-    assert_joined(&rt, &rejoiner, &ping(3), peer(2), 0);
+    assert_joined(&rt, &rejoiner, &ack(3, 24), peer(2), 0);
     let other_port = Peer {
         ip: [10, 0, 0, 3],
         port: 7001,
     };
-    assert_joined(&rt, &rejoiner, &ping(3), other_port, 0);
+    assert_joined(&rt, &rejoiner, &ack(3, 24), other_port, 0);
 }
 
 #[test]
 fn who_is_up_or_unknown_is_not_joined(rt: HostRuntime) {
     let mut rejoiner = waiting();
-    assert_joined(&rt, &rejoiner, &ping(2), peer(2), 0);
-    assert_joined(&rt, &rejoiner, &ping(4), peer(4), 0);
+    rejoiner.knocked(id(2), period(24));
+    assert_joined(&rt, &rejoiner, &ack(2, 24), peer(2), 0);
+    assert_joined(&rt, &rejoiner, &ack(4, 24), peer(4), 0);
     rejoiner.looked_at(&[up(2), up(3)]);
     assert_joined(&rt, &rejoiner, &ack(3, 24), peer(3), 0);
-    assert_joined(&rt, &rejoiner, &ping(3), peer(3), 0);
     // The ids 3 and 259 leave the same rest.
-    let ping = message(Kind::Ping, 259, 259, 1, 1);
+    let ack = message(Kind::Ack, 259, 1, 259, 30);
     rejoiner.looked_at(&[
         failed(3, 20),
         Row {
@@ -118,7 +129,8 @@ fn who_is_up_or_unknown_is_not_joined(rt: HostRuntime) {
             ..up(9)
         },
     ]);
-    assert_joined(&rt, &rejoiner, &ping, peer(9), 0);
+    rejoiner.knocked(id(259), period(30));
+    assert_joined(&rt, &rejoiner, &ack, peer(9), 0);
 }
 
 #[test]
@@ -153,5 +165,4 @@ fn nobody_is_joined_where_rejoin_is_0(rt: HostRuntime) {
     rejoiner.looked_at(&[failed(3, 20)]);
     rejoiner.knocked(id(3), period(21));
     assert_joined(&rt, &rejoiner, &ack(3, 21), peer(3), 0);
-    assert_joined(&rt, &rejoiner, &ping(3), peer(3), 0);
 }

@@ -69,8 +69,3 @@ pub(crate) fn message(
 pub(crate) fn ack(member: u8, number: u64) -> Message {
     message(Kind::Ack, u32::from(member), 1, u32::from(member), number)
 }
-
-/// A ping of that member's own, of member 1.
-pub(crate) fn ping(member: u8) -> Message {
-    message(Kind::Ping, u32::from(member), u32::from(member), 1, 1)
-}

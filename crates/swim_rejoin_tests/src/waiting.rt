@@ -1,10 +1,12 @@
-use crate::rows::{failed, id, peer, period, ping, up};
+use crate::rows::{ack, failed, id, peer, period, up};
 use std::process::Abort;
 use swim_rejoin::Rejoiner;
 
-// Whether member 3 would be joined if it pinged now.
-fn is_joined(rejoiner: &Rejoiner) -> bool {
-    rejoiner.believes(&ping(3), &peer(3)).is_some()
+// Whether that member would be joined if its ack of the knock in that period came now.
+fn is_joined(rejoiner: &Rejoiner, member: u8, number: u64) -> bool {
+    rejoiner
+        .believes(&ack(member, number), &peer(member))
+        .is_some()
 }
 
 // A rejoiner of member 1 that knocks at each start. Member 3 was judged in period 20 and joined again in period 23.
@@ -22,25 +24,25 @@ fn waits(rt: &impl Abort, rejoiner: &mut Rejoiner, verdict: u64, knocks: u64) ->
     rejoiner.looked_at(&[failed(3, verdict)]);
     let mut number = verdict;
     for _knock in 0..knocks {
-        assert!(rt; !is_joined(rejoiner), "{number} is too early");
+        assert!(rt; !is_joined(rejoiner, 3, number), "{number} is too early");
         number = number.saturating_add(1);
         rejoiner.knocked(id(3), period(number));
     }
-    assert!(rt; is_joined(rejoiner), "{number} is late enough");
+    assert!(rt; is_joined(rejoiner, 3, number), "{number} is late enough");
     number
 }
 
 #[test]
-fn who_is_judged_first_does_not_wait(rt: HostRuntime) {
+fn who_is_judged_first_waits_for_one_knock(rt: HostRuntime) {
     let mut rejoiner = Rejoiner::new(1, id(1));
-    waits(&rt, &mut rejoiner, 20, 0);
+    waits(&rt, &mut rejoiner, 20, 1);
 }
 
 #[test]
 fn within_16_periods_is_soon(rt: HostRuntime) {
     waits(&rt, &mut joined_in_23(), 24, 2);
     waits(&rt, &mut joined_in_23(), 39, 2);
-    waits(&rt, &mut joined_in_23(), 40, 0);
+    waits(&rt, &mut joined_in_23(), 40, 1);
 }
 
 #[test]
@@ -85,7 +87,7 @@ fn quiet_of_256_periods_sets_the_wait_back(rt: HostRuntime) {
     waits(&rt, &mut rejoiner, 30, 2);
     rejoiner.joined(id(3), 32);
     rejoiner.looked_at(&[up(3)]);
-    waits(&rt, &mut rejoiner, 289, 0);
+    waits(&rt, &mut rejoiner, 289, 1);
 
     // The periods 33 to 287 are 255.
     let mut rejoiner = joined_in_23();
@@ -121,7 +123,7 @@ fn an_operators_join_makes_nobody_wait(rt: HostRuntime) {
     let mut rejoiner = Rejoiner::new(1, id(1));
     rejoiner.looked_at(&[failed(3, 20)]);
     rejoiner.looked_at(&[up(3)]);
-    waits(&rt, &mut rejoiner, 25, 0);
+    waits(&rt, &mut rejoiner, 25, 1);
 }
 
 #[test]
@@ -141,7 +143,7 @@ fn who_was_removed_begins_anew(rt: HostRuntime) {
     waits(&rt, &mut rejoiner, 30, 2);
     rejoiner.joined(id(3), 32);
     rejoiner.looked_at(&[up(2)]);
-    waits(&rt, &mut rejoiner, 40, 0);
+    waits(&rt, &mut rejoiner, 40, 1);
 }
 
 #[test]
@@ -152,8 +154,11 @@ fn each_member_has_its_own_wait(rt: HostRuntime) {
     rejoiner.joined(id(3), 24);
     rejoiner.looked_at(&[up(2), up(3)]);
     rejoiner.looked_at(&[up(2), failed(3, 30)]);
-    assert!(rt; !is_joined(&rejoiner));
+    rejoiner.knocked(id(3), period(31));
     rejoiner.looked_at(&[failed(2, 60), failed(3, 30)]);
-    assert!(rt; rejoiner.believes(&ping(2), &peer(2)).is_some());
-    assert!(rt; !is_joined(&rejoiner));
+    rejoiner.knocked(id(2), period(61));
+    assert!(rt; is_joined(&rejoiner, 2, 61));
+    assert!(rt; !is_joined(&rejoiner, 3, 31));
+    rejoiner.knocked(id(3), period(62));
+    assert!(rt; is_joined(&rejoiner, 3, 62));
 }

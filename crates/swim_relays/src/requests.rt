@@ -16,6 +16,17 @@ use thiserror::Error;
 #[error("64 requests wait")]
 pub struct TableFull;
 
+impl TableFull {
+    /// The number of this fault, which is the only one.
+    pub fn number(self) -> u8
+        ensures { result ≡ 1 }
+    {
+        match self {
+            TableFull => 1,
+        }
+    }
+}
+
 /// The requests that wait for an ack of their target, at most 64, and each probe's at most once (section
 /// 3.1 of the SWIM paper). A request waits for as many ticks as a period has. Ticks are counted modulo 2^32.
 #[derive(Drop)]

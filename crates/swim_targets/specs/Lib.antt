@@ -4,3 +4,4 @@ pub mod Orders
 pub mod Places
 pub mod Rounds
 pub mod Script
+pub mod Faults

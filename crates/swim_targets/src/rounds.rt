@@ -5,6 +5,7 @@ ghost use Rattle.std.specs.Prelude.{IfNone};
 ghost use Rattle.swim_wire.specs.Ids.{has, has_twice, without, front};
 ghost use Rattle.swim_wire.specs.Round.{Lists, all_of, leave, MayDraw, redraw, advance, join_at};
 ghost use Rattle.swim_targets.specs.Rounds.{drawn_of, IsListing};
+ghost use Rattle.swim_targets.specs.Faults.{join_number};
 
 use crate::Chooser;
 use crate::places::{has, has_twice, place_of};
@@ -21,6 +22,18 @@ pub enum JoinFault {
     /// There are more than [`KNOWN_MEMBERS`].
     #[error("more than 128 members")]
     Full,
+}
+
+impl JoinFault {
+    /// The number of this fault, from 1 on in the order in which they are looked at.
+    pub fn number(self) -> u8
+        ensures { result ≡ join_number self }
+    {
+        match self {
+            JoinFault::Listed => 1,
+            JoinFault::Full => 2,
+        }
+    }
 }
 
 /// Who is probed next, and the order that a new round began in.

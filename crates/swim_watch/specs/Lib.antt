@@ -1,3 +1,4 @@
+pub mod Hearings
 pub mod Lines
 pub mod Objects
 pub mod Watching

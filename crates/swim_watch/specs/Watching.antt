@@ -1,21 +1,15 @@
 -- What watching writes.
-use Rattle.std.specs.Prelude.{◌≡◌, ℕ, Bool, true, false, List, [], ◌∷◌, ◌++◌, map, Option, Some, None}
-use Rattle.std.specs.List.{flat_map}
+use Rattle.std.specs.Prelude.{◌≡◌, ℕ, Bool, true, false, List, [], ◌∷◌, ◌++◌, Option, Some, None}
 use Rattle.std.specs.Io.KnownBytes.{Appends, Keeps}
 use Rattle.serde_json.specs.Written.{compact_text}
 use Rattle.swim_text.specs.Streams.{PutsFront}
+use Rattle.swim_watch.specs.Hearings.{Grows, Hearing}
 use Rattle.swim_watch.specs.Lines.{said_of}
 use Rattle.swim_watch.specs.Objects.{shown_data}
 use Rattle.swim_watch.specs.declared.watching.WatchEnd.{WatchEnd}
 use Rattle.swim_watch.specs.declared.watching.WatchEnd.TheVariants as ends
 use Rattle.swim_watch.specs.declared.watching.Passed.{Passed}
 use Rattle.swim_watch.specs.declared.watching.Passed.TheVariants as passed
-
--- a known list grew by these
-abbrev pub Grows : {A : Type 0} → Option (List A) → Option (List A) → List A → Type 0
-Grows None new more = Unit {0}
-Grows (Some old) None more = ⊥
-Grows (Some old) (Some new) more = new ≡ old ++ more
 
 -- a line is shown so: as it came, or as an object with some time
 abbrev pub IsShown : Bool → List ℕ → List ℕ → Type 0
@@ -28,35 +22,48 @@ pub record Shown (is_json : Bool) : Type 0 where
   pub text : List ℕ
   pub is : IsShown is_json line text
 
--- what was heard and what was written
+-- what was heard so far, what was written, and how many bytes of that weren't handed on
 pub record Watched : Type 0 where
-  pub heard : Option (List (Option (List ℕ)))
+  pub heard : Option (List Hearing)
   pub written : Option (List ℕ)
+  pub held : ℕ
 
--- these lines were heard, and each was written, in order, with a line feed behind it, and nothing else
-pub record HasShown (is_json : Bool) (lines : List (Shown is_json)) (old new : Watched) : Type 0 where
-  pub heard : Grows old.heard new.heard (map (λ s. Some s.line) lines)
-  pub wrote : Appends old.written new.written (flat_map (λ s. s.text ++ 10 ∷ []) lines)
+-- this was heard, and asked for when things stood so
+abbrev pub heard_at : Watched → Option (List ℕ) → Hearing
+heard_at at line = record { line = line; written = at.written; held = at.held }
+
+-- a line was waited for and heard, and written then, with a line feed behind it, and handed on
+pub record ShowsOne (is_json : Bool) (shown : Shown is_json) (old new : Watched) : Type 0 where
+  pub heard : Grows old.heard new.heard (heard_at old (Some shown.line) ∷ [])
+  pub wrote : Appends old.written new.written (shown.text ++ 10 ∷ [])
+  pub sent : new.held ≡ 0
+
+-- these lines were shown, the newest first: each was written and handed on before the next was waited for, and nothing
+-- else was written
+abbrev pub HaveShown : (is_json : Bool) → List (Shown is_json) → Watched → Watched → Type 0
+HaveShown is_json [] old new = new ≡ old
+HaveShown is_json (shown ∷ before) old new =
+    (mid : Watched) × HaveShown is_json before old mid × ShowsOne is_json shown mid new
 
 -- lines were shown
 abbrev pub Shows : Bool → Watched → Watched → Type 0
-Shows is_json old new = (lines : List (Shown is_json)) × HasShown is_json lines old new
+Shows is_json old new = (lines : List (Shown is_json)) × HaveShown is_json lines old new
 
 -- no line will come
 pub record IsOver (old new : Watched) : Type 0 where
-  pub heard : Grows old.heard new.heard (None ∷ [])
+  pub heard : Grows old.heard new.heard (heard_at old None ∷ [])
   pub kept : Keeps old.written new.written
 
 -- a line was heard, and not all of it could be written
 pub record Loses (is_json : Bool) (old new : Watched) : Type 0 where
   pub last : Shown is_json
-  pub heard : Grows old.heard new.heard (Some last.line ∷ [])
+  pub heard : Grows old.heard new.heard (heard_at old (Some last.line) ∷ [])
   pub wrote : PutsFront old.written new.written (last.text ++ 10 ∷ [])
 
 -- a line was heard, and nothing was written for want of memory
 pub record Misses (old new : Watched) : Type 0 where
   pub line : List ℕ
-  pub heard : Grows old.heard new.heard (Some line ∷ [])
+  pub heard : Grows old.heard new.heard (heard_at old (Some line) ∷ [])
   pub kept : Keeps old.written new.written
 
 -- what watching does, as it ends

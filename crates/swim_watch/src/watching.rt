@@ -36,7 +36,7 @@ pub enum Passed {
 
 /// Writes each line that is heard before it waits for the next, as it came, or as an object of JSON with the time; up
 /// to the end of the lines, or to one that can't be written.
-#[tactic(auto, using(crate::proofs::Showing::none_shown, crate::proofs::Showing::one_more_shown, crate::proofs::Showing::over_shown, crate::proofs::Showing::lost_shown, crate::proofs::Showing::missed_shown))]
+#[tactic(auto, using(crate::proofs::Showing::none_shown, crate::proofs::Showing::over_shown))]
 pub fn watch<R: Clock + Wait, F: Feed, W: Sink>(
     rt: &R,
     alloc: Global,
@@ -44,12 +44,13 @@ pub fn watch<R: Clock + Wait, F: Feed, W: Sink>(
     is_json: bool,
     writer: &mut W,
 ) -> WatchEnd
-    ensures { Watches is_json (record { heard = F.heard feed.old; written = W.written writer.old })
-        (record { heard = F.heard feed.new; written = W.written writer.new }) result }
+    ensures { Watches is_json
+        (record { heard = F.heard feed.old; written = W.written writer.old; held = W.held writer.old })
+        (record { heard = F.heard feed.new; written = W.written writer.new; held = W.held writer.new }) result }
 {
     let mut line = EventLine::new();
     for _line in rt.forever() {
-        if !feed.hear(&mut line) {
+        if !feed.hear(&mut line, writer) {
             return WatchEnd::Over;
         }
         match pass(alloc, rt, line.as_slice(), is_json, writer) {

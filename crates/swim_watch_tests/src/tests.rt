@@ -6,7 +6,7 @@ use std::test::Fail;
 use swim_doubles::FailingPage;
 use swim_events::Event;
 use swim_history::Change;
-use swim_text::Page;
+use swim_text::{Page, Sink};
 use swim_watch::{EventLine, Feed, FeedEvent, NoEvent, WatchEnd, read_said, show, watch};
 use swim_wire::{Id, Peer};
 
@@ -19,7 +19,7 @@ struct Lines<'a> {
 impl<'a> Feed for Lines<'a> {
     ghost heard = { λ l. None };
 
-    fn hear(&mut self, line: &mut EventLine) -> bool {
+    fn hear<W: Sink>(&mut self, line: &mut EventLine, _writer: &W) -> bool {
         let [first, others @ ..] = self.left else {
             return false;
         };

@@ -1,4 +1,5 @@
 pub mod Asked
+pub mod Booking
 pub mod Checked
 pub mod ControlLines
 pub mod Done

@@ -1,11 +1,13 @@
 pub mod Answers
 pub mod Asking
+pub mod Booked
 pub mod Checking
 pub mod Commands
 pub mod Daemon
 pub mod Details
 pub mod OldFiles
 pub mod Outcomes
+pub mod Totals
 pub mod Watched
 pub mod Words
 pub mod Worked

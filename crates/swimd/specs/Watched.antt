@@ -13,12 +13,13 @@ watched_so ends.Over = NoTeller
 watched_so ends.Unwritten = WatchUnwritten
 watched_so ends.NoMemory = Refused NoMemory
 
--- so much was written of lines of which nobody knows what they are
-abbrev pub unheard : Option (List ℕ) → Watched
-unheard written = record { heard = None; written = written }
+-- so much was written of lines of which nobody knows what they are, and that many bytes of it aren't handed on
+abbrev pub unheard : Option (List ℕ) → ℕ → Watched
+unheard written held = record { heard = None; written = written; held = held }
 
 -- lines were written as they were heard, or as JSON; where nobody tells any, nothing was
 abbrev pub WatchesDaemon : Bool → Option (List ℕ) → Option (List ℕ) → Outcome → Type 0
 WatchesDaemon is_json old new outcome =
     ((outcome ≡ NoTeller) × (new ≡ old))
-    ⊎ ((ended : WatchEnd) × Watches is_json (unheard old) (unheard new) ended × (outcome ≡ watched_so ended))
+    ⊎ ((ended : WatchEnd) × (held : ℕ) × (left : ℕ) × Watches is_json (unheard old held) (unheard new left) ended
+    × (outcome ≡ watched_so ended))

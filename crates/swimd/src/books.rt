@@ -1,7 +1,20 @@
 //! What a daemon counts of its lives, call by call.
 
+ghost use Rattle.std.specs.Prelude.{◌≡◌, ℕ, List, [], ◌∷◌, if◌then◌else◌};
+ghost use Rattle.std.specs.Option.{option_map};
+ghost use Rattle.swim_history.specs.declared.entries.Entry.{Entry};
+ghost use Rattle.swim_history.specs.Run.{IsRun};
+ghost use Rattle.swim_history.specs.Setting.{Setting, IsSetting};
+ghost use Rattle.swim_events.specs.Watched.{Lived, lived_on};
+ghost use Rattle.swim_life.specs.Ends.{both};
+ghost use Rattle.swim_metrics.specs.Following.{begun};
+ghost use Rattle.swim_metrics.specs.LastHeard.{Tell};
+ghost use Rattle.swimd.specs.Booked.{AreCounted, counted_of, failed_by, is_own_join, told_of};
+ghost use Rattle.swimd.specs.Totals.{totals_with};
+
 use crate::bulletins::Counted;
 use crate::happenings::Happening;
+use crate::totals::Totals;
 use swim_history::{Change, Opening};
 use swim_life::{Metered, Standing};
 use swim_metrics::{Hearings, Metrics};
@@ -34,11 +47,7 @@ pub struct Book {
     own_joins: u64,
     // How this life stands, and what was counted beside the calls of those before it.
     standing: Standing,
-    unsent: u64,
-    wire: u64,
-    refused: u64,
-    knocks: u64,
-    lost: u64,
+    over: Totals,
 }
 
 impl Book {
@@ -49,43 +58,78 @@ impl Book {
             hearings: Hearings::new(),
             own_joins: 0,
             standing: NOTHING,
-            unsent: 0,
-            wire: 0,
-            refused: 0,
-            knocks: 0,
-            lost: 0,
+            over: Totals::none(),
         }
     }
 
-    /// A life begins.
-    pub fn begins(&mut self, opening: &Opening) {
+    /// A life begins. Counts go on.
+    #[tactic(auto, using(crate::proofs::Booking::totals_go_on))]
+    pub fn begins(&mut self, opening: &Opening)
+        ensures counted { (number : ℕ) (lives : List Lived) → AreCounted self.old.metrics lives →
+            AreCounted self.new.metrics (begun number opening.now lives) }
+        ensures heard { (o : Setting) → Tell self.new.hearings o [] }
+        ensures joins { self.new.own_joins ≡ self.old.own_joins }
+        ensures totals { totals_with self.new.over self.new.standing ≡ totals_with self.old.over self.old.standing }
+    {
+        self.count_life(opening);
+        self.hearings = Hearings::new();
+        self.over = self.over.with(self.standing);
+        self.standing = NOTHING;
+    }
+
+    /// Has the metrics go on with a life, or begin with the first.
+    fn count_life(&mut self, opening: &Opening)
+        ensures counted { (number : ℕ) (lives : List Lived) → AreCounted self.old.metrics lives →
+            AreCounted self.new.metrics (begun number opening.now lives) }
+        ensures same { self.new ≡ record self.old { metrics = self.new.metrics } }
+    {
         match &mut self.metrics {
             Some(metrics) => metrics.begins(opening),
             None => self.metrics = Some(Metrics::new(opening)),
         }
-        self.hearings = Hearings::new();
-        self.add_up();
     }
 
     /// Counts a call.
-    pub fn read(&mut self, next: &Followed, change: &Option<Change>) {
-        if next.seat == RECEIVER && matches!(change, Some(Change::Up(_, _))) {
-            self.own_joins = self.own_joins.saturating_add(1);
-        }
-        let kept = &next.kept;
+    pub fn read(&mut self, next: &Followed, change: &Option<Change>)
+        ensures counted { (life : Lived) (older : List Lived) (e : Entry) → e.call ≡ next.now.kept.call →
+            e.reply ≡ next.now.kept.reply → AreCounted self.old.metrics (life ∷ older) →
+            AreCounted self.new.metrics (lived_on life e ∷ older) }
+        ensures heard { (o : Setting) (h : List Entry) (e : Entry) → IsSetting o → IsRun o (e ∷ h) →
+            e.call ≡ next.now.kept.call → e.reply ≡ next.now.kept.reply → Tell self.old.hearings o h →
+            Tell self.new.hearings o (e ∷ h) }
+        ensures joins { self.new.own_joins
+            ≡ both self.old.own_joins (if is_own_join next.now.seat change.now then 1 else 0) }
+        ensures rest { (self.new.over ≡ self.old.over) × (self.new.standing ≡ self.old.standing) }
+    {
+        let joins = u64::from(is_own_join(next.seat, change));
+        self.own_joins = self.own_joins.saturating_add(joins);
+        self.count_call(next);
+        self.hearings.read(&next.kept.call, &next.kept.reply);
+    }
+
+    /// Has the metrics go on with a call.
+    fn count_call(&mut self, next: &Followed)
+        ensures counted { (life : Lived) (older : List Lived) (e : Entry) → e.call ≡ next.now.kept.call →
+            e.reply ≡ next.now.kept.reply → AreCounted self.old.metrics (life ∷ older) →
+            AreCounted self.new.metrics (lived_on life e ∷ older) }
+        ensures same { self.new ≡ record self.old { metrics = self.new.metrics } }
+    {
         if let Some(metrics) = &mut self.metrics {
-            metrics.read(&kept.call, &kept.reply);
+            metrics.read(&next.kept.call, &next.kept.reply);
         }
-        self.hearings.read(&kept.call, &kept.reply);
     }
 
     /// How the life stands that runs.
-    pub fn stands(&mut self, standing: Standing) {
+    pub fn stands(&mut self, standing: Standing)
+        ensures { self.new ≡ record self.old { standing = standing } }
+    {
         self.standing = standing;
     }
 
     /// What the log tells of a change by a call that isn't counted yet.
-    pub fn happening(&self, seat: u8, change: &Change) -> Happening {
+    pub fn happening(&self, seat: u8, change: &Change) -> Happening
+        ensures { result ≡ told_of seat change.now self.now.metrics self.now.hearings }
+    {
         match *change {
             Change::Up(id, at) => match self.failed_for(id) {
                 Some(after) if seat == RECEIVER => Happening::JoinedAgain { id, after },
@@ -101,35 +145,37 @@ impl Book {
     }
 
     /// What was counted until now, once a life has begun.
-    pub fn counted(&self) -> Option<Counted> {
+    pub fn counted(&self) -> Option<Counted>
+        ensures { result
+            ≡ option_map (counted_of self.now.standing self.now.over self.now.own_joins) self.now.metrics }
+    {
         let now = &self.standing;
+        let all = self.over.with(self.standing);
         let metrics = self.metrics.as_ref()?;
         Some(Counted {
             measures: metrics.measures(),
             behind: now.metered.calls.saturating_sub(now.read),
-            unsent: self.unsent.saturating_add(now.metered.unsent),
-            wire: self.wire.saturating_add(now.metered.wire),
-            refused: self.refused.saturating_add(now.metered.refused),
-            knocks: self.knocks.saturating_add(now.metered.knocks),
+            unsent: all.unsent,
+            wire: all.wire,
+            refused: all.refused,
+            knocks: all.knocks,
             watchers: now.watchers,
-            lost_watchers: self.lost.saturating_add(now.lost),
+            lost_watchers: all.lost,
             own_joins: self.own_joins,
         })
     }
 
     /// For how many periods a member is failed, if it is.
-    fn failed_for(&self, id: Id) -> Option<u64> {
+    fn failed_for(&self, id: Id) -> Option<u64>
+        ensures { result ≡ failed_by self.now.metrics id }
+    {
         self.metrics.as_ref()?.failed_for(id)
     }
+}
 
-    /// Adds what was counted of the life that is over.
-    fn add_up(&mut self) {
-        let Standing { metered, lost, .. } = self.standing;
-        self.unsent = self.unsent.saturating_add(metered.unsent);
-        self.wire = self.wire.saturating_add(metered.wire);
-        self.refused = self.refused.saturating_add(metered.refused);
-        self.knocks = self.knocks.saturating_add(metered.knocks);
-        self.lost = self.lost.saturating_add(lost);
-        self.standing = NOTHING;
-    }
+/// Whether a call of that seat, which changed the member table so, is a join that the daemon made by itself.
+fn is_own_join(seat: u8, change: &Option<Change>) -> bool
+    ensures { result ≡ is_own_join seat change.now }
+{
+    matches!(change, Some(Change::Up(_, _))) && seat == RECEIVER
 }

@@ -1,7 +1,10 @@
 //! What a daemon counts, as it is told to whoever asks for it, and in the metrics' file.
 
-use crate::bulletins::Bulletin;
-use crate::strangers::Strangers;
+ghost use Rattle.std.specs.Prelude.{◌≡◌};
+
+use crate::bulletins::{Bulletin, Counted};
+use crate::refusals::Refusals;
+use crate::strangers::{StrangerCounts, Strangers};
 use crate::text_sinks::TextSink;
 use crate::words::VERSION;
 use std::sync::Wait;
@@ -22,7 +25,12 @@ struct Facts {
 
 impl Facts {
     /// Those of this configuration.
-    fn of(config: &Config) -> Facts {
+    fn of(config: &Config) -> Facts
+        ensures me { result.me ≡ config.now.opening.me }
+        ensures tick_ms { result.tick_ms ≡ config.now.tick_ms }
+        ensures period { result.period ≡ config.now.opening.period }
+        ensures journal { result.journal ≡ config.now.journal }
+    {
         Facts {
             me: config.opening.me(),
             tick_ms: config.tick_ms,
@@ -37,6 +45,7 @@ impl Facts {
 pub struct Counters {
     pub bulletin: Bulletin,
     pub strangers: Strangers,
+    pub refusals: Refusals,
     facts: Facts,
 }
 
@@ -46,6 +55,7 @@ impl Counters {
         Counters {
             bulletin: Bulletin::new(),
             strangers: Strangers::new(),
+            refusals: Refusals::new(),
             facts: Facts::of(config),
         }
     }
@@ -53,25 +63,55 @@ impl Counters {
     /// What is told: of entries, and beside them. `None` before the first life.
     pub fn read<R: Wait>(&self, rt: &R) -> Option<(Measures, Outside<'static>)> {
         let counted = self.bulletin.counted(rt)?;
-        let outside = Outside {
-            version: VERSION,
-            me: self.facts.me,
-            tick_ms: self.facts.tick_ms,
-            period: self.facts.period,
-            journal_limit: self.facts.journal,
-            behind: counted.behind,
-            unsent: counted.unsent,
-            wire: counted.wire,
-            refused: counted.refused,
-            forged: self.strangers.forged.count(),
-            fenced: self.strangers.fenced.count(),
-            watchers: counted.watchers,
-            lost_watchers: counted.lost_watchers,
-            knocks: counted.knocks,
-            own_joins: counted.own_joins,
-            unwritten: self.bulletin.unwritten(),
-        };
+        let strangers = self.strangers.counts();
+        let unwritten = self.bulletin.unwritten();
+        let outside = outside_of(&self.facts, &counted, strangers, unwritten);
         Some((counted.measures, outside))
+    }
+}
+
+/// What is told beside entries, of what was counted of the lives, of the datagrams that were thrown away, and of the
+/// times that the metrics couldn't be written.
+fn outside_of(
+    facts: &Facts,
+    counted: &Counted,
+    strangers: StrangerCounts,
+    unwritten: u64,
+) -> Outside<'static>
+    ensures version { result.version.now ≡ VERSION.now }
+    ensures me { result.me ≡ facts.now.me }
+    ensures tick_ms { result.tick_ms ≡ facts.now.tick_ms }
+    ensures period { result.period ≡ facts.now.period }
+    ensures journal_limit { result.journal_limit ≡ facts.now.journal }
+    ensures behind { result.behind ≡ counted.now.behind }
+    ensures unsent { result.unsent ≡ counted.now.unsent }
+    ensures wire { result.wire ≡ counted.now.wire }
+    ensures refused { result.refused ≡ counted.now.refused }
+    ensures forged { result.forged ≡ strangers.forged }
+    ensures fenced { result.fenced ≡ strangers.fenced }
+    ensures watchers { result.watchers ≡ counted.now.watchers }
+    ensures lost_watchers { result.lost_watchers ≡ counted.now.lost_watchers }
+    ensures knocks { result.knocks ≡ counted.now.knocks }
+    ensures own_joins { result.own_joins ≡ counted.now.own_joins }
+    ensures unwritten { result.unwritten ≡ unwritten }
+{
+    Outside {
+        version: VERSION,
+        me: facts.me,
+        tick_ms: facts.tick_ms,
+        period: facts.period,
+        journal_limit: facts.journal,
+        behind: counted.behind,
+        unsent: counted.unsent,
+        wire: counted.wire,
+        refused: counted.refused,
+        forged: strangers.forged,
+        fenced: strangers.fenced,
+        watchers: counted.watchers,
+        lost_watchers: counted.lost_watchers,
+        knocks: counted.knocks,
+        own_joins: counted.own_joins,
+        unwritten,
     }
 }
 

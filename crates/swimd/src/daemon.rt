@@ -1,39 +1,41 @@
 //! A daemon: the lives of a configuration over real devices.
 
-ghost use Rattle.std.specs.Prelude.{◌≡◌, [], IfErr, IfOk, MatchResult};
+ghost use Rattle.std.specs.Prelude.{◌≡◌, [], MatchResult};
 ghost use Rattle.swim_life.specs.Notices.{Notices};
-ghost use Rattle.swimd.specs.Daemon.{IsConfiguration, IsNoConfiguration, IsNoDoor, MayWarn, Runs, Starts, outcome_of};
+ghost use Rattle.swimd.specs.Daemon.{IsConfiguration, IsNoConfiguration, MayWarn, Runs, Starts, outcome_of};
 ghost use Rattle.swimd.specs.Details.{Explains};
 
 use crate::checking::warn;
 use crate::chroniclers::Chronicler;
 use crate::counters::Counters;
-use crate::details::{Details, words_of};
-use crate::entrances::{end_watching, open_entrance, pause_ms, tell_socket};
+use crate::details::{Details, words_of, words_why};
+use crate::doors::open_door;
+use crate::entrances::{end_watching, open_entrance, pause_ms};
 use crate::folders::Folder;
 use crate::metrics_files::MetricsFile;
 use crate::notices::{Announcer, Notice, is_taken_at_once};
 use crate::outcomes::Outcome;
+use crate::refusals::CountedEntrance;
 use crate::stacks::has_room;
 use crate::strangers::NotingLine;
 use crate::telling_doors::TellingDoor;
 use arrayvec::ArrayVec;
 use jiff::Timestamp;
 use std::alloc::{AllocError, Global};
-use std::fs;
 use std::fs::File;
 use std::io::ErrorKind;
 use std::net::Net;
 use std::rt::{Clock, Files};
 use std::sync::Wait;
 use std::thread::Threads;
+use std::{fs, io};
 use swim_config::{Config, ConfigFault, INPUT_BYTES, read_config, read_input};
-use swim_events::Gallery;
+use swim_events::{Entrance, Gallery};
 use swim_guard::{ClockTimepiece, FencedLine, SealedLine, SealedPost};
 use swim_keys::Keys;
 use swim_life::{
-    ClockSleeper, Door, Hall, LivesEnd, Place, Returning, SleepingPace, Terms, UdpLine, UnixDoor,
-    UnixEntrance, run_lives,
+    ClockSleeper, Door, Hall, LivesEnd, Returning, SleepingPace, Terms, UdpLine, UnixEntrance,
+    run_lives,
 };
 use swim_text::{ReadSource, Sink};
 use swim_wire::Peer;
@@ -87,7 +89,7 @@ fn configuration<R: Files>(
     let file = match fs::open(rt, path) {
         Ok(file) => file,
         Err(fault) => {
-            details.add_of(path, words_of(fault.kind()));
+            details.add_of(path, words_why(&fault));
             return Err(Outcome::Unread);
         }
     };
@@ -151,7 +153,7 @@ fn start<
     let line = match UdpLine::bind(rt, config.listen) {
         Ok(line) => line,
         Err(fault) => {
-            tell_listen(config.listen, fault.kind(), details);
+            tell_listen(config.listen, &fault, details);
             return Outcome::NoListen;
         }
     };
@@ -159,7 +161,14 @@ fn start<
         Ok(entrance) => entrance,
         Err(outcome) => return outcome,
     };
-    let door = match open_door(rt, alloc, config.control.as_str(), faults, details) {
+    let door = match open_door(
+        rt,
+        alloc,
+        config.control.as_str(),
+        entrance.descriptors(),
+        faults,
+        details,
+    ) {
         Ok(door) => door,
         Err(outcome) => return outcome,
     };
@@ -177,6 +186,7 @@ fn live<
     F: Sink,
     G: Sink + Drop,
     D: Door + Drop,
+    K: Clock + Drop + Send,
 >(
     rt: &R,
     alloc: Global,
@@ -184,7 +194,7 @@ fn live<
     is_quiet: bool,
     line: &UdpLine,
     door: D,
-    entrance: UnixEntrance,
+    entrance: UnixEntrance<K>,
     writer: &mut W,
     faults: &mut F,
     log: G,
@@ -231,6 +241,7 @@ fn live_counted<
     F: Sink,
     G: Sink + Drop,
     D: Door + Drop,
+    K: Clock + Drop + Send,
 >(
     rt: &'g R,
     alloc: Global,
@@ -242,7 +253,7 @@ fn live_counted<
     mut chronicler: Chronicler<'g>,
     returning: &mut Returning,
     door: D,
-    mut entrance: UnixEntrance,
+    entrance: UnixEntrance<K>,
     writer: &mut W,
     faults: &mut F,
     log: G,
@@ -266,6 +277,7 @@ fn live_counted<
     let opening = config.opening;
     let mut shelf = Folder::new(rt, alloc, config.files, opening.me(), seconds(rt));
     let mut pause = SleepingPace::new(ClockSleeper::new(rt), pause_ms(&config.events));
+    let mut entrance = CountedEntrance::new(entrance, &counters.refusals);
     let mut gallery = Gallery::new(alloc);
     let end = run_lives(
         rt,
@@ -287,7 +299,7 @@ fn live_counted<
         counters,
         &mut entrance,
     );
-    end_watching(&mut gallery);
+    end_watching(&mut gallery, entrance.now());
     hall.into_door().finish(rt);
     outcome_of(end)
 }
@@ -309,38 +321,10 @@ fn announce<R: Net + Clock, F: Sink>(
     }
 }
 
-/// The door at the path of the control socket, from which a stale socket is removed, or why there is none.
-#[tactic(auto, using(swim_life::specs::Notices::no_notices))]
-fn open_door<'r, R: Files<File = File> + Net + Clock, F: Sink>(
-    rt: &'r R,
-    alloc: Global,
-    path: &str,
-    faults: &mut F,
-    details: &mut Details,
-) -> Result<UnixDoor<&'r R>, Outcome>
-    ensures refused { IfErr result IsNoDoor }
-    ensures details { IfOk result (λ door. details.new ≡ details.old) }
-    ensures notices { Notices (F.written faults.old, F.failures faults.old)
-        (F.written faults.new, F.failures faults.new) }
-{
-    let place = Place::take(rt, path);
-    if place.is_cleared() {
-        Notice::removed(rt, path).tell_notice(rt, alloc, faults);
-    }
-    match UnixDoor::bind(rt, alloc, rt, path) {
-        Ok(door) => Ok(door),
-        Err(fault) if fault.kind() == ErrorKind::OutOfMemory => Err(Outcome::NoMemory),
-        Err(fault) => {
-            tell_socket(path, fault.kind(), place.sight(), details);
-            Err(Outcome::NoControl)
-        }
-    }
-}
-
 /// Tells why the address can't be listened on.
-fn tell_listen(listen: Peer, kind: ErrorKind, details: &mut Details) {
+fn tell_listen(listen: Peer, fault: &io::Error, details: &mut Details) {
     let address = listen.write();
-    details.add_of(address.as_str(), words_of(kind));
+    details.add_of(address.as_str(), words_why(fault));
 }
 
 /// The milliseconds since 1970; 0 where the system can't tell them.

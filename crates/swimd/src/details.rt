@@ -8,10 +8,17 @@ ghost use Rattle.swimd.specs.Details.{IsExplained};
 
 use arrayvec::ArrayVec;
 use std::alloc::Global;
+use std::io;
 use std::io::ErrorKind;
 use std::marker::Model;
 use swim_config::{ConfigFault, put_cause};
 use swim_text::Page;
+
+/// Errors of the system that have no kind of their own: this program, or all of them together, have as many files open
+/// as they may.
+const ENFILE: i32 = 23;
+
+const EMFILE: i32 = 24;
 
 /// How many bytes details have at most.
 const DETAILS_BYTES: usize = 2048;
@@ -137,6 +144,15 @@ fn printed(byte: u8) -> u8
         byte
     } else {
         b'?'
+    }
+}
+
+/// What the system says by this error.
+pub fn words_why(fault: &io::Error) -> &'static str {
+    match fault.raw_os_error() {
+        Some(EMFILE) => "too many open files",
+        Some(ENFILE) => "too many open files in the system",
+        _ => words_of(fault.kind()),
     }
 }
 

@@ -4,12 +4,12 @@ ghost use Rattle.std.specs.Prelude.{◌≡◌, IfErr, IfOk};
 ghost use Rattle.swim_life.specs.Notices.{Notices};
 ghost use Rattle.swimd.specs.Daemon.{IsNoEntrance};
 
-use crate::details::{Details, words_of};
+use crate::details::{Details, words_why};
 use crate::notices::Notice;
 use crate::outcomes::Outcome;
 use std::alloc::Global;
 use std::fs::File;
-use std::io::ErrorKind;
+use std::io;
 use std::net::Net;
 use std::rt::{Clock, Files};
 use swim_config::SocketPath;
@@ -35,33 +35,33 @@ pub fn pause_ms(events: &Option<SocketPath>) -> u32 {
 /// The entrance at the path of the events' socket, from which a stale socket is removed, or why there is none. Where no
 /// path is given it is closed.
 #[tactic(auto, using(swim_life::specs::Notices::no_notices))]
-pub fn open_entrance<R: Files<File = File> + Net + Clock, F: Sink>(
-    rt: &R,
+pub fn open_entrance<'r, R: Files<File = File> + Net + Clock, F: Sink>(
+    rt: &'r R,
     alloc: Global,
     events: &Option<SocketPath>,
     faults: &mut F,
     details: &mut Details,
-) -> Result<UnixEntrance, Outcome>
+) -> Result<UnixEntrance<&'r R>, Outcome>
     ensures refused { IfErr result IsNoEntrance }
     ensures details { IfOk result (λ entrance. details.new ≡ details.old) }
     ensures notices { Notices (F.written faults.old, F.failures faults.old)
         (F.written faults.new, F.failures faults.new) }
 {
     match events {
-        None => Ok(UnixEntrance::closed()),
+        None => Ok(UnixEntrance::closed(rt)),
         Some(path) => bind_entrance(rt, alloc, path.as_str(), faults, details),
     }
 }
 
 /// The entrance at a path, from which a stale socket is removed.
 #[tactic(auto, using(swim_life::specs::Notices::no_notices))]
-fn bind_entrance<R: Files<File = File> + Net + Clock, F: Sink>(
-    rt: &R,
+fn bind_entrance<'r, R: Files<File = File> + Net + Clock, F: Sink>(
+    rt: &'r R,
     alloc: Global,
     path: &str,
     faults: &mut F,
     details: &mut Details,
-) -> Result<UnixEntrance, Outcome>
+) -> Result<UnixEntrance<&'r R>, Outcome>
     ensures refused { IfErr result IsNoEntrance }
     ensures details { IfOk result (λ entrance. details.new ≡ details.old) }
     ensures notices { Notices (F.written faults.old, F.failures faults.old)
@@ -71,18 +71,18 @@ fn bind_entrance<R: Files<File = File> + Net + Clock, F: Sink>(
     if place.is_cleared() {
         Notice::removed(rt, path).tell_notice(rt, alloc, faults);
     }
-    match UnixEntrance::bind(rt, path) {
+    match UnixEntrance::bind(rt, alloc, rt, path) {
         Ok(entrance) => Ok(entrance),
         Err(fault) => {
-            tell_socket(path, fault.kind(), place.sight(), details);
+            tell_socket(path, &fault, place.sight(), details);
             Err(Outcome::NoEvents)
         }
     }
 }
 
 /// Tells why a socket can't be bound at a path, and what stands there.
-pub fn tell_socket(path: &str, kind: ErrorKind, sight: Sight, details: &mut Details) {
-    details.add_of(path, words_of(kind));
+pub fn tell_socket(path: &str, fault: &io::Error, sight: Sight, details: &mut Details) {
+    details.add_of(path, words_why(fault));
     match sight {
         Sight::NoSocket => details.add("what stands there is no socket; it is kept"),
         Sight::Served => details.add("somebody serves this socket; it is kept"),
@@ -91,8 +91,8 @@ pub fn tell_socket(path: &str, kind: ErrorKind, sight: Sight, details: &mut Deta
     }
 }
 
-/// Tells all who watch that nothing happens any more, and sends what they take at once.
-pub fn end_watching<E: Outlet + Drop>(gallery: &mut Gallery<E>) {
+/// Tells all who watch that nothing happens any more, and sends what they take at once, at this time.
+pub fn end_watching<E: Outlet + Drop>(gallery: &mut Gallery<E>, time: u64) {
     gallery.tell(&Event::Ended);
-    gallery.send();
+    gallery.send(time);
 }

@@ -10,6 +10,7 @@ use std::os::unix::net::UnixStream;
 use std::rt::Clock;
 use std::thread;
 use std::time::Duration;
+use swim_text::Sink;
 use swim_watch::{EventLine, Feed};
 
 /// How long is waited before a daemon that is gone is looked for again, in milliseconds.
@@ -70,7 +71,7 @@ impl<'r, 'p, R: Net + Clock> EventsSocket<'r, 'p, R> {
 impl<'r, 'p, R: Net + Clock> Feed for EventsSocket<'r, 'p, R> {
     ghost heard = { λ s. None };
 
-    fn hear(&mut self, line: &mut EventLine) -> bool {
+    fn hear<W: Sink>(&mut self, line: &mut EventLine, _writer: &W) -> bool {
         line.clear();
         for _byte in 0..u64::MAX {
             match self.next_byte() {

@@ -58,12 +58,27 @@ pub struct Strangers {
     pub forged: SharedThrown,
 }
 
+/// How many there were of each kind.
+#[derive(Clone, Copy)]
+pub struct StrangerCounts {
+    pub fenced: u64,
+    pub forged: u64,
+}
+
 impl Strangers {
     /// None came yet.
     pub fn new() -> Strangers {
         Strangers {
             fenced: SharedThrown::new(),
             forged: SharedThrown::new(),
+        }
+    }
+
+    /// How many came until now.
+    pub fn counts(&self) -> StrangerCounts {
+        StrangerCounts {
+            fenced: self.fenced.count(),
+            forged: self.forged.count(),
         }
     }
 }

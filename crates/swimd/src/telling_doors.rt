@@ -1,5 +1,5 @@
-//! A door that tells people what happens: changes of the member table, datagrams that are thrown away, and metrics. The
-//! worker at the door has the time for it, so that nobody else waits.
+//! A door that tells people what happens: changes of the member table, datagrams that are thrown away, connections that
+//! are turned away, and metrics. The worker at the door has the time for it, so that nobody else waits.
 
 ghost use Rattle.std.specs.Prelude.{◌≡◌, ◌∷◌, []};
 ghost use Rattle.swim_life.specs.Gates.{is_fault};
@@ -9,6 +9,7 @@ use crate::counters::Counters;
 use crate::happenings::{Happening, unsaid};
 use crate::metrics_files::MetricsFile;
 use crate::notices::Notice;
+use crate::refusals::refused;
 use crate::strangers::SharedThrown;
 use std::alloc::Global;
 use std::fs::File;
@@ -24,7 +25,7 @@ use swim_wire::Peer;
 /// How long no more datagrams of a kind are told that were thrown away, once some were, in seconds.
 const PAUSE_SECONDS: u64 = 60;
 
-/// How many of one kind people were told of, and when.
+/// How many of one kind people were told of, and when they were last.
 #[derive(Drop)]
 struct Telling {
     told: u64,
@@ -43,13 +44,25 @@ impl Telling {
     /// How many there are and where the newest came from, if that is to be told now. Then nothing more is for a minute.
     fn due<K: Clock>(&mut self, clock: &K, thrown: &SharedThrown) -> Option<(u64, Peer)> {
         let count = thrown.count();
-        if count == self.told || self.is_pausing(clock) {
-            return None;
-        }
         let newest = thrown.newest()?;
-        self.told_at = Some(Instant::now(clock).ok()?);
+        if self.is_due(clock, count) {
+            Some((count, newest))
+        } else {
+            None
+        }
+    }
+
+    /// Whether it is to be told now that there are so many. Then nothing more is for a minute.
+    fn is_due<K: Clock>(&mut self, clock: &K, count: u64) -> bool {
+        if count == self.told || self.is_pausing(clock) {
+            return false;
+        }
+        let Ok(now) = Instant::now(clock) else {
+            return false;
+        };
+        self.told_at = Some(now);
         self.told = count;
-        Some((count, newest))
+        true
     }
 
     /// Whether less than a minute passed since something was told.
@@ -65,9 +78,9 @@ impl Telling {
 }
 
 /// A door over another. Each time it is asked for the next connection it tells what there is to be told, and waits for
-/// nobody: each change of the member table, how many datagrams were thrown away and where the newest came from, of each
-/// kind at most once a minute, and every ten seconds the metrics. Where it is quiet it tells nothing in the log but
-/// that metrics can't be written.
+/// nobody: each change of the member table, how many datagrams were thrown away and where the newest came from, and how
+/// many connections were turned away, of each kind at most once a minute, and every ten seconds the metrics. Where it
+/// is quiet it tells nothing in the log but that metrics can't be written.
 #[derive(Drop)]
 pub struct TellingDoor<'s, 'r, R, D: Door + Drop, G: Sink + Drop> {
     rt: &'r R,
@@ -79,6 +92,7 @@ pub struct TellingDoor<'s, 'r, R, D: Door + Drop, G: Sink + Drop> {
     is_quiet: bool,
     fenced: Telling,
     forged: Telling,
+    refused: Telling,
 }
 
 // A contract sees the door below.
@@ -117,6 +131,7 @@ impl<'s, 'r, R: Files<File = File> + Net + Clock, D: Door + Drop, G: Sink + Drop
             is_quiet,
             fenced: Telling::new(),
             forged: Telling::new(),
+            refused: Telling::new(),
         }
     }
 
@@ -127,6 +142,7 @@ impl<'s, 'r, R: Files<File = File> + Net + Clock, D: Door + Drop, G: Sink + Drop
         if !self.is_quiet {
             self.tell_changes(rt);
             self.tell_thrown();
+            self.tell_refused();
         }
         if self.file.is_due() {
             self.tell_metrics(rt);
@@ -165,6 +181,16 @@ impl<'s, 'r, R: Files<File = File> + Net + Clock, D: Door + Drop, G: Sink + Drop
         }
     }
 
+    /// Tells of the connections that were turned away, if they are to be told.
+    fn tell_refused(&mut self)
+        ensures { self.new ≡ self.old }
+    {
+        let count = self.counters.refusals.count();
+        if self.refused.is_due(self.rt, count) {
+            refused(self.rt, count).tell_notice(self.rt, self.alloc, &mut self.log);
+        }
+    }
+
     /// Writes the metrics' file, once something was counted. It tells once that it can't be written.
     fn tell_metrics<W: Wait>(&mut self, rt: &W)
         ensures { self.new ≡ self.old }
@@ -192,7 +218,11 @@ impl<'s, 'r, R: Files<File = File> + Net + Clock, D: Door + Drop, G: Sink + Drop
         ensures { Grows (D.faults self.old) (D.faults self.new) (is_fault result ∷ []) }
     {
         self.tell_what_is_due(rt);
-        self.door.next(rt)
+        let knock = self.door.next(rt);
+        if matches!(&knock, Knock::Refused) {
+            self.counters.refusals.add(1);
+        }
+        knock
     }
 
     fn wait<W: Wait>(&mut self, rt: &W)

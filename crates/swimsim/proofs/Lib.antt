@@ -1,4 +1,5 @@
 pub mod CommandLine
 pub mod Digits
 pub mod Feeds
+pub mod Paths
 pub mod Unseen

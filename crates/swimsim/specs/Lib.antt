@@ -3,4 +3,7 @@ pub mod Meanings
 pub mod Reasons
 pub mod Differences
 pub mod Verifying
+pub mod Examined
+pub mod VerdictTexts
+pub mod Sequences
 pub mod WholeLines

@@ -2,12 +2,15 @@
 
 use crate::options::Options;
 use anyhow::{Error, Result, anyhow};
-use std::fs::File;
+use std::fs::{self, File};
 use std::io::{Read, Seek};
 use std::process::ExitCode;
 use swim_history::Journal;
 use swim_text::{Sink, Words, WriteSink};
 use swim_timeline::{Span, View, put_timeline};
+
+/// Where a picture may go that isn't written to a file.
+const STANDARD_OUTPUT: &str = "/dev/stdout";
 
 /// What the first two lines of a picture begin with.
 const FIRST_LINE: &[u8; 39] = b"<svg xmlns=\"http://www.w3.org/2000/svg\"";
@@ -49,6 +52,9 @@ fn draw(
     let Some(span) = Span::of(journal, options.view())? else {
         return Err(nothing_shown(options.view()));
     };
+    if !is_drawn_at(rt, path) {
+        return Err(anyhow!("it is no file: a picture is written to a file, or to /dev/stdout"));
+    }
     let file = if options.force {
         File::create(rt, path)?
     } else {
@@ -74,6 +80,16 @@ fn nothing_shown(view: View) -> Error {
     }
 }
 
+/// Whether a picture is written to that path: where nothing else than a file stands there. It is looked at before
+/// anything is opened, since a pipe may have no reader, and a device may do something of its own.
+fn is_drawn_at(rt: &HostRuntime, path: &str) -> bool {
+    match fs::metadata(rt, path) {
+        Ok(found) => found.is_file() || path == STANDARD_OUTPUT,
+        // Nothing stands there, or why it can't be looked at is told as it is opened.
+        Err(_) => true,
+    }
+}
+
 /// Opens the file for a picture, unless what it holds would be lost.
 fn open_unless_lost(rt: &HostRuntime, path: &str) -> Result<File> {
     let mut options = File::options();
@@ -87,8 +103,8 @@ fn open_unless_lost(rt: &HostRuntime, path: &str) -> Result<File> {
     Ok(file)
 }
 
-/// Makes the file empty, and answers whether it is to be written: not where it is one of a disk that holds something
-/// else than a picture, which stays as it is.
+/// Makes the file empty, and answers whether it is to be written: not where it holds something else than a picture,
+/// which stays as it is. Standard output may be none that can be made empty.
 fn make_empty(file: &mut File) -> Result<bool> {
     let found = file.metadata()?;
     if !found.is_file() || found.len() == 0 {

@@ -1,4 +1,4 @@
-//! What a script is read from, and what its answers are written to.
+//! What a script is read from.
 
 ghost use Rattle.std.specs.Io.{ReadsAtMost};
 
@@ -7,7 +7,7 @@ use crate::overhearing::Overheard;
 use crate::whole_lines::WholeLines;
 use std::cell::RefCell;
 use std::fs::File;
-use std::io::{self, ErrorKind, Read, Stdin, Stdout, Write};
+use std::io::{self, ErrorKind, Read, Stdin};
 use swim_text::{Byte, ReadSource, Source};
 
 /// Where a script lies.
@@ -68,28 +68,5 @@ fn read_byte<R: Source>(script: &mut R, buf: &mut [u8]) -> io::Result<usize>
         }
         Byte::End => Ok(0),
         Byte::Fault => Err(io::Error::from(ErrorKind::Other)),
-    }
-}
-
-/// Standard output, or nothing that takes the answers.
-#[derive(Drop)]
-pub enum Output {
-    Plain(Stdout),
-    Nowhere,
-}
-
-impl Write for Output {
-    fn write(&mut self, buf: &[u8]) -> io::Result<usize> {
-        match self {
-            Output::Plain(output) => output.write(buf),
-            Output::Nowhere => Ok(buf.len()),
-        }
-    }
-
-    fn flush(&mut self) -> io::Result<()> {
-        match self {
-            Output::Plain(output) => output.flush(),
-            Output::Nowhere => Ok(()),
-        }
     }
 }

@@ -8,6 +8,7 @@ mod causes;
 mod differences;
 mod drawing;
 mod draws;
+mod examining;
 mod expectations;
 mod explanations;
 mod files;
@@ -25,6 +26,8 @@ mod spelling;
 mod summaries;
 mod tallies;
 mod telling;
+mod unheard;
+mod verdict_lines;
 mod verifying;
 mod whole_lines;
 mod witness;
@@ -34,7 +37,7 @@ use differences::newest_line;
 use drawing::draw_at;
 use draws::warnings_of;
 use explanations::Explanation;
-use files::{Input, Output, Script};
+use files::{Input, Script};
 use notes::{NoteTaker, Notes, Told};
 use options::{Options, read_options, refuse_bytes, refuse_mixed, refuse_twofold, refuse_unplaced};
 use overhearing::Overheard;
@@ -42,7 +45,7 @@ use std::alloc::AllocError;
 use std::cell::RefCell;
 use std::env;
 use std::fs::File;
-use std::io::{self, ErrorKind};
+use std::io::{self, ErrorKind, Stdout};
 use std::process::ExitCode;
 use summaries::JournalSummary;
 use swim_history::Journal;
@@ -50,6 +53,9 @@ use swim_script::{FaultKind, ScriptFault, Session};
 use swim_text::{ReadSource, Sink, WriteSink};
 use telling::WordTeller;
 use verifying::verify;
+
+/// The status where memory is refused before anything is played.
+const NO_MEMORY: u8 = 4;
 
 fn main(rt: HostRuntime) -> ExitCode {
     match begin(&rt) {
@@ -64,9 +70,15 @@ fn main(rt: HostRuntime) -> ExitCode {
 /// Does what the words of the command line ask.
 fn begin(rt: &HostRuntime) -> Result<ExitCode> {
     let words: Vec<String> = match env::args(rt) {
-        Ok(words) => words.collect(rt.alloc())?,
+        Ok(words) => match words.collect(rt.alloc()) {
+            Ok(words) => words,
+            Err(_) => return Ok(refuse_memory(rt)),
+        },
         Err(error) if error.kind() == ErrorKind::InvalidData => {
             return print_answer(rt, &refuse_bytes(rt.alloc())?);
+        }
+        Err(error) if error.kind() == ErrorKind::OutOfMemory => {
+            return Ok(refuse_memory(rt));
         }
         Err(error) => return Err(error.into()),
     };
@@ -74,6 +86,12 @@ fn begin(rt: &HostRuntime) -> Result<ExitCode> {
         Ok(options) => obey(rt, &options),
         Err(answer) => print_answer(rt, &answer),
     }
+}
+
+/// The answer to words for which memory was refused: nothing is done.
+fn refuse_memory(rt: &HostRuntime) -> ExitCode {
+    let _ = eprintln!(rt; "swimsim: out of memory");
+    ExitCode::from(NO_MEMORY)
 }
 
 /// Does what is asked for, where it goes together.
@@ -100,7 +118,7 @@ fn obey(rt: &HostRuntime, options: &Options<'_>) -> Result<ExitCode> {
 fn print_answer(rt: &HostRuntime, answer: &clap::Error) -> Result<ExitCode> {
     answer.print(rt)?;
     if answer.kind() == clap::error::ErrorKind::OutOfMemory {
-        return Ok(ExitCode::FAILURE);
+        return Ok(ExitCode::from(NO_MEMORY));
     }
     Ok(ExitCode::from(answer.exit_code() as u8))
 }
@@ -132,8 +150,7 @@ fn play(rt: &HostRuntime, script: Script, options: &Options<'_>) -> ExitCode {
     }
     let mut session = Session::new(rt.alloc());
     let input = Input::Plain(script);
-    let output = Output::Plain(rt.stdout());
-    let code = finish(rt, play_between(&mut session, input, output));
+    let code = finish(rt, play_between(&mut session, input, rt.stdout()));
     draw_at(rt, options, session.into_journal().as_ref(), code)
 }
 
@@ -143,8 +160,8 @@ fn play_in_words(rt: &HostRuntime, script: Script, options: &Options<'_>) -> Exi
     let mut teller = WordTeller::new(rt.alloc(), options.decode, options.explain);
     let notes = RefCell::new(Notes::new(rt.alloc()));
     let input = Overheard::new(ReadSource::new(script), NoteTaker::new(&notes));
-    let output = Output::Plain(rt.stdout());
-    let outcome = tell_between(&mut session, Input::Overheard(input), output, &mut teller);
+    let input = Input::Overheard(input);
+    let outcome = tell_between(&mut session, input, rt.stdout(), &mut teller);
     let code = finish(rt, outcome);
     let journal = session.into_journal();
     if options.explain {
@@ -205,7 +222,7 @@ fn sum_up(rt: &HostRuntime, journal: &Journal, told: &Told) -> Result<(), AllocE
 fn play_between(
     session: &mut Session,
     script: Input<'_>,
-    answers: Output,
+    answers: Stdout,
 ) -> Result<(), ScriptFault>
     requires { session.old ≡ unplayed }
 {
@@ -222,7 +239,7 @@ fn play_between(
 fn tell_between(
     session: &mut Session,
     script: Input<'_>,
-    answers: Output,
+    answers: Stdout,
     teller: &mut WordTeller,
 ) -> Result<(), ScriptFault>
     requires { session.old ≡ unplayed }

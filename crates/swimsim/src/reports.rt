@@ -1,5 +1,6 @@
 //! What is told of a journal file that was verified.
 
+use crate::examining::Played;
 use std::collections::BTreeMap;
 use std::fmt;
 use swim_evidence::{Ask, Evidence, Finding, Findings, Stray};
@@ -7,17 +8,31 @@ use swim_evidence::{Ask, Evidence, Finding, Findings, Stray};
 /// What a journal file tells, as lines.
 #[derive(Drop)]
 pub struct Report<'a> {
-    pub path: &'a str,
+    path: &'a str,
     /// How many entries were played.
-    pub entries: u32,
+    entries: u32,
     /// How many of them are confirmed, from the first on.
-    pub confirmed: u32,
+    confirmed: u32,
     /// What these tell.
-    pub found: &'a Findings,
+    found: &'a Findings,
     /// When periods began, by the places of their starts.
-    pub times: &'a BTreeMap<u32, u64>,
-    /// Whether the file ends in the midst.
-    pub is_cut: bool,
+    times: &'a BTreeMap<u32, u64>,
+}
+
+impl<'a> Report<'a> {
+    /// What is told of a file that was played; `None` where memory to find it out was refused.
+    pub fn of(path: &'a str, played: &'a Played) -> Option<Report<'a>> {
+        match &played.found {
+            Ok(found) => Some(Report {
+                path,
+                entries: played.journal.as_ref().map_or(0, |journal| journal.len()),
+                confirmed: played.witness.confirmations.confirmed,
+                found,
+                times: &played.witness.times,
+            }),
+            Err(_) => None,
+        }
+    }
 }
 
 impl<'a> fmt::Display for Report<'a> {
@@ -38,24 +53,7 @@ impl<'a> fmt::Display for Report<'a> {
         for finding in findings {
             show_finding(finding, self.times, f)?;
         }
-        if self.is_cut {
-            let place = End(confirmed);
-            write!(f, "cut {place}\n")?;
-        }
         Ok(())
-    }
-}
-
-/// Where so many confirmed entries end.
-#[derive(Clone, Copy)]
-pub struct End(pub u32);
-
-impl fmt::Display for End {
-    fn fmt<W: fmt::Write>(&self, f: &mut fmt::Formatter<W>) -> fmt::Result {
-        match self.0.checked_sub(1) {
-            Some(entry) => write!(f, "behind entry {entry}"),
-            None => f.write_str("before entry 0"),
-        }
     }
 }
 

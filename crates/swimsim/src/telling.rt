@@ -3,11 +3,11 @@
 ghost use Rattle.std.specs.Prelude.{◌≡◌};
 ghost use Rattle.swim_text.specs.Streams.{failures_if};
 
-use crate::files::Output;
 use crate::meanings::message_words;
 use crate::reasons::{Reason, reason_of};
 use crate::tallies::AnswerTally;
 use std::alloc::Global;
+use std::io::Stdout;
 use swim_history::{Call, Opening, Reply, sends};
 use swim_script::{LineOutcome, Session, Teller, put_reply, put_send};
 use swim_text::{Sink, WriteSink, put_numbered};
@@ -157,13 +157,13 @@ impl WordTeller {
 
 /// No contract sees the bytes that standard output takes, so none says where the words stand. That they stand between
 /// the answers, and change none, is tested.
-impl Teller<WriteSink<Output>> for WordTeller {
+impl Teller<WriteSink<Stdout>> for WordTeller {
     #[tactic(auto, using(crate::proofs::Unseen::puts_unseen))]
     fn put(
         &mut self,
         session: &Session,
         outcome: &LineOutcome,
-        writer: &mut WriteSink<Output>,
+        writer: &mut WriteSink<Stdout>,
     ) -> bool {
         self.tally.add(outcome);
         match outcome {

@@ -1,249 +1,161 @@
-//! Journal files that are verified.
+//! Journal files that are verified, one after the other.
 
-ghost use Rattle.std.specs.Prelude.{◌≡◌};
-ghost use Rattle.swimsim.specs.Verifying.{ends_in_midst, fault_met};
+ghost use Rattle.std.specs.Prelude.{◌≡◌, ◌↔◌, ℕ, List, Option, IfOk, IfSome, map};
+ghost use Rattle.swim_evidence.specs.declared.sequences.Seen.{Seen as SeenFile};
+ghost use Rattle.swim_evidence.specs.Sequences.{AreGood};
+ghost use Rattle.swimsim.specs.Sequences.{seen_of, status_of};
 
-use crate::files::{Input, Output, Script};
-use crate::reports::{End, Report};
-use crate::whole_lines::WholeLines;
-use crate::witness::{FileEnd, Witness};
-use crate::{open, play_between};
+use crate::examining::{Played, play};
+use crate::reports::Report;
+use crate::verdict_lines::{Closing, Objection};
+use crate::witness::FileEnd;
 use anyhow::Result;
-use std::alloc::{AllocError, Global};
-use std::cell::RefCell;
+use std::fmt;
+use std::io::{self, ErrorKind};
 use std::process::ExitCode;
-use std::{fmt, io};
-use swim_evidence::{Break, Findings, Heading, Verdict, findings_of, first_break, verdict_on};
-use swim_history::{Journal, Opening};
-use swim_script::{FaultKind, ScriptFault, Session};
+use swim_evidence::{Link, Seen, Sequence, Standing, Verdict};
 
-/// A journal file that was played.
-#[derive(Drop)]
-struct Played<'a> {
-    path: &'a str,
-    outcome: Result<(), ScriptFault>,
-    journal: Option<Journal>,
-    witness: Witness,
+/// Who plays journal files, and tells what they come to.
+pub trait Examiner {
+    // What is seen of the file of each path; `None` where that isn't known, as of files on a disk.
+    ghost seen: { Self → Option (List ℕ → SeenFile) };
+
+    /// Plays the file of that path, and answers what is seen of it.
+    fn examine(&mut self, path: &str) -> Seen
+        ensures seen { IfSome (seen self.old) (λ files. result ≡ files path.now) }
+        ensures files { seen self.new ≡ seen self.old };
+
+    /// Tells what the file that was played last comes to, which is that of this path, and how it stands to the one
+    /// before it. `Err` where that can't be written.
+    fn tell(&mut self, path: &str, before: &str, link: Link) -> Result<()>
+        ensures files { seen self.new ≡ seen self.old };
 }
 
-/// A file, and what its life left; nothing is known of that where the file isn't whole.
-#[derive(Drop)]
-struct FileLeft<'a> {
-    path: &'a str,
-    life: Option<(Opening, Heading)>,
-}
-
-/// Files that are verified one after the other.
-#[derive(Drop)]
-struct Sequence<'a> {
-    before: Option<FileLeft<'a>>,
-    is_good: bool,
-}
-
-/// Verifies journal files, which are to be lives of a daemon in their order.
-pub fn verify<'a>(rt: &HostRuntime, paths: &[&'a str]) -> Result<ExitCode> {
-    let mut sequence = Sequence {
-        before: None,
-        is_good: true,
-    };
+/// Verifies journal files, which are to be lives of a daemon in their order, and answers the status with which the
+/// program ends: 0 where nothing speaks against any of them; 4 where that isn't known, as memory was refused; else 1.
+#[tactic(auto)]
+pub fn verify_each<E: Examiner>(examiner: &mut E, paths: &[&str]) -> Result<u8>
+    // It is 0 exactly where each file is whole or cut, and begins a new start or goes on from what the one before left.
+    ensures { IfOk result (λ status. IfSome (E.seen examiner.old) (λ files.
+        (status ≡ 0) ↔ AreGood (seen_of files (map (λ path. path.now) paths.now)))) }
+{
+    let mut sequence = Sequence::new();
+    let mut before = "";
     for path in paths {
-        sequence.go_on(rt, path)?;
+        let seen = examiner.examine(path);
+        let link = sequence.add(seen);
+        examiner.tell(path, before, link)?;
+        before = *path;
     }
-    if sequence.is_good {
-        Ok(ExitCode::SUCCESS)
-    } else {
-        Ok(ExitCode::FAILURE)
+    Ok(status_of(sequence.standing()))
+}
+
+/// The status with which the program ends.
+fn status_of(standing: Standing) -> u8
+    ensures { result ≡ status_of standing }
+{
+    match standing {
+        Standing::Sound => 0,
+        Standing::Starved => 4,
+        Standing::Accused => 1,
     }
 }
 
-impl<'a> Sequence<'a> {
-    /// Verifies the next file.
-    fn go_on(&mut self, rt: &HostRuntime, path: &'a str) -> Result<()> {
-        let life = match play(rt, path) {
-            Ok(played) if played.witness.end == FileEnd::Foreign => {
-                self.report_fault(
-                    rt,
-                    path,
-                    "it is no journal file: its first line isn't `journal 1`",
-                );
-                None
-            }
-            Ok(played) => self.judge(rt, played)?,
-            Err(error) => {
-                self.report_fault(rt, path, error);
-                None
-            }
+/// Who plays files of the system.
+#[derive(Drop)]
+struct FileExaminer<'r> {
+    rt: &'r HostRuntime,
+    /// The file that was played last, or why it can't be read.
+    played: Option<io::Result<Played>>,
+}
+
+/// Verifies the files of these paths, and tells what they come to on the standard streams.
+pub fn verify(rt: &HostRuntime, paths: &[&str]) -> Result<ExitCode> {
+    let mut examiner = FileExaminer { rt, played: None };
+    Ok(ExitCode::from(verify_each(&mut examiner, paths)?))
+}
+
+impl<'r> Examiner for FileExaminer<'r> {
+    ghost use Rattle.std.specs.Prelude.{None};
+
+    ghost seen = { λ e. None };
+
+    fn examine(&mut self, path: &str) -> Seen {
+        let played = play(self.rt, path);
+        let seen = match &played {
+            Ok(played) => played.seen(),
+            Err(error) if error.kind() == ErrorKind::OutOfMemory => Seen::unread(Standing::Starved),
+            Err(_) => Seen::unread(Standing::Accused),
         };
-        self.before = Some(FileLeft { path, life });
+        self.played = Some(played);
+        seen
+    }
+
+    fn tell(&mut self, path: &str, before: &str, link: Link) -> Result<()> {
+        if link == Link::NewStart {
+            println!(self.rt; "{path}: a new start")?;
+        }
+        match self.played.take() {
+            Some(Ok(played)) => tell_played(self.rt, path, &played)?,
+            Some(Err(error)) => tell_unread(self.rt, path, &error),
+            None => {}
+        }
+        tell_link(self.rt, path, before, link);
         Ok(())
     }
-
-    /// Tells what is wrong with a file.
-    fn report_fault<T: fmt::Display + Drop>(&mut self, rt: &HostRuntime, path: &str, what: T) {
-        let _ = eprintln!(rt; "swimsim: {path}: {what}");
-        self.is_good = false;
-    }
-
-    /// Tells what a file comes to, and answers what its life left.
-    fn judge(
-        &mut self,
-        rt: &HostRuntime,
-        played: Played<'a>,
-    ) -> Result<Option<(Opening, Heading)>> {
-        played.witness.kept?;
-        let verdict = played.verdict();
-        let found = played.found(rt.alloc())?;
-        let report = played.report(&found, verdict == Verdict::Cut);
-        print!(rt; "{report}")?;
-        self.tell_verdict(rt, &played, verdict);
-        self.compare(rt, &played);
-        match verdict {
-            Verdict::Whole => Ok(played.left()),
-            _ => Ok(None),
-        }
-    }
-
-    /// Tells what speaks against a file.
-    fn tell_verdict(
-        &mut self,
-        rt: &HostRuntime,
-        played: &Played<'a>,
-        verdict: Verdict<ScriptFault>,
-    ) {
-        match verdict {
-            Verdict::Whole | Verdict::Cut => {}
-            Verdict::Missed(call) => {
-                let line = call.line;
-                let entry = call.entry;
-                let what = format_args!(
-                    "line {line}: no answer stands behind the call of entry {entry}"
-                );
-                self.report_fault(rt, played.path, what);
-            }
-            Verdict::Faulty(fault) => {
-                let place = End(played.witness.confirmations.confirmed);
-                self.report_fault(rt, played.path, format_args!("{fault}, {place}"));
-            }
-        }
-    }
-
-    /// Tells where a file isn't the life that follows the one before.
-    fn compare(&mut self, rt: &HostRuntime, played: &Played<'a>) {
-        let Some(before) = &self.before else {
-            return;
-        };
-        let other = before.path;
-        match &before.life {
-            None => {
-                let what = format_args!(
-                    "does not follow {other}: what {other} left isn't known, as it isn't whole"
-                );
-                self.report_fault(rt, played.path, what);
-            }
-            Some((left, heading)) => {
-                if let Some(met) = played.break_behind(left, heading) {
-                    self.report_fault(
-                        rt,
-                        played.path,
-                        format_args!("does not follow {other}: {met}"),
-                    );
-                }
-            }
-        }
-    }
 }
 
-/// Plays a file to its end, or to its first fault.
-fn play<'a>(rt: &HostRuntime, path: &'a str) -> io::Result<Played<'a>> {
-    let script = if path == "-" {
-        Script::Standard(rt.stdin())
+/// Tells what a file comes to that was played.
+fn tell_played(rt: &HostRuntime, path: &str, played: &Played) -> Result<()> {
+    if played.witness.end == FileEnd::Foreign {
+        object(
+            rt,
+            path,
+            "it is no journal file: its first line isn't `journal 1`",
+        );
+        return Ok(());
+    }
+    let verdict = played.verdict();
+    let confirmed = played.witness.confirmations.confirmed;
+    if let Some(report) = Report::of(path, played) {
+        let closing = Closing { verdict, confirmed };
+        print!(rt; "{report}{closing}")?;
+    }
+    match verdict {
+        Verdict::Whole | Verdict::Cut => {}
+        Verdict::Missed(_) | Verdict::Faulty(_) | Verdict::Starved => {
+            object(rt, path, Objection { verdict, confirmed });
+        }
+    }
+    Ok(())
+}
+
+/// Tells why a file can't be read.
+fn tell_unread(rt: &HostRuntime, path: &str, error: &io::Error) {
+    if error.kind() == ErrorKind::OutOfMemory {
+        object(rt, path, "no memory before entry 0");
     } else {
-        Script::File(open(rt, path)?)
-    };
-    let lines = RefCell::new(WholeLines::new(rt.alloc(), script));
-    let mut session = Session::new(rt.alloc());
-    let outcome = play_between(&mut session, Input::Whole(&lines), Output::Nowhere);
-    Ok(Played {
-        path,
-        outcome,
-        journal: session.into_journal(),
-        witness: lines.into_inner().into_witness(outcome),
-    })
-}
-
-impl<'a> Played<'a> {
-    fn verdict(&self) -> Verdict<ScriptFault> {
-        let fault = fault_met(self.outcome, self.witness.end, self.witness.lines);
-        let is_cut = ends_in_midst(self.outcome, self.witness.end);
-        verdict_on(fault, is_cut, &self.witness.confirmations)
-    }
-
-    /// What its confirmed entries tell.
-    fn found(&self, alloc: Global) -> Result<Findings, AllocError> {
-        match &self.journal {
-            Some(journal) => findings_of(alloc, journal, self.witness.confirmations.confirmed),
-            None => Ok(Findings {
-                periods: 0,
-                findings: Vec::new(alloc),
-            }),
-        }
-    }
-
-    fn report<'b>(&'b self, found: &'b Findings, is_cut: bool) -> Report<'b> {
-        Report {
-            path: self.path,
-            entries: self.journal.as_ref().map_or(0, |journal| journal.len()),
-            confirmed: self.witness.confirmations.confirmed,
-            found,
-            times: &self.witness.times,
-            is_cut,
-        }
-    }
-
-    /// What its life left.
-    fn left(&self) -> Option<(Opening, Heading)> {
-        Some((
-            Opening::after(self.journal.as_ref()?),
-            self.witness.heading?,
-        ))
-    }
-
-    /// In what it isn't the life that follows one with that heading, which left that opening. A header that may be cut
-    /// isn't compared.
-    fn break_behind(&self, left: &Opening, before: &Heading) -> Option<Break> {
-        let heading = self.witness.heading?;
-        if self.witness.is_in_header()
-            && heading.draw.is_none()
-            && (before.draw.is_some() || self.witness.end != FileEnd::Whole)
-        {
-            return None;
-        }
-        first_break(left, before, self.journal.as_ref()?.opening(), &heading)
+        object(rt, path, format_args!("{error}"));
     }
 }
 
-/// The fault of a file that was played with that outcome, and ended so behind so many lines. That no line tells an
-/// opening is none: such a file is cut.
-fn fault_met(outcome: Result<(), ScriptFault>, end: FileEnd, lines: u32) -> Option<ScriptFault>
-    ensures { result ≡ fault_met outcome end lines }
-{
-    match (end, outcome) {
-        (FileEnd::Long, _) => Some(ScriptFault {
-            line: lines.saturating_add(1),
-            kind: FaultKind::Long,
-        }),
-        (_, Err(fault)) if fault.line > 0 => Some(fault),
-        _ => None,
+/// Tells where a file doesn't stand behind the one before it.
+fn tell_link(rt: &HostRuntime, path: &str, before: &str, link: Link) {
+    match link {
+        Link::First | Link::NewStart | Link::Follows | Link::Untold => {}
+        Link::Breaks(met) => {
+            object(rt, path, format_args!("does not follow {before}: {met}"));
+        }
+        Link::Unknown => {
+            let what = format_args!(
+                "does not follow {before}: what {before} left isn't known, as it isn't whole"
+            );
+            object(rt, path, what);
+        }
     }
 }
 
-/// Whether it ended in the midst of a line, or before a line told its opening.
-fn ends_in_midst(outcome: Result<(), ScriptFault>, end: FileEnd) -> bool
-    ensures { result ≡ ends_in_midst outcome end }
-{
-    match (end, outcome) {
-        (FileEnd::Cut, _) => true,
-        (_, Err(fault)) => fault.line == 0,
-        (_, Ok(())) => false,
-    }
+/// Tells what is to be said of a file.
+fn object<T: fmt::Display + Drop>(rt: &HostRuntime, path: &str, what: T) {
+    let _ = eprintln!(rt; "swimsim: {path}: {what}");
 }

@@ -1,6 +1,7 @@
 //! What the lines of a journal file tell beside the run.
 
 ghost use Rattle.std.specs.Prelude.{◌≡◌, ℕ, ◌<◌, ◌^◌, decimal};
+ghost use Rattle.swimsim.specs.Verifying.{has_calls};
 
 use memchr::memchr;
 use std::alloc::{AllocError, Global};
@@ -93,7 +94,19 @@ impl Witness {
 
     /// Whether the header was told, and no call came so far.
     pub fn is_in_header(&self) -> bool {
-        self.heading.is_some() && self.confirmations == Confirmations::default()
+        self.heading.is_some() && !self.has_calls()
+    }
+
+    /// Whether a call came.
+    pub fn has_calls(&self) -> bool
+        ensures { result ≡ has_calls self.now.confirmations }
+    {
+        let Confirmations {
+            confirmed,
+            waiting,
+            missed,
+        } = self.confirmations;
+        confirmed > 0 || waiting.is_some() || missed.is_some()
     }
 
     /// A comment right behind the line of a start tells its time, if it is a number and nothing else.

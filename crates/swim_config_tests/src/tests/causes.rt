@@ -1,9 +1,10 @@
 //! Causes below the lines of faults, and warnings.
 
-use super::alone::assert_warnings;
+use super::alone::{assert_warnings, behind};
 use super::assert_same;
 use std::alloc::Global;
 use std::process::Abort;
+use std::test::Fail;
 use swim_config::{ConfigFault, put_cause, read_config};
 use swim_text::Page;
 
@@ -78,4 +79,29 @@ fn tells_nothing_of_refused_memory(rt: HostRuntime) {
 #[test]
 fn warns_of_all(rt: HostRuntime) {
     assert_warnings(&rt, rt.alloc(), DOUBTFUL, WARNINGS);
+}
+
+#[test]
+fn warns_of_a_key_of_one_byte(rt: HostRuntime) -> Result<(), Fail> {
+    let plain =
+        "warning: a key of the group is one byte again and again, which anybody may guess\n";
+    for (lines, warning) in [
+        (
+            "keys = ['0000000000000000000000000000000000000000000000000000000000000000']\n",
+            plain,
+        ),
+        (
+            "keys = ['5c5c5c5c5c5c5c5c5c5c5c5c5c5c5c5c5d5d5d5d5d5d5d5d5d5d5d5d5d5d5d5d']\n",
+            "",
+        ),
+        (
+            "keys = ['5c5c5c5c5c5c5c5c5c5c5c5c5c5c5c5c5c5c5c5c5c5c5c5c5c5c5c5c5c5c5c5d',
+                'fFFffFFffFFffFFffFFffFFffFFffFFffFFffFFffFFffFFffFFffFFffFFffFFf']\n",
+            plain,
+        ),
+    ] {
+        let document = behind(rt.alloc(), lines)?;
+        assert_warnings(&rt, rt.alloc(), document.as_str(), warning);
+    }
+    Ok(())
 }

@@ -160,15 +160,6 @@ fn no_other_fault_shows_a_key(rt: HostRuntime) -> Result<(), Fail> {
     Ok(())
 }
 
-#[test]
-fn without_keys_a_line_is_shown_as_it_stands(rt: HostRuntime) -> Result<(), Fail> {
-    let document = behind(rt.alloc(), "# keys = []\nseed = '<1>' '<2>'\n")?;
-    let page = told_of(rt.alloc(), document.as_str());
-    let end = with_digits(rt.alloc(), "\n  line 2: seed = '<1>' '<2>'\n")?;
-    assert!(rt; page.text().ends_with(end.as_bytes()));
-    Ok(())
-}
-
 /// The last number of a configuration's detector, where a daemon of it starts in the 1000th millisecond.
 fn last_at_1000(config: Config) -> u64 {
     config.begun_at(1_000).opening.last()

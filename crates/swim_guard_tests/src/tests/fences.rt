@@ -4,9 +4,13 @@ ghost use Rattle.std.specs.Prelude.{◌≡◌, ◌≤◌, None};
 ghost use Rattle.swim_life.specs.Gates.{FitsInto};
 
 use super::{BY_FIRST, PING, assert_same, at, keys};
+use std::io;
+use std::rt::Clock;
 use std::sync::Wait;
+use std::sync::atomic::{AtomicU64, Ordering};
 use std::test::Fail;
-use swim_guard::{FencedLine, SealedLine, Sieve, Timepiece};
+use std::time::Duration;
+use swim_guard::{ClockTimepiece, FencedLine, SealedLine, Sieve, Timepiece};
 use swim_life::{Got, Line};
 use swim_wire::Peer;
 
@@ -40,6 +44,24 @@ impl Timepiece for Still {
 
     fn now(&mut self) -> u64 {
         0
+    }
+}
+
+// A clock by which a quarter of a second goes by each time it is read, and on whose wall it is an hour earlier then.
+#[derive(Drop)]
+struct SetBack {
+    reads: AtomicU64,
+}
+
+impl Clock for SetBack {
+    fn monotonic(&self) -> io::Result<Duration> {
+        let before = self.reads.fetch_add(1, Ordering::SeqCst);
+        Ok(Duration::from_nanos(QUARTER.saturating_mul(before.saturating_add(1))))
+    }
+
+    fn since_1970(&self) -> io::Result<Duration> {
+        let before = self.reads.fetch_add(1, Ordering::SeqCst);
+        Ok(Duration::from_secs(1_000_000_000u64.saturating_sub(before.saturating_mul(3600))))
     }
 }
 
@@ -118,6 +140,18 @@ fn strangers_have_one_bucket(rt: HostRuntime) {
 #[test]
 fn the_bucket_fills_again(rt: HostRuntime) {
     let mut line = FencedLine::new(in_turn(PING), Quarters { time: 0 }, 2);
+    assert_same(&rt, &heard(&rt, &mut line, 4), &(2, 1));
+    assert_same(&rt, &heard(&rt, &mut line, 40), &(20, 0));
+}
+
+// So it does by a clock that goes on, whatever is made of the time of day: where that is set back, no bucket stands
+// still.
+#[test]
+fn the_time_of_day_is_set_back(rt: HostRuntime) {
+    let clock = SetBack {
+        reads: AtomicU64::new(0),
+    };
+    let mut line = FencedLine::new(in_turn(PING), ClockTimepiece::new(clock), 2);
     assert_same(&rt, &heard(&rt, &mut line, 4), &(2, 1));
     assert_same(&rt, &heard(&rt, &mut line, 40), &(20, 0));
 }

@@ -7,7 +7,7 @@ mod paces;
 mod posts;
 mod signals;
 
-pub use self::doors::{NoDoor, OneDoor};
+pub use self::doors::{NoDoor, OneDoor, RefusingDoor};
 pub use self::heralds::Counter;
 pub use self::lines::{PING, PingLine, line};
 pub use self::paces::{StopPace, pace};

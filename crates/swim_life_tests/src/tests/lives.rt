@@ -1,6 +1,8 @@
 //! A life, its workers and its end.
 
+use super::gates::RefusingDoor;
 use super::*;
+use swim_life::Door;
 
 // An operator lists the members while the line is idle; then a ping comes, and is acked; then the operator stops the
 // life. None of the three could go on without the other two, so the workers are at work at the same time.
@@ -92,7 +94,7 @@ fn a_full_journal(rt: HostRuntime) -> Result<(), Fail> {
     Ok(())
 }
 
-// Forty faults of the door, with an operator at work there or with nobody.
+// A life over a door with forty faults, with an operator at work there or with nobody.
 fn live_with_faults<R: Threads + Wait + Clock + Send + Sync + Copy + Drop>(
     rt: &R,
     alloc: Global,
@@ -100,16 +102,27 @@ fn live_with_faults<R: Threads + Wait + Clock + Send + Sync + Copy + Drop>(
     signals: &Signals,
     is_alone: bool,
 ) -> Option<Past> {
-    let mut line = line(*rt, signals, 0);
-    line.was_given = true;
-    let post = post(signals);
-    let mut pace = pace(*rt, &signals.is_failing, 0);
     let door = OneDoor {
         clock: *rt,
         signals,
         was_open: is_alone,
         faults: 40,
     };
+    live_at(rt, alloc, opening, signals, door)
+}
+
+// A life over this door, without a datagram and without a tick, until the door tells what it tells.
+fn live_at<R: Threads + Wait + Clock + Send + Sync + Copy + Drop, D: Door + Drop>(
+    rt: &R,
+    alloc: Global,
+    opening: Opening,
+    signals: &Signals,
+    door: D,
+) -> Option<Past> {
+    let mut line = line(*rt, signals, 0);
+    line.was_given = true;
+    let post = post(signals);
+    let mut pace = pace(*rt, &signals.is_failing, 0);
     let mut hall = Hall::new(alloc, door);
     live(
         rt,
@@ -143,6 +156,21 @@ fn faults_of_an_empty_door(rt: HostRuntime) -> Result<(), Fail> {
     let past = live_with_faults(&rt, rt.alloc(), opening()?, &signals, true);
     assert_ended(&rt, past, Why::Socket, 0, 0);
     assert!(rt; !is_set(&signals.is_failing));
+    Ok(())
+}
+
+// However many a door turns away with nobody at it, the life goes on until it is stopped.
+#[test]
+fn refusals_of_an_empty_door(rt: HostRuntime) -> Result<(), Fail> {
+    let signals = Signals::new(false);
+    let door = RefusingDoor {
+        clock: rt,
+        signals: &signals,
+        refusals: 40,
+    };
+    let past = live_at(&rt, rt.alloc(), opening()?, &signals, door);
+    assert_ended(&rt, past, Why::Stopped, 0, 0);
+    assert!(rt; is_set(&signals.is_failing));
     Ok(())
 }
 

@@ -188,4 +188,9 @@ impl<'s> Entrance<Reader<'s>> for Gate<'s> {
         }
         self.reader.take()
     }
+
+    // The time stands still, so that nobody is given up.
+    fn now(&mut self) -> u64 {
+        0
+    }
 }

@@ -139,7 +139,7 @@ fn live_watched<'s, R: Threads + Wait + Clock + Send + Sync + Copy + Drop>(
     )
     .ok()?;
     gallery.tell(&Event::Ended);
-    gallery.send();
+    gallery.send(0);
     Some(gallery.len())
 }
 
@@ -195,7 +195,7 @@ fn who_watches_stays_from_life_to_life(rt: HostRuntime) -> Result<(), Fail> {
     )?;
     assert_same(&rt, &lived.end, &LivesEnd::Stopped);
     gallery.tell(&Event::Ended);
-    gallery.send();
+    gallery.send(0);
     assert!(rt; seen.is_all(Who::Early, text.len()));
     Ok(())
 }

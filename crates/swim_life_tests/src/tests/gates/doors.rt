@@ -40,6 +40,44 @@ impl<K: Clock + Drop> Door for NoDoor<K> {
     }
 }
 
+/// A door that turns so many away, of which it tells the last.
+#[derive(Drop)]
+pub struct RefusingDoor<'s, K: Clock + Drop> {
+    /// What it waits by.
+    pub clock: K,
+    /// What it tells.
+    pub signals: &'s Signals,
+    /// So many are left.
+    pub refusals: u32,
+}
+
+impl<'s, K: Clock + Drop> Door for RefusingDoor<'s, K> {
+    ghost faults = { λ door. None };
+
+    type Reader = Text<'static>;
+
+    type Writer = Page;
+
+    fn next<R: Wait>(&mut self, _rt: &R) -> Knock<Text<'static>, Page> {
+        if self.refusals == 0 {
+            return Knock::Idle;
+        }
+        self.refusals -= 1;
+        if self.refusals == 0 {
+            set(&self.signals.is_failing);
+        }
+        Knock::Refused
+    }
+
+    fn wait<R: Wait>(&mut self, _rt: &R) {
+        pause(&self.clock);
+    }
+
+    fn now(&mut self) -> u64 {
+        0
+    }
+}
+
 /// A door to which one operator comes. Behind them it has so many faults, of which it tells the last.
 #[derive(Drop)]
 pub struct OneDoor<'s, K: Clock + Copy + Drop> {

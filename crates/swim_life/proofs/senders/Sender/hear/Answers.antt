@@ -41,7 +41,8 @@ pub returns-clause-message : goal.returns-clause-message
 returns-clause-message g c =
     let new : AtSender g.row.O.Denot =
     record { seat = c.hear-answer.new.seat; post = c.finish-end.new.post; counts = c.finish-end.new.counts } in
-    subst (λ old. IsMessage c.args.bytes.now old c.finish-end.result new c.message_of-message.result) c.self.view_is
+    subst (λ old. IsMessage g.N.Naming.opening c.args.bytes.now c.args.source old c.finish-end.result new
+    c.message_of-message.result) c.self.view_is
     (rw c.message_of-message.ensures
     (message_so g.O.Post.posted (λ r. sends_of r.reply c.opening-opening.result.now) g.N.Naming.opening
     c.args.bytes.now c.args.source c.self.inside.held.seat c.hear-answer.new.seat c.hear-answer.result

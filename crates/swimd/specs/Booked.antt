@@ -1,0 +1,65 @@
+-- What a daemon counts of its lives, and tells of them.
+use Rattle.std.specs.Prelude.{◌≡◌, ℕ, ◌-◌, ◌==◌, Bool, true, false, List, [], ◌∷◌, Option, Some, None}
+use Rattle.std.specs.Option.{option_and_then}
+use Rattle.swim_wire.specs.Address.{Address}
+use Rattle.swim_history.specs.declared.rows.Change.{Change}
+use Rattle.swim_history.specs.declared.rows.Change.TheVariants.{Up, Failed, Gone}
+use Rattle.swim_events.specs.Watched.{Lived}
+use Rattle.swim_life.specs.declared.reporters.Standing.{Standing}
+use Rattle.swim_metrics.specs.declared.hearings.LastHearing.{LastHearing}
+use Rattle.swim_metrics.specs.FailedFor.{failed_for}
+use Rattle.swim_metrics.specs.Following.{Follows, Measured, measures_of}
+use Rattle.swim_metrics.specs.LastHeard.{heard_at}
+use Rattle.swimd.specs.declared.bulletins.Counted.{Counted}
+use Rattle.swimd.specs.declared.happenings.Happening.{Happening}
+use Rattle.swimd.specs.declared.happenings.Happening.TheVariants.{Judged, Joined, JoinedAgain, Removed}
+use Rattle.swimd.specs.declared.totals.Totals.{Totals}
+use Rattle.swimd.specs.Totals.{totals_with}
+
+-- the receiver's seat, by which the daemon lets members join again
+abbrev pub receiver : ℕ
+receiver = 0
+
+-- whether a call of that seat, which changed the member table so, is a join that the daemon made by itself
+abbrev pub is_own_join : ℕ → Option Change → Bool
+is_own_join seat (Some (Up id at)) = seat == receiver
+is_own_join seat change = false
+
+-- the entries of these lives were counted; before the first there is nothing to count
+abbrev pub AreCounted : Option Measured → List Lived → Type 0
+AreCounted None [] = Unit {0}
+AreCounted None (life ∷ older) = ⊥
+AreCounted (Some m) lives = Follows m lives
+
+-- what is told of the counts: of the entries, of the life that runs and of those before it, and of the daemon's own
+-- joins
+abbrev pub counted_of : Standing → Totals → ℕ → Measured → Counted
+counted_of life over own_joins m =
+    let all = totals_with over life in
+    record {
+      measures = measures_of m;
+      behind = life.metered.calls - life.read;
+      unsent = all.unsent;
+      wire = all.wire;
+      refused = all.refused;
+      knocks = all.knocks;
+      watchers = life.watchers;
+      lost_watchers = all.lost;
+      own_joins = own_joins;
+    }
+
+-- for how many periods a member is failed, if it is
+abbrev pub failed_by : Option Measured → ℕ → Option ℕ
+failed_by metrics id = option_and_then (λ m. failed_for id m.known) metrics
+
+-- a join of a member that is failed for so many periods, if it is, by the receiver's seat or by another
+abbrev pub join_told : Option ℕ → Bool → ℕ → Address → Happening
+join_told None is_own id at = Joined id at
+join_told (Some after) true id at = JoinedAgain id after
+join_told (Some after) false id at = Joined id at
+
+-- what the log tells of a change by a call of this seat
+abbrev pub told_of : ℕ → Change → Option Measured → List LastHearing → Happening
+told_of seat (Up id at) metrics hearings = join_told (failed_by metrics id) (seat == receiver) id at
+told_of seat (Failed id period) metrics hearings = Judged id period (heard_at hearings id)
+told_of seat (Gone id) metrics hearings = Removed id

@@ -1,0 +1,15 @@
+-- What is seen of files, one after the other.
+use Rattle.std.specs.Prelude.{ℕ, List, map, reverse}
+use Rattle.swim_evidence.specs.declared.sequences.Seen.{Seen}
+use Rattle.swim_evidence.specs.declared.verdicts.Standing.{Standing}
+use Rattle.swim_evidence.specs.declared.verdicts.Standing.TheVariants.{Sound, Starved, Accused}
+
+-- what is seen of the files of these paths, newest first
+abbrev pub seen_of : (List ℕ → Seen) → List (List ℕ) → List Seen
+seen_of files paths = reverse (map files paths)
+
+-- the status with which the program ends
+abbrev pub status_of : Standing → ℕ
+status_of Sound = 0
+status_of Starved = 4
+status_of Accused = 1
