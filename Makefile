@@ -32,7 +32,7 @@ help:
 	@echo 'make fuzz       gives both programs mutations of valid scripts, datagrams, configurations and control lines, for ten'
 	@echo '                minutes, and compares what they write with what models and the reference say'
 	@echo 'make bench      measures swimsim and the node beside tests/reference, and swimd beside that and the least responder;'
-	@echo '                and counts instructions, where valgrind is on PATH'
+	@echo '                counts instructions, where valgrind is on PATH; and compares all with the last run of this machine'
 	@echo 'make install    puts programs, man pages, examples and the service of systemd below PREFIX (/usr/local, or'
 	@echo '                make install PREFIX=..)'
 	@echo 'make uninstall  removes them again'
@@ -64,12 +64,7 @@ fuzz:
 	@tests/fuzz/run --seconds 600
 
 bench:
-	@tests/bench/swimsim
-	@tests/bench/node
-	@tests/bench/swimd
-	@tests/bench/instructions
-	@tests/bench/watchers
-	@tests/bench/journals
+	@tests/bench/all
 
 install:
 	@set -e; simulator='$(SWIMSIM)'; test -n "$$simulator" || simulator=$$(tests/support/build swimsim); \
