@@ -34,7 +34,7 @@ help:
 	@echo 'make bench      measures swimsim and the node beside tests/reference, and swimd beside that and the least responder;'
 	@echo '                counts instructions, where valgrind is on PATH; and compares all with the last run of this machine'
 	@echo 'make install    puts programs, man pages, examples and the service of systemd below PREFIX (/usr/local, or'
-	@echo '                make install PREFIX=..)'
+	@echo '                make install PREFIX=..); make install SWIMD=.. SWIMSIM=.. installs programs that were built elsewhere'
 	@echo 'make uninstall  removes them again'
 	@echo 'make help       this list'
 
@@ -75,7 +75,7 @@ install:
 	install -m 644 man/swimsim.1 man/swimd.1 '$(MAN)'; \
 	install -m 644 examples/*.swim examples/*.stdout '$(DOC)/swimsim/examples'; \
 	install -m 644 examples/*.toml '$(DOC)/swimd/examples'; \
-	install -m 644 docs/OPERATING.md docs/CHECKING.md '$(DOC)/swimd'; \
+	install -m 644 docs/OPERATING.md docs/CHECKING.md docs/FORMATS.md docs/PROTOCOL.md docs/healing.svg '$(DOC)/swimd'; \
 	sed 's|/usr/local/bin/|$(PREFIX)/bin/|' contrib/swimd.service > '$(UNIT)/swimd.service'; \
 	chmod 644 '$(UNIT)/swimd.service'
 

@@ -14,6 +14,11 @@ from tests.swimd.worked_configs import FULL
 
 SECONDS = 60
 SERVICE = "lib/systemd/system/swimd.service"
+DOCUMENTS = ["OPERATING.md", "CHECKING.md", "FORMATS.md", "PROTOCOL.md", "healing.svg"]
+# Files that the examples in documents make.
+MADE = ["run.svg"]
+# A document that another one names, as one that lies beside it.
+NAMED = re.compile(r"(?<![/\w])(\w+\.(?:md|svg))\b")
 
 
 def make(programs, target, **variables):
@@ -39,7 +44,7 @@ def origins(programs):
     for name in os.listdir(f"{TOP}/examples"):
         owner = "swimd" if name.endswith(".toml") else "swimsim"
         yield f"share/doc/{owner}/examples/{name}", f"{TOP}/examples/{name}", 0o644
-    for name in ("OPERATING.md", "CHECKING.md"):
+    for name in DOCUMENTS:
         yield f"share/doc/swimd/{name}", f"{TOP}/docs/{name}", 0o644
     yield SERVICE, f"{TOP}/contrib/swimd.service", 0o644
 
@@ -86,6 +91,14 @@ def what_is_installed_runs(programs, prefix):
         )
         said += [f"swimd check writes {ran.stderr!r} for {path}"] if ran.returncode else []
     return said
+
+
+def documents_name_those_beside_them(_programs, _prefix):
+    """Whoever reads an installed document finds the others that it names."""
+    named = {it: NAMED.findall(content(f"{TOP}/docs/{it}").decode()) for it in DOCUMENTS if it.endswith(".md")}
+    return [
+        f"{name} names {other}" for name, others in named.items() for other in {*others}.difference(DOCUMENTS, MADE)
+    ]
 
 
 def is_staged(programs, prefix):
@@ -151,6 +164,7 @@ INSTALLING = [
     installs,
     installs_twice,
     what_is_installed_runs,
+    documents_name_those_beside_them,
     is_staged,
     uninstall_leaves_nothing,
     uninstalls_where_nothing_is,
