@@ -5,12 +5,14 @@ use Rattle.hex.specs.Hex.{encode_lower}
 use Rattle.hex.proofs.HexLemmas.{decode_of-encode_lower}
 use Rattle.swim_wire.specs.Address.{Address, IsAddress, address_text}
 use Rattle.swim_wire.specs.AddressLaws.{address_read}
+use Rattle.swim_wire.specs.AddressWithout.{address_without}
 use Rattle.swim_text.specs.Cutting.{pieces_at, bare_at}
 use Rattle.swim_wire.specs.Layout.{text_of}
 use Rattle.swim_text.specs.Lines.{pieces, has_feed}
 use Rattle.swim_text.specs.Numbers.{positive_read}
-use Rattle.swim_text.specs.Parts.{has, cut_at, cut_none}
-use Rattle.swim_text.specs.Words.{words_of, words_cut}
+use Rattle.swim_text.specs.Without.{both_without, number_without}
+use Rattle.swim_text.specs.Words.{words_of}
+use Rattle.swim_text.specs.WordLaws.{words_at, words_last}
 use Rattle.swim_wire.specs.Messages.{Message}
 use Rattle.swim_history.specs.declared.calls.Call.{Call}
 use Rattle.swim_history.specs.declared.calls.Call.TheVariants.{Tick, Hear, Join, Remove}
@@ -23,15 +25,7 @@ use Rattle.swim_script.specs.declared.forms.Form.TheVariants.{Journal}
 use Rattle.swim_script.specs.Commands.{fault_of_word, line_read, words_read, said_by, command_after, word_for}
 use Rattle.swim_journal.specs.Lines.{call_text, call_line, command_of, IsId, IsDecoded, IsSpoken, IsReadBack}
 use Rattle.swim_journal.proofs.Short.{call_short}
-use Rattle.swim_journal.proofs.Without.{both_without, number_without, address_without, hex_without}
-
--- ---- words
-
-pub words_at : (word rest : List ℕ) → has 32 word ≡ false → words_of (word ++ 32 ∷ rest) ≡ word ∷ words_of rest
-words_at word rest none = words_cut 32 (word ++ 32 ∷ rest) ∙ rw (cut_at 32 word rest none) refl
-
-pub words_last : (word : List ℕ) → has 32 word ≡ false → words_of word ≡ word ∷ []
-words_last word none = words_cut 32 word ∙ rw (cut_none 32 word none) refl
+use Rattle.swim_journal.proofs.Without.{hex_without}
 
 -- ---- calls
 

@@ -5,6 +5,7 @@ use Rattle.std.proofs.Common.{None, codes, decimal, refl, ap, ◌∙◌, arith, 
 use Rattle.std.specs.Prelude.{◌==◌}
 use Rattle.swim_text.specs.Cutting.{bare_at, pieces_at}
 use Rattle.swim_text.specs.Lines.{pieces, bare, has_feed}
+use Rattle.swim_text.specs.Without.{both_without, number_without}
 use Rattle.swim_history.specs.declared.calls.Call.{Call}
 use Rattle.swim_history.specs.declared.calls.Call.TheVariants.{Tick, Hear, Join, Remove}
 use Rattle.swim_history.specs.declared.replies.Reply.{Reply}
@@ -23,7 +24,6 @@ use Rattle.swim_script.specs.Forms.{is_mark, form_of}
 use Rattle.swim_script.specs.Headers.{Told, Head, stage_told, stage_of, command_in, head_of, said}
 use Rattle.swim_script.specs.Texts.{id_text, probe_text, more_relays_text, relays_text, reply_text, placed_text}
 use Rattle.swim_journal.specs.Lines.{call_line, answer_text, answer_line, command_of, IsReadBack}
-use Rattle.swim_journal.proofs.Without.{both_without, number_without}
 
 -- ---- what was answered stands on one line
 

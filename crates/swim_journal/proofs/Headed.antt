@@ -9,9 +9,11 @@ use Rattle.hex.proofs.HexLemmas.{decode_sized-encode_lower}
 use Rattle.swim_targets.specs.Draws.{of_seed}
 use Rattle.swim_wire.specs.Address.{Address, IsAddress, address_text}
 use Rattle.swim_wire.specs.AddressLaws.{address_read}
+use Rattle.swim_wire.specs.AddressWithout.{address_without}
 use Rattle.swim_text.specs.Cutting.{pieces_at}
 use Rattle.swim_text.specs.Lines.{pieces, bare}
 use Rattle.swim_text.specs.Numbers.{number_of, number_read, positive_read}
+use Rattle.swim_text.specs.Without.{number_without}
 use Rattle.swim_wire.specs.declared.messages.Version.{Version}
 use Rattle.swim_wire.specs.declared.messages.Version.TheVariants.{One, Two}
 use Rattle.swim_history.specs.Setting.{Setting}
@@ -37,7 +39,7 @@ use Rattle.swim_journal.specs.Headings.{IsState, AreTellable, IsTellable}
 use Rattle.swim_journal.specs.Lines.{IsId}
 use Rattle.swim_journal.specs.Replays.{lines_in, IsHeader}
 use Rattle.swim_journal.proofs.FileLines.{IsAt, said_in, still_journal}
-use Rattle.swim_journal.proofs.Without.{number_without, address_without, hex_without}
+use Rattle.swim_journal.proofs.Without.{hex_without}
 use Rattle.swim_journal.proofs.WordLines.{ArePlain, words_onto, words_again, line_piece, line_bare}
 
 -- ---- the words of lines

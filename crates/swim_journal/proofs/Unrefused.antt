@@ -7,6 +7,7 @@ use Rattle.std.proofs.lemmas.List.{length-map}
 use Rattle.std.proofs.lemmas.Option.{same_Some}
 use Rattle.std.proofs.lemmas.Bool.{and_parts}
 use Rattle.swim_text.specs.Parts.{cut, cut_at}
+use Rattle.swim_text.specs.Without.{number_without}
 use Rattle.swim_history.specs.declared.calls.Call.{Call}
 use Rattle.swim_history.specs.declared.entries.Entry.{Entry}
 use Rattle.swim_history.specs.declared.replies.Reply.{Reply}
@@ -17,7 +18,6 @@ use Rattle.swim_script.specs.Texts.{placed_text, newest_text, reply_text}
 use Rattle.swim_script.specs.Script.{Turn, lines_of, asked_in, is_full, calls_in, AreConfirmed, IsRunOf}
 use Rattle.swim_script.specs.Script.Asked.{Calls}
 use Rattle.swim_journal.specs.Seatless.{has_one_seat}
-use Rattle.swim_journal.proofs.Without.{number_without}
 use Rattle.swim_journal.proofs.Tellings.{TellEach, calls_few}
 
 cut_placed : (n : ℕ) (reply : Reply) → cut 32 (placed_text n reply) ≡ Some (decimal n, reply_text reply)

@@ -4,10 +4,10 @@ use Rattle.std.specs.List.{join_with_byte}
 use Rattle.swim_text.specs.Cutting.{pieces_at, bare_at}
 use Rattle.swim_text.specs.Lines.{pieces, bare, has_feed}
 use Rattle.swim_text.specs.Parts.{has}
+use Rattle.swim_text.specs.Without.{both_without}
 use Rattle.swim_text.specs.Words.{words_of}
+use Rattle.swim_text.specs.WordLaws.{words_at, words_last}
 use Rattle.swim_history.specs.Texts.{feed}
-use Rattle.swim_journal.proofs.Back.{words_at, words_last}
-use Rattle.swim_journal.proofs.Without.{both_without}
 
 -- no word has a space or a line feed
 abbrev pub ArePlain : List (List ℕ) → Type 0

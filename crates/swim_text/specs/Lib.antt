@@ -8,4 +8,6 @@ pub mod Polled
 pub mod ShortLines
 pub mod Streams
 pub mod TwoPuts
+pub mod Without
 pub mod Words
+pub mod WordLaws

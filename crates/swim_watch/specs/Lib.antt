@@ -1,4 +1,5 @@
 pub mod Hearings
 pub mod Lines
 pub mod Objects
+pub mod ReadBack
 pub mod Watching

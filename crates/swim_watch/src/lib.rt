@@ -3,6 +3,7 @@
 
 mod feed_events;
 mod feeds;
+pub mod laws;
 mod objects;
 mod watching;
 

@@ -1,5 +1,6 @@
 pub mod Address
 pub mod AddressLaws
+pub mod AddressWithout
 pub mod Arguments
 pub mod First
 pub mod Ids
