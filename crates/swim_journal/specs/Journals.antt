@@ -1,9 +1,7 @@
 -- The text of a journal's calls, and what is known of who writes it.
-use Rattle.std.specs.Prelude.{◌≡◌, ℕ, ◌<◌, ◌≤◌, Bool, true, false, List, [], ◌∷◌, ◌++◌}
+use Rattle.std.specs.Prelude.{ℕ, Bool, List, [], ◌∷◌, ◌++◌}
 use Rattle.swim_history.specs.declared.seats.Kept.{Kept}
 use Rattle.swim_node.specs.Cells.{Filing}
-use Rattle.swim_journal.specs.declared.writing.Progress.{Progress}
-use Rattle.swim_journal.specs.declared.writing.Progress.TheVariants.{All, Part, Cut}
 use Rattle.swim_journal.specs.Lines.{call_line, answer_line, IsReadBack}
 
 -- the two lines of an answered call
@@ -19,28 +17,6 @@ calls_text (f ∷ calls) = kept_text f.kept ++ calls_text calls
 abbrev pub AreReadBack : List Filing → Type 0
 AreReadBack [] = Unit {0}
 AreReadBack (f ∷ calls) = IsReadBack f.kept.call × AreReadBack calls
-
--- the most calls that a step writes
-abbrev pub step_calls : ℕ
-step_calls = 1024
-
--- the sink took all that a step gave it
-abbrev pub is_taken : Progress → Bool
-is_taken All = true
-is_taken Part = true
-is_taken Cut = false
-
--- more calls may stand in the journal
-abbrev pub is_part : Progress → Bool
-is_part All = false
-is_part Part = true
-is_part Cut = false
-
--- a step that came so far read so many calls
-abbrev pub StopsAfter : Progress → ℕ → Type 0
-StopsAfter All count = count < step_calls
-StopsAfter Part count = count ≡ step_calls
-StopsAfter Cut count = (0 < count) × (count ≤ step_calls)
 
 -- what contracts see of who writes a journal down: the calls that were read, the sink, and whether it took all of their
 -- text and handed it on

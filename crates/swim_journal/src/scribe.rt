@@ -1,12 +1,11 @@
 //! Who writes a node's journal down while the node runs.
 
-ghost use Rattle.std.specs.Prelude.{◌≡◌, ◌+◌, ◌<◌, ◌++◌, ◌∷◌, [], Bool, true, false, IfNone, IfSome, length};
-ghost use mathlib.Core.List.{IsPrefix};
+ghost use Rattle.std.specs.Prelude.{◌≡◌, ◌++◌, ◌∷◌, [], true, false, IfNone, IfSome};
 ghost use Rattle.swim_text.specs.Streams.{Puts, failures_if};
-ghost use Rattle.swim_journal.specs.Journals.{calls_text, AreReadBack, step_calls};
+ghost use Rattle.swim_journal.specs.Journals.{calls_text, AreReadBack};
 
 use crate::naming::PageNaming;
-use crate::writing::{Progress, put_unless_cut, write_next};
+use crate::writing::put_unless_cut;
 use std::alloc::Global;
 use std::marker::Model;
 use std::sync::Wait;
@@ -74,13 +73,6 @@ impl<N: PageNaming, W: Sink + Drop> Scribe<N, W> {
         Some(next)
     }
 
-    /// Whether the sink took all of the text of what was read, and handed on what it was asked to.
-    pub fn is_whole(&self) -> bool
-        ensures { result ≡ self.now.whole }
-    {
-        self.is_whole
-    }
-
     /// Has the sink hand on what it holds back, as long as it took all.
     pub fn hand_on(&mut self)
         ensures read { self.new.read ≡ self.old.read }
@@ -92,53 +84,6 @@ impl<N: PageNaming, W: Sink + Drop> Scribe<N, W> {
         if self.is_whole {
             self.is_whole = self.writer.flush();
         }
-    }
-
-    /// Writes what was added to the journal since the last time, at most 1,024 calls, and has the sink hand it on. It
-    /// answers whether more may stand there.
-    pub fn step<C: Chooser, H: Wait + Drop, R: Wait>(
-        &mut self,
-        rt: &R,
-        node: &Node<N, C, H>,
-    ) -> bool
-        ensures reads { IsPrefix self.old.read self.new.read }
-        ensures full { result ≡ true → (self.new.whole ≡ true)
-            × (length self.new.read ≡ length self.old.read + step_calls) }
-        ensures over { result ≡ false → self.new.whole ≡ true →
-            length self.new.read < length self.old.read + step_calls }
-        ensures kept { self.old.whole ≡ false → (result ≡ false) × (self.new ≡ self.old) }
-        ensures failures { self.old.whole ≡ true →
-            W.failures self.new.writer ≡ failures_if (W.failures self.old.writer) self.new.whole }
-        ensures sent { self.new.whole ≡ true → W.held self.new.writer ≡ 0 }
-    {
-        if !self.is_whole {
-            return false;
-        }
-        let progress = write_next(rt, node, &mut self.follower, &mut self.writer);
-        if progress == Progress::Cut {
-            self.is_whole = false;
-            return false;
-        }
-        // What the sink holds back would be lost with the process.
-        self.is_whole = self.writer.flush();
-        self.is_whole && progress == Progress::Part
-    }
-
-    /// Writes all that stands in the journal. It is for the time when nobody calls any more: as long as calls are made
-    /// faster than they are written, it goes on.
-    pub fn finish<C: Chooser, H: Wait + Drop, R: Wait>(&mut self, rt: &R, node: &Node<N, C, H>)
-        ensures reads { IsPrefix self.old.read self.new.read }
-        ensures kept { self.old.whole ≡ false → self.new ≡ self.old }
-        ensures failures { self.old.whole ≡ true →
-            W.failures self.new.writer ≡ failures_if (W.failures self.old.writer) self.new.whole }
-        ensures sent { self.new.whole ≡ true → W.held self.new.writer ≡ 0 }
-    {
-        for _ in rt.forever() {
-            if !self.step(rt, node) {
-                return;
-            }
-        }
-        unreachable!()
     }
 
     /// The reader of the journal, the sink, and whether it took all of the text of what was read and handed it on.

@@ -1,59 +1,20 @@
 //! A node's journal, written down while the node runs.
 
-ghost use Rattle.std.specs.Prelude.{◌≡◌, ◌++◌, List, false, length, true};
+ghost use Rattle.std.specs.Prelude.{◌≡◌, ◌++◌, false, true};
 ghost use Rattle.swim_text.specs.Streams.{Puts, failures_if};
 ghost use Rattle.swim_history.specs.Texts.{feed};
-ghost use Rattle.swim_node.specs.Cells.{Filing};
 ghost use Rattle.swim_script.specs.Texts.{placed_text};
 ghost use Rattle.swim_journal.specs.Lines.{answer_line, IsReadBack};
-ghost use Rattle.swim_journal.specs.Journals.{kept_text, calls_text, AreReadBack, is_taken, StopsAfter};
+ghost use Rattle.swim_journal.specs.Journals.{kept_text};
 
 use crate::lines::{put_call, read_back};
-use std::sync::Wait;
 use swim_history::{Kept, Reply};
-use swim_node::{Follower, Naming, Node};
 use swim_script::put_placed;
-use swim_targets::Chooser;
 use swim_text::Sink;
 
-/// The most calls that `write_next` writes.
+/// The most calls that whoever writes a journal down reads at a time, so that it comes to an end however fast they are
+/// made.
 pub const STEP_CALLS: u32 = 1024;
-
-/// How far a step of writing came.
-#[derive(Clone, Copy, Debug, PartialEq, Eq)]
-pub enum Progress {
-    /// All that stood in the journal was written.
-    All,
-    /// As many calls were written as a step may write; more may stand there.
-    Part,
-    /// The sink failed: of the step's text it took a front.
-    Cut,
-}
-
-/// Writes the calls that stand in a node's journal and that the follower hasn't read: at most 1,024 of them, so that it
-/// comes to an end however fast they are made. After `Progress::Cut` the follower has read on, and the sink has a front
-/// of the text of what was read.
-pub fn write_next<N: Naming, C: Chooser, H: Wait + Drop, R: Wait, W: Sink>(
-    rt: &R,
-    node: &Node<N, C, H>,
-    follower: &mut Follower<N>,
-    writer: &mut W,
-) -> Progress
-    ensures wrote { (more : List Filing) × (follower.new ≡ follower.old ++ more) × StopsAfter result (length more)
-        × AreReadBack more
-        × Puts (W.written writer.old) (W.written writer.new) (calls_text more) (is_taken result) }
-    ensures failures { W.failures writer.new ≡ failures_if (W.failures writer.old) (is_taken result) }
-{
-    for _written in 0..STEP_CALLS {
-        let Some(next) = node.follow(rt, follower) else {
-            return Progress::All;
-        };
-        if !put_kept(writer, &next.kept) {
-            return Progress::Cut;
-        }
-    }
-    Progress::Part
-}
 
 /// The lines of an answered call: the call's, which reads back as the call, and one that tells its place and its reply.
 pub fn put_kept<W: Sink>(writer: &mut W, kept: &Kept) -> bool
