@@ -14,7 +14,7 @@ from tests.support.parts import TOP
 from tests.tools.copies import SECONDS, Copy, unlike
 
 # What stands on swim_life.
-ABOVE_LIFE = ["swim_guard", "swim_guard_tests", "swim_life_tests", "swimd"]
+ABOVE_LIFE = ["swim_life_tests", "swimd"]
 WITH_LIFE = 1 + len(ABOVE_LIFE)
 # As rustc does, it writes what it links beside the program, under a name that is the same each time, and takes it away.
 LINKER = """\

@@ -8,9 +8,9 @@ use Rattle.std.proofs.Math.Seq.{take-append_seam}
 use Rattle.swim_wire.specs.Address.{Address}
 use Rattle.swim_keys.specs.Sealing.{Keyring, tag_of}
 use Rattle.swim_keys.proofs.Opening.{sealed_when_opened}
-use Rattle.swim_life.specs.declared.gates.Got.{Got}
-use Rattle.swim_life.specs.declared.gates.Got.TheVariants.{Datagram, Idle, Fault}
-use Rattle.swim_life.specs.Gates.{Received}
+use Rattle.swim_work.specs.declared.lines.Got.{Got}
+use Rattle.swim_work.specs.declared.lines.Got.TheVariants.{Datagram, Idle, Fault}
+use Rattle.swim_work.specs.Gates.{Received}
 use Rattle.swim_guard.specs.Guarded.{text_by, with_text, given, handed_on, datagram_in, text_of, datagrams, texts_of}
 
 -- what begins a part of the bytes begins them

@@ -2,8 +2,8 @@
 
 ghost use Rattle.std.specs.Prelude.{◌≡◌, ◌≤◌, ◌∷◌, [], None, length};
 ghost use Rattle.swim_fence.specs.Fences.{Follows};
-ghost use Rattle.swim_life.specs.Gates.{FitsInto};
-ghost use Rattle.swim_life.specs.Posts.{Grows};
+ghost use Rattle.swim_work.specs.Gates.{FitsInto};
+ghost use Rattle.swim_work.specs.Posts.{Grows};
 ghost use Rattle.swim_guard.specs.Fenced.{IsAsked, IsShown, LetsOn, thrown_if};
 ghost use Rattle.swim_guard.specs.Thrown.{one_thrown};
 
@@ -12,8 +12,8 @@ use crate::timepieces::Timepiece;
 use std::marker::Model;
 use std::sync::Wait;
 use swim_fence::Fence;
-use swim_life::{Got, Line};
 use swim_wire::{KNOWN_MEMBERS, Peer};
+use swim_work::{Got, Line};
 
 /// A line over another, with a fence between them. It hands on each datagram that the fence lets in, as it is, and
 /// throws the others away, before anything is looked at but where they came from. A contract sees the line below, the

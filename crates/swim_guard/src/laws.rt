@@ -5,7 +5,7 @@ ghost use Rattle.swim_fence.specs.Buckets.{price};
 ghost use Rattle.swim_fence.specs.Fences.{Follows, Kept};
 ghost use Rattle.swim_fence.specs.Histories.{AreAskedWithin, Event, StaysListed};
 ghost use Rattle.swim_keys.specs.Sealing.{Keyring};
-ghost use Rattle.swim_life.specs.Gates.{Received};
+ghost use Rattle.swim_work.specs.Gates.{Received};
 ghost use Rattle.swim_wire.specs.Address.{Address};
 ghost use Rattle.swim_guard.specs.Fenced.{AreSteps, Step, event_of, passed_from};
 ghost use Rattle.swim_guard.specs.Guarded.{datagrams, handed_on, texts_of};

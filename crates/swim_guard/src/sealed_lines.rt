@@ -2,16 +2,16 @@
 
 ghost use Rattle.std.specs.Prelude.{◌≡◌, ◌≤◌, ◌∷◌, [], None, Some, length, map};
 ghost use Rattle.std.specs.Option.{option_map};
-ghost use Rattle.swim_life.specs.Gates.{FitsInto};
-ghost use Rattle.swim_life.specs.Posts.{Grows};
+ghost use Rattle.swim_work.specs.Gates.{FitsInto};
+ghost use Rattle.swim_work.specs.Posts.{Grows};
 ghost use Rattle.swim_guard.specs.Guarded.{HandsOn, handed_on, text_by};
 
 use crate::thrown::{Sieve, Thrown};
 use std::marker::Model;
 use std::sync::Wait;
 use swim_keys::Keys;
-use swim_life::{Got, Line};
 use swim_wire::{KNOWN_MEMBERS, Peer};
+use swim_work::{Got, Line};
 
 /// A line over another. Where there are keys, it hands on each datagram that has a tag by one of them, without its tag,
 /// and throws the others away, before anything is decoded; where there are none, it hands on all. A contract sees the

@@ -2,14 +2,14 @@
 
 ghost use Rattle.std.specs.Prelude.{◌≡◌, None};
 ghost use Rattle.std.specs.Option.{option_map};
-ghost use Rattle.swim_life.specs.Posts.{IsFresh};
+ghost use Rattle.swim_work.specs.Posts.{IsFresh};
 ghost use Rattle.swim_guard.specs.Guarded.{Hands};
 
 use std::marker::Model;
 use std::sync::Wait;
 use swim_keys::Keys;
-use swim_life::Post;
 use swim_wire::{LONGEST_DATAGRAM_BYTES, Peer};
+use swim_work::Post;
 
 /// A post over another. Where there are keys, it hands on each datagram with its tag by the first of them; where there
 /// are none, as it is. Bytes that are longer than a datagram aren't taken. A contract sees the post below and the keys.

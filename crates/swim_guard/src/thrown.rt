@@ -3,8 +3,8 @@
 ghost use Rattle.std.specs.Prelude.{◌≡◌, None, Some};
 ghost use Rattle.swim_guard.specs.Thrown.{one_thrown};
 
-use swim_life::Line;
 use swim_wire::Peer;
+use swim_work::Line;
 
 /// How many datagrams were thrown away, a count that stops at 2^64-1, and where the newest of them came from.
 #[derive(Clone, Copy, Debug, Drop, PartialEq, Eq)]

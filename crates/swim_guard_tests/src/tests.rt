@@ -1,7 +1,7 @@
 //! Who is heard over a line, and what goes out by a post. The tags are Python's.
 
 ghost use Rattle.std.specs.Prelude.{None};
-ghost use Rattle.swim_life.specs.Gates.{FitsInto};
+ghost use Rattle.swim_work.specs.Gates.{FitsInto};
 
 mod fences;
 
@@ -12,8 +12,8 @@ use std::sync::atomic::{AtomicBool, Ordering};
 use std::test::Fail;
 use swim_guard::{SealedLine, SealedPost, Sieve};
 use swim_keys::{GroupKey, Keys};
-use swim_life::{Got, Line, Post};
 use swim_wire::Peer;
+use swim_work::{Got, Line, Post};
 
 // The two are the same. A call of this is proved at once, and an `assert_eq!` in some seconds.
 fn assert_same<T: PartialEq + Debug, R: Abort>(rt: &R, left: &T, right: &T) {

@@ -17,10 +17,10 @@ use Rattle.swim_events.specs.Guests.{AtGuest}
 use Rattle.swim_events.specs.Telling.{AreTold}
 use Rattle.swim_events.specs.Watched.{Lived, lived_on}
 use Rattle.swim_events.specs.Watching.{Known, known}
-use Rattle.swim_life.specs.Posts.{Grows}
+use Rattle.swim_work.specs.Posts.{Grows}
+use Rattle.swim_work.proofs.Posting.{grows_both}
 use Rattle.swim_life.specs.Reports.{Report, Began, Called, HearsOf, life_reports}
 use Rattle.swim_life.specs.Watched.{AreToldLife, AreToldOn, Tells, TellsAll, lived}
-use Rattle.swim_life.proofs.Posting.{grows_both}
 
 not_empty : {A : Type 0} (xs : List A) (x : A) → [] ≡ xs ++ x ∷ [] → ⊥
 not_empty [] x is = cc is

@@ -1,10 +1,8 @@
 -- Who ends for a full journal has a seat that knows of it.
 use Rattle.std.proofs.Common.{◌≡◌, ◌⊎◌, ℕ, ◌<◌, Bool, true, false, List, [], ◌∷◌, length, Option, Some, None, Result}
 use Rattle.std.proofs.Common.{Ok, Err, sym, subst, ◌∙◌, inl, inr, arith}
-use Rattle.std.specs.Prelude.{IfErr, MatchOption, nat_lt, if◌then◌else◌}
+use Rattle.std.specs.Prelude.{MatchOption, nat_lt, if◌then◌else◌}
 use Rattle.std.specs.Option.{unwrap_or}
-use Rattle.swim_wire.specs.Address.{Address}
-use Rattle.swim_wire.specs.Messages.{Message}
 use Rattle.swim_text.specs.declared.short_lines.LineEnd.{LineEnd}
 use Rattle.swim_text.specs.declared.short_lines.LineEnd.TheVariants as lines
 use Rattle.swim_history.specs.declared.calls.Call.{Call}
@@ -29,34 +27,15 @@ use Rattle.swim_control.specs.Desks.{Told, Shows, Measures, Answers, Counts as C
 use Rattle.swim_control.specs.Serving.{end_at}
 use Rattle.swim_control.specs.Talks.{Talk}
 use Rattle.swim_control.specs.Turns.{Asked, Meets, closed}
-use Rattle.swim_node.specs.declared.receipts.CallFault.{CallFault}
 use Rattle.swim_node.specs.declared.receipts.CallFault.TheVariants as faults
-use Rattle.swim_node.specs.declared.receipts.Receipt.{Receipt}
 use Rattle.swim_node.specs.Answered.{refused}
 use Rattle.swim_node.specs.OneHistory.{AreFullWhereMet}
 use Rattle.swim_node.specs.Seats.{Seated}
-use Rattle.swim_life.specs.declared.counts.Counts.{Counts}
-use Rattle.swim_life.specs.declared.counts.Why.{Why}
-use Rattle.swim_life.specs.declared.counts.Why.TheVariants.{JournalFull, NoMemory, Stopped}
+use Rattle.swim_work.specs.declared.counts.Why.{Why}
+use Rattle.swim_work.specs.declared.counts.Why.TheVariants.{JournalFull, NoMemory, Stopped}
+use Rattle.swim_work.specs.Ends.{graver, gravity, why_of}
 use Rattle.swim_life.specs.Desk.{AtDesk, Asks, Calls, Tells}
-use Rattle.swim_life.specs.Ends.{graver, gravity, why_of, why_at}
-use Rattle.swim_life.specs.Finished.{IsFinished}
-use Rattle.swim_life.specs.Posts.{Posted}
-
--- ---- the receiver and the ticker
-
-pub finished_full : {O N : Type 0} (posted : O → Option (List Posted)) (messages : Receipt N → List (Address × Message))
-    (old new : Seated)
-    (answer : Result (Receipt N) CallFault) (post after : O) (counts next : Counts) (end : Option Why) →
-    IfErr answer (λ fault. new ≡ refused fault old) → IsFinished posted answer messages post counts end after next →
-    end ≡ Some JournalFull → 0 < new.full
-finished_full posted messages old new (Ok receipt) post after counts next end err done ends = absurd (cc (done.0, ends))
-finished_full posted messages old new (Err (faults.Wire f)) post after counts next end err done ends =
-    absurd (cc (done.0, ends))
-finished_full posted messages old new (Err faults.NoMemory) post after counts next end err done ends =
-    absurd (cc (done.0, ends))
-finished_full posted messages old new (Err faults.JournalFull) post after counts next end err done ends =
-    rw err (omega arith)
+use Rattle.swim_life.specs.Ends.{why_at}
 
 -- ---- the controller
 

@@ -6,6 +6,7 @@ use Rattle.swim_history.specs.Setting.{Setting}
 use Rattle.swim_node.specs.declared.receipts.OpenFault.{OpenFault}
 use Rattle.swim_events.specs.Guests.{AtGuest}
 use Rattle.swim_events.specs.Telling.{AreTold}
+use Rattle.swim_work.proofs.Posting.{grows_none}
 use Rattle.swim_life.specs.declared.lives.LivesEnd.{LivesEnd}
 use Rattle.swim_life.specs.declared.lives.LivesEnd.TheVariants as life_ends
 use Rattle.swim_life.specs.declared.pasts.Past.{Past}
@@ -15,7 +16,6 @@ use Rattle.swim_life.specs.Reports.{Report, HearsLives, HearsOf}
 use Rattle.swim_life.specs.Watched.{AreToldLife, lived as life_of}
 use Rattle.swim_life.specs.Watching.{AreWatched, told_lives}
 use Rattle.swim_life.proofs.Living.{HaveLived, none_lived, one_more_lived, last_lived, last_stopped, last_opened}
-use Rattle.swim_life.proofs.Posting.{grows_none}
 
 -- lives so far, those who watch, and what the reporter has heard
 pub record HaveWatched (first : Setting) (limit : ℕ) (seed : List ℕ) (next : Setting) (number : ℕ) (old new : Written)

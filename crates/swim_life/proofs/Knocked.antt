@@ -18,11 +18,11 @@ use Rattle.swim_node.specs.Seats.{Seated}
 use Rattle.swim_rejoin.specs.declared.knockers.KnockPing.{KnockPing}
 use Rattle.swim_rejoin.specs.Knockers.{Kept, Follows, knock_at}
 use Rattle.swim_rejoin.specs.Knocking.{knocked_by}
-use Rattle.swim_life.specs.Knocking.{AreKnocks, AtKnocking, HaveKnocked, IsInStep, starts_in, HasKnocked, IsKnocking}
+use Rattle.swim_work.specs.Posts.{starts_in, ArePosted, AtSender, Grows, IsFresh, Posted, datagram, handed}
+use Rattle.swim_work.proofs.Posting.{none_posted, one_more_posted}
+use Rattle.swim_work.proofs.Sent.{are_both}
+use Rattle.swim_life.specs.Knocking.{AreKnocks, AtKnocking, HaveKnocked, IsInStep, HasKnocked, IsKnocking}
 use Rattle.swim_life.specs.Knocking.{IsLook, knock_of, knocks_of, number_after, sent_as}
-use Rattle.swim_life.specs.Posts.{ArePosted, AtSender, Grows, IsFresh, Posted, datagram, handed}
-use Rattle.swim_life.proofs.Posting.{none_posted, one_more_posted}
-use Rattle.swim_life.proofs.Sent.{are_both}
 
 pub none_knocked : (o : Setting) (rejoin : ℕ) (k : Kept) (now : Option (List Posted)) → k.rejoin ≡ rejoin →
     k.me ≡ o.me →

@@ -11,8 +11,8 @@ use Rattle.swim_history.specs.Setting.{Setting}
 use Rattle.swim_rejoin.specs.Histories.{Event, table_in}
 use Rattle.swim_rejoin.specs.Rejoiners.{Follows, Kept}
 use Rattle.swim_rejoin.specs.Histories.Event.{Knocked, Looked}
+use Rattle.swim_work.specs.declared.tidings.Note.{Note}
 use Rattle.swim_life.specs.declared.rejoining.Returning.{Returning}
-use Rattle.swim_life.specs.declared.tidings.Note.{Note}
 use Rattle.swim_life.specs.Rejoining.{IsNews, IsReturning, Learns, LearnsOn, with_knocks}
 
 pub none_on : (o : Setting) (h : List Event) → LearnsOn o h h

@@ -1,4 +1,4 @@
-pub mod Called
+pub mod Boxed
 pub mod Crying
 pub mod Fullness
 pub mod Heard
@@ -6,13 +6,10 @@ pub mod Knocked
 pub mod Learning
 pub mod LifeFiles
 pub mod Living
-pub mod Noting
-pub mod Posting
 pub mod Receiving
 pub mod Rejoined
 pub mod Same
 pub mod Sent
 pub mod Showing
 pub mod Told
-pub mod Turning
 pub mod Written

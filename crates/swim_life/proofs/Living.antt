@@ -4,8 +4,8 @@ use Rattle.std.proofs.Common.{refl, subst, inl, inr, arith}
 use Rattle.swim_history.specs.After.{setting_after}
 use Rattle.swim_history.specs.Setting.{Setting}
 use Rattle.swim_node.specs.declared.receipts.OpenFault.{OpenFault}
-use Rattle.swim_life.specs.declared.counts.Why.{Why}
-use Rattle.swim_life.specs.declared.counts.Why.TheVariants.{JournalFull, NoMemory, Socket, Stopped}
+use Rattle.swim_work.specs.declared.counts.Why.{Why}
+use Rattle.swim_work.specs.declared.counts.Why.TheVariants.{JournalFull, NoMemory, Socket, Stopped}
 use Rattle.swim_life.specs.declared.lives.LivesEnd.{LivesEnd}
 use Rattle.swim_life.specs.declared.lives.LivesEnd.TheVariants as life_ends
 use Rattle.swim_life.specs.declared.pasts.Past.{Past}

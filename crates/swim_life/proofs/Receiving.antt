@@ -3,17 +3,18 @@ use Rattle.std.proofs.Common.{◌≡◌, ℕ, List, [], ◌∷◌, take, Option,
 use Rattle.swim_wire.specs.Address.{Address}
 use Rattle.swim_history.specs.Setting.{Setting}
 use Rattle.swim_rejoin.specs.Histories.{Event}
-use Rattle.swim_life.specs.declared.counts.Why.{Why}
-use Rattle.swim_life.specs.declared.gates.Got.{Got}
-use Rattle.swim_life.specs.declared.gates.Got.TheVariants.{Datagram, Idle, Fault}
+use Rattle.swim_work.specs.declared.counts.Why.{Why}
+use Rattle.swim_work.specs.declared.lines.Got.{Got}
+use Rattle.swim_work.specs.declared.lines.Got.TheVariants.{Datagram, Idle, Fault}
+use Rattle.swim_work.specs.Ends.{one_fault_more, end_at}
+use Rattle.swim_work.specs.Gates.{Received}
+use Rattle.swim_work.specs.Posts.{AtSender, Grows}
+use Rattle.swim_work.specs.Turns.{HasWorked, IsTurn}
+use Rattle.swim_work.proofs.Turning.{last_turned, none_turned, one_more_turned}
 use Rattle.swim_life.specs.declared.rejoining.Returning.{Returning}
-use Rattle.swim_life.specs.Faults.{one_fault_more, end_at}
-use Rattle.swim_life.specs.Gates.{Received}
-use Rattle.swim_life.specs.Posts.{AtSender, Grows}
 use Rattle.swim_life.specs.Rejoining.{HearsAndJoins, IsOfSame, IsReturning, Learns}
-use Rattle.swim_life.specs.Turns.{AtReceiver, HasHeard, HasWorked, HearsGot, HearsNext, IsTurn, at_receiver}
+use Rattle.swim_life.specs.Turns.{AtReceiver, HasHeard, HearsGot, HearsNext, at_receiver}
 use Rattle.swim_life.proofs.Learning.{more_on, none_on}
-use Rattle.swim_life.proofs.Turning.{last_turned, none_turned, one_more_turned}
 
 -- a turn, whatever it was told before
 abbrev pub TurnsSo : {O : Type 0} → Setting → ℕ → Returning → Returning → Option (List Received) →

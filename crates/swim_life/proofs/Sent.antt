@@ -1,119 +1,56 @@
--- What a caller sent, call by call.
-use Rattle.std.proofs.Common.{◌≡◌, ℕ, ◌+◌, List, [], ◌∷◌, ◌++◌, Option, Result, Ok, Err, not, map, count_by, cond}
-use Rattle.std.proofs.Common.{refl, sym, ap, ◌∙◌, subst, arith, append-nil}
-use Rattle.std.proofs.lemmas.List.{map-append}
+-- What a caller whose post stands in a box sent, call by call, and both callers of a life.
+use Rattle.std.proofs.Common.{◌≡◌, ℕ, List, [], ◌∷◌, ◌++◌, Option, Result, Ok, ap, ◌∙◌, subst}
 use Rattle.std.specs.Prelude.{IfErr}
-use Rattle.std.proofs.lemmas.List.Sums.{sum_by-append}
-use Rattle.std.proofs.lemmas.Grind.{flat_map-append}
-use Rattle.swim_wire.specs.Address.{Address}
-use Rattle.swim_wire.specs.Messages.{Message}
 use Rattle.swim_history.specs.declared.entries.Entry.{Entry}
-use Rattle.swim_history.specs.declared.replies.Reply.{Reply}
 use Rattle.swim_history.specs.declared.seats.Kept.{Kept}
 use Rattle.swim_history.specs.Seats.{kept_of}
 use Rattle.swim_history.specs.Sends.{sends_of}
 use Rattle.swim_history.specs.Setting.{Setting}
 use Rattle.swim_node.specs.declared.receipts.CallFault.{CallFault}
-use Rattle.swim_node.specs.declared.receipts.CallFault.TheVariants as faults
 use Rattle.swim_node.specs.declared.receipts.Receipt.{Receipt}
 use Rattle.swim_node.specs.Answered.{refused}
 use Rattle.swim_node.specs.OneHistory.{HoldsCalls}
 use Rattle.swim_node.specs.Seats.{Seated}
-use Rattle.swim_life.specs.declared.counts.Counts.{Counts}
-use Rattle.swim_life.specs.declared.counts.Why.{Why}
-use Rattle.swim_life.specs.Ends.{both}
-use Rattle.swim_life.specs.Finished.{IsFinished}
-use Rattle.swim_life.specs.Posts.{Posted, ArePosted, handed, datagram, IsFresh, HasSent, messages_of, HavePosted}
-use Rattle.swim_life.proofs.Posting.{grows_both, none_posted}
+use Rattle.swim_work.specs.declared.counts.Counts.{Counts}
+use Rattle.swim_work.specs.declared.counts.Why.{Why}
+use Rattle.swim_work.specs.Ends.{both}
+use Rattle.swim_work.specs.Finished.{IsFinished}
+use Rattle.swim_work.specs.Posts.{HasSent, IsFresh, Posted}
+use Rattle.swim_work.proofs.Sent.{finished_sent, none_sent}
+use Rattle.swim_life.specs.Posts.{HasSentAll, HavePosted}
 
--- some messages, and then others
-pub are_both : (xs ys : List (Address × Message)) (a b c : Option (List Posted)) (m n : ℕ) →
-    ArePosted xs a b m → ArePosted ys b c n → ArePosted (xs ++ ys) a c (m + n)
-are_both xs ys a b c m n p q = record {
-  posted = p.posted ++ q.posted;
-  grows = grows_both a b c p.posted q.posted p.grows q.grows;
-  each = map-append handed p.posted q.posted
-      ∙ (ap (λ l. l ++ map handed q.posted) p.each ∙
-      (ap (λ l. map datagram xs ++ l) q.each ∙ sym (map-append datagram xs ys)));
-  unsent =
-      let s = sum_by-append (λ (r : Posted). cond (not r.is_taken) 1 0) p.posted q.posted in
-      ap (λ k. k + n) p.unsent ∙ (ap (λ k. count_by (λ (r : Posted). not r.is_taken) p.posted + k) q.unsent ∙ sym s);
-}
-
-pub none_sent : (o : Setting) (calls : List Kept) (post : Option (List Posted)) → calls ≡ [] → IsFresh post →
-    HasSent o calls post 0
-none_sent o calls post none fresh =
-    rw none (record { start = post; fresh = fresh; count = 0; posted = none_posted post; counted = omega arith })
-
--- a call more, the messages of whose reply were handed over
-one_more_sent : (o : Setting) (calls more : List Kept) (k : Kept) (reply : Reply) (before after : Option (List Posted))
-    (u n v : ℕ) →
-    HasSent o calls before u → more ≡ calls ++ k ∷ [] → k.reply ≡ reply → ArePosted (sends_of reply o) before after n →
-    v ≡ both u n → HasSent o more after v
-one_more_sent o calls more k reply before after u n v are grown is sent counted =
-    let all : messages_of o (calls ++ k ∷ []) ≡ messages_of o calls ++ sends_of reply o =
-    flat_map-append (λ (x : Kept). sends_of x.reply o) calls (k ∷ [])
-    ∙ ap (λ l. messages_of o calls ++ l) (append-nil (sends_of k.reply o) ∙ ap (λ r. sends_of r o) is) in
-    rw grown (record {
-      start = are.start;
-      fresh = are.fresh;
-      count = are.count + n;
-      posted = rw all (are_both (messages_of o calls) (sends_of reply o) are.start before after are.count n are.posted
-          sent);
-      counted = omega (arith, are.counted, counted);
-    })
-
--- no call more
-still : {O : Type 0} (posted : O → Option (List Posted)) (o : Setting) (old new : Seated) (post after : O)
-    (counts next : Counts) →
-    HasSent o old.calls (posted post) counts.unsent → new.calls ≡ old.calls → after ≡ post →
-    next.unsent ≡ counts.unsent →
-    HasSent o new.calls (posted after) next.unsent
-still posted o old new post after counts next are seat same count = rw (seat, same, count) are
+pub none_sent_at_all : (o : Setting) (calls : List Kept) (post : Option (List Posted)) → calls ≡ [] → IsFresh post →
+    HasSentAll o calls post 0
+none_sent_at_all o calls post none fresh =
+    record { start = post; fresh = fresh; sent = none_sent o calls post none }
 
 -- what was sent, after the answer to a call was dealt with
-pub finished_sent : {O : Type 0} {N : Type 0} (posted : O → Option (List Posted)) (o opening : Setting)
+pub sent_in_box : {O : Type 0} {N : Type 0} (posted : O → Option (List Posted)) (o opening : Setting)
     (old new : Seated)
     (answer : Result (Receipt N) CallFault) (boxed post after : O) (counts next : Counts) (end : Option Why) →
-    HasSent o old.calls (posted boxed) counts.unsent → post ≡ boxed → opening ≡ o →
+    HasSentAll o old.calls (posted boxed) counts.unsent → post ≡ boxed → opening ≡ o →
     ((r : Receipt N) → answer ≡ Ok r → (k : Kept) × (new.calls ≡ old.calls ++ k ∷ []) × (k.reply ≡ r.reply)) →
     IfErr answer (λ fault. new ≡ refused fault old) →
     IsFinished posted answer (λ r. sends_of r.reply opening) post counts end after next →
-    HasSent o new.calls (posted after) next.unsent
-finished_sent posted o opening old new (Ok r) boxed post after counts next end sent in_box is ok err done =
-    let are : HasSent o old.calls (posted post) counts.unsent = rw in_box sent in
-    let k = ok r refl in
-    one_more_sent o old.calls new.calls k.0 r.reply (posted post) (posted after) counts.unsent done.1.0 next.unsent are
-    k.1 k.2
-    (subst (λ s. ArePosted (sends_of r.reply s) (posted post) (posted after) done.1.0) is done.1.1)
-    (ap (λ (c : Counts). c.unsent) done.1.2)
-finished_sent posted o opening old new (Err (faults.Wire f)) boxed post after counts next end sent in_box is ok err
-    done =
-    let are : HasSent o old.calls (posted post) counts.unsent = rw in_box sent in
-    still posted o old new post after counts next are (ap (λ (s : Seated). s.calls) err) done.1
-    (ap (λ (c : Counts). c.unsent) done.2)
-finished_sent posted o opening old new (Err faults.NoMemory) boxed post after counts next end sent in_box is ok err
-    done =
-    let are : HasSent o old.calls (posted post) counts.unsent = rw in_box sent in
-    still posted o old new post after counts next are (ap (λ (s : Seated). s.calls) err) done.1
-    (ap (λ (c : Counts). c.unsent) done.2)
-finished_sent posted o opening old new (Err faults.JournalFull) boxed post after counts next end sent in_box is ok err
-    done =
-    let are : HasSent o old.calls (posted post) counts.unsent = rw in_box sent in
-    still posted o old new post after counts next are (ap (λ (s : Seated). s.calls) err) done.1
-    (ap (λ (c : Counts). c.unsent) done.2)
+    HasSentAll o new.calls (posted after) next.unsent
+sent_in_box posted o opening old new answer boxed post after counts next end all in_box is ok err done =
+    let before : HasSent o old.calls all.start (posted post) counts.unsent = rw in_box all.sent in record {
+      start = all.start;
+      fresh = all.fresh;
+      sent = finished_sent posted o opening old new answer post after counts next end is ok err done all.start before;
+    }
 
 -- what two of the seats sent whose calls a journal holds
 pub closed_posted : (o : Setting) (past : List Entry) (seats : List Seated) (first second third fourth : Seated)
     (a b : Option (List Posted)) (u v w : ℕ) → HoldsCalls past seats → seats ≡ first ∷ second ∷ third ∷ fourth ∷ [] →
-    first.number ≡ 0 → second.number ≡ 1 → HasSent o first.calls a u → HasSent o second.calls b v → w ≡ both u v →
+    first.number ≡ 0 → second.number ≡ 1 → HasSentAll o first.calls a u → HasSentAll o second.calls b v → w ≡ both u v →
     HavePosted o past a b w
 closed_posted o past seats first second third fourth a b u v w all are zero one heard ticked counted =
     let holds = subst (HoldsCalls past) are all in
     record {
       by_hearing = u;
       by_ticking = v;
-      heard = subst (λ calls. HasSent o calls a u) (holds.0 ∙ ap (λ n. kept_of n past) zero) heard;
-      ticked = subst (λ calls. HasSent o calls b v) (holds.1.0 ∙ ap (λ n. kept_of n past) one) ticked;
+      heard = subst (λ calls. HasSentAll o calls a u) (holds.0 ∙ ap (λ n. kept_of n past) zero) heard;
+      ticked = subst (λ calls. HasSentAll o calls b v) (holds.1.0 ∙ ap (λ n. kept_of n past) one) ticked;
       counted = counted;
     }

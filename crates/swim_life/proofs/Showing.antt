@@ -6,9 +6,9 @@ use Rattle.swim_wire.specs.Address.{Address}
 use Rattle.swim_history.specs.declared.rows.Change.{Change}
 use Rattle.swim_history.specs.Changes.{table_after}
 use Rattle.swim_history.specs.Setting.{Setting}
-use Rattle.swim_life.specs.Posts.{Grows}
+use Rattle.swim_work.specs.Posts.{Grows}
+use Rattle.swim_work.proofs.Posting.{grows_none, grows_both}
 use Rattle.swim_life.specs.Showing.{AreMembers, AreShown, addresses_in}
-use Rattle.swim_life.proofs.Posting.{grows_none, grows_both}
 
 -- a list begins itself
 begins_itself : {A : Type 0} (xs : List A) → IsPrefix xs xs

@@ -20,7 +20,7 @@ use Rattle.swim_node.specs.declared.receipts.CallFault.TheVariants as faults
 use Rattle.swim_node.specs.Seats.{Seated}
 use Rattle.swim_node.specs.News.{IsLongerOf}
 use Rattle.swim_node.specs.Answered.{IsAnswered, IsGapAtMoment, MayRefuse, refused}
-use Rattle.swim_life.specs.Ends.{both}
+use Rattle.swim_work.specs.Ends.{both}
 
 -- what a contract sees of a desk: its seat, the changes that its viewer has seen, and how many of its calls were
 -- refused for want of memory

@@ -2,10 +2,10 @@
 use Rattle.std.specs.Prelude.{◌≡◌, ℕ, Bool, true, false, List, [], ◌++◌, length, Option, codes, decimal}
 use Rattle.swim_text.specs.Streams.{Puts, failures_if}
 use Rattle.swim_history.specs.Judgement.{judgements}
-use Rattle.swim_life.specs.declared.counts.Why.{Why}
-use Rattle.swim_life.specs.declared.counts.Why.TheVariants.{JournalFull}
+use Rattle.swim_work.specs.declared.counts.Why.{Why}
+use Rattle.swim_work.specs.declared.counts.Why.TheVariants.{JournalFull}
+use Rattle.swim_work.specs.Ends.{why_text}
 use Rattle.swim_life.specs.declared.pasts.Past.{Past}
-use Rattle.swim_life.specs.Ends.{why_text}
 
 -- that the journal was to be written, and wasn't, or not all of it
 abbrev pub cut_text : Bool → List ℕ

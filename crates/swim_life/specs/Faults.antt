@@ -1,19 +1,11 @@
--- Faults of a gate, one after the other.
-use Rattle.std.specs.Prelude.{◌≡◌, ◌⊎◌, ℕ, ◌+◌, ◌-◌, ◌^◌, ◌<◌, ◌≤◌, min, Bool, true, false, nat_lt, if◌then◌else◌}
+-- Faults of a door, one after the other.
+use Rattle.std.specs.Prelude.{◌≡◌, ◌⊎◌, ℕ, ◌-◌, ◌^◌, ◌<◌, ◌≤◌, Bool, true, false}
 use Rattle.std.specs.Prelude.{List, [], ◌∷◌, length, Option, Some, None}
 use Rattle.swim_control.specs.Talks.{Talks}
-use Rattle.swim_life.specs.declared.counts.Why.{Why}
-use Rattle.swim_life.specs.declared.counts.Why.TheVariants.{Socket}
+use Rattle.swim_work.specs.declared.counts.Why.{Why}
+use Rattle.swim_work.specs.Ends.{end_at, one_fault_more}
+use Rattle.swim_work.specs.Posts.{Grows}
 use Rattle.swim_life.specs.Ends.{IsOfConnection}
-use Rattle.swim_life.specs.Posts.{Grows}
-
--- how many stand in a row with one more; the count stops at 2^32-1
-abbrev pub one_fault_more : ℕ → ℕ
-one_fault_more row = min (row + 1) (2 ^ 32 - 1)
-
--- 16 in a row end a worker, and fewer don't
-abbrev pub end_at : ℕ → Option Why
-end_at row = if nat_lt row 16 then None else Some Socket
 
 -- what comes of a fault of the door while so many connections are open: it counts where there are none
 pub record ShutsOut (connections old : ℕ) (end : Option Why) (new : ℕ) : Type 0 where

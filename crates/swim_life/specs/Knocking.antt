@@ -1,20 +1,18 @@
 -- What the ticker of a life knocks.
-use Rattle.std.specs.Prelude.{◌≡◌, ◌⊎◌, ℕ, ◌+◌, ◌-◌, ◌^◌, min, All, List, [], ◌∷◌, ◌++◌, length, count_by}
+use Rattle.std.specs.Prelude.{◌≡◌, ◌⊎◌, ℕ, ◌+◌, ◌-◌, ◌^◌, min, All, List, [], ◌∷◌, ◌++◌, length}
 use Rattle.std.specs.Prelude.{Option, Some, None}
 use Rattle.swim_wire.specs.Address.{Address}
 use Rattle.swim_wire.specs.Messages.{Message}
 use Rattle.swim_history.specs.declared.entries.Entry.{Entry}
 use Rattle.swim_history.specs.declared.rows.Change.{Change}
 use Rattle.swim_history.specs.declared.rows.Row.{Row}
-use Rattle.swim_history.specs.declared.seats.Kept.{Kept as KeptCall}
 use Rattle.swim_history.specs.Changes.{table_after}
-use Rattle.swim_history.specs.Events.{is_starting}
 use Rattle.swim_history.specs.Seats.{kept_of}
 use Rattle.swim_history.specs.Setting.{Setting}
 use Rattle.swim_rejoin.specs.declared.knockers.KnockPing.{KnockPing}
 use Rattle.swim_rejoin.specs.Knockers.{Kept, Follows}
 use Rattle.swim_rejoin.specs.Knocking.{knocked_by, ping_of}
-use Rattle.swim_life.specs.Posts.{ArePosted, AtSender, IsFresh, Posted}
+use Rattle.swim_work.specs.Posts.{ArePosted, AtSender, IsFresh, Posted, starts_in}
 
 -- what a look at the member table shows: a table of the node; or nothing, where nobody looks or the node is closed
 abbrev pub IsLook : Setting → List Row → Type 0
@@ -34,10 +32,6 @@ abbrev pub knocks_of : Setting → ℕ → List (List Row) → List (Address × 
 knocks_of o rejoin [] = []
 knocks_of o rejoin (rows ∷ before) =
     knocks_of o rejoin before ++ knock_of o (number_after o (length before + 1)) (knocked_by rejoin before rows)
-
--- how many of these calls began a period
-abbrev pub starts_in : List KeptCall → ℕ
-starts_in calls = count_by (λ k. is_starting k.reply) calls
 
 -- all that was handed over are the knocks at so many starts, each once, in order: as many as were counted, and the
 -- count

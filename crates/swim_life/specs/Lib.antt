@@ -1,16 +1,12 @@
-pub mod Answers
-pub mod Calling
 pub mod Desk
 pub mod Draws
 pub mod Endings
 pub mod Ends
 pub mod Faults
-pub mod Finished
 pub mod Gates
 pub mod Knocking
 pub mod Lives
 pub mod Notices
-pub mod Noting
 pub mod Pacing
 pub mod Places
 pub mod Posts

@@ -9,8 +9,8 @@ use Rattle.swim_node.specs.declared.receipts.OpenFault.TheVariants as faults
 use Rattle.swim_node.specs.OneHistory.{IsOneHistory}
 use Rattle.swim_node.specs.Seats.{Seated, AreTheSeats}
 use Rattle.swim_targets.specs.Draws.{DrawsOrder, DrawsPlace, of_seed}
-use Rattle.swim_life.specs.declared.counts.Why.{Why}
-use Rattle.swim_life.specs.declared.counts.Why.TheVariants as whys
+use Rattle.swim_work.specs.declared.counts.Why.{Why}
+use Rattle.swim_work.specs.declared.counts.Why.TheVariants as whys
 use Rattle.swim_life.specs.declared.lives.LivesEnd.{LivesEnd}
 use Rattle.swim_life.specs.declared.lives.LivesEnd.TheVariants.{Stopped, Socket, NoMemory, NoPlace}
 use Rattle.swim_life.specs.declared.pasts.Past.{Past}

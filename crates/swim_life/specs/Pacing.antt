@@ -1,7 +1,7 @@
 -- A pace that sleeps from tick to tick.
 use Rattle.std.specs.Prelude.{◌≡◌, ℕ, ◌+◌, ◌-◌, ◌<◌, ◌≤◌, Option, Some, None}
-use Rattle.swim_life.specs.declared.gates.Beat.{Beat}
-use Rattle.swim_life.specs.declared.gates.Beat.TheVariants.{Tick, Idle, Stop}
+use Rattle.swim_work.specs.declared.paces.Beat.{Beat}
+use Rattle.swim_work.specs.declared.paces.Beat.TheVariants.{Tick, Idle, Stop}
 
 -- how many milliseconds a tick has, how many of the present one are left, and for how many its sleeper slept so far,
 -- where

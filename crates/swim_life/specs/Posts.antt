@@ -1,71 +1,18 @@
 -- What the workers of a life hand over to be sent.
-use Rattle.std.specs.Prelude.{◌≡◌, ℕ, ◌-◌, ◌^◌, min, Bool, not, List, [], ◌++◌, map, flat_map, count_by}
-use Rattle.std.specs.Prelude.{Option, Some, None}
-use Rattle.swim_wire.specs.Address.{Address}
-use Rattle.swim_wire.specs.Messages.{Message}
-use Rattle.swim_wire.specs.Layout.{text_of}
+use Rattle.std.specs.Prelude.{◌≡◌, ℕ, List, Option}
 use Rattle.swim_history.specs.declared.entries.Entry.{Entry}
 use Rattle.swim_history.specs.declared.seats.Kept.{Kept}
 use Rattle.swim_history.specs.Seats.{kept_of}
-use Rattle.swim_history.specs.Sends.{sends_of}
 use Rattle.swim_history.specs.Setting.{Setting}
-use Rattle.swim_node.specs.Seats.{Seated}
-use Rattle.swim_life.specs.declared.counts.Counts.{Counts}
-use Rattle.swim_life.specs.Ends.{both}
+use Rattle.swim_work.specs.Ends.{both}
+use Rattle.swim_work.specs.Posts.{HasSent, IsFresh, Posted}
 
--- a datagram that was handed over: its bytes, where to, and whether it was taken
-pub record Posted : Type 0 where
-  pub bytes : List ℕ
-  pub to : Address
-  pub is_taken : Bool
-
--- a list grew by these, where it is known; what isn't known stays so
-abbrev pub Grows : {A : Type 0} → Option (List A) → Option (List A) → List A → Type 0
-Grows None None more = Unit {0}
-Grows None (Some new) more = ⊥
-Grows (Some old) None more = ⊥
-Grows (Some old) (Some new) more = new ≡ old ++ more
-
--- where to, and which bytes: of what was handed over, and of a message that is to be
-abbrev pub handed : Posted → Address × List ℕ
-handed p = (p.to, p.bytes)
-
-abbrev pub datagram : Address × Message → Address × List ℕ
-datagram m = (m.0, text_of m.1)
-
--- each of these messages was handed over once, in order, as its own bytes and to its own address; so many of them were
--- not
+-- all that was handed over at all are the messages of the replies to these calls, each once, in order; so many were not
 -- taken
-pub record ArePosted (messages : List (Address × Message)) (old new : Option (List Posted)) (count : ℕ) : Type 0 where
-  pub posted : List Posted
-  pub grows : Grows old new posted
-  pub each : map handed posted ≡ map datagram messages
-  pub unsent : count ≡ count_by (λ p. not p.is_taken) posted
-
--- nothing was handed over yet, as far as that is known
-abbrev pub IsFresh : Option (List Posted) → Type 0
-IsFresh None = Unit {0}
-IsFresh (Some posted) = posted ≡ []
-
--- the messages of all replies to these calls
-abbrev pub messages_of : Setting → List Kept → List (Address × Message)
-messages_of o calls = flat_map (λ k. sends_of k.reply o) calls
-
--- all that was handed over are the messages of the replies to these calls, each once, in order; so many were not taken,
--- a
--- count that stops at 2^64-1
-pub record HasSent (o : Setting) (calls : List Kept) (now : Option (List Posted)) (unsent : ℕ) : Type 0 where
+pub record HasSentAll (o : Setting) (calls : List Kept) (now : Option (List Posted)) (unsent : ℕ) : Type 0 where
   pub start : Option (List Posted)
   pub fresh : IsFresh start
-  pub count : ℕ
-  pub posted : ArePosted (messages_of o calls) start now count
-  pub counted : unsent ≡ min count (2 ^ 64 - 1)
-
--- what a contract sees of a caller that sends: its seat, its post, and its counts
-pub record AtSender (O : Type 0) : Type 0 where
-  pub seat : Seated
-  pub post : O
-  pub counts : Counts
+  pub sent : HasSent o calls start now unsent
 
 -- all that the two posts of a life were handed are the messages of the replies to the calls of the journal's first two
 -- seats, each once, in order; and those that were not taken were counted together
@@ -73,6 +20,6 @@ pub record HavePosted (o : Setting) (past : List Entry) (hearing ticking : Optio
     0 where
   pub by_hearing : ℕ
   pub by_ticking : ℕ
-  pub heard : HasSent o (kept_of 0 past) hearing by_hearing
-  pub ticked : HasSent o (kept_of 1 past) ticking by_ticking
+  pub heard : HasSentAll o (kept_of 0 past) hearing by_hearing
+  pub ticked : HasSentAll o (kept_of 1 past) ticking by_ticking
   pub counted : unsent ≡ both by_hearing by_ticking

@@ -1,26 +1,21 @@
 -- Which members the receiver of a life joins again by itself.
-use Rattle.std.specs.Prelude.{◌≡◌, ◌⊎◌, ℕ, Bool, true, false, All, List, [], ◌∷◌, ◌++◌, Option, Some, None}
+use Rattle.std.specs.Prelude.{◌≡◌, ℕ, Bool, true, false, All, List, [], ◌∷◌, ◌++◌, Option, Some, None}
 use Rattle.std.specs.Prelude.{option_and_then}
 use Rattle.swim_wire.specs.Address.{Address}
-use Rattle.swim_wire.specs.Layout.{IsTextOf}
 use Rattle.swim_wire.specs.Messages.{Message}
-use Rattle.swim_history.specs.declared.calls.Call.TheVariants.{Hear, Join}
 use Rattle.swim_history.specs.declared.rows.Change.{Change}
 use Rattle.swim_history.specs.declared.rows.Row.{Row}
 use Rattle.swim_history.specs.Changes.{table_after}
 use Rattle.swim_history.specs.Setting.{Setting}
-use Rattle.swim_node.specs.declared.receipts.CallFault.{CallFault}
-use Rattle.swim_node.specs.Answered.{MayRefuse}
 use Rattle.swim_rejoin.specs.Believing.{believed}
 use Rattle.swim_rejoin.specs.Histories.{Event, table_in}
 use Rattle.swim_rejoin.specs.Histories.Event.{Joined, Knocked, Looked}
 use Rattle.swim_rejoin.specs.Rejoiners.{Follows}
-use Rattle.swim_life.specs.declared.counts.Why.{Why}
+use Rattle.swim_work.specs.declared.counts.Why.{Why}
+use Rattle.swim_work.specs.declared.tidings.Note.{Note}
+use Rattle.swim_work.specs.Calling.{Hears, IsMessage, Joins}
+use Rattle.swim_work.specs.Posts.{AtSender}
 use Rattle.swim_life.specs.declared.rejoining.Returning.{Returning}
-use Rattle.swim_life.specs.declared.tidings.Note.{Note}
-use Rattle.swim_life.specs.Answers.{is_joining}
-use Rattle.swim_life.specs.Calling.{IsMade, IsRefused, Hears}
-use Rattle.swim_life.specs.Posts.{AtSender}
 
 -- what the receiver learns between two datagrams: a table of the node, or a knock that the ticker told it of
 abbrev pub IsNews : Setting → Event → Type 0
@@ -50,21 +45,9 @@ abbrev pub IsOfSame : Returning → Returning → Type 0
 IsOfSame old new =
     (new.rejoin ≡ old.rejoin) × (new.rejoiner.rejoin ≡ old.rejoiner.rejoin) × (new.rejoiner.me ≡ old.rejoiner.me)
 
--- the message of the datagram from there, where the node answered the call for it; there is none where it refused
-abbrev pub IsMessage : {O : Type 0} → Setting → List ℕ → Address → AtSender O → Option Why → AtSender O →
-    Option Message → Type 0
-IsMessage o bytes source old end new None = new.seat.calls ≡ old.seat.calls
-IsMessage o bytes source old end new (Some m) = IsTextOf bytes m × IsMade o (Hear source m) old end new
-
 -- who is to be joined again after it, with the row that the table shows which was last looked at
 abbrev pub whom : ℕ → ℕ → List Event → Address → Option Message → Option Row
 whom rejoin me h source message = option_and_then (λ m. believed rejoin me h m source) message
-
--- the node is told to list that member at its row's address. It was joined where the reply says so, and only there
-abbrev pub Joins : {O : Type 0} → Setting → ℕ → Row → AtSender O → Option Why → AtSender O → Bool → Type 0
-Joins o limit row old end new is_joined =
-    ((made : IsMade o (Join row.id row.peer) old end new) × (is_joined ≡ is_joining made.kept.reply))
-    ⊎ ((fault : CallFault) × MayRefuse o limit old.seat fault × IsRefused fault old end new × (is_joined ≡ false))
 
 -- that it was joined again is remembered where it was, and nothing where it wasn't
 abbrev pub IsJoinTold : Row → Bool → List Event → List Event → Type 0

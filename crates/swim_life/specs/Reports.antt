@@ -7,8 +7,8 @@ use Rattle.swim_history.specs.Clock.{period_number}
 use Rattle.swim_history.specs.Setting.{Setting}
 use Rattle.swim_node.specs.Cells.{Filing}
 use Rattle.swim_node.specs.Following.{filing_of}
+use Rattle.swim_work.specs.Posts.{Grows}
 use Rattle.swim_life.specs.declared.pasts.Past.{Past}
-use Rattle.swim_life.specs.Posts.{Grows}
 
 -- what it hears: that a life begins from this opening, and a call of it, whose it is, with its reply, and what it
 -- changed of

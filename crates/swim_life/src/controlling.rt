@@ -5,11 +5,9 @@ ghost use Rattle.std.specs.Option.{unwrap_or};
 ghost use Rattle.swim_life.specs.Ends.{IsOfConnection, end_of, why_at};
 ghost use Rattle.swim_life.specs.Faults.{AsksDoor, ServesNext, ShutsOut};
 
-use crate::counts::{Faults, Why};
 use crate::gates::{Door, Knock};
 use crate::halls::Hall;
 use crate::holding::{Held, Left};
-use crate::meters::Meter;
 use crate::node_desk::NodeDesk;
 use crate::reporters::Speaker;
 use std::alloc::Global;
@@ -18,6 +16,7 @@ use std::sync::atomic::{AtomicBool, Ordering};
 use swim_control::{Served, Stand};
 use swim_node::{Naming, Node, Viewer};
 use swim_targets::Seeded;
+use swim_work::{Faults, Meter, Why};
 
 /// How many rounds of turns there are for each time that the door and the clock are asked.
 const ROUNDS: u32 = 16;

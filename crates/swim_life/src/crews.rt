@@ -2,9 +2,8 @@
 
 ghost use Rattle.std.specs.Prelude.{◌≡◌, box_value};
 ghost use Rattle.swim_node.specs.Seats.{AreNew};
-ghost use Rattle.swim_life.specs.Posts.{IsFresh};
+ghost use Rattle.swim_work.specs.Posts.{IsFresh};
 
-use crate::gates::Post;
 use crate::holding::Held;
 use crate::knocking::{KnockNaming, Knocking};
 use crate::posts::Posts;
@@ -12,6 +11,7 @@ use crate::senders::Sender;
 use crate::tickers::Ticker;
 use swim_history::Opening;
 use swim_node::{Naming, Seat, Viewer};
+use swim_work::Post;
 
 /// The three workers that call the node, each with its seat and its viewer.
 #[derive(Drop)]

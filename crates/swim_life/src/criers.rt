@@ -5,7 +5,6 @@ ghost use Rattle.std.specs.Prelude.{◌≡◌, false, true};
 ghost use Rattle.swim_events.specs.Watching.{Known};
 ghost use Rattle.swim_life.specs.Watched.{TellsAll};
 
-use crate::meters::Meters;
 use crate::naming::GuestNaming;
 use crate::reporters::{Reporter, Standing};
 use std::alloc::Global;
@@ -16,6 +15,7 @@ use swim_journal::{STEP_CALLS, Scribe};
 use swim_node::Node;
 use swim_targets::Chooser;
 use swim_text::Sink;
+use swim_work::Meters;
 
 /// Reads a node's journal: its scribe writes it, those who watch are told what it changes of the member table, and its
 /// reporter hears of each call. A contract sees its scribe, what is known, those who watch, and the reporter.

@@ -5,11 +5,11 @@ ghost use Rattle.swim_text.specs.Streams.{Puts, failures_if};
 ghost use Rattle.swim_life.specs.Endings.{TellsLife, TellsText, cut_text, ended_text, life_text, past_text};
 ghost use Rattle.swim_life.specs.Endings.{stopped_text};
 
-use crate::counts::Why;
 use crate::pasts::Past;
 use itoa::Buffer;
 use swim_text::Sink;
 use swim_wire::{Piece, put_pieces};
+use swim_work::Why;
 
 /// The line of a life that was stopped at once.
 const STOPPED: &[u8] = b"ended stopped entries 0 judged 0 unsent 0 wire 0 refused 0\n";

@@ -8,7 +8,7 @@ ghost use Rattle.swim_life.specs.Reports.{HearsOf};
 ghost use Rattle.swim_life.specs.Watched.{AreToldLife};
 ghost use Rattle.swim_life.specs.Written.{IsFile};
 
-use crate::gates::{Door, Line, Pace, Post, Shelf};
+use crate::gates::{Door, Shelf};
 use crate::halls::Hall;
 use crate::lives::{Lived, Terms, live_recorded};
 use crate::nowhere::Nowhere;
@@ -25,6 +25,7 @@ use swim_journal::put_header;
 use swim_node::OpenFault;
 use swim_targets::Seeded;
 use swim_text::Sink;
+use swim_work::{Line, Pace, Post};
 
 /// The life of this number: with a file for its journal, where the shelf opens one.
 #[tactic(auto, using(crate::specs::Notices::notices_both, crate::proofs::LifeFiles::drawn_with_cut))]

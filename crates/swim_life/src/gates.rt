@@ -1,11 +1,10 @@
-//! The gates of a life: where its datagrams, its ticks and its operators' connections come from. A worker asks its gate
-//! once a turn, so a gate that has nothing waits a moment, but not long, before it answers that it is idle; a door is
-//! told when to wait. A herald tells people that a life begins, and a shelf has the files of the lives' journals.
+//! Where a life's operators come in: a door, which is told when to wait. A herald tells people that a life begins, and
+//! a shelf has the files of the lives' journals.
 
-ghost use Rattle.std.specs.Prelude.{◌≡◌, ◌≤◌, ℕ, [], ◌∷◌, List, Option, IfSome, length};
-ghost use Rattle.swim_life.specs.Gates.{FitsInto, is_fault};
+ghost use Rattle.std.specs.Prelude.{◌≡◌, ℕ, [], ◌∷◌, List, Option, IfSome};
+ghost use Rattle.swim_work.specs.Posts.{Grows};
+ghost use Rattle.swim_life.specs.Gates.{is_fault};
 ghost use Rattle.swim_life.specs.Notices.{Notices};
-ghost use Rattle.swim_life.specs.Posts.{Grows, IsFresh};
 ghost use Rattle.swim_life.specs.Written.{IsFile};
 ghost use Rattle.swim_text.specs.Streams.{one_more};
 
@@ -13,87 +12,6 @@ use crate::lives::Terms;
 use crate::pasts::Past;
 use std::sync::Wait;
 use swim_text::{Polled, Sink};
-use swim_wire::{KNOWN_MEMBERS, Peer};
-
-/// What a line got.
-#[derive(Clone, Copy, Debug, PartialEq, Eq)]
-pub enum Got {
-    /// A datagram of so many bytes, from this address. Of one that is longer than the buffer, as many as fit.
-    Datagram(usize, Peer),
-    /// Nothing came for a moment.
-    Idle,
-    /// The line is out of order, for now or for good.
-    Fault,
-}
-
-/// Where datagrams come in. The receiver has it for itself.
-pub trait Line {
-    ghost use Rattle.std.specs.Prelude.{List, Option};
-    ghost use Rattle.swim_wire.specs.Address.{Address};
-    ghost use Rattle.swim_life.specs.Gates.{Received};
-
-    // what it gave so far, oldest first, where that is known
-    ghost received: { Self → Option (List Received) };
-
-    // what it was shown so far, the addresses of each time in a list of their own, oldest first; where that is known
-    ghost listed: { Self → Option (List (List Address)) };
-
-    /// The next datagram, which is put at the front of the buffer.
-    fn receive<R: Wait>(&mut self, rt: &R, bytes: &mut [u8]) -> Got
-        ensures fits { FitsInto result bytes.new }
-        ensures received { Grows (received self.old) (received self.new)
-            (record { got = result; bytes = bytes.new } ∷ []) }
-        ensures listed { listed self.new ≡ listed self.old };
-
-    /// Shows it the addresses of the members: of all that stood in the member table when the receiver looked at it
-    /// last, whether they are up or failed. A line to which all are alike does nothing.
-    fn list(&mut self, members: &[Peer])
-        requires { length members.now ≤ KNOWN_MEMBERS }
-        ensures received { received self.new ≡ received self.old }
-        ensures listed { Grows (listed self.old) (listed self.new) (members.now ∷ []) };
-}
-
-/// Where a worker's datagrams go out. Each worker that sends has one of its own.
-pub trait Post {
-    ghost use Rattle.std.specs.Prelude.{[], ◌∷◌, List, Option};
-    ghost use Rattle.swim_life.specs.Posts.{Posted};
-
-    // what was handed to it so far, oldest first, where that is known
-    ghost posted: { Self → Option (List Posted) };
-
-    /// A post of the same line, to which nothing was handed yet.
-    fn fresh(&self) -> Self
-        ensures { IsFresh (posted result) };
-
-    /// Sends a datagram. `false` where that failed.
-    fn send<R: Wait>(&mut self, rt: &R, bytes: &[u8], to: Peer) -> bool
-        ensures { Grows (posted self.old) (posted self.new)
-            (record { bytes = bytes.now; to = to; is_taken = result } ∷ []) };
-}
-
-/// What a pace gave.
-#[derive(Clone, Copy, Debug, PartialEq, Eq)]
-pub enum Beat {
-    /// One tick of time passed.
-    Tick,
-    /// None did yet.
-    Idle,
-    /// The life is to end.
-    Stop,
-}
-
-/// Where the ticks come from.
-pub trait Pace {
-    ghost use Rattle.std.specs.Prelude.{List, Option};
-    ghost use Rattle.swim_life.specs.declared.gates.Beat.{Beat};
-
-    // the beats that it gave so far, oldest first, where they are known
-    ghost beats: { Self → Option (List Beat) };
-
-    /// Waits for the next beat.
-    fn next<R: Wait>(&mut self, rt: &R) -> Beat
-        ensures { Grows (beats self.old) (beats self.new) (result ∷ []) };
-}
 
 /// What came to a door.
 #[derive(Drop)]

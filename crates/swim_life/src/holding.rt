@@ -2,14 +2,13 @@
 //! its close.
 
 ghost use Rattle.std.specs.Prelude.{◌≡◌, ◌<◌, [], ◌∷◌};
-ghost use Rattle.swim_life.specs.declared.counts.Why.TheVariants.{JournalFull};
+ghost use Rattle.swim_work.specs.declared.counts.Why.TheVariants.{JournalFull};
 
-use crate::counts::Why;
-use crate::gates::Post;
 use crate::knocking::KnockNaming;
 use crate::senders::Sender;
 use crate::tickers::Ticker;
 use swim_node::{Naming, Seat};
+use swim_work::{Post, Why};
 
 /// The four seats of a node, in order.
 pub struct Seats<N: Naming> {

@@ -3,11 +3,9 @@
 ghost use Rattle.std.specs.Prelude.{◌≡◌, ℕ, ◌+◌, ◌-◌, ◌^◌, ◌<◌, List, MatchBool, Option, min, box_value};
 ghost use Rattle.swim_history.specs.declared.entries.Entry.{Entry};
 ghost use Rattle.swim_history.specs.Setting.{Setting};
+ghost use Rattle.swim_work.specs.Posts.{IsFresh, Posted};
 ghost use Rattle.swim_life.specs.Knocking.{AreKnocks, HasKnocked, HaveKnocked, IsLook, sent_as};
-ghost use Rattle.swim_life.specs.Posts.{IsFresh, Posted};
 
-use crate::gates::Post;
-use crate::tidings::TidingsBoard;
 use std::marker::{Brand, Model};
 use std::sync::Wait;
 use swim_history::{Opening, Table};
@@ -15,6 +13,7 @@ use swim_journal::PageNaming;
 use swim_node::Viewer;
 use swim_rejoin::{KnockPing, Knocker};
 use swim_wire::{PeriodNumber, encode};
+use swim_work::{Post, TidingsBoard};
 
 /// Which node, and how often it knocks. It exists in the proofs alone, as `Naming` does: a program passes `Brand`.
 pub trait KnockNaming: PageNaming {

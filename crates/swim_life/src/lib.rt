@@ -1,9 +1,7 @@
 //! Lives of a daemon: a node with its workers over a line of datagrams, a pace of ticks and a door for operators.
 #![tactic(auto)]
 
-mod answers;
 mod controlling;
-mod counts;
 mod crews;
 mod criers;
 mod endings;
@@ -15,7 +13,6 @@ mod knocking;
 mod life;
 mod lives;
 mod lookouts;
-mod meters;
 mod named_lives;
 mod naming;
 mod node_desk;
@@ -28,25 +25,21 @@ mod recording;
 mod rejoining;
 mod reporters;
 mod senders;
-mod sending;
 mod sleeping_pace;
 mod threads;
 mod tickers;
-mod tidings;
 mod udp_line;
 mod unix_door;
 mod unix_entrance;
 mod unix_streams;
 mod workers;
 
-pub use counts::Why;
-pub use gates::{Beat, Door, Got, Herald, Knock, Line, Pace, Post, Shelf};
+pub use gates::{Door, Herald, Knock, Shelf};
 pub use halls::Hall;
 pub use holding::Seats;
 pub use knocking::{KnockNaming, with_0_nobody_is_knocked_at};
 pub use life::{Life, run_life};
 pub use lives::{Lived, LivesEnd, Terms, live, live_recorded, run_lives};
-pub use meters::Metered;
 pub use naming::GuestNaming;
 pub use nowhere::{Never, NoEntrance, NoOutlet, NoReporter, NoShelf, Nowhere};
 pub use pasts::Past;

@@ -4,22 +4,21 @@ ghost use Rattle.std.specs.Prelude.{◌≡◌, ◌≤◌, ◌||◌, [], ◌∷�
 ghost use Rattle.swim_history.specs.Changes.{changes};
 ghost use Rattle.swim_node.specs.Seats.{AreNew, AreTheSeats};
 ghost use Rattle.swim_node.specs.OneHistory.{IsOneHistory};
-ghost use Rattle.swim_life.specs.Ends.{both, why_of};
+ghost use Rattle.swim_work.specs.Ends.{both, why_of};
+ghost use Rattle.swim_work.specs.Posts.{IsFresh};
 ghost use Rattle.swim_life.specs.Knocking.{HaveKnocked};
-ghost use Rattle.swim_life.specs.Posts.{HavePosted, IsFresh};
+ghost use Rattle.swim_life.specs.Posts.{HavePosted};
 ghost use Rattle.swim_life.specs.Reports.{HearsOf};
 ghost use Rattle.swim_life.specs.Watched.{AreToldOn};
 ghost use Rattle.swim_life.specs.Written.{IsWritten};
 
-use crate::counts::Why;
 use crate::crews::{Workers, apart, held};
 use crate::criers::Crier;
-use crate::gates::{Door, Line, Pace, Post};
+use crate::gates::Door;
 use crate::halls::Hall;
 use crate::holding::{Held, Seats};
 use crate::lives::Lived;
 use crate::lookouts::Lookout;
-use crate::meters::Meters;
 use crate::naming::GuestNaming;
 use crate::pasts::Past;
 use crate::posts::Posts;
@@ -27,7 +26,6 @@ use crate::recording::close_recorded;
 use crate::rejoining::Returning;
 use crate::reporters::{Reporter, Speaker};
 use crate::threads::{Controlling, Hearing, Over, Recording, Ticking, work_at_once};
-use crate::tidings::TidingsBoard;
 use std::alloc::Global;
 use std::sync::Wait;
 use std::sync::atomic::AtomicBool;
@@ -36,6 +34,7 @@ use swim_events::{Entrance, Gallery, Outlet};
 use swim_node::{Naming, Node, Seat, Viewer};
 use swim_targets::Seeded;
 use swim_text::Sink;
+use swim_work::{Line, Meters, Pace, Post, TidingsBoard, Why};
 
 /// What a life leaves behind.
 #[derive(Drop)]
@@ -224,7 +223,7 @@ fn work<
         returning,
         line,
         lookout: Lookout::new(workers.hearing, &board),
-        meter: &meters.hearing,
+        meter: &meters.first,
     };
     let ticking = Ticking {
         node,
@@ -232,7 +231,7 @@ fn work<
         ticker: workers.second,
         pace,
         board: &board,
-        meter: &meters.ticking,
+        meter: &meters.second,
     };
     let controlling = Controlling {
         alloc,
@@ -242,7 +241,7 @@ fn work<
         viewer: workers.controlling,
         speaker,
         hall,
-        meter: &meters.controlling,
+        meter: &meters.third,
     };
     let recording = Recording {
         alloc,

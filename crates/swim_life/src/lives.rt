@@ -11,10 +11,9 @@ ghost use Rattle.swim_life.specs.Watched.{AreToldLife};
 ghost use Rattle.swim_life.specs.Watching.{AreWatched};
 ghost use Rattle.swim_life.specs.Written.{IsWritten};
 
-use crate::counts::Why;
 use crate::endings::{tell_life, tell_stopped};
 use crate::filing::live_next;
-use crate::gates::{Door, Herald, Line, Pace, Post, Shelf};
+use crate::gates::{Door, Herald, Shelf};
 use crate::halls::Hall;
 use crate::named_lives::live_so;
 use crate::nowhere::{Never, NoEntrance, NoOutlet, NoReporter, Nowhere};
@@ -30,6 +29,7 @@ use swim_history::Opening;
 use swim_node::{OpenFault, Parts};
 use swim_targets::Seeded;
 use swim_text::Sink;
+use swim_work::{Line, Pace, Post, Why};
 
 /// What a life leaves behind whose journal was written: the sink that was to take it, too.
 #[derive(Drop)]

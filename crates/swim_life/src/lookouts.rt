@@ -4,15 +4,14 @@ ghost use Rattle.std.specs.Prelude.{◌≡◌, ◌≤◌, length};
 ghost use Rattle.swim_life.specs.Rejoining.{IsOfSame, Learns};
 ghost use Rattle.swim_life.specs.Showing.{AreShown, addresses_in};
 
-use crate::gates::Line;
 use crate::rejoining::Returning;
-use crate::tidings::TidingsBoard;
 use arrayvec::ArrayVec;
 use std::marker::Model;
 use std::sync::Wait;
 use swim_history::Row;
 use swim_node::{Naming, Viewer};
 use swim_wire::{KNOWN_MEMBERS, Peer};
+use swim_work::{Line, TidingsBoard};
 
 /// A viewer of the member table, and the board, which says when it is time to look. So a turn costs no more than a look
 /// at the board's flag.

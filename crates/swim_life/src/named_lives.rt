@@ -7,13 +7,13 @@ ghost use Rattle.swim_node.specs.Draws.{DrawsAll};
 ghost use Rattle.swim_node.specs.Seats.{AreNew};
 ghost use Rattle.swim_events.specs.Guests.{put_text};
 ghost use Rattle.swim_events.specs.Texts.{life_text};
+ghost use Rattle.swim_work.specs.Posts.{IsFresh};
 ghost use Rattle.swim_life.specs.Lives.{IsLife};
-ghost use Rattle.swim_life.specs.Posts.{IsFresh};
 ghost use Rattle.swim_life.specs.Reports.{HearsOf};
 ghost use Rattle.swim_life.specs.Watched.{AreToldLife};
 ghost use Rattle.swim_life.specs.Written.{IsWritten};
 
-use crate::gates::{Door, Line, Pace, Post};
+use crate::gates::Door;
 use crate::halls::Hall;
 use crate::life::run_life;
 use crate::lives::Lived;
@@ -30,6 +30,7 @@ use swim_history::Opening;
 use swim_node::{Node, OpenFault, Parts, Seat, Viewer};
 use swim_targets::Seeded;
 use swim_text::Sink;
+use swim_work::{Line, Pace, Post};
 
 /// As `live_recorded`, of a node that its types know by a name, and of whose parts and draws they know.
 pub(crate) fn live_so<

@@ -9,9 +9,7 @@ ghost use Rattle.swim_node.specs.News.{IsLongerOf};
 ghost use Rattle.swim_node.specs.Seats.{Seated};
 ghost use Rattle.swim_life.specs.Desk.{Asks, Calls, IsTold, Tells, TellsRefusal};
 
-use crate::counts::Counts;
 use crate::holding::Held;
-use crate::meters::Meter;
 use crate::reporters::Speaker;
 use std::alloc::Global;
 use std::marker::Model;
@@ -21,6 +19,7 @@ use swim_history::{Gap, Reply, Table};
 use swim_node::{CallFault, Naming, Node, Receipt, Viewer};
 use swim_targets::{Chooser, Seeded};
 use swim_wire::{Id, Peer};
+use swim_work::{Counts, Meter};
 
 /// A caller of a node: its seat, with the number in its type, its viewer, which learns of each of its calls, and how
 /// many of them were refused for want of memory. A contract sees the seat, the changes that the viewer has seen, and

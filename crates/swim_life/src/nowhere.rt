@@ -4,7 +4,7 @@
 ghost use Rattle.std.specs.Prelude.{◌≡◌, None, false};
 ghost use Rattle.swim_text.specs.Streams.{failures_if};
 
-use crate::gates::{Beat, Pace, Shelf};
+use crate::gates::Shelf;
 use crate::lives::Terms;
 use crate::pasts::Past;
 use crate::reporters::{Reporter, Speaker, Standing};
@@ -14,6 +14,7 @@ use swim_events::{Entrance, Offer, Outlet};
 use swim_history::{Change, Opening};
 use swim_node::Followed;
 use swim_text::Sink;
+use swim_work::{Beat, Pace};
 
 /// A sink that takes nothing.
 #[derive(Drop)]

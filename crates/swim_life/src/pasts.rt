@@ -2,8 +2,8 @@
 
 ghost use Rattle.std.specs.Prelude.{◌≡◌};
 
-use crate::counts::Why;
 use swim_history::Journal;
+use swim_work::Why;
 
 /// What stays of a life: why it ended, its journal, and its counts.
 #[derive(Drop)]

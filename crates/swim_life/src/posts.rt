@@ -1,10 +1,10 @@
 //! The posts of a life: what its two workers that send hand their datagrams and its knocks to.
 
 ghost use Rattle.std.specs.Prelude.{IfOk, box_value};
-ghost use Rattle.swim_life.specs.Posts.{IsFresh};
+ghost use Rattle.swim_work.specs.Posts.{IsFresh};
 
-use crate::gates::Post;
 use std::alloc::{AllocError, Global};
+use swim_work::Post;
 
 /// The posts of a life's receiver and ticker, each of which sends by one of its own, and of its knocks. They stand in
 /// boxes, since nothing is known of their size.

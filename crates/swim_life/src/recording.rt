@@ -12,9 +12,7 @@ ghost use Rattle.swim_life.specs.Reports.{HearsOf};
 ghost use Rattle.swim_life.specs.Watched.{AreToldOn};
 
 use crate::criers::Crier;
-use crate::gates::{Beat, Pace};
 use crate::holding::{Seats, seats_of};
-use crate::meters::Meters;
 use crate::naming::GuestNaming;
 use crate::reporters::Reporter;
 use std::alloc::Global;
@@ -25,6 +23,7 @@ use swim_history::Journal;
 use swim_node::{Node, Seat};
 use swim_targets::Chooser;
 use swim_text::Sink;
+use swim_work::{Beat, Meters, Pace};
 
 /// The writer: at each tick of its pace it reads what was added to the journal, writes it, and tells those who watch
 /// and the reporter; at each beat it takes in who has come, and sends. It ends with the life, or where its pace tells

@@ -8,19 +8,17 @@ ghost use Rattle.swim_history.specs.Setting.{Setting};
 ghost use Rattle.swim_rejoin.specs.Histories.{Event};
 ghost use Rattle.swim_rejoin.specs.Histories.Event.{Joined};
 ghost use Rattle.swim_rejoin.specs.Rejoiners.{Follows};
-ghost use Rattle.swim_life.specs.Ends.{both};
+ghost use Rattle.swim_work.specs.Ends.{both};
 ghost use Rattle.swim_life.specs.Rejoining.{HearsAndJoins, IsOfSame, IsReturning, JoinsAgain, Learns, whom, with_knocks};
 
-use crate::counts::Why;
-use crate::gates::Post;
 use crate::senders::Sender;
-use crate::tidings::{Note, Tidings, TidingsBoard};
 use std::sync::Wait;
 use swim_history::{Row, Table, copy_table};
 use swim_node::{Naming, Node};
 use swim_rejoin::Rejoiner;
 use swim_targets::Chooser;
 use swim_wire::{Id, KNOWN_MEMBERS, Message, Peer};
+use swim_work::{Note, Post, Tidings, TidingsBoard, Why};
 
 /// What is remembered of members that come back, over all lives: when they were knocked at, judged and joined again.
 #[derive(Drop)]

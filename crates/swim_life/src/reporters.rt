@@ -1,15 +1,15 @@
 //! Who hears of each call of a life's journal, once it was read: for a log, and for what is counted.
 
 ghost use Rattle.std.specs.Prelude.{◌≡◌, ◌∷◌, []};
-ghost use Rattle.swim_life.specs.Posts.{Grows};
+ghost use Rattle.swim_work.specs.Posts.{Grows};
 ghost use Rattle.swim_life.specs.Reports.{Report};
 ghost use Rattle.swim_life.specs.Reports.Report.{Began, Called};
 
-use crate::meters::Metered;
 use std::sync::Wait;
 use swim_control::StatsText;
 use swim_history::{Change, Opening};
 use swim_node::Followed;
+use swim_work::Metered;
 
 /// What is told of a life beside its calls, as it stands after some of them were read.
 #[derive(Clone, Copy, Debug, PartialEq, Eq)]

@@ -2,23 +2,18 @@
 
 ghost use Rattle.std.specs.Prelude.{◌≡◌, ◌+◌, ◌<◌, [], Some, box_value};
 ghost use Rattle.std.specs.Int.{from_bool};
-ghost use Rattle.swim_life.specs.Calling.{Hears, Ticks};
-ghost use Rattle.swim_life.specs.Knocking.{starts_in};
-ghost use Rattle.swim_life.specs.Posts.{HasSent, IsFresh};
-ghost use Rattle.swim_life.specs.Rejoining.{IsMessage, Joins};
+ghost use Rattle.swim_work.specs.Calling.{Hears, IsMessage, Joins, Ticks};
+ghost use Rattle.swim_work.specs.Posts.{IsFresh, starts_in};
+ghost use Rattle.swim_life.specs.Posts.{HasSentAll};
 
-use crate::answers::{has_joined, has_started, message_of};
-use crate::counts::{Counts, Why};
-use crate::gates::Post;
 use crate::holding::Held;
-use crate::meters::Meter;
-use crate::sending::finish;
 use std::marker::Model;
 use std::sync::Wait;
 use swim_history::Row;
 use swim_node::{Naming, Node};
 use swim_targets::Chooser;
 use swim_wire::{Message, Peer};
+use swim_work::{Counts, Meter, Post, Why, finish, has_joined, has_started, message_of};
 
 /// A caller of the node: its seat, its post, and what it counted. All that its post was handed are the datagrams of the
 /// replies to the seat's calls.
@@ -32,18 +27,19 @@ pub(crate) struct Sender<N: Naming, O: Post + Drop, const SEAT: u8> {
 
 impl<N: Naming, O: Post + Drop, const SEAT: u8> Model for Sender<N, O, SEAT> {
     ghost use Rattle.std.specs.Prelude.{box_value};
-    ghost use Rattle.swim_life.specs.Posts.{AtSender, HasSent};
+    ghost use Rattle.swim_work.specs.Posts.{AtSender};
+    ghost use Rattle.swim_life.specs.Posts.{HasSentAll};
 
     ghost Value = { AtSender O };
 
     ghost view = { λ s. record { seat = s.held.seat; post = box_value s.post; counts = s.counts } };
 
-    ghost invariant = { λ s. HasSent N.opening s.held.seat.calls (O.posted (box_value s.post)) s.counts.unsent };
+    ghost invariant = { λ s. HasSentAll N.opening s.held.seat.calls (O.posted (box_value s.post)) s.counts.unsent };
 }
 
 impl<N: Naming, O: Post + Drop, const SEAT: u8> Sender<N, O, SEAT> {
     /// A caller that made no call yet.
-    #[tactic(auto, using(crate::proofs::Sent::none_sent))]
+    #[tactic(auto, using(crate::proofs::Sent::none_sent_at_all))]
     pub(crate) fn new(held: Held<N, SEAT>, post: Box<O>) -> Sender<N, O, SEAT>
         requires calls { held.seat.calls ≡ [] }
         requires fresh { IsFresh (O.posted (box_value post)) }
@@ -131,7 +127,7 @@ impl<N: Naming, O: Post + Drop, const SEAT: u8> Sender<N, O, SEAT> {
     /// The seat and the post.
     pub(crate) fn leave(self) -> (Held<N, SEAT>, Box<O>)
         ensures seat { result.0.seat ≡ self.seat }
-        ensures sent { HasSent N.opening result.0.seat.calls (O.posted (box_value result.1)) self.counts.unsent }
+        ensures sent { HasSentAll N.opening result.0.seat.calls (O.posted (box_value result.1)) self.counts.unsent }
     {
         (self.held, self.post)
     }

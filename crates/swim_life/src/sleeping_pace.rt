@@ -3,12 +3,12 @@
 ghost use Rattle.std.specs.Prelude.{◌≡◌, None};
 ghost use Rattle.swim_life.specs.Pacing.{Beats, HasSlept};
 
-use crate::gates::{Beat, Pace};
 use std::marker::Model;
 use std::rt::Clock;
 use std::sync::Wait;
 use std::thread;
 use std::time::Duration;
+use swim_work::{Beat, Pace};
 
 /// The longest sleep at once, in milliseconds, so that the ticker sees soon that its life is over.
 const LONGEST_MS: u32 = 100;

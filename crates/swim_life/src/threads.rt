@@ -3,24 +3,21 @@
 
 ghost use denote.Param.Send.{IsSend, IsSync};
 ghost use Rattle.std.specs.Prelude.{◌≡◌, ◌||◌};
-ghost use Rattle.swim_life.specs.Ends.{both};
+ghost use Rattle.swim_work.specs.Ends.{both};
 
 use crate::controlling::control;
-use crate::counts::Counts;
 use crate::criers::Crier;
-use crate::gates::{Door, Line, Pace, Post};
+use crate::gates::Door;
 use crate::halls::Hall;
 use crate::holding::{Ended, Held, Left, Ticked};
 use crate::knocking::KnockNaming;
 use crate::lookouts::Lookout;
-use crate::meters::{Meter, Meters};
 use crate::naming::GuestNaming;
 use crate::recording::write_along;
 use crate::rejoining::Returning;
 use crate::reporters::{Reporter, Speaker};
 use crate::senders::Sender;
 use crate::tickers::Ticker;
-use crate::tidings::TidingsBoard;
 use crate::workers::{receive, tick};
 use std::alloc::Global;
 use std::sync::Wait;
@@ -31,6 +28,7 @@ use swim_events::{Entrance, Outlet};
 use swim_node::{Naming, Node, Viewer};
 use swim_targets::{Chooser, Seeded};
 use swim_text::Sink;
+use swim_work::{Counts, Line, Meter, Meters, Pace, Post, TidingsBoard};
 
 /// What the receiver takes into its thread.
 #[derive(Drop)]

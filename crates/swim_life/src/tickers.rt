@@ -1,19 +1,16 @@
 //! The caller of the node that gives the ticks, and knocks at the starts of periods.
 
 ghost use Rattle.std.specs.Prelude.{◌≡◌, ◌<◌, [], Some};
-ghost use Rattle.swim_life.specs.Calling.{Ticks};
+ghost use Rattle.swim_work.specs.Calling.{Ticks};
 ghost use Rattle.swim_life.specs.Knocking.{IsInStep};
 
-use crate::counts::{Counts, Why};
-use crate::gates::Post;
 use crate::knocking::{KnockNaming, Knocking};
-use crate::meters::Meter;
 use crate::senders::Sender;
-use crate::tidings::TidingsBoard;
 use std::marker::Model;
 use std::sync::Wait;
 use swim_node::Node;
 use swim_targets::Chooser;
+use swim_work::{Counts, Meter, Post, TidingsBoard, Why};
 
 /// A caller of the node, and who knocks. The period that runs, by who knocks, is the one that the caller's ticks began.
 #[derive(Drop)]

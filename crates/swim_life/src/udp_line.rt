@@ -1,15 +1,15 @@
 //! The line of a daemon: a UDP socket.
 
 ghost use Rattle.std.specs.Prelude.{◌≡◌, ◌↔◌, ◌⊎◌, None};
-ghost use Rattle.swim_life.specs.Gates.{FitsInto};
+ghost use Rattle.swim_work.specs.Gates.{FitsInto};
 
-use crate::gates::{Got, Line, Post};
 use std::io;
 use std::io::ErrorKind;
 use std::net::{Ipv4Addr, Net, SocketAddr, SocketAddrV4, UdpSocket};
 use std::sync::Wait;
 use std::time::Duration;
 use swim_wire::Peer;
+use swim_work::{Got, Line, Post};
 
 /// How long a receive waits for a datagram, in milliseconds.
 const WAIT_MS: u64 = 100;

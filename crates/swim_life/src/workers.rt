@@ -5,26 +5,24 @@
 ghost use Rattle.std.specs.Prelude.{◌≡◌, ◌↔◌, ◌<◌, ℕ, List, true, Option, Some};
 ghost use Rattle.std.specs.Option.{unwrap_or};
 ghost use Rattle.swim_history.specs.declared.rows.Change.{Change};
-ghost use Rattle.swim_life.specs.declared.counts.Why.{Why as Reason};
+ghost use Rattle.swim_work.specs.declared.counts.Why.{Why as Reason};
 ghost use Rattle.swim_rejoin.specs.Histories.{Event};
+ghost use Rattle.swim_work.specs.Turns.{HasTicked, IsTurn, TicksNext};
 ghost use Rattle.swim_life.specs.Rejoining.{IsOfSame, IsReturning};
 ghost use Rattle.swim_life.specs.Showing.{AreShown};
-ghost use Rattle.swim_life.specs.Turns.{HasHeard, HasTicked, HearsNext, IsTurn, TicksNext, at_receiver};
+ghost use Rattle.swim_life.specs.Turns.{HasHeard, HearsNext, at_receiver};
 
-use crate::counts::{Faults, Why};
-use crate::gates::{Beat, Got, Line, Pace, Post};
 use crate::holding::{Ended, Ticked};
 use crate::knocking::KnockNaming;
 use crate::lookouts::Lookout;
-use crate::meters::Meter;
 use crate::rejoining::{Returning, hear_and_join};
 use crate::senders::Sender;
 use crate::tickers::Ticker;
-use crate::tidings::TidingsBoard;
 use std::sync::Wait;
 use std::sync::atomic::{AtomicBool, Ordering};
 use swim_node::{Naming, Node};
 use swim_targets::Chooser;
+use swim_work::{Beat, Faults, Got, Line, Meter, Pace, Post, TidingsBoard, Why};
 
 /// As many bytes as are taken of a datagram: more than one of the protocol has, so that one that is too long is seen to
 /// be.
@@ -175,7 +173,7 @@ pub(crate) fn tick<N: KnockNaming, O: Post + Drop, C: Chooser, H: Wait + Drop, R
 }
 
 /// Ticks until the life is over (`None`), or until the ticker ends, and why.
-#[tactic(auto, using(crate::proofs::Turning::none_turned, crate::proofs::Turning::one_more_turned))]
+#[tactic(auto, using(swim_work::proofs::Turning::none_turned, swim_work::proofs::Turning::one_more_turned))]
 fn tick_on<N: KnockNaming, O: Post + Drop, C: Chooser, H: Wait + Drop, R: Wait, P: Pace>(
     rt: &R,
     node: &Node<N, C, H>,

@@ -33,12 +33,11 @@ use std::test::*;
 use std::thread::Threads;
 use swim_events::Gallery;
 use swim_history::{Journal, Opening, Probe, Reply};
-use swim_life::{
-    Beat, Hall, Line, LivesEnd, Never, Pace, Past, Post, Returning, Terms, Why, live, run_lives,
-};
+use swim_life::{Hall, LivesEnd, Never, Past, Returning, Terms, live, run_lives};
 use swim_targets::Seeded;
 use swim_text::Page;
 use swim_wire::{Peer, Version};
+use swim_work::{Beat, Line, Pace, Post, Why};
 
 // The two are the same. A call of this is proved at once, and an `assert_eq!` in some seconds.
 fn assert_same<T: PartialEq + Debug, R: Abort>(rt: &R, left: &T, right: &T) {

@@ -6,7 +6,7 @@ ghost use Rattle.swim_history.specs.declared.entries.Entry.{Entry};
 ghost use Rattle.swim_history.specs.Run.{IsRun};
 ghost use Rattle.swim_history.specs.Setting.{Setting, IsSetting};
 ghost use Rattle.swim_events.specs.Watched.{Lived, lived_on};
-ghost use Rattle.swim_life.specs.Ends.{both};
+ghost use Rattle.swim_work.specs.Ends.{both};
 ghost use Rattle.swim_metrics.specs.Following.{begun};
 ghost use Rattle.swim_metrics.specs.LastHeard.{Tell};
 ghost use Rattle.swimd.specs.Booked.{AreCounted, counted_of, failed_by, is_own_join, told_of};
@@ -16,10 +16,11 @@ use crate::bulletins::Counted;
 use crate::happenings::Happening;
 use crate::totals::Totals;
 use swim_history::{Change, Opening};
-use swim_life::{Metered, Standing};
+use swim_life::Standing;
 use swim_metrics::{Hearings, Metrics};
 use swim_node::Followed;
 use swim_wire::Id;
+use swim_work::Metered;
 
 /// The seat of the receiver, by which the daemon lets members join again.
 const RECEIVER: u8 = 0;

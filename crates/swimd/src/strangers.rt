@@ -2,15 +2,15 @@
 //! at the door tells of them, so that no datagram waits for a line on standard error.
 
 ghost use Rattle.std.specs.Prelude.{◌≡◌, ◌≤◌, ◌∷◌, [], length};
-ghost use Rattle.swim_life.specs.Gates.{FitsInto};
-ghost use Rattle.swim_life.specs.Posts.{Grows};
+ghost use Rattle.swim_work.specs.Gates.{FitsInto};
+ghost use Rattle.swim_work.specs.Posts.{Grows};
 
 use std::marker::Model;
 use std::sync::Wait;
 use std::sync::atomic::{AtomicU64, Ordering};
 use swim_guard::{Sieve, Thrown};
-use swim_life::{Got, Line};
 use swim_wire::{KNOWN_MEMBERS, Peer};
+use swim_work::{Got, Line};
 
 /// How many datagrams were thrown away, and where the newest came from, as two threads share it.
 #[derive(Drop)]

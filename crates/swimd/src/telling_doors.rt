@@ -2,8 +2,8 @@
 //! are turned away, and metrics. The worker at the door has the time for it, so that nobody else waits.
 
 ghost use Rattle.std.specs.Prelude.{◌≡◌, ◌∷◌, []};
+ghost use Rattle.swim_work.specs.Posts.{Grows};
 ghost use Rattle.swim_life.specs.Gates.{is_fault};
-ghost use Rattle.swim_life.specs.Posts.{Grows};
 
 use crate::counters::Counters;
 use crate::happenings::{Happening, unsaid};

@@ -1,7 +1,7 @@
 //! Who is heard over a fence. The numbers are those of a bucket that a rate fills.
 
 ghost use Rattle.std.specs.Prelude.{◌≡◌, ◌≤◌, None};
-ghost use Rattle.swim_life.specs.Gates.{FitsInto};
+ghost use Rattle.swim_work.specs.Gates.{FitsInto};
 
 use super::{BY_FIRST, PING, assert_same, at, keys};
 use std::io;
@@ -11,8 +11,8 @@ use std::sync::atomic::{AtomicU64, Ordering};
 use std::test::Fail;
 use std::time::Duration;
 use swim_guard::{ClockTimepiece, FencedLine, SealedLine, Sieve, Timepiece};
-use swim_life::{Got, Line};
 use swim_wire::Peer;
+use swim_work::{Got, Line};
 
 // A quarter of a second, in nanoseconds.
 const QUARTER: u64 = 250_000_000;

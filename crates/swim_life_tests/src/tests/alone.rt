@@ -7,7 +7,8 @@ use std::rt::Clock;
 use std::sync::Wait;
 use std::thread::Threads;
 use swim_history::Opening;
-use swim_life::{Hall, Line, Pace, Past, Post, live};
+use swim_life::{Hall, Past, live};
+use swim_work::{Line, Pace, Post};
 
 /// A life to whose door nobody comes.
 pub fn live_alone<

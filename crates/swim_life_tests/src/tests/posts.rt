@@ -3,16 +3,17 @@
 ghost use Rattle.std.specs.Prelude.{◌≡◌, ◌++◌, ◌∷◌, [], List, None, Some, OnOk, box_value};
 ghost use Rattle.swim_history.specs.declared.entries.Entry.{Entry};
 ghost use Rattle.swim_node.specs.Seats.{AreNew};
-ghost use Rattle.swim_life.specs.Gates.{FitsInto};
-ghost use Rattle.swim_life.specs.Posts.{IsFresh};
+ghost use Rattle.swim_work.specs.Gates.{FitsInto};
+ghost use Rattle.swim_work.specs.Posts.{IsFresh};
 
 use super::*;
 use std::alloc::AllocError;
 use std::marker::{Brand, Model};
 use swim_life::{
-    Door, Got, GuestNaming, Life, Never, NoEntrance, NoOutlet, NoReporter, Nowhere, Posts, run_life,
+    Door, GuestNaming, Life, Never, NoEntrance, NoOutlet, NoReporter, Nowhere, Posts, run_life,
 };
 use swim_node::{Node, Parts, Seat, Viewer};
+use swim_work::Got;
 
 // A datagram that a post was handed.
 #[derive(Drop)]
@@ -23,7 +24,7 @@ struct Sheet {
 }
 
 impl Model for Sheet {
-    ghost use Rattle.swim_life.specs.Posts.{Posted};
+    ghost use Rattle.swim_work.specs.Posts.{Posted};
 
     ghost Value = { Posted };
 

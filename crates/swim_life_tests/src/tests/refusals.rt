@@ -2,11 +2,11 @@
 //! second and so on; else none is. Where a call was refused, which is counted and made again, it writes a line.
 
 ghost use Rattle.std.specs.Prelude.{None};
-ghost use Rattle.swim_life.specs.Gates.{FitsInto};
+ghost use Rattle.swim_work.specs.Gates.{FitsInto};
 
 use super::lives::assert_ended;
 use super::*;
-use swim_life::Got;
+use swim_work::Got;
 
 /// How many turns the pace waits for what may not come where memory was refused.
 const PATIENCE: u32 = 10_000;

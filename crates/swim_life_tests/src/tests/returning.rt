@@ -1,15 +1,16 @@
 //! A member that comes back: it is judged, knocked at, and joined again when it answers.
 
 ghost use Rattle.std.specs.Prelude.{None};
-ghost use Rattle.swim_life.specs.Gates.{FitsInto};
+ghost use Rattle.swim_work.specs.Gates.{FitsInto};
 
 use super::*;
 use std::sync::atomic::AtomicU32;
 use swim_history::RowState;
 use swim_life::{
-    Got, NoEntrance, NoOutlet, NoReporter, Nowhere, live_recorded, with_0_nobody_is_knocked_at,
+    NoEntrance, NoOutlet, NoReporter, Nowhere, live_recorded, with_0_nobody_is_knocked_at,
 };
 use swim_wire::Peer;
+use swim_work::Got;
 
 /// An ack of member 2 for member 1, number 2.
 const ACK_OF_A_KNOCK: [u8; 24] = [

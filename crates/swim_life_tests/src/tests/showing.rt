@@ -1,13 +1,14 @@
 //! Whom a line is shown, and when.
 
 ghost use Rattle.std.specs.Prelude.{None};
-ghost use Rattle.swim_life.specs.Gates.{FitsInto};
+ghost use Rattle.swim_work.specs.Gates.{FitsInto};
 
 use super::*;
 use std::sync::atomic::AtomicU32;
 use swim_doubles::Text;
-use swim_life::{Door, Got, Knock};
+use swim_life::{Door, Knock};
 use swim_text::Sink;
+use swim_work::Got;
 
 // Who was shown, by the last octets of the addresses: each is a bit.
 struct Shown {

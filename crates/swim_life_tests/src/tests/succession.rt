@@ -1,13 +1,14 @@
 //! A life that goes on from the one before, or doesn't.
 
 ghost use Rattle.std.specs.Prelude.{None};
-ghost use Rattle.swim_life.specs.Gates.{FitsInto};
+ghost use Rattle.swim_work.specs.Gates.{FitsInto};
 
 use super::reporters::Listener;
 use super::short_lives::{Lived, live_shortly};
 use super::*;
-use swim_life::{Got, NoEntrance, NoOutlet, NoReporter, NoShelf};
+use swim_life::{NoEntrance, NoOutlet, NoReporter, NoShelf};
 use swim_wire::Peer;
+use swim_work::Got;
 
 // A journal of two entries, and five ticks: the third meets the full journal of the first life, and is in no life. The
 // second life goes on from it, and is stopped.

@@ -1,10 +1,11 @@
 ghost use Rattle.std.specs.Prelude.{None};
-ghost use Rattle.swim_life.specs.Gates.{FitsInto};
+ghost use Rattle.swim_work.specs.Gates.{FitsInto};
 
 use super::*;
 use std::net::{Net, UdpSocket};
 use std::thread::join;
-use swim_life::{Beat, Got, Post, UdpLine};
+use swim_life::UdpLine;
+use swim_work::{Beat, Got, Post};
 
 // A socket of this machine that tells when the receiver asked again after a datagram.
 #[derive(Drop)]

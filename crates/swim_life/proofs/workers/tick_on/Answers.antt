@@ -1,5 +1,5 @@
-use Rattle.swim_life.specs.Turns.{TicksNext}
-use Rattle.swim_life.proofs.Turning.{last_turned}
+use Rattle.swim_work.specs.Turns.{TicksNext}
+use Rattle.swim_work.proofs.Turning.{last_turned}
 use Rattle.swim_life.proofs.workers.tick_on.Goals as goal
 
 pub returns-in-Some-tick_next-clause-ticked : goal.returns-in-Some-tick_next-clause-ticked

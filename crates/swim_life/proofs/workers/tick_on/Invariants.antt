@@ -1,5 +1,5 @@
 use Rattle.std.proofs.Common.{None}
-use Rattle.swim_life.specs.Turns.{HasWorked, TicksNext}
+use Rattle.swim_work.specs.Turns.{HasWorked, TicksNext}
 use Rattle.swim_life.proofs.workers.tick_on.Given as goal
 
 abbrev pub invariant-loop-turn : goal.invariant-loop-turn

@@ -1,15 +1,15 @@
 //! A line with a ping.
 
 ghost use Rattle.std.specs.Prelude.{◌≡◌, None};
-ghost use Rattle.swim_life.specs.Gates.{FitsInto};
+ghost use Rattle.swim_work.specs.Gates.{FitsInto};
 
 use super::signals::{Signals, TURNS, is_set, pause, set};
 use crate::tests::members::at;
 use std::rt::Clock;
 use std::sync::Wait;
 use std::sync::atomic::Ordering;
-use swim_life::{Got, Line};
 use swim_wire::Peer;
+use swim_work::{Got, Line};
 
 /// A ping of member 2 for member 1, number 5.
 pub const PING: [u8; 24] = [

@@ -6,7 +6,7 @@ use super::signals::{TURNS, is_set, pause};
 use std::rt::Clock;
 use std::sync::Wait;
 use std::sync::atomic::AtomicBool;
-use swim_life::{Beat, Pace};
+use swim_work::{Beat, Pace};
 
 /// A pace of so many ticks. After them it holds its stop back until the signal is set.
 #[derive(Drop)]

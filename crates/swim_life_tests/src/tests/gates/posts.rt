@@ -5,8 +5,8 @@ ghost use Rattle.std.specs.Prelude.{None};
 use super::signals::{Signals, set};
 use crate::tests::members::at;
 use std::sync::Wait;
-use swim_life::Post;
 use swim_wire::Peer;
+use swim_work::Post;
 
 /// The ack of the ping of `PING`.
 pub const ACK: [u8; 24] = [

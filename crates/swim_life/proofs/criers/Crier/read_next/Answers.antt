@@ -1,6 +1,6 @@
 use Rattle.std.proofs.Common.{◌≡◌, ◌++◌, ◌∷◌, [], ap, subst, sym, ◌∙◌}
 use Rattle.swim_node.specs.Cells.{Filing}
-use Rattle.swim_life.specs.Posts.{Grows}
+use Rattle.swim_work.specs.Posts.{Grows}
 use Rattle.swim_life.specs.Reports.{Called}
 use Rattle.swim_life.proofs.Crying.{next_told}
 use Rattle.swim_life.proofs.criers.Crier.read_next.Goals as goal

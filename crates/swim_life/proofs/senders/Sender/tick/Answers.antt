@@ -1,18 +1,17 @@
 use Rattle.std.proofs.Common.{◌≡◌, ◌+◌, rules, subst, box_value}
 use Rattle.std.specs.Int.{from_bool}
 use Rattle.swim_history.specs.Sends.{sends_of}
-use Rattle.swim_life.specs.Calling.{Ticks}
-use Rattle.swim_life.specs.Knocking.{starts_in}
-use Rattle.swim_life.specs.Posts.{AtSender}
-use Rattle.swim_life.proofs.Fullness.{finished_full}
-use Rattle.swim_life.proofs.Called.{ticked_so}
-use Rattle.swim_life.proofs.Rejoined.{started_so}
-use Rattle.swim_life.proofs.Sent.{finished_sent}
+use Rattle.swim_work.specs.Calling.{Ticks}
+use Rattle.swim_work.specs.Posts.{starts_in, AtSender}
+use Rattle.swim_work.proofs.Fullness.{finished_full}
+use Rattle.swim_work.proofs.Started.{started_so}
+use Rattle.swim_life.proofs.Boxed.{ticked_in_box}
+use Rattle.swim_life.proofs.Sent.{sent_in_box}
 use Rattle.swim_life.proofs.senders.Sender.tick.Goals as goal
 
 pub invariant_of-self : goal.invariant_of-self
 invariant_of-self g c =
-    finished_sent g.O.Post.posted g.N.Naming.opening c.opening-opening.result.now c.self.inside.held.seat
+    sent_in_box g.O.Post.posted g.N.Naming.opening c.opening-opening.result.now c.self.inside.held.seat
     c.tick-answer.new.seat c.tick-answer.result (box_value c.self.inside.post) c.deref_mut.result.now
     c.finish-end.new.post c.self.inside.counts c.finish-end.new.counts c.finish-end.result
     c.self.invariant (search rules) c.opening-opening.ensures (search rules) c.tick-answer.ensures.err
@@ -23,8 +22,8 @@ returns-clause-ticks g c =
     let new : AtSender g.row.O.Denot =
     record { seat = c.tick-answer.new.seat; post = c.finish-end.new.post; counts = c.finish-end.new.counts } in
     subst (λ old. Ticks g.N.Naming.opening g.N.Naming.limit old c.finish-end.result new) c.self.view_is
-    (ticked_so g.O.Post.posted (λ r. sends_of r.reply c.opening-opening.result.now) g.N.Naming.opening g.N.Naming.limit
-    c.self.inside.held.seat c.tick-answer.new.seat c.tick-answer.result (box_value c.self.inside.post)
+    (ticked_in_box g.O.Post.posted (λ r. sends_of r.reply c.opening-opening.result.now) g.N.Naming.opening
+    g.N.Naming.limit c.self.inside.held.seat c.tick-answer.new.seat c.tick-answer.result (box_value c.self.inside.post)
     c.deref_mut.result.now c.finish-end.new.post c.self.inside.counts c.finish-end.new.counts c.finish-end.result
     (search rules) c.tick-answer.ensures.ok c.tick-answer.ensures.err c.tick-answer.ensures.refuses
     c.finish-end.ensures)

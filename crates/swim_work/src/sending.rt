@@ -1,11 +1,11 @@
 //! What a worker does about the answer to a call of the node: it sends the datagrams of the reply.
 
 ghost use Rattle.swim_history.specs.Sends.{sends_of};
-ghost use Rattle.swim_life.specs.Finished.{IsFinished};
-ghost use Rattle.swim_life.specs.Posts.{ArePosted};
+ghost use Rattle.swim_work.specs.Finished.{IsFinished};
+ghost use Rattle.swim_work.specs.Posts.{ArePosted};
 
 use crate::counts::{Counts, Why};
-use crate::gates::Post;
+use crate::posts::Post;
 use std::sync::Wait;
 use swim_history::{Opening, sends};
 use swim_node::{CallFault, Naming, Receipt};
@@ -13,7 +13,7 @@ use swim_wire::{Message, Peer, encode};
 
 /// Sends the datagrams of a reply, after the lock was given back; or counts why there is no reply. Why the worker ends,
 /// if it does.
-pub(crate) fn finish<N: Naming, R: Wait, O: Post>(
+pub fn finish<N: Naming, R: Wait, O: Post>(
     rt: &R,
     post: &mut O,
     opening: &Opening,

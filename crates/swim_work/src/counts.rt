@@ -1,11 +1,10 @@
 //! What a worker counts, and why it ends.
 
 ghost use Rattle.std.specs.Prelude.{◌≡◌, IfSome};
-ghost use Rattle.swim_life.specs.Ends.{gravity, graver, why_text, together};
-ghost use Rattle.swim_life.specs.Faults.{one_fault_more, end_at};
+ghost use Rattle.swim_work.specs.Ends.{end_at, graver, gravity, one_fault_more, together, why_text};
 
 /// How many faults in a row a worker takes of its line or its door before it gives up.
-pub(crate) const MOST_FAULTS: u32 = 16;
+const MOST_FAULTS: u32 = 16;
 
 /// Why a life ended, the gravest reason first.
 #[derive(Clone, Copy, Debug, PartialEq, Eq)]
@@ -22,7 +21,7 @@ pub enum Why {
 
 impl Why {
     /// Of two reasons the graver.
-    pub(crate) fn or(self, other: Why) -> Why
+    pub fn or(self, other: Why) -> Why
         ensures { result ≡ graver self other }
     {
         if self.gravity() < other.gravity() {
@@ -58,17 +57,18 @@ impl Why {
 
 /// What happened to a worker beside its calls. Each count stops at 2^64-1.
 #[derive(Clone, Copy)]
-pub(crate) struct Counts {
+pub struct Counts {
     /// Datagrams that couldn't be sent.
-    pub(crate) unsent: u64,
+    pub unsent: u64,
     /// Datagrams that came and were none of this protocol.
-    pub(crate) wire: u64,
+    pub wire: u64,
     /// Calls that were refused for want of memory.
-    pub(crate) refused: u64,
+    pub refused: u64,
 }
 
 impl Counts {
-    pub(crate) fn none() -> Counts
+    /// Nothing was counted yet.
+    pub fn none() -> Counts
         ensures { result ≡ record { unsent = 0; wire = 0; refused = 0 } }
     {
         Counts {
@@ -79,7 +79,7 @@ impl Counts {
     }
 
     /// Both counts together.
-    pub(crate) fn and(self, other: Counts) -> Counts
+    pub fn and(self, other: Counts) -> Counts
         ensures { result ≡ together self other }
     {
         Counts {
@@ -92,26 +92,28 @@ impl Counts {
 
 /// How many faults in a row a worker's gate answered last. The count stops at 2^32-1.
 #[derive(Clone, Copy)]
-pub(crate) struct Faults {
-    in_a_row: u32,
+pub struct Faults {
+    /// So many stand in a row now.
+    pub in_a_row: u32,
 }
 
 impl Faults {
-    pub(crate) fn none() -> Faults
+    /// The gate answered no fault yet.
+    pub fn none() -> Faults
         ensures { result.in_a_row ≡ 0 }
     {
         Faults { in_a_row: 0 }
     }
 
     /// The gate answered something else.
-    pub(crate) fn clear(&mut self)
+    pub fn clear(&mut self)
         ensures { self.new.in_a_row ≡ 0 }
     {
         self.in_a_row = 0;
     }
 
     /// One more; why the worker ends, if that is one too many.
-    pub(crate) fn more(&mut self) -> Option<Why>
+    pub fn more(&mut self) -> Option<Why>
         ensures count { self.new.in_a_row ≡ one_fault_more self.old.in_a_row }
         ensures ends { result ≡ end_at self.new.in_a_row }
         ensures socket { IfSome result (λ why. why ≡ Why.Socket) }

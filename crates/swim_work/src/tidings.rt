@@ -1,7 +1,7 @@
 //! What the ticker leaves for the receiver: that it's time to look at the member table, and its knocks.
 
 ghost use Rattle.std.specs.Prelude.{◌≡◌, [], Some};
-ghost use Rattle.swim_life.specs.Noting.{noted};
+ghost use Rattle.swim_work.specs.Noting.{noted};
 
 use arrayvec::ArrayVec;
 use std::sync::atomic::{AtomicBool, Ordering};
@@ -13,18 +13,22 @@ use swim_wire::{Id, PeriodNumber};
 /// most.
 const MOST_NOTES: usize = 64;
 
-/// A knock: at whom, and with which number.
+/// A knock of which the receiver is told.
 #[derive(Clone, Copy, Default)]
-pub(crate) struct Note {
-    pub(crate) id: Id,
-    pub(crate) number: PeriodNumber,
+pub struct Note {
+    /// At whom.
+    pub id: Id,
+    /// With which number.
+    pub number: PeriodNumber,
 }
 
-/// The number of the period that runs, and the knocks that the receiver doesn't know of yet, oldest first.
+/// What the receiver doesn't know of yet.
 #[derive(Drop)]
-pub(crate) struct Tidings {
-    pub(crate) period: u64,
-    pub(crate) notes: ArrayVec<Note, MOST_NOTES>,
+pub struct Tidings {
+    /// The number of the period that runs.
+    pub period: u64,
+    /// The knocks, oldest first.
+    pub notes: ArrayVec<Note, MOST_NOTES>,
 }
 
 impl Tidings {
@@ -38,8 +42,8 @@ impl Tidings {
         }
     }
 
-    /// The period that runs, and a knock more, if there is one. Where too many wait, it is forgotten: then its ack isn't
-    /// believed.
+    /// The period that runs, and a knock more, if there is one. Where too many wait, it is forgotten: then its ack
+    /// isn't believed.
     fn add(&mut self, period: u64, knock: &Option<KnockPing>)
         ensures period { self.new.period ≡ period }
         ensures notes { self.new.notes.items ≡ noted self.old.notes.items knock.now }
@@ -69,14 +73,14 @@ impl Tidings {
 /// Where the ticker leaves tidings, and the receiver takes them. A flag says that it's time to look: before the first
 /// datagram, and after each tick.
 #[derive(Drop)]
-pub(crate) struct TidingsBoard {
+pub struct TidingsBoard {
     is_due: AtomicBool,
     tidings: Mutex<Tidings>,
 }
 
 impl TidingsBoard {
     /// It's time to look. The period with that number runs.
-    pub(crate) fn new(period: u64) -> TidingsBoard {
+    pub fn new(period: u64) -> TidingsBoard {
         TidingsBoard {
             is_due: AtomicBool::new(true),
             tidings: Mutex::new(Tidings::none(period)),
@@ -84,12 +88,12 @@ impl TidingsBoard {
     }
 
     /// From now on it's time to look.
-    pub(crate) fn make_due(&self) {
+    pub fn make_due(&self) {
         self.is_due.store(true, Ordering::SeqCst);
     }
 
     /// Whether it's time to look. The look has to follow: from now on it isn't, until the next tick.
-    pub(crate) fn take_due(&self) -> bool {
+    pub fn take_due(&self) -> bool {
         if self.is_due.load(Ordering::SeqCst) {
             // A tick that comes meanwhile is not lost.
             self.is_due.store(false, Ordering::SeqCst);
@@ -99,12 +103,12 @@ impl TidingsBoard {
     }
 
     /// Leaves word of the period that runs, and of the knock that is to be sent in it, if one is.
-    pub(crate) fn leave<R: Wait>(&self, rt: &R, period: u64, knock: &Option<KnockPing>) {
+    pub fn leave<R: Wait>(&self, rt: &R, period: u64, knock: &Option<KnockPing>) {
         self.tidings.lock(rt).add(period, knock);
     }
 
     /// Takes what was left.
-    pub(crate) fn take<R: Wait>(&self, rt: &R) -> Tidings {
+    pub fn take<R: Wait>(&self, rt: &R) -> Tidings {
         let mut tidings = self.tidings.lock(rt);
         let left = &mut *tidings;
         let period = left.period;

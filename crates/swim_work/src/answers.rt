@@ -1,14 +1,14 @@
 //! What the answer to a call of the node tells.
 
 ghost use Rattle.std.specs.Prelude.{◌≡◌};
-ghost use Rattle.swim_life.specs.Answers.{has_joined, has_started, message_in};
+ghost use Rattle.swim_work.specs.Answers.{has_joined, has_started, message_in};
 
 use swim_history::{Call, Reply};
 use swim_node::{CallFault, Naming, Receipt};
 use swim_wire::Message;
 
 /// The message that was heard, where the node answered.
-pub(crate) fn message_of<N: Naming>(answer: &Result<Receipt<N>, CallFault>) -> Option<Message>
+pub fn message_of<N: Naming>(answer: &Result<Receipt<N>, CallFault>) -> Option<Message>
     ensures { result ≡ message_in answer.now }
 {
     match answer {
@@ -21,7 +21,7 @@ pub(crate) fn message_of<N: Naming>(answer: &Result<Receipt<N>, CallFault>) -> O
 }
 
 /// Whether a period started.
-pub(crate) fn has_started<N: Naming>(answer: &Result<Receipt<N>, CallFault>) -> bool
+pub fn has_started<N: Naming>(answer: &Result<Receipt<N>, CallFault>) -> bool
     ensures { result ≡ has_started answer.now }
 {
     match answer {
@@ -31,7 +31,7 @@ pub(crate) fn has_started<N: Naming>(answer: &Result<Receipt<N>, CallFault>) -> 
 }
 
 /// Whether a member was joined.
-pub(crate) fn has_joined<N: Naming>(answer: &Result<Receipt<N>, CallFault>) -> bool
+pub fn has_joined<N: Naming>(answer: &Result<Receipt<N>, CallFault>) -> bool
     ensures { result ≡ has_joined answer.now }
 {
     match answer {

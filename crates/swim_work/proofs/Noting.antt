@@ -1,8 +1,8 @@
 -- A knock that is noted for the receiver, or isn't, for want of room.
 use Rattle.std.proofs.Common.{◌≡◌, Bool, true, false, cond, nat_eq, List, [], ◌∷◌, ◌++◌, length, Some, ap, sym, ◌∙◌}
 use Rattle.swim_rejoin.specs.declared.knockers.KnockPing.{KnockPing}
-use Rattle.swim_life.specs.Noting.{note_of, noted}
-use Rattle.swim_life.specs.declared.tidings.Note.{Note}
+use Rattle.swim_work.specs.Noting.{note_of, noted}
+use Rattle.swim_work.specs.declared.tidings.Note.{Note}
 
 abbrev choice : List Note → KnockPing → Bool → List Note
 choice notes knock is_full = cond is_full notes (notes ++ note_of knock ∷ [])

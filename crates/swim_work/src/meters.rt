@@ -32,7 +32,7 @@ impl Metered {
 }
 
 /// What a worker counted until now. The worker alone changes it.
-pub(crate) struct Meter {
+pub struct Meter {
     calls: AtomicU64,
     unsent: AtomicU64,
     wire: AtomicU64,
@@ -66,7 +66,7 @@ impl Meter {
     }
 
     /// Shows how many calls the worker made, and what it counted beside them.
-    pub(crate) fn show(&self, calls: usize, counts: Counts) {
+    pub fn show(&self, calls: usize, counts: Counts) {
         show(&self.calls, calls as u64);
         show(&self.unsent, counts.unsent);
         show(&self.wire, counts.wire);
@@ -74,7 +74,7 @@ impl Meter {
     }
 
     /// Shows how often the worker knocked.
-    pub(crate) fn show_knocks(&self, knocks: u64) {
+    pub fn show_knocks(&self, knocks: u64) {
         show(&self.knocks, knocks);
     }
 
@@ -96,29 +96,32 @@ fn show(shown: &AtomicU64, count: u64) {
     }
 }
 
-/// The meters of the three workers that call the node.
+/// The meters of the three workers that call the node, each by the number of its seat.
 #[derive(Drop)]
-pub(crate) struct Meters {
-    pub(crate) hearing: Meter,
-    pub(crate) ticking: Meter,
-    pub(crate) controlling: Meter,
+pub struct Meters {
+    /// Who calls with the first seat.
+    pub first: Meter,
+    /// Who calls with the second.
+    pub second: Meter,
+    /// Who calls with the third.
+    pub third: Meter,
 }
 
 impl Meters {
     /// Nothing was counted yet.
-    pub(crate) fn new() -> Meters {
+    pub fn new() -> Meters {
         Meters {
-            hearing: Meter::new(),
-            ticking: Meter::new(),
-            controlling: Meter::new(),
+            first: Meter::new(),
+            second: Meter::new(),
+            third: Meter::new(),
         }
     }
 
     /// What all of them counted until now.
-    pub(crate) fn read(&self) -> Metered {
-        self.hearing
+    pub fn read(&self) -> Metered {
+        self.first
             .read()
-            .and(self.ticking.read())
-            .and(self.controlling.read())
+            .and(self.second.read())
+            .and(self.third.read())
     }
 }

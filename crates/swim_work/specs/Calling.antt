@@ -1,21 +1,23 @@
 -- What becomes of a call that a worker makes of the node.
-use Rattle.std.specs.Prelude.{◌≡◌, ◌⊎◌, ℕ, List, Option, Some, None}
+use Rattle.std.specs.Prelude.{◌≡◌, ◌⊎◌, ℕ, Bool, false, List, Option, Some, None}
 use Rattle.swim_wire.specs.Address.{Address}
 use Rattle.swim_wire.specs.Messages.{Message}
 use Rattle.swim_wire.specs.Layout.{IsTextOf}
 use Rattle.swim_history.specs.declared.calls.Call.{Call}
-use Rattle.swim_history.specs.declared.calls.Call.TheVariants.{Hear, Tick}
+use Rattle.swim_history.specs.declared.calls.Call.TheVariants.{Hear, Join, Tick}
 use Rattle.swim_history.specs.declared.rows.Change.{Change}
+use Rattle.swim_history.specs.declared.rows.Row.{Row}
 use Rattle.swim_history.specs.declared.seats.Kept.{Kept}
 use Rattle.swim_history.specs.Setting.{Setting}
 use Rattle.swim_node.specs.declared.receipts.CallFault.{CallFault}
 use Rattle.swim_node.specs.declared.receipts.CallFault.TheVariants as faults
 use Rattle.swim_node.specs.Answered.{IsAnswered, MayRefuse, MayRefuseBytes, refused}
-use Rattle.swim_life.specs.declared.counts.Counts.{Counts}
-use Rattle.swim_life.specs.declared.counts.Why.{Why}
-use Rattle.swim_life.specs.declared.counts.Why.TheVariants.{JournalFull}
-use Rattle.swim_life.specs.Ends.{both}
-use Rattle.swim_life.specs.Posts.{AtSender}
+use Rattle.swim_work.specs.declared.counts.Counts.{Counts}
+use Rattle.swim_work.specs.declared.counts.Why.{Why}
+use Rattle.swim_work.specs.declared.counts.Why.TheVariants.{JournalFull}
+use Rattle.swim_work.specs.Answers.{is_joining}
+use Rattle.swim_work.specs.Ends.{both}
+use Rattle.swim_work.specs.Posts.{AtSender}
 
 -- the node answered: the call is the next one of the seat, nothing was counted but what couldn't be sent, and the
 -- worker goes
@@ -62,3 +64,15 @@ Hears o limit bytes source old end new =
 -- one tick of time passed
 abbrev pub Ticks : {O : Type 0} → Setting → ℕ → AtSender O → Option Why → AtSender O → Type 0
 Ticks o limit old end new = Calls o (λ call. call ≡ Tick) (MayRefuse o limit old.seat) old end new
+
+-- the message of the datagram from there, where the node answered the call for it; there is none where it refused
+abbrev pub IsMessage : {O : Type 0} → Setting → List ℕ → Address → AtSender O → Option Why → AtSender O →
+    Option Message → Type 0
+IsMessage o bytes source old end new None = new.seat.calls ≡ old.seat.calls
+IsMessage o bytes source old end new (Some m) = IsTextOf bytes m × IsMade o (Hear source m) old end new
+
+-- the node is told to list that member at its row's address. It was joined where the reply says so, and only there
+abbrev pub Joins : {O : Type 0} → Setting → ℕ → Row → AtSender O → Option Why → AtSender O → Bool → Type 0
+Joins o limit row old end new is_joined =
+    ((made : IsMade o (Join row.id row.peer) old end new) × (is_joined ≡ is_joining made.kept.reply))
+    ⊎ ((fault : CallFault) × MayRefuse o limit old.seat fault × IsRefused fault old end new × (is_joined ≡ false))

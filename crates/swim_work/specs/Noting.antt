@@ -1,7 +1,7 @@
 -- What the ticker leaves for the receiver.
 use Rattle.std.specs.Prelude.{ℕ, ◌==◌, List, [], ◌∷◌, ◌++◌, length, Option, Some, None, if◌then◌else◌}
 use Rattle.swim_rejoin.specs.declared.knockers.KnockPing.{KnockPing}
-use Rattle.swim_life.specs.declared.tidings.Note.{Note}
+use Rattle.swim_work.specs.declared.tidings.Note.{Note}
 
 -- at whom a knock is, and its number
 abbrev pub note_of : KnockPing → Note
