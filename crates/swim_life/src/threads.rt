@@ -2,7 +2,7 @@
 //! them.
 
 ghost use denote.Param.Send.{IsSend, IsSync};
-ghost use Rattle.std.specs.Prelude.{◌≡◌, ◌||◌};
+ghost use Rattle.std.specs.Prelude.{◌≡◌, ◌||◌, IfErr};
 ghost use Rattle.swim_work.specs.Ends.{both};
 
 use crate::controlling::control;
@@ -19,16 +19,20 @@ use crate::reporters::{Reporter, Speaker};
 use crate::senders::Sender;
 use crate::tickers::Ticker;
 use crate::workers::{receive, tick};
+use core::thread::{Anything, Stack};
 use std::alloc::Global;
 use std::sync::Wait;
 use std::sync::atomic::{AtomicBool, Ordering};
 use std::thread;
-use std::thread::Threads;
+use std::thread::{JoinHandle, Scope, SpawnError, Threads};
 use swim_events::{Entrance, Outlet};
 use swim_node::{Naming, Node, Viewer};
 use swim_targets::{Chooser, Seeded};
 use swim_text::Sink;
 use swim_work::{Counts, Line, Meter, Meters, Pace, Post, TidingsBoard};
+
+/// How many bytes the stack of a worker's thread has: more than its deepest calls take.
+const STACK_BYTES: usize = 524_288;
 
 /// What the receiver takes into its thread.
 #[derive(Drop)]
@@ -335,11 +339,11 @@ fn run_at_once<
         move |scope| -> (S, T, U, V, bool)
             requires { A.pre hear × B.pre tick × C.pre control × D.pre write }
         {
-            let first = scope.spawn(hear);
+            let first = begin(scope, hear);
             end_others(over, first.is_err());
-            let second = scope.spawn(tick);
+            let second = begin(scope, tick);
             end_others(over, second.is_err());
-            let fourth = scope.spawn(write);
+            let fourth = begin(scope, write);
             let all_began = first.is_ok() && second.is_ok();
             let third = control();
             let first = match first {
@@ -357,4 +361,22 @@ fn run_at_once<
             (first, second, third, fourth, all_began)
         },
     )
+}
+
+/// Begins a job in a thread of this scope, with a stack of its own size: that which the limit of stacks gives a thread
+/// may be too small for it. Where no such thread is to be had the job is handed back.
+fn begin<'s, E, F: FnOnce() -> T + Send + 's, T: Send + Drop + 's>(
+    scope: &Scope<'s, E>,
+    job: F,
+) -> Result<JoinHandle<T>, SpawnError<F>>
+    requires { F.pre job }
+    ensures { IfErr result (λ refused. refused.value ≡ job) }
+{
+    match Stack::new()
+        .stack_size(STACK_BYTES)
+        .spawn_scoped_with(scope, Anything, job)
+    {
+        Ok(handle) => Ok(handle.forget_promise()),
+        Err(refused) => Err(refused),
+    }
 }
