@@ -16,7 +16,8 @@ CHANGES += rb"|joined \d+ again, after \d+ periods|\d+ changes more, too many at
 FILES = rb"(?:journal|metrics) [^\n]*: [^\n]*"
 TURNED_AWAY = rb"connections are turned away, as too few descriptors are left, refused \d+"
 STARTS = rb"swimd [\d.]+ listens [^\n]*|life \d+ begins|removed [^\n]*"
-NOTICES = b"|".join([STARTS, CHANGES, FILES, THROWN_AWAY, TURNED_AWAY])
+FEWER = rb"told \d+ lines fewer on standard output"
+NOTICES = b"|".join([STARTS, CHANGES, FILES, THROWN_AWAY, TURNED_AWAY, FEWER])
 NOTICE = re.compile(rb"warning: [^\n]*\n|" + TIME + rb" (?:" + NOTICES + rb")\n")
 
 

@@ -1,6 +1,7 @@
 """`swimd ask`: a line made of words, its statuses, and that nothing it meets makes it hang; help and the version."""
 
 import os
+import re
 import signal
 import socket
 import subprocess
@@ -12,6 +13,8 @@ from tests.swimd.daemon_lines import LISTED, quiet
 
 # How long a limit of one second may take on a machine that has much to do.
 SOON = 5.0
+# So many daemons are stopped, by one who asks, by two, and so on.
+STOPS = 6
 FULL = "/dev/full"
 
 
@@ -29,6 +32,16 @@ def asked(daemon, *words, **streams):
 
 def must_be(found, wanted, what):
     must(found == wanted, f"{what}: {found!r}, and not {wanted!r}")
+
+
+def must_be_refused(found, what):
+    """Such words ask nothing; below `usage` stand only lines that begin with two spaces, the last of them a line that
+    works."""
+    out, err, status = found
+    first, *below = err.decode().split("\n")
+    must((out, first, status) == (b"", "usage", 2), f"{what}: {found!r}")
+    must(below.pop() == "" and below and all(re.fullmatch("  [ -~]+", it) for it in below), f"{what}: {found!r}")
+    must(below[-1].startswith("  a line that works: swimd "), f"{what}: {found!r}")
 
 
 def a_line_of_words(machine):
@@ -59,8 +72,8 @@ def no_second_line(machine):
     wrong += [["--timeout", it, "stop"] for it in ("-1", "1.5", "+1", "01", "", "x", "1s", "99999999999999999999")]
     wrong += [["--timeout"], ["--quiet", "stop"], ["--control", daemon.control, "stop"], ["-stop"]]
     for words in wrong:
-        must_be(asked(daemon, *words), (b"", b"usage\n", 2), f"{words}")
-    must_be(ran(daemon.program, "ask", "stop"), (b"", b"usage\n", 2), "no path")
+        must_be_refused(asked(daemon, *words), words)
+    must_be_refused(ran(daemon.program, "ask", "stop"), "no path")
     must(daemon.stop().status == 0, "it ended otherwise")
 
 
@@ -244,6 +257,88 @@ def answers_that_do_not_come(machine):
     must(seconds < SOON, f"a limit of a second lasts {seconds:.1f}")
 
 
+def one_limit_for_both(machine):
+    """A queue that is full for two of three seconds, and then nobody who answers: three seconds are waited, not
+    five."""
+    path = f"{machine.folder}/late.sock"
+    with socket.socket(socket.AF_UNIX) as full:
+        full.bind(path)
+        full.listen(0)
+        waiting = []
+        try:
+            while True:
+                it = socket.socket(socket.AF_UNIX)
+                it.setblocking(False)
+                waiting.append(it)
+                it.connect(path)
+        except BlockingIOError:
+            pass
+        took = []
+        taking = threading.Timer(2.0, lambda: took.extend(full.accept() for _ in waiting))
+        taking.start()
+        try:
+            began = time.monotonic()
+            found = ran(machine.program, "ask", "--control", path, "--timeout", "3", "list")
+            seconds = time.monotonic() - began
+        finally:
+            taking.join(SECONDS)
+        must_be(found, (b"", b"ask timeout\n", 5), "a socket whose queue is full for two seconds")
+        must(2.9 < seconds < 4.5, f"a limit of three seconds lasts {seconds:.1f}")
+        for it in [*waiting, *(it for it, _ in took)]:
+            it.close()
+
+
+def stops_that_are_not_answered(machine):
+    """Nobody ends well who isn't told that the daemon stops, or met its end."""
+
+    def answering(text):
+        def serve(server, connection):
+            while server.take(connection):
+                connection.sendall(text)
+
+        return serve
+
+    for text in (b"x\n", b"gap none\n", b"stopped\n", b"2 10.0.0.2:7000 up\n.\n"):
+        found, lines, _ = against(machine, "answering", answering(text), "stop")
+        must_be((found, lines), ((b"", b"ask unanswered\n", 5), [b"stop\n"]), f"a `stop` answered {text!r}")
+        os.remove(f"{machine.folder}/answering.sock")
+    for text in (b"fault 2\n", b"refused 9\n"):
+        found, lines, _ = against(machine, "answering", answering(text), "stop")
+        must_be((found, lines), ((text, b"", 3), [b"stop\n"]), f"a `stop` answered {text!r}")
+        os.remove(f"{machine.folder}/answering.sock")
+
+    def hanging_up(server, connection):
+        server.take(connection)
+
+    found, lines, seconds = against(machine, "hanging_up", hanging_up, "--timeout", "1", "stop")
+    must_be((found, lines[0]), ((b"", b"ask unanswered\n", 5), b"stop\n"), "a `stop` behind which another listens")
+    must(seconds < SOON, f"a limit of a second lasts {seconds:.1f}")
+
+    def ending(server, connection):
+        server.take(connection)
+        os.remove(f"{machine.folder}/ending.sock")
+
+    found, lines, _ = against(machine, "ending", ending, "stop")
+    must_be((found, lines), ((b"stopping\n", b"", 0), [b"stop\n"]), "a `stop` behind which nobody listens")
+
+
+def many_stops_at_once(machine):
+    """However many ask at once: each that met the daemon ends well, and says that it stops."""
+    for turn in range(STOPS):
+        daemon = quiet(machine)
+        daemon.child.send_signal(signal.SIGSTOP)
+        words = [daemon.program, "ask", "--control", daemon.control, "stop"]
+        pipes = {"stdin": subprocess.DEVNULL, "stdout": subprocess.PIPE, "stderr": subprocess.PIPE}
+        asking = [subprocess.Popen(words, **pipes) for _ in range(1 + turn)]
+        # All of them have connected by then, and sent their line.
+        time.sleep(0.3)
+        daemon.child.send_signal(signal.SIGCONT)
+        for it in asking:
+            out, err = it.communicate(timeout=SECONDS)
+            must_be((out, err, it.returncode), (b"stopping\n", b"", 0), f"one of {len(asking)} that ask to stop")
+        must(daemon.ended().why == "stopped", "it ended otherwise")
+
+
 def a_daemon_that_stands_still(machine):
     """Five seconds are waited where no word says how long; as many clients as the queue takes hold nobody up either."""
     daemon = quiet(machine)
@@ -337,7 +432,7 @@ def help_and_version(machine):
         ["-x"],
         ["no", "--helpx"],
     ):
-        must_be(ran(program, *words), (b"", b"usage\n", 2), f"{words}")
+        must_be_refused(ran(program, *words), words)
 
 
 ASKING = [
@@ -350,6 +445,9 @@ ASKING = [
     nobody_there,
     servers_that_answer_badly,
     answers_that_do_not_come,
+    one_limit_for_both,
+    stops_that_are_not_answered,
+    many_stops_at_once,
     a_daemon_that_stands_still,
     answers_that_cannot_be_written,
     one_who_thinks_for_long,

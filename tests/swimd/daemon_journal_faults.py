@@ -37,21 +37,20 @@ def names_of(id, life, folder):
 
 
 def with_something_there(machine, id, make):
-    """A daemon at the name of whose first file something lies, through two lives."""
+    """A daemon at the name of whose first file something lies, through two lives: the next second names its files."""
     paths = names_of(id, 0, machine.journals)
+    free = int(paths[-1].split("-")[-2]) + 1
     for it in paths:
         make(it)
     daemon, peer = machine.daemon(id, members=ROWS, tick_ms=MINUTE, journal=3), machine.socket()
-    daemon.may_be_cut = True
     daemon.start()
     filled(daemon, peer, 1)
     pinged(peer, daemon, 10_000)
     closing = daemon.stop()
     must(closing.status == 0, f"it ended {closing}")
-    said, files = told_faults(daemon), [it for it in journals(machine.journals, id) if it.life]
-    must(len(said) == 1 and said[0][0] in paths, f"it tells {said}")
-    must(said[0][1] == "it exists already" and daemon.cut == [0],
-         f"it tells {said}, and the lives {daemon.cut} are cut")
+    files = [it for it in journals(machine.journals, id) if it.path not in paths]
+    must([(it.seconds, it.life) for it in files] == [(free, 0), (free, 1)], f"its files are {files}, and not of {free}")
+    must(told_faults(daemon) == [] and daemon.cut == [], f"it tells {told_faults(daemon)}, {daemon.cut}")
     must_be_told(daemon, closing, files)
     for it in files:
         must_play(machine.simulator, it.text, it.path)
@@ -289,28 +288,31 @@ def two_in_one_folder(machine):
 
 
 def twice_in_one_second(machine):
-    """Two daemons of one id that start in one second: of their first files one is made, and the other daemon goes on
-    without."""
+    """Two daemons of one id that start in one second: each has a file, whose second is that of the start, or the
+    next."""
     for _ in range(TRIES):
         time.sleep(1.02 - time.time() % 1)
+        second = int(time.time())
         both = [machine.daemon(1, control=f"{machine.folder}/{it}.sock", tick_ms=MINUTE, journal=3) for it in "ab"]
         for it, name in zip(both, "ab"):
-            it.control, it.file, it.may_be_cut = f"{machine.folder}/{name}.sock", f"{machine.folder}/{name}.toml", True
+            it.control, it.file = f"{machine.folder}/{name}.sock", f"{machine.folder}/{name}.toml"
             it.write()
             it.launch()
         for it in both:
-            pinged(machine.socket(), it.ready(), 1)
+            it.ready()
+        is_one = int(time.time()) == second
+        for it in both:
+            pinged(machine.socket(), it, 1)
         ended = [(it.stop(), it.cut, told_faults(it)) for it in both]
         files = journals(machine.journals)
-        if len(files) == 1:
+        if is_one:
             break
         for it in files:
             os.remove(it.path)
-    must(len(files) == 1, "they never start in one second")
-    must(sorted(it[1] for it in ended) == [[], [0]], f"their lives are cut so: {ended}")
-    must([it[2] for it in ended if it[1]] == [[(files[0].path, "it exists already")]], f"they tell {ended}")
-    must(all(it[0] == (0, "stopped", 1, 0, 0, 0, 0) for it in ended) and len(told(files[0].text)) == 1,
-         f"they ended {ended}")
+    must(is_one, "they never start in one second")
+    must([(it.seconds, it.life) for it in files] == [(second, 0), (second + 1, 0)], f"their files are {files}")
+    must(all(it == ((0, "stopped", 1, 0, 0, 0, 0), [], []) for it in ended), f"they ended {ended}")
+    must([len(told(it.text)) for it in files] == [1, 1], "a file has another life's calls")
 
 
 JOURNAL_FAULTS = [

@@ -356,6 +356,8 @@ def a_key_is_made(machine):
         keys.append(ran.stdout.decode().strip())
     alike = [place for place in range(0, 64, 2) if len({key[place : place + 2] for key in keys}) == 1]
     must(len({*keys}) == MADE and not alike, f"a key comes twice, or bytes are the same in all: {keys}")
+    again = [key for key in keys if len({key[place : place + 8] for place in range(0, 64, 8)}) < 8]
+    must(not again, f"four bytes stand in a key twice: {again}")
     must(machine.started(1, keys=keys[:4], tick_ms=MINUTE).stop().status == 0, "a daemon doesn't take them")
     with open("/dev/full", "wb") as full:
         ran = subprocess.run([machine.program, "key"], stdout=full, **ask)

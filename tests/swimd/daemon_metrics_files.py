@@ -13,6 +13,9 @@ from tests.swimd.daemon_starting import must_say, refusal, told_lines
 
 # The file has more.
 FEW_BYTES = 4_096
+# How it begins, and what is told of something else at its path.
+BEGINNING = "# HELP swimd_"
+KEPT = "what lies there is no metrics file; it is kept"
 
 
 def a_folder_that_is_gone(machine):
@@ -67,12 +70,59 @@ def a_file(path, text="kept"):
 
 
 def a_file_that_was_left(machine):
-    """Where the new one is made. Nothing shows of it."""
-    a_file(f"{machine.folder}/1.prom.new", "left\n" * FEW_BYTES)
-    daemon, path = counted(machine, tick_ms=MINUTE)
-    written(path)
-    must(stat.S_IMODE(os.lstat(path).st_mode) == 0o644, f"{os.lstat(path)}")
-    must(daemon.stop().status == 0 and not os.path.lexists(f"{path}.new"), "it is left again")
+    """Where the new one is made: a whole one, a front of one, or one in which nothing stands. Nothing shows of it."""
+    for id, text in enumerate((f"{BEGINNING}up One\n" * FEW_BYTES, BEGINNING, BEGINNING[:5], ""), 1):
+        a_file(f"{machine.folder}/{id}.prom.new", text)
+        daemon, path = counted(machine, id, tick_ms=MINUTE)
+        written(path)
+        must(stat.S_IMODE(os.lstat(path).st_mode) == 0o644, f"{os.lstat(path)}")
+        must(daemon.stop().status == 0 and not os.path.lexists(f"{path}.new"), "it is left again")
+
+
+def files_of_others(machine):
+    """Where the new one is made, and at the path itself: they stay as they are, the configuration too."""
+    for id, text in enumerate(("kept", "# HELP swims", "# HELP node_load1 x\n", "\n" + BEGINNING), 1):
+        path = f"{machine.folder}/{id}.prom"
+        a_file(f"{path}.new", text)
+        must_be_unwritten(machine.started(id, tick_ms=MINUTE, metrics=path), path, "it exists already")
+        must(file_of(f"{path}.new") == text, f"{path}.new has changed")
+        os.rename(f"{path}.new", path)
+        must_be_kept(machine.started(id, tick_ms=MINUTE, metrics=path), path)
+        must(file_of(path) == text, f"{path} has changed")
+    for more, path_of in ((0, lambda it: f"{machine.folder}/./{it.id}.toml"), (1, lambda it: it.file[:-len(".new")])):
+        daemon = machine.daemon(7 + more, tick_ms=MINUTE)
+        daemon.file += ".new" * more
+        daemon.values["metrics"] = path_of(daemon)
+        daemon.write()
+        before = file_of(daemon.file)
+        daemon.start()
+        until(lambda: b"metrics " in daemon.told_so_far(), "it is told", AT_ONCE)
+        must(daemon.stop().status == 0 and file_of(daemon.file) == before, "the configuration has changed")
+
+
+def must_be_kept(daemon, path):
+    """Until its end it says once that what lies there is kept, and goes on."""
+    until(lambda: b"metrics " in daemon.told_so_far(), "it is told", AT_ONCE)
+    must(daemon.stop().status == 0, "it ended otherwise")
+    told = [it for it in told_lines(daemon, daemon.told) if it.startswith("metrics ")]
+    must(told == [f"metrics {path}: {KEPT}"], f"it tells {told}")
+
+
+def a_socket_by_another_name(machine):
+    """The path of a socket in another spelling, or by a link to its folder: the socket stays, and is served."""
+    os.symlink(machine.folder, f"{machine.folder}/here")
+    for id, other in enumerate(("control", "events"), 1):
+        for more, spelt in enumerate(("./", "here/", "../" + os.path.basename(machine.folder) + "/", "/")):
+            daemon = machine.daemon(10 * id + more, tick_ms=MINUTE)
+            daemon.values["events"] = f"{machine.folder}/{daemon.id}.events"
+            path = f"{machine.folder}/{spelt}{os.path.basename(daemon.values[other])}"
+            daemon.values["metrics"] = path
+            daemon.write()
+            daemon.start()
+            until(lambda: b"metrics " in daemon.told_so_far(), "it is told", AT_ONCE)
+            must(stat.S_ISSOCK(os.lstat(path).st_mode), f"{path} is no socket any more")
+            must(daemon.states() == {}, "it isn't served")
+            must_be_kept(daemon, path)
 
 
 def what_is_no_file_is_in_its_way(machine):
@@ -100,9 +150,8 @@ def what_is_no_file_is_in_its_way(machine):
 def a_path_that_is_a_folder(machine):
     path = f"{machine.folder}/1.prom"
     os.mkdir(path)
-    daemon = machine.started(tick_ms=MINUTE, metrics=path)
-    until(lambda: b"metrics " in daemon.told_so_far(), "it is told", AT_ONCE)
-    must(daemon.stop().status == 0 and os.path.isdir(path), "it ended otherwise")
+    must_be_kept(machine.started(tick_ms=MINUTE, metrics=path), path)
+    must(os.path.isdir(path), "the folder is gone")
 
 
 def a_path_of_a_socket(machine):
@@ -119,6 +168,8 @@ METRICS_FILES = [
     a_disk_that_is_full,
     a_file_that_may_not_be_so_large,
     a_file_that_was_left,
+    files_of_others,
+    a_socket_by_another_name,
     what_is_no_file_is_in_its_way,
     a_path_that_is_a_folder,
     a_path_of_a_socket,

@@ -8,6 +8,7 @@ import subprocess
 import time
 
 from tests.support.daemons import SECONDS, lying_in, must, until
+from tests.support.sayings import first_line_of
 from tests.swimd.daemon_watchers import MINUTE, watched
 
 # A daemon that is back is found within so many seconds.
@@ -154,7 +155,7 @@ def watch_ends(machine):
     )
     for words in ([], ["--events"], [path], ["--events", path, "more"], ["--events", path, "--quiet"], ["--json"]):
         ran = run(*words)
-        must((ran.returncode, ran.stdout, ran.stderr) == (2, b"", USAGE), f"with {words} it is {ran!r}")
+        must((ran.returncode, ran.stdout, first_line_of(ran.stderr)) == (2, b"", USAGE), f"with {words} it is {ran!r}")
     daemon, path = watched(machine, tick_ms=MINUTE)
     watch = Watch(machine, path)
     watch.must_write(".")

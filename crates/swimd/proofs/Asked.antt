@@ -87,7 +87,7 @@ pub one_more_asked : (o : Asker) (l1 l2 w1 w2 : Option (List ℕ)) (a1 a2 : Opti
     Passes line (Ok tt) answer w1 w2 a1 a2 → more ≡ (refused || is_refusal answer) →
     OneMore o (record { left = l2; written = w2; asked = a2 }) more answer
 one_more_asked o l1 l2 w1 w2 a1 a2 line answer refused more going (input, taken, sent_is) (whole, wrote, asked) e =
-    let last : Exchange = record { line = input; answer = answer; whole = whole } in
+    let last : Exchange = record { line = input; answer = answer; whole = rw (← sent_is) whole } in
     record {
       before = going.exchanges;
       last = last;
@@ -171,7 +171,7 @@ ends_broken o l1 l2 w1 w2 a1 a2 line answer refused AskUnwritten going (input, t
       mid = record { left = l1; written = w1; asked = a1 };
       asked = going.asked;
       last = record {
-        exchange = record { line = input; answer = answer; whole = whole };
+        exchange = record { line = input; answer = answer; whole = rw (← sent_is) whole };
         taken = taken;
         asked = rw (← sent_is) asked;
         wrote = wrote;

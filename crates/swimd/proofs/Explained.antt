@@ -1,5 +1,5 @@
 -- What is left to stand below the line of an outcome.
-use Rattle.std.proofs.Common.{◌≡◌, ℕ, List, [], Option, Some, None, refl, subst, inl}
+use Rattle.std.proofs.Common.{◌≡◌, ℕ, List, [], Option, Some, None, refl, sym, subst, ◌∙◌, inl, inr}
 use Rattle.swim_config.specs.declared.config.Config.{Config}
 use Rattle.swim_config.specs.declared.config_fault.ConfigFault.{ConfigFault}
 use Rattle.swim_life.specs.Endings.{Written}
@@ -59,11 +59,17 @@ pub helped_explains : (text : List ℕ) (old new : Option (List ℕ)) (outcome :
 helped_explains text old new outcome details helps =
     explains_if outcome details (λ fault is. absurd (subst (Helps text old new) is helps))
 
+refused_random : (fault : ConfigFault) → NoRandom ≡ Refused fault → ⊥
+refused_random fault e = absurd cc
+
 -- a key was made
 pub made_explains : (old new : Option (List ℕ)) (outcome : Outcome) (details : List ℕ) →
     MakesKey old new outcome → Explains outcome details
 made_explains old new outcome details makes =
-    explains_if outcome details (λ fault is. absurd (subst (MakesKey old new) is makes).2)
+    explains_if outcome details (λ fault is. elim makes [
+      | inl none ↦ absurd (refused_random fault (sym none.0 ∙ is))
+      | inr made ↦ absurd (subst (Helps made.0 old new) is made.2)
+    ])
 
 -- a daemon was asked
 asks_explains : (left_old left_new old new : Option (List ℕ)) (outcome : Outcome) (details : List ℕ) →

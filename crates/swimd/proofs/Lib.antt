@@ -6,5 +6,8 @@ pub mod Done
 pub mod Explained
 pub mod Given
 pub mod Indented
+pub mod Keys
 pub mod Lines
 pub mod Noticed
+pub mod Shown
+pub mod Taken

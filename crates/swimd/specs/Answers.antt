@@ -1,5 +1,5 @@
 -- What a daemon answers to a control line, as far as whoever asks has to know.
-use Rattle.std.specs.Prelude.{◌==◌, ◌&&◌, ◌||◌, ℕ, Bool, true, false, List, [], ◌∷◌, codes, if◌then◌else◌, nat_le}
+use Rattle.std.specs.Prelude.{◌==◌, ◌&&◌, ◌||◌, not, ℕ, Bool, true, false, List, [], ◌∷◌, codes, if◌then◌else◌, nat_le}
 use Rattle.std.specs.List.{starts_with}
 use Rattle.std.specs.Str.{bytes_eq}
 use Rattle.swim_text.specs.Words.{words_by}
@@ -37,3 +37,11 @@ is_refusal answer =
 -- the answer says that the daemon stops
 abbrev pub is_stopping : List ℕ → Bool
 is_stopping answer = bytes_eq answer (codes "stopping\n")
+
+-- the line asks a daemon to stop
+abbrev pub is_stop : List ℕ → Bool
+is_stop line = bytes_eq line (codes "stop\n")
+
+-- the text is a whole answer to this line: to `stop` a daemon says that it stops, or that it doesn't
+abbrev pub is_answer_to : List ℕ → List ℕ → Bool
+is_answer_to line answer = is_answer answer && (not (is_stop line) || is_stopping answer || is_refusal answer)

@@ -13,7 +13,7 @@ use Rattle.swimd.specs.declared.control_lines.NextLine.TheVariants.{Line, Over, 
 use Rattle.swimd.specs.declared.outcomes.Outcome.{Outcome}
 use Rattle.swimd.specs.declared.outcomes.Outcome.TheVariants.{Asked, AskRefused, AskTimeout, Unanswered, AskUnwritten}
 use Rattle.swimd.specs.declared.outcomes.Outcome.TheVariants.{AskUnread, NoDaemon}
-use Rattle.swimd.specs.Answers.{is_answer, is_refusal, is_stopping}
+use Rattle.swimd.specs.Answers.{is_answer_to, is_refusal, is_stopping}
 
 -- ---- lines
 
@@ -74,11 +74,11 @@ Grows None new more = Unit {0}
 Grows (Some old) None more = ⊥
 Grows (Some old) (Some new) more = new ≡ old ++ more
 
--- a line and its answer, which is whole
+-- a line and its answer, which is whole and one to that line
 pub record Exchange : Type 0 where
   pub line : InputLine
   pub answer : List ℕ
-  pub whole : is_answer answer ≡ true
+  pub whole : is_answer_to (sent_of line) answer ≡ true
 
 abbrev pub sent : Exchange → Sent
 sent e = record { line = sent_of e.line; came = came.Answer; answer = e.answer }
@@ -174,14 +174,14 @@ Asks left_old left_new old new outcome =
 abbrev pub Passes : List ℕ → Result (Unit {0}) Outcome → List ℕ → Option (List ℕ) → Option (List ℕ)
     → Option (List Sent) → Option (List Sent) → Type 0
 Passes line (Ok done) answer old new asked_old asked_new =
-    (is_answer answer ≡ true) × Appends old new answer
+    (is_answer_to line answer ≡ true) × Appends old new answer
     × Grows asked_old asked_new (record { line = line; came = came.Answer; answer = answer } ∷ [])
 Passes line (Err AskTimeout) answer old new asked_old asked_new =
     Keeps old new × Grows asked_old asked_new (record { line = line; came = came.Late; answer = answer } ∷ [])
 Passes line (Err Unanswered) answer old new asked_old asked_new =
     Keeps old new × Grows asked_old asked_new (record { line = line; came = came.Nothing; answer = answer } ∷ [])
 Passes line (Err AskUnwritten) answer old new asked_old asked_new =
-    (is_answer answer ≡ true) × PutsFront old new answer
+    (is_answer_to line answer ≡ true) × PutsFront old new answer
     × Grows asked_old asked_new (record { line = line; came = came.Answer; answer = answer } ∷ [])
 Passes line (Err outcome) answer old new asked_old asked_new = ⊥
 

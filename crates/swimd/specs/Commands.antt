@@ -1,6 +1,6 @@
 -- What a command of the program does.
 use Rattle.std.specs.Prelude.{◌≡◌, ◌⊎◌, ℕ, Bool, not, List, [], ◌∷◌, ◌++◌, length, Option, Some, None, codes}
-use Rattle.std.specs.Io.KnownBytes.{Appends}
+use Rattle.std.specs.Io.KnownBytes.{Appends, Consumes}
 use Rattle.hex.specs.Hex.{encode_lower}
 use Rattle.swim_text.specs.Streams.{Puts, PutsFront, failures_if}
 use Rattle.swim_life.specs.Endings.{Written}
@@ -48,10 +48,21 @@ Helps text old new outcome = ⊥
 abbrev pub IsKeyText : List ℕ → Type 0
 IsKeyText text = (key : List ℕ) × (length key ≡ 32) × (text ≡ encode_lower key ++ 10 ∷ [])
 
+-- it is the next 32 bytes that a source gave, all of them and in their order
+abbrev pub IsKeyOf : Option (List ℕ) → Option (List ℕ) → List ℕ → Type 0
+IsKeyOf left_old left_new text =
+    (key : List ℕ) × (length key ≡ 32) × Consumes left_old left_new key × (text ≡ encode_lower key ++ 10 ∷ [])
+
 -- a key was written on standard output, or a front of it; or the system had no random bytes
 abbrev pub MakesKey : Option (List ℕ) → Option (List ℕ) → Outcome → Type 0
-MakesKey old new NoRandom = new ≡ old
-MakesKey old new outcome = (text : List ℕ) × IsKeyText text × Helps text old new outcome
+MakesKey old new outcome =
+    ((outcome ≡ NoRandom) × (new ≡ old)) ⊎ ((text : List ℕ) × IsKeyText text × Helps text old new outcome)
+
+-- the same of a source whose bytes may be known
+abbrev pub MakesKeyOf : Option (List ℕ) → Option (List ℕ) → Option (List ℕ) → Option (List ℕ) → Outcome → Type 0
+MakesKeyOf left_old left_new old new outcome =
+    ((outcome ≡ NoRandom) × (new ≡ old))
+    ⊎ ((text : List ℕ) × IsKeyOf left_old left_new text × Helps text old new outcome)
 
 -- what a command found of the streams and what it left: of standard input, on standard output and on standard error
 pub record Streams : Type 0 where

@@ -56,10 +56,6 @@ Starts config old new NoEvents = new ≡ old
 Starts config old new NoMemory = new ≡ old
 Starts config old new outcome = IsLivedBy config old new outcome
 
--- the warnings of a configuration were written, or nothing where standard error would not take them at once
-abbrev pub MayWarn : Config → Written → Written → Type 0
-MayWarn config old new = Warned config old new ⊎ (new ≡ old)
-
 -- what a daemon of this configuration does, and tells on standard error: what it warns of, and notices behind that
 pub record RunsBy (config : Config) (old new faults_old faults_new : Written) (outcome : Outcome) : Type 0 where
   pub is : IsConfiguration config
@@ -67,7 +63,7 @@ pub record RunsBy (config : Config) (old new faults_old faults_new : Written) (o
   pub now : ℕ
   pub starts : Starts (begun_at now config) old new outcome
   pub between : Written
-  pub warned : MayWarn config faults_old between
+  pub warned : Warned config faults_old between
   pub noticed : Notices between faults_new
 
 -- what a daemon of some configuration file does: without a configuration nothing is written

@@ -7,6 +7,7 @@ pub mod Daemon
 pub mod Details
 pub mod OldFiles
 pub mod Outcomes
+pub mod Screens
 pub mod Totals
 pub mod Watched
 pub mod Words

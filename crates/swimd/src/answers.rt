@@ -1,13 +1,17 @@
 //! What a daemon answers to a control line, as far as whoever asks has to know.
 
 ghost use Rattle.std.specs.Prelude.{◌≡◌};
-ghost use Rattle.swimd.specs.Answers.{begins_with_digit, is_answer, is_over, is_refusal, is_row, is_stopping};
+ghost use Rattle.swimd.specs.Answers.{begins_with_digit, is_answer, is_answer_to, is_over, is_refusal, is_row, is_stop};
+ghost use Rattle.swimd.specs.Answers.{is_stopping};
 
 use arrayvec::ArrayVec;
 use swim_text::Words;
 
 /// Room for an answer. The longest, a table of 128 rows of at most 61 bytes, has less than 8,000.
 const ANSWER_BYTES: usize = 16_384;
+
+/// The answer of a daemon that stops.
+pub const STOPPING: &[u8] = b"stopping\n";
 
 /// An answer, or a front of one.
 pub type ControlAnswer = ArrayVec<u8, ANSWER_BYTES>;
@@ -24,6 +28,20 @@ pub fn is_answer(text: &[u8]) -> bool
         }
     }
     false
+}
+
+/// Whether a text is a whole answer to this line: `stop` is answered by that the daemon stops, or by a refusal.
+pub fn is_answer_to(line: &[u8], text: &[u8]) -> bool
+    ensures { result ≡ is_answer_to line.now text.now }
+{
+    is_answer(text) && (!is_stop(line) || is_stopping(text) || is_refusal(text))
+}
+
+/// Whether a line asks a daemon to stop.
+pub fn is_stop(line: &[u8]) -> bool
+    ensures { result ≡ is_stop line.now }
+{
+    line == b"stop\n".as_slice()
 }
 
 /// Whether nothing is left but what stands behind the last line feed.
@@ -67,5 +85,5 @@ pub fn is_refusal(answer: &[u8]) -> bool
 pub fn is_stopping(answer: &[u8]) -> bool
     ensures { result ≡ is_stopping answer.now }
 {
-    answer == b"stopping\n".as_slice()
+    answer == STOPPING
 }

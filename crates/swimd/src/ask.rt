@@ -1,6 +1,7 @@
 //! Asking a daemon that runs.
 
 ghost use Rattle.std.specs.Prelude.{◌≡◌, ◌||◌};
+ghost use Rattle.swim_text.specs.Streams.{Puts};
 ghost use Rattle.swimd.specs.Asking.{Asking, Asks, Passes, asked_so, stopped_so};
 
 use crate::answers::{ControlAnswer, is_refusal, is_stopping};
@@ -78,11 +79,21 @@ fn pass<A: Asker, W: Sink>(
         Came::Late => return Err(Outcome::AskTimeout),
         Came::Nothing => return Err(Outcome::Unanswered),
     }
-    if writer.put(answer.as_slice()) && writer.flush() {
-        Ok(())
-    } else {
-        Err(Outcome::AskUnwritten)
+    if !put_answer(answer.as_slice(), writer) {
+        return Err(Outcome::AskUnwritten);
     }
+    Ok(())
+}
+
+/// Writes an answer, and hands it on. Whether all of it was taken.
+#[tactic(auto, using(crate::proofs::Taken::put_and_flushed))]
+fn put_answer<W: Sink>(answer: &[u8], writer: &mut W) -> bool
+    ensures { Puts (W.written writer.old) (W.written writer.new) answer.now result }
+{
+    if !writer.put(answer) {
+        return false;
+    }
+    writer.flush()
 }
 
 /// Whether one of two things is so.

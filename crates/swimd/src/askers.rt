@@ -1,7 +1,7 @@
 //! Who is asked control lines.
 
 ghost use Rattle.std.specs.Prelude.{◌≡◌, ◌∷◌, [], true, List, Option};
-ghost use Rattle.swimd.specs.Answers.{is_answer};
+ghost use Rattle.swimd.specs.Answers.{is_answer_to};
 ghost use Rattle.swimd.specs.Asking.{Grows, Sent};
 
 use crate::answers::ControlAnswer;
@@ -9,7 +9,7 @@ use crate::answers::ControlAnswer;
 /// What came of a line that was sent.
 #[derive(Clone, Copy)]
 pub enum Came {
-    /// A whole answer.
+    /// A whole answer to that line.
     Answer,
     /// None, as long as was waited.
     Late,
@@ -27,7 +27,7 @@ pub trait Asker {
     fn ask(&mut self, line: &[u8], answer: &mut ControlAnswer) -> Came
         ensures asked { Grows (asked self.old) (asked self.new)
             (record { line = line.now; came = result; answer = answer.new.items } ∷ []) }
-        ensures whole { result ≡ Came.Answer → is_answer answer.new.items ≡ true };
+        ensures whole { result ≡ Came.Answer → is_answer_to line.now answer.new.items ≡ true };
 
     /// Waits until who was asked has closed the connection of the last line: `Answer` where it is closed.
     fn leave(&mut self) -> Came

@@ -1,35 +1,35 @@
 //! A daemon: the lives of a configuration over real devices.
 
-ghost use Rattle.std.specs.Prelude.{◌≡◌, [], MatchResult};
+ghost use Rattle.std.specs.Prelude.{◌≡◌, []};
 ghost use Rattle.swim_life.specs.Notices.{Notices};
-ghost use Rattle.swimd.specs.Daemon.{IsConfiguration, IsNoConfiguration, MayWarn, Runs, Starts, outcome_of};
+ghost use Rattle.swimd.specs.Daemon.{Runs, Starts, outcome_of};
 ghost use Rattle.swimd.specs.Details.{Explains};
 
 use crate::checking::warn;
 use crate::chroniclers::Chronicler;
+use crate::configurations::configuration;
 use crate::counters::Counters;
-use crate::details::{Details, words_of, words_why};
+use crate::details::{Details, words_why};
 use crate::doors::open_door;
 use crate::entrances::{end_watching, open_entrance, pause_ms};
 use crate::folders::Folder;
 use crate::metrics_files::MetricsFile;
-use crate::notices::{Announcer, Notice, is_taken_at_once};
+use crate::notices::{Announcer, Notice};
 use crate::outcomes::Outcome;
 use crate::refusals::CountedEntrance;
 use crate::stacks::has_room;
 use crate::strangers::NotingLine;
 use crate::telling_doors::TellingDoor;
-use arrayvec::ArrayVec;
+use crate::timely_sinks::Timely;
 use jiff::Timestamp;
 use std::alloc::{AllocError, Global};
 use std::fs::File;
-use std::io::ErrorKind;
+use std::io;
 use std::net::Net;
 use std::rt::{Clock, Files};
 use std::sync::Wait;
 use std::thread::Threads;
-use std::{fs, io};
-use swim_config::{Config, ConfigFault, INPUT_BYTES, read_config, read_input};
+use swim_config::{Config, ConfigFault};
 use swim_events::{Entrance, Gallery};
 use swim_guard::{ClockTimepiece, FencedLine, SealedLine, SealedPost};
 use swim_keys::Keys;
@@ -37,18 +37,19 @@ use swim_life::{
     ClockSleeper, Door, Hall, LivesEnd, Returning, SleepingPace, Terms, UdpLine, UnixEntrance,
     run_lives,
 };
-use swim_text::{ReadSource, Sink};
+use swim_text::Sink;
 use swim_wire::Peer;
 
-/// Runs the daemon of a configuration file, and writes how its lives ended. What stands in the way of a start is told
-/// in the details. Among the faults stands what the configuration is warned of, and then, while it runs, notices; where
-/// it is quiet, only that a stale socket was removed. Where the group has keys, and the configuration tells no last
+/// Runs the daemon of a configuration file, and writes how its lives ended. Once there is a configuration no line waits
+/// for a reader. What stands in the way of a start is told in the details. Among the faults stands what the
+/// configuration is warned of, and then, while it runs, notices; where it is quiet, only that a stale socket was
+/// removed, and how many lines of lives were left out. Where the group has keys, and the configuration tells no last
 /// number, the detector begins behind the clock's. In the log stands where datagrams came from that nobody of the group
 /// sent, or more than the fence lets in.
 pub fn run<
     R: Files<File = File> + Net + Clock + Threads + Wait + Sync,
-    W: Sink,
-    F: Sink,
+    W: Timely,
+    F: Timely,
     G: Sink + Drop,
 >(
     rt: &R,
@@ -67,62 +68,53 @@ pub fn run<
 {
     match configuration(rt, alloc, path, details) {
         Ok(config) => {
-            warn_at_once(rt, alloc, &config, faults);
+            writer.hurry();
+            faults.hurry();
+            warn(&config, faults);
             let config = config.begun_at(milliseconds(rt));
-            start(rt, alloc, config, is_quiet, writer, faults, log, details)
+            run_configured(rt, alloc, config, is_quiet, writer, faults, log, details)
         }
         Err(outcome) => outcome,
     }
 }
 
-/// The configuration in the file of that path.
-fn configuration<R: Files>(
+/// Runs the daemon of a configuration, and tells how many lines of its lives weren't taken.
+#[tactic(auto, using(swim_life::specs::Notices::no_notices, crate::proofs::Noticed::two_noticed))]
+fn run_configured<
+    R: Files<File = File> + Net + Clock + Threads + Wait + Sync,
+    W: Timely,
+    F: Sink,
+    G: Sink + Drop,
+>(
     rt: &R,
     alloc: Global,
-    path: &str,
+    config: Config,
+    is_quiet: bool,
+    writer: &mut W,
+    faults: &mut F,
+    log: G,
     details: &mut Details,
-) -> Result<Config, Outcome>
+) -> Outcome
     requires { details.old ≡ [] }
-    ensures read { MatchResult result IsConfiguration IsNoConfiguration }
-    ensures details { MatchResult result (λ config. details.new ≡ []) (λ outcome. Explains outcome details.new) }
+    ensures starts { Starts config (W.written writer.old, W.failures writer.old)
+        (W.written writer.new, W.failures writer.new) result }
+    ensures notices { Notices (F.written faults.old, F.failures faults.old)
+        (F.written faults.new, F.failures faults.new) }
+    ensures explains { Explains result details.new }
 {
-    let file = match fs::open(rt, path) {
-        Ok(file) => file,
-        Err(fault) => {
-            details.add_of(path, words_why(&fault));
-            return Err(Outcome::Unread);
-        }
-    };
-    let mut text = ArrayVec::<u8, INPUT_BYTES>::new();
-    if !read_input(&mut ReadSource::new(file), &mut text) {
-        details.add_of(path, words_why_unread(rt, path));
-        return Err(Outcome::Unread);
-    }
-    match read_config(alloc, text.as_slice()) {
-        Ok(config) => Ok(config),
-        Err(fault) => {
-            details.explain(alloc, text.as_slice(), fault);
-            Err(Outcome::Refused(fault))
-        }
-    }
+    let outcome = start(rt, alloc, config, is_quiet, writer, faults, log, details);
+    tell_left_out(rt, alloc, writer.left_out(), faults);
+    outcome
 }
 
-/// Why what was opened at a path can't be read.
-fn words_why_unread<R: Files>(rt: &R, path: &str) -> &'static str {
-    match fs::metadata(rt, path) {
-        Ok(metadata) if metadata.is_dir() => words_of(ErrorKind::IsADirectory),
-        _ => "it can't be read",
-    }
-}
-
-/// Writes what a configuration allows and can't work, where standard error takes it at once: no start waits for a
-/// reader.
-fn warn_at_once<R: Net, F: Sink>(rt: &R, alloc: Global, config: &Config, faults: &mut F)
-    ensures { MayWarn config.now (F.written faults.old, F.failures faults.old)
+/// Tells how many lines of lives standard output didn't take, if it didn't take some.
+#[tactic(auto, using(swim_life::specs::Notices::no_notices))]
+fn tell_left_out<R: Net + Clock, F: Sink>(rt: &R, alloc: Global, count: u64, faults: &mut F)
+    ensures { Notices (F.written faults.old, F.failures faults.old)
         (F.written faults.new, F.failures faults.new) }
 {
-    if is_taken_at_once(rt, alloc) {
-        warn(config, faults);
+    if 0 < count {
+        Notice::left_out(rt, count).tell_notice(rt, alloc, faults);
     }
 }
 

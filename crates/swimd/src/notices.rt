@@ -7,27 +7,21 @@ ghost use Rattle.swim_life.specs.Endings.{TellsText};
 ghost use Rattle.swim_life.specs.Notices.{Notices, line_text};
 
 use crate::details::{TEXT_BYTES, add_printed, words_of};
+use crate::readiness::{STANDARD_ERROR, is_taken};
 use crate::words::VERSION;
 use arrayvec::ArrayVec;
 use jiff::Timestamp;
-use mio::unix::SourceFd;
-use mio::{Events, Interest, Poll, Token};
 use std::alloc::Global;
+use std::fmt;
 use std::fmt::Write;
 use std::io::ErrorKind;
 use std::marker::Model;
 use std::net::Net;
-use std::os::fd::RawFd;
 use std::rt::Clock;
-use std::time::Duration;
-use std::{fmt, io};
 use swim_config::Config;
 use swim_life::Herald;
 use swim_text::Sink;
 use swim_wire::{Peer, Piece, put_pieces};
-
-/// The descriptor of standard error.
-const STANDARD_ERROR: RawFd = 2;
 
 /// A line for people, of characters of ASCII that print. A contract sees its bytes, without the line feed behind them.
 #[derive(Drop)]
@@ -109,11 +103,10 @@ impl Notice {
         notice
     }
 
-    /// That the metrics' file can't be written, and why.
-    pub fn unwritten_metrics<K: Clock>(clock: &K, path: &str, fault: ErrorKind) -> Notice {
+    /// That the metrics' file isn't written, and why.
+    pub fn unwritten_metrics<K: Clock>(clock: &K, path: &str, why: &str) -> Notice {
         let mut notice = Notice::begun(clock);
-        let words = words_of(fault);
-        let _is_added = write!(notice, "metrics {path}: {words}");
+        let _is_added = write!(notice, "metrics {path}: {why}");
         notice
     }
 
@@ -144,6 +137,13 @@ impl Notice {
         notice
     }
 
+    /// How many lines of lives standard output didn't take.
+    pub fn left_out<K: Clock>(clock: &K, count: u64) -> Notice {
+        let mut notice = Notice::begun(clock);
+        let _is_added = write!(notice, "told {count} lines fewer on standard output");
+        notice
+    }
+
     /// That a life begins.
     fn begins<K: Clock>(clock: &K, number: u64) -> Notice {
         let mut notice = Notice::begun(clock);
@@ -157,7 +157,7 @@ impl Notice {
         ensures { Notices (F.written faults.old, F.failures faults.old)
             (F.written faults.new, F.failures faults.new) }
     {
-        if is_taken_at_once(rt, alloc) {
+        if is_taken(rt, alloc, STANDARD_ERROR, 0) {
             put_notice(self, faults);
         }
     }
@@ -179,23 +179,6 @@ fn put_line<F: Sink>(line: &[u8], faults: &mut F)
     let pieces = [Piece::Text(line), Piece::Text(b"\n")];
     let _is_put = put_pieces(faults, &pieces);
     let _is_sent = faults.flush();
-}
-
-/// Whether standard error takes a line without a wait. A pipe does that has room, as long as nobody else writes into
-/// it; what the system can't say it of, as a file, always does.
-pub fn is_taken_at_once<R: Net>(rt: &R, alloc: Global) -> bool {
-    match has_room(rt, alloc) {
-        Ok(has_room) => has_room,
-        Err(fault) => fault.kind() == ErrorKind::PermissionDenied,
-    }
-}
-
-fn has_room<R: Net>(rt: &R, alloc: Global) -> io::Result<bool> {
-    let mut poll = Poll::new(rt)?;
-    let mut events = Events::with_capacity(alloc, 1)?;
-    poll.registry().register(&mut SourceFd(&STANDARD_ERROR), Token(0), Interest::WRITABLE)?;
-    poll.poll(&mut events, Some(Duration::ZERO))?;
-    Ok(!events.is_empty())
 }
 
 /// Who tells that a life begins, unless it is to be quiet.

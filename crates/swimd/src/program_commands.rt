@@ -11,8 +11,10 @@ use crate::ask::ask;
 use crate::checking::check;
 use crate::daemon;
 use crate::details::Details;
+use crate::hints::explain_words;
 use crate::key_making::make_key;
 use crate::outcomes::{Outcome, put_outcome};
+use crate::timely_sinks::Timely;
 use crate::watch::watch_daemon;
 use crate::words::{Asked, Request, Unasked, VERSION_LINE, read_words};
 use std::alloc::Global;
@@ -26,12 +28,12 @@ use swim_text::{ReadSource, Sink, Source};
 
 /// Does what the words after the program's name ask, and answers the status with which the program ends. The log is
 /// where a daemon's worker tells people what it threw away: a sink of its own, as those who tell the faults hold
-/// theirs.
+/// theirs. A daemon has the writer and the faults wait for no reader.
 pub fn command<
     R: Files<File = File> + Net + Clock + Threads + Wait + Sync,
     S: Source,
-    W: Sink,
-    F: Sink,
+    W: Timely,
+    F: Timely,
     G: Sink + Drop,
 >(
     rt: &R,
@@ -64,8 +66,8 @@ pub fn command<
 fn carry_out<
     R: Files<File = File> + Net + Clock + Threads + Wait + Sync,
     S: Source,
-    W: Sink,
-    F: Sink,
+    W: Timely,
+    F: Timely,
     G: Sink + Drop,
 >(
     rt: &R,
@@ -101,7 +103,7 @@ fn carry_out<
         Ok(Asked::MakeKey) => make_key(rt, writer),
         Ok(Asked::Help(text)) => help(text.as_bytes(), writer),
         Ok(Asked::Version) => version(writer),
-        Err(Unasked::Usage) => Outcome::Usage,
+        Err(Unasked::Usage) => explain_words(alloc, words, details),
         Err(Unasked::NoMemory) => Outcome::Refused(ConfigFault::NoMemory),
     }
 }

@@ -1,10 +1,10 @@
 //! A daemon that is asked, behind its control socket.
 
 ghost use Rattle.std.specs.Prelude.{◌≡◌, None, true};
-ghost use Rattle.swimd.specs.Answers.{is_answer};
+ghost use Rattle.swimd.specs.Answers.{is_answer_to};
 ghost use Rattle.swimd.specs.Asking.{Grows};
 
-use crate::answers::{ControlAnswer, is_answer, is_refusal};
+use crate::answers::{ControlAnswer, STOPPING, is_answer, is_answer_to, is_refusal, is_stop};
 use crate::askers::{Asker, Came};
 use std::io::{self, ErrorKind, Read, Write};
 use std::net::{Net, Shutdown};
@@ -27,13 +27,18 @@ const IDLE_MS: u64 = 100;
 /// 1,048,576 for a connection.
 const MOST_LINES: u32 = 4096;
 
+/// How long to wait, in milliseconds, between two looks whether a daemon is gone.
+const GONE_MS: u64 = 20;
+
 /// A daemon behind its control socket. Lines go there by one connection as long as the daemon leaves it open, and then
-/// by another. Nothing waits for longer than the limit.
+/// by another. To connect and to be answered takes no longer than the limit, both together.
 #[derive(Drop)]
 pub struct ControlSocket<'r, 'p, R: Net + Clock> {
     rt: &'r R,
     path: &'p str,
     limit: Duration,
+    // How much of the limit of the next answer was spent already.
+    spent: Duration,
     stream: Option<UnixStream>,
     // How many lines went by that connection, and when the last did.
     lines: u32,
@@ -50,6 +55,7 @@ impl<'r, 'p, R: Net + Clock> ControlSocket<'r, 'p, R> {
             rt,
             path,
             limit,
+            spent: timer.began.elapsed(rt)?,
             stream: Some(stream),
             lines: 0,
             used: timer.began,
@@ -74,15 +80,14 @@ impl<'r, 'p, R: Net + Clock> ControlSocket<'r, 'p, R> {
     }
 
     /// Sends a line, and takes in what comes.
-    fn send(&mut self, line: &[u8], answer: &mut ControlAnswer) -> io::Result<()> {
-        let timer = Timer::new(self.rt, self.limit)?;
-        let stream = self.stream(&timer)?;
+    fn send(&mut self, line: &[u8], timer: &Timer, answer: &mut ControlAnswer) -> io::Result<()> {
+        let stream = self.stream(timer)?;
         // Who took no more of the line may have answered all the same.
         let _is_sent = (&stream).write_all(line);
         if !line.ends_with(b"\n") {
             let _is_shut = stream.shutdown(Shutdown::Write);
         }
-        let is_limited = take_answer(self.rt, &stream, &timer, answer)?;
+        let is_limited = take_answer(self.rt, &stream, timer, answer)?;
         if !is_limited {
             stream.set_read_timeout(Some(self.limit))?;
         }
@@ -91,6 +96,36 @@ impl<'r, 'p, R: Net + Clock> ControlSocket<'r, 'p, R> {
             self.stream = Some(stream);
         }
         Ok(())
+    }
+
+    /// Sends a line, and takes in what comes. A `stop` behind which the connection ends without a word, and the daemon
+    /// too, came while the daemon stopped: it counts as answered.
+    fn send_or_see(&mut self, line: &[u8], answer: &mut ControlAnswer) -> io::Result<()> {
+        let timer = Timer::new(self.rt, self.limit.saturating_sub(self.spent))?;
+        self.spent = Duration::ZERO;
+        let Err(fault) = self.send(line, &timer, answer) else {
+            return Ok(());
+        };
+        let is_silent = answer.is_empty() && is_ended(fault.kind());
+        if is_stop(line) && is_silent && self.is_gone(&timer) {
+            return add(answer, STOPPING);
+        }
+        Err(fault)
+    }
+
+    /// Whether nobody listens at the path any more, or soon, as long as the timer runs.
+    fn is_gone(&self, timer: &Timer) -> bool {
+        for _look in 0..u64::MAX {
+            match mio::net::UnixStream::connect(self.rt, self.path) {
+                Err(fault) if !is_passing(fault.kind()) => return is_absence(fault.kind()),
+                _ => {}
+            }
+            if timer.left(self.rt).is_err() {
+                return false;
+            }
+            thread::sleep(self.rt, Duration::from_millis(GONE_MS));
+        }
+        false
     }
 
     /// Waits for the end of the connection that was made last.
@@ -114,9 +149,9 @@ impl<'r, 'p, R: Net + Clock> Asker for ControlSocket<'r, 'p, R> {
 
     fn ask(&mut self, line: &[u8], answer: &mut ControlAnswer) -> Came {
         answer.clear();
-        let came = came_of(self.send(line, answer));
+        let came = came_of(self.send_or_see(line, answer));
         match came {
-            Came::Answer if !is_answer(answer.as_slice()) => Came::Nothing,
+            Came::Answer if !is_answer_to(line, answer.as_slice()) => Came::Nothing,
             _ => came,
         }
     }
@@ -157,8 +192,9 @@ fn connect<R: Net + Clock>(rt: &R, path: &str, timer: &Timer) -> io::Result<Unix
             Ok(stream) => {
                 let stream = UnixStream::from(OwnedFd::from(stream));
                 stream.set_nonblocking(false)?;
-                stream.set_write_timeout(Some(timer.limit))?;
-                stream.set_read_timeout(Some(timer.limit))?;
+                let left = timer.left(rt)?;
+                stream.set_write_timeout(Some(left))?;
+                stream.set_read_timeout(Some(left))?;
                 return Ok(stream);
             }
             Err(fault) if is_passing(fault.kind()) => {
@@ -224,6 +260,19 @@ fn read_some<R: Clock>(
 /// Whether what failed so may be tried again.
 fn is_passing(kind: ErrorKind) -> bool {
     matches!(kind, ErrorKind::WouldBlock | ErrorKind::Interrupted)
+}
+
+/// Whether what failed so says that the other end closed the connection.
+fn is_ended(kind: ErrorKind) -> bool {
+    matches!(
+        kind,
+        ErrorKind::UnexpectedEof | ErrorKind::ConnectionReset | ErrorKind::BrokenPipe
+    )
+}
+
+/// Whether a connection that failed so says that nobody listens.
+fn is_absence(kind: ErrorKind) -> bool {
+    matches!(kind, ErrorKind::ConnectionRefused | ErrorKind::NotFound)
 }
 
 /// How long something may still take.

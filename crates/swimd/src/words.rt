@@ -87,7 +87,7 @@ pub fn read_words<'a>(alloc: Global, words: &'a [&'a str]) -> Result<Asked<'a>, 
 }
 
 /// The program, whose words are those after its name, with its commands.
-fn program<'a>(alloc: Global) -> Result<Command<'a>, AllocError>
+pub fn program<'a>(alloc: Global) -> Result<Command<'a>, AllocError>
     ensures { IfOk result (λ made. app_of made ≡ program) }
 {
     // Each command is made where it is added: what may fail then drops one program, and no commands beside it.
@@ -311,7 +311,7 @@ fn line_made_of(words: &[&str]) -> Option<Option<ControlLine>>
 }
 
 /// Whether one of these words has a line feed.
-fn have_feed(words: &[&str]) -> bool
+pub fn have_feed(words: &[&str]) -> bool
     ensures { result ≡ list_any has_feed (map (λ word. word.now) words.now) }
 {
     for word in words {

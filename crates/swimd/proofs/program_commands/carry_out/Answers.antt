@@ -1,0 +1,12 @@
+use Rattle.std.proofs.Common.{Some, refl, inl}
+use Rattle.swimd.specs.Words.{Watch}
+use Rattle.swimd.proofs.program_commands.carry_out.Goals as goal
+
+pub returns-in-Ok-Watch-clause-done : goal.returns-in-Ok-Watch-clause-done
+returns-in-Ok-Watch-clause-done g c =
+    let watched = rw c.in-Ok-Watch.field-0-is at c.watch_daemon.ensures.watches in
+    inl (record {
+      wanted = Some (Watch c.in-Ok-Watch.path.now c.in-Ok-Watch.is_json);
+      asked = rw c.in-Ok-Watch.field-0-is at c.in-Ok-Watch.ensures;
+      done = (watched, refl, refl);
+    })
