@@ -23,6 +23,8 @@ class Part(NamedTuple):
             return "rustc, the Rust compiler, is not on PATH"
         if VALGRIND in self.needs and not shutil.which("valgrind"):
             return "valgrind, which counts instructions, is not on PATH"
+        if OBJDUMP in self.needs and not shutil.which("objdump"):
+            return "objdump, which shows the frames of functions, is not on PATH"
         if TOML in self.needs and sys.version_info < (3, 11):
             return "this Python is older than 3.11"
         return None
@@ -33,7 +35,7 @@ def room(name, what, programs, *needs, **marks):
     return Part(name, what, [f"tests/{name}"], programs, needs, **marks)
 
 
-RUSTC, VALGRIND, TOML = "rustc", "valgrind", "toml"
+RUSTC, VALGRIND, OBJDUMP, TOML = "rustc", "valgrind", "objdump", "toml"
 SWIMSIM, SWIMD = ("swimsim",), ("swimd",)
 ALL_PROGRAMS = (
     "swim_detector_tests", "swim_node_tests", "swim_life_tests", "swim_config_tests", "swimsim", "swimd", "node_bench"
@@ -61,6 +63,7 @@ ROOMS = [
     room("swimsim/compare", "swimsim beside the reference, on random scripts", SWIMSIM, RUSTC),
     room("node/failures", "the programs, each call of the system failing in turn", SWIMSIM + SWIMD, RUSTC),
     room("bench/bounds", "instructions of datagrams, ticks and lines, each within a bound", SWIMSIM + SWIMD, VALGRIND),
+    room("bench/frames", "how deep the stacks of swimd's threads can get", SWIMD, OBJDUMP, is_short=True),
     room("tools/layout", "sources, definitions and proofs are laid out as `rt ci` wants them", (), is_short=True),
     room("tools/contracts", "docs/CONTRACTS.md is what the sources say", (), is_short=True),
     room(

@@ -12,10 +12,10 @@ from tests.models.datagram_model import fault_of
 from tests.support.configurations import configuration
 from tests.support.daemons import SECONDS, must, until
 from tests.support.datagrams import ACK, PING, REQUEST, datagram, fields, version_of
-from tests.support.sayings import but_for_notices, first_line_of
+from tests.support.sayings import first_line_of
+from tests.swimd.daemon_limits import MEGABYTE, with_memory
 
 MINUTE = 60_000
-MEGABYTE = 2**20
 LITTLE_MEMORY = 1_024 * MEGABYTE
 IDLE_SECONDS = 4
 MOST_IDLE_SHARE = 0.005
@@ -198,39 +198,6 @@ def refused(program, words, wanted, **streams):
     must(found == (b"", *wanted), f"{words}: {found}, and not {wanted}")
 
 
-def with_memory(most):
-    return lambda: resource.setrlimit(resource.RLIMIT_AS, (most, most))
-
-
-def how_it_ends(daemon, most):
-    """Status and texts of a daemon with so much memory, which is stopped if it runs."""
-    daemon.launch(preexec_fn=with_memory(most))
-    until(lambda: daemon.child.poll() is not None or daemon.answers(), f"a daemon with {most:,} bytes runs or ends")
-    if daemon.child.poll() is None:
-        daemon.ask(b"stop\n")
-    stdout, stderr = daemon.child.communicate(timeout=SECONDS)
-    return daemon.child.returncode, stdout, but_for_notices(stderr)
-
-
-def too_little_memory(machine):
-    """With ever less, it runs, or says `no memory` at its start or in its closing line, as long as its image can be
-    loaded."""
-    daemon, found = machine.daemon(1, tick_ms=MINUTE), []
-    wanted = [
-        (0, b"ended stopped entries 0 judged 0 unsent 0 wire 0 refused 0\n", b""),
-        (4, b"ended no memory entries 0 judged 0 unsent 0 wire 0 refused 0\n", b"no memory\n"),
-        (4, b"", b"no memory\n"),
-    ]
-    for most in (MEGABYTE * 2**it // 4 for it in range(12, 3, -1)):
-        words = [machine.program, "check"]
-        ran = subprocess.run(words, input=b"", capture_output=True, preexec_fn=with_memory(most), timeout=SECONDS)
-        if 0 <= ran.returncode < 126:
-            found.append(how_it_ends(daemon, most))
-            must(found[-1] in wanted, f"with {most:,} bytes: {found[-1]}")
-    must(found and found[0] == wanted[0], "it doesn't run with a gigabyte")
-    print(f"  with a gigabyte, a half, a fourth and so on it ends with the statuses {[it[0] for it in found]}")
-
-
 def words_that_are_refused(machine):
     daemon = machine.daemon(1)
     usage = (b"usage\n", 2)
@@ -350,7 +317,6 @@ EDGES = [
     the_last_number_goes_on,
     an_idle_daemon_sleeps,
     stop_ends_it_soon,
-    too_little_memory,
     words_that_are_refused,
     files_that_are_refused,
     a_file_that_comes_in_pieces,

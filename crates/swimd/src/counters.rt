@@ -60,13 +60,38 @@ impl Counters {
         }
     }
 
-    /// What is told: of entries, and beside them. `None` before the first life.
-    pub fn read<R: Wait>(&self, rt: &R) -> Option<(Measures, Outside<'static>)> {
-        let counted = self.bulletin.counted(rt)?;
-        let strangers = self.strangers.counts();
-        let unwritten = self.bulletin.unwritten();
-        let outside = outside_of(&self.facts, &counted, strangers, unwritten);
-        Some((counted.measures, outside))
+    /// What was counted by now. `None` before the first life.
+    pub fn figures<R: Wait>(&self, rt: &R) -> Option<Figures> {
+        Some(Figures {
+            counted: self.bulletin.counted(rt)?,
+            strangers: self.strangers.counts(),
+            unwritten: self.bulletin.unwritten(),
+            facts: self.facts,
+        })
+    }
+}
+
+/// What was counted at a moment, with what is told of the configuration. It borrows nothing, so that another thread may
+/// be handed it.
+#[derive(Clone, Copy)]
+pub struct Figures {
+    counted: Counted,
+    strangers: StrangerCounts,
+    unwritten: u64,
+    facts: Facts,
+}
+
+impl Figures {
+    /// What is told of entries.
+    pub fn measures(&self) -> Measures
+        ensures { result ≡ self.now.counted.measures }
+    {
+        self.counted.measures
+    }
+
+    /// What is told beside them.
+    pub fn outside(&self) -> Outside<'static> {
+        outside_of(&self.facts, &self.counted, self.strangers, self.unwritten)
     }
 }
 
@@ -118,8 +143,8 @@ fn outside_of(
 impl Speaker for Counters {
     fn stats<R: Wait>(&self, rt: &R) -> StatsText {
         let mut sink = TextSink::new();
-        if let Some((measures, outside)) = self.read(rt) {
-            if put_stats(&mut sink, &measures, &outside) {
+        if let Some(figures) = self.figures(rt) {
+            if put_stats(&mut sink, &figures.measures(), &figures.outside()) {
                 return sink.into_text();
             }
         }

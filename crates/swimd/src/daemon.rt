@@ -7,17 +7,17 @@ ghost use Rattle.swimd.specs.Details.{Explains};
 
 use crate::checking::warn;
 use crate::chroniclers::Chronicler;
+use crate::clerks::Clerk;
 use crate::configurations::configuration;
 use crate::counters::Counters;
 use crate::details::{Details, words_why};
 use crate::doors::open_door;
 use crate::entrances::{end_watching, open_entrance, pause_ms};
 use crate::folders::Folder;
-use crate::metrics_files::MetricsFile;
+use crate::metrics_times::MetricsTimes;
 use crate::notices::{Announcer, Notice};
 use crate::outcomes::Outcome;
 use crate::refusals::CountedEntrance;
-use crate::stacks::has_room;
 use crate::strangers::NotingLine;
 use crate::telling_doors::TellingDoor;
 use crate::timely_sinks::Timely;
@@ -50,7 +50,7 @@ pub fn run<
     R: Files<File = File> + Net + Clock + Threads + Wait + Sync,
     W: Timely,
     F: Timely,
-    G: Sink + Drop,
+    G: Sink + Clerk + Drop,
 >(
     rt: &R,
     alloc: Global,
@@ -84,7 +84,7 @@ fn run_configured<
     R: Files<File = File> + Net + Clock + Threads + Wait + Sync,
     W: Timely,
     F: Sink,
-    G: Sink + Drop,
+    G: Sink + Clerk + Drop,
 >(
     rt: &R,
     alloc: Global,
@@ -124,7 +124,7 @@ fn start<
     R: Files<File = File> + Net + Clock + Threads + Wait + Sync,
     W: Sink,
     F: Sink,
-    G: Sink + Drop,
+    G: Sink + Clerk + Drop,
 >(
     rt: &R,
     alloc: Global,
@@ -176,7 +176,7 @@ fn live<
     R: Files<File = File> + Net + Clock + Threads + Wait + Sync,
     W: Sink,
     F: Sink,
-    G: Sink + Drop,
+    G: Sink + Clerk + Drop,
     D: Door + Drop,
     K: Clock + Drop + Send,
 >(
@@ -196,9 +196,6 @@ fn live<
     ensures notices { Notices (F.written faults.old, F.failures faults.old)
         (F.written faults.new, F.failures faults.new) }
 {
-    if !has_room(alloc) {
-        return Outcome::NoMemory;
-    }
     let Ok(mut returning) = returning_of(alloc, &config) else {
         return Outcome::NoMemory;
     };
@@ -231,7 +228,7 @@ fn live_counted<
     R: Files<File = File> + Net + Clock + Threads + Wait + Sync,
     W: Sink,
     F: Sink,
-    G: Sink + Drop,
+    G: Sink + Clerk + Drop,
     D: Door + Drop,
     K: Clock + Drop + Send,
 >(
@@ -261,8 +258,8 @@ fn live_counted<
     let sealed = SealedLine::new(fenced, keys);
     let mut hearing = NotingLine::new(sealed, &counters.strangers.forged);
     let sending = SealedPost::new(line, keys);
-    let file = MetricsFile::new(rt, config.metrics);
-    let door = TellingDoor::new(rt, alloc, door, counters, file, log, is_quiet);
+    let metrics = MetricsTimes::new(config.metrics);
+    let door = TellingDoor::new(rt, alloc, door, counters, metrics, log, is_quiet);
     let mut hall = Hall::new(alloc, door);
     let mut pace = SleepingPace::new(ClockSleeper::new(rt), config.tick_ms);
     let mut herald = Announcer::new(rt, alloc, is_quiet);

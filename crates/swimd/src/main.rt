@@ -12,6 +12,7 @@ mod books;
 mod bulletins;
 mod checking;
 mod chroniclers;
+mod clerks;
 mod comments;
 mod configurations;
 mod control_lines;
@@ -26,7 +27,9 @@ mod happenings;
 mod hints;
 mod journal_files;
 mod key_making;
+mod metrics_desks;
 mod metrics_files;
+mod metrics_times;
 mod notices;
 mod old_files;
 mod outcomes;
@@ -45,47 +48,113 @@ mod totals;
 mod watch;
 mod words;
 
+use clerks::{Clerk, Log};
 use details::Details;
 use hints::explain_no_text;
+use metrics_desks::MetricsDesk;
 use outcomes::Outcome;
 use readiness::{STANDARD_ERROR, STANDARD_OUTPUT};
 use screens::ScreenSink;
+use stacks::begin_on_own_stack;
 use std::alloc::{AllocError, Global};
 use std::env;
+use std::fs::File;
 use std::io::{ErrorKind, IsTerminal};
+use std::net::Net;
 use std::process::ExitCode;
+use std::rt::{Clock, Files};
+use std::sync::{Arc, Wait};
+use std::thread::Threads;
 use swim_config::ConfigFault;
-use swim_text::{ReadSource, WriteSink};
-use timely_sinks::TimelySink;
+use swim_text::{ReadSource, Sink, Source, WriteSink};
+use timely_sinks::{Timely, TimelySink};
 
+/// The program runs in a thread with a stack of its own. This one writes the metrics file meanwhile, as it alone may
+/// wait for a disk.
 fn main(rt: HostRuntime) -> ExitCode {
-    let alloc = rt.alloc();
-    let mut reader = ReadSource::new(rt.stdin());
-    let is_terminal = rt.stdout().is_terminal();
-    let screen = ScreenSink::new(WriteSink::new(rt.stdout()), is_terminal);
-    let mut writer = TimelySink::new(&rt, alloc, STANDARD_OUTPUT, screen);
-    let mut faults = TimelySink::new(&rt, alloc, STANDARD_ERROR, WriteSink::new(rt.stderr()));
-    let mut details = Details::new();
-    let status = match words_given(&rt, &mut details) {
-        Ok(texts) => match words_in(alloc, texts.as_slice()) {
-            Ok(words) => program_commands::command(
-                &rt,
-                alloc,
-                words.as_slice(),
-                &mut reader,
-                &mut writer,
-                &mut faults,
-                WriteSink::new(rt.stderr()),
-            ),
-            Err(_) => program_commands::tell_outcome(
-                Outcome::Refused(ConfigFault::NoMemory),
-                &Details::new(),
-                &mut faults,
-            ),
-        },
-        Err(outcome) => program_commands::tell_outcome(outcome, &details, &mut faults),
+    let Some((desk, theirs)) = two_of(rt.alloc(), MetricsDesk::new()) else {
+        return ExitCode::from(tell_no_memory(&mut WriteSink::new(rt.stderr())));
+    };
+    let program = begin_on_own_stack(&rt, move || {
+        let alloc = rt.alloc();
+        let mut reader = ReadSource::new(rt.stdin());
+        let is_terminal = rt.stdout().is_terminal();
+        let screen = ScreenSink::new(WriteSink::new(rt.stdout()), is_terminal);
+        let mut writer = TimelySink::new(&rt, alloc, STANDARD_OUTPUT, screen);
+        let mut faults = TimelySink::new(&rt, alloc, STANDARD_ERROR, WriteSink::new(rt.stderr()));
+        let log = Log::new(WriteSink::new(rt.stderr()), &*theirs);
+        let mut details = Details::new();
+        let status = match words_given(&rt, &mut details) {
+            Ok(texts) => {
+                run_words(
+                    &rt,
+                    alloc,
+                    texts.as_slice(),
+                    &mut reader,
+                    &mut writer,
+                    &mut faults,
+                    log,
+                )
+            }
+            Err(outcome) => program_commands::tell_outcome(outcome, &details, &mut faults),
+        };
+        theirs.close(&rt);
+        status
+    });
+    let status = match program {
+        Ok(program) => {
+            desk.write_on(&rt);
+            program.join(&rt)
+        }
+        Err(_) => tell_no_memory(&mut WriteSink::new(rt.stderr())),
     };
     ExitCode::from(status)
+}
+
+/// Shares a value: two handles of it. `None` where memory is refused.
+fn two_of<T: Drop>(alloc: Global, value: T) -> Option<(Arc<T, Global>, Arc<T, Global>)> {
+    let one = Arc::new(alloc, value).ok()?;
+    let other = Arc::try_clone(&one).ok()?;
+    Some((one, other))
+}
+
+/// Does what the words of these texts ask. The status with which the program ends.
+fn run_words<
+    R: Files<File = File> + Net + Clock + Threads + Wait + Sync,
+    S: Source,
+    W: Timely,
+    F: Timely,
+    G: Sink + Clerk + Drop,
+>(
+    rt: &R,
+    alloc: Global,
+    texts: &[String],
+    reader: &mut S,
+    writer: &mut W,
+    faults: &mut F,
+    log: G,
+) -> u8 {
+    match words_in(alloc, texts) {
+        Ok(words) => program_commands::command(
+            rt,
+            alloc,
+            words.as_slice(),
+            reader,
+            writer,
+            faults,
+            log,
+        ),
+        Err(_) => tell_no_memory(faults),
+    }
+}
+
+/// Tells that memory was refused before the words were read.
+fn tell_no_memory<F: Sink>(faults: &mut F) -> u8 {
+    program_commands::tell_outcome(
+        Outcome::Refused(ConfigFault::NoMemory),
+        &Details::new(),
+        faults,
+    )
 }
 
 /// The program's name and the words after it. One that is no UTF-8 asks nothing, which is told in the details.

@@ -1,23 +1,17 @@
 //! The file where metrics are told.
 
 use crate::details::words_of;
-use crate::notices::Notice;
 use crate::plain_files::{is_file, make_file};
 use arrayvec::ArrayString;
 use std::fs;
 use std::fs::File;
 use std::io::{self, ErrorKind, Read, Write};
-use std::rt::{Clock, Files};
-use std::time::{Duration, Instant};
-use swim_config::SocketPath;
+use std::rt::Files;
 use swim_metrics::{Measures, Outside, put_exposition};
 use swim_text::{Sink, WriteSink};
 
 /// The mode of the file: its owner may write it, and all may read it.
 const FOR_ALL_TO_READ: u32 = 0o644;
-
-/// How often the file is written, in seconds.
-const PAUSE_SECONDS: u64 = 10;
 
 /// How many bytes the path of the new file has at most.
 const PATH_BYTES: usize = 128;
@@ -33,63 +27,37 @@ const HEAD_BYTES: usize = 13;
 
 const _: () = prove!(HEAD.len() == HEAD_BYTES);
 
-/// Why nothing is written where something else than a metrics file lies at the path.
-const KEPT: &str = "what lies there is no metrics file; it is kept";
-
-/// The file where metrics are told, if there is to be one. It is written anew each time, beside its path, and renamed
-/// to it, so that nobody reads half of it. It takes the place of nothing but a metrics file, by whatever name the path
-/// calls what lies there.
-#[derive(Drop)]
-pub struct MetricsFile<'r, R> {
-    rt: &'r R,
-    path: Option<SocketPath>,
-    written_at: Option<Instant>,
+/// Why metrics weren't written.
+#[derive(Clone, Copy, Debug, PartialEq, Eq)]
+pub enum Unwritten {
+    /// What lies at the path is no metrics file.
+    Kept,
+    /// The system refused it.
+    Refused(ErrorKind),
 }
 
-impl<'r, R: Files<File = File> + Clock> MetricsFile<'r, R> {
-    /// The file of this path. It wasn't written yet.
-    pub fn new(rt: &'r R, path: Option<SocketPath>) -> MetricsFile<'r, R> {
-        MetricsFile {
-            rt,
-            path,
-            written_at: None,
+impl Unwritten {
+    /// The same in words.
+    pub fn words(self) -> &'static str {
+        match self {
+            Unwritten::Kept => "what lies there is no metrics file; it is kept",
+            Unwritten::Refused(kind) => words_of(kind),
         }
-    }
-
-    /// Whether it is time to write it.
-    pub fn is_due(&self) -> bool {
-        if self.path.is_none() {
-            return false;
-        }
-        match &self.written_at {
-            Some(written_at) => match written_at.elapsed(self.rt) {
-                Ok(time) => Duration::from_secs(PAUSE_SECONDS) <= time,
-                Err(_) => false,
-            },
-            None => true,
-        }
-    }
-
-    /// Writes it: the line that tells why it can't be written, if it can't.
-    pub fn write(&mut self, measures: &Measures, outside: &Outside<'_>) -> Option<Notice> {
-        self.written_at = Instant::now(self.rt).ok();
-        let path = self.path.as_ref()?;
-        let why = put(self.rt, path.as_str(), measures, outside).err()?;
-        Some(Notice::unwritten_metrics(self.rt, path.as_str(), why))
     }
 }
 
-/// Puts a file at that path, if nothing else than a metrics file lies there. Why it isn't, in words, if it isn't.
-fn put<R: Files<File = File>>(
+/// Writes the metrics file of that path anew, beside it, and then renames it to it, so that nobody reads half of it. It
+/// takes the place of nothing but a metrics file, by whatever name the path calls what lies there.
+pub fn write_metrics<R: Files<File = File>>(
     rt: &R,
     path: &str,
     measures: &Measures,
     outside: &Outside<'_>,
-) -> Result<(), &'static str> {
+) -> Result<(), Unwritten> {
     if !is_free(rt, path) && !is_of_metrics(rt, path) {
-        return Err(KEPT);
+        return Err(Unwritten::Kept);
     }
-    replace(rt, path, measures, outside).map_err(|kind| words_of(kind))
+    replace(rt, path, measures, outside).map_err(|kind| Unwritten::Refused(kind))
 }
 
 /// Writes a new file, and gives it that path.

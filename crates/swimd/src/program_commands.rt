@@ -9,6 +9,7 @@ ghost use Rattle.swimd.specs.Words.{IsAsked};
 
 use crate::ask::ask;
 use crate::checking::check;
+use crate::clerks::Clerk;
 use crate::daemon;
 use crate::details::Details;
 use crate::hints::explain_words;
@@ -34,7 +35,7 @@ pub fn command<
     S: Source,
     W: Timely,
     F: Timely,
-    G: Sink + Drop,
+    G: Sink + Clerk + Drop,
 >(
     rt: &R,
     alloc: Global,
@@ -68,7 +69,7 @@ fn carry_out<
     S: Source,
     W: Timely,
     F: Timely,
-    G: Sink + Drop,
+    G: Sink + Clerk + Drop,
 >(
     rt: &R,
     alloc: Global,

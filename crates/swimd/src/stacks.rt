@@ -1,13 +1,20 @@
-//! Room for the stack of the first thread, which grows as it is used.
+//! The stack on which the program runs.
 
-use std::alloc::Global;
+use std::io;
+use std::thread::{Builder, JoinHandle, Threads};
 
-/// At most so many bytes of it the lives of a daemon take.
-const STACK_BYTES: usize = 1_572_864;
+/// How many bytes that stack has: more than the deepest calls of a daemon take.
+const STACK_BYTES: usize = 2_097_152;
 
-/// Whether it can grow: as much memory was had, and given back. Where a stack can't grow the system ends a program
-/// without a word, so that is asked before there are lives.
-#[inline(never)]
-pub(crate) fn has_room(alloc: Global) -> bool {
-    Vec::<u8>::with_capacity(alloc, STACK_BYTES).is_ok()
+/// Begins a job on a stack of its own. The limit of stacks (`ulimit -s`) may leave the first thread too little, and the
+/// system ends a program whose stack is full without a word. `Err` where no such stack is to be had: then the job isn't
+/// run.
+pub fn begin_on_own_stack<
+    R: Threads,
+    F: FnOnce() -> T + Send + Drop + 'static,
+    T: Send + Drop + 'static,
+>(rt: &R, job: F) -> io::Result<JoinHandle<T>>
+    requires { F.pre job }
+{
+    Builder::new().stack_size(STACK_BYTES).spawn(rt, job)
 }

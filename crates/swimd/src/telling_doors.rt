@@ -5,9 +5,10 @@ ghost use Rattle.std.specs.Prelude.{◌≡◌, ◌∷◌, []};
 ghost use Rattle.swim_work.specs.Posts.{Grows};
 ghost use Rattle.swim_life.specs.Gates.{is_fault};
 
+use crate::clerks::Clerk;
 use crate::counters::Counters;
 use crate::happenings::{Happening, unsaid};
-use crate::metrics_files::MetricsFile;
+use crate::metrics_times::MetricsTimes;
 use crate::notices::Notice;
 use crate::refusals::refused;
 use crate::strangers::SharedThrown;
@@ -79,15 +80,16 @@ impl Telling {
 
 /// A door over another. Each time it is asked for the next connection it tells what there is to be told, and waits for
 /// nobody: each change of the member table, how many datagrams were thrown away and where the newest came from, and how
-/// many connections were turned away, of each kind at most once a minute, and every ten seconds the metrics. Where it
+/// many connections were turned away, of each kind at most once a minute; and every ten seconds it hands the metrics over,
+/// to be written. Where it
 /// is quiet it tells nothing in the log but that metrics can't be written.
 #[derive(Drop)]
-pub struct TellingDoor<'s, 'r, R, D: Door + Drop, G: Sink + Drop> {
+pub struct TellingDoor<'s, 'r, R, D: Door + Drop, G: Sink + Clerk + Drop> {
     rt: &'r R,
     alloc: Global,
     door: D,
     counters: &'s Counters,
-    file: MetricsFile<'r, R>,
+    metrics: MetricsTimes,
     log: G,
     is_quiet: bool,
     fenced: Telling,
@@ -96,26 +98,26 @@ pub struct TellingDoor<'s, 'r, R, D: Door + Drop, G: Sink + Drop> {
 }
 
 // A contract sees the door below.
-impl<'s, 'r, R, D: Door + Drop, G: Sink + Drop> Model for TellingDoor<'s, 'r, R, D, G> {
+impl<'s, 'r, R, D: Door + Drop, G: Sink + Clerk + Drop> Model for TellingDoor<'s, 'r, R, D, G> {
     ghost Value = { D };
 
     ghost view = { λ d. d.door };
 }
 
-impl<'s, 'r, R: Files<File = File> + Net + Clock, D: Door + Drop, G: Sink + Drop> TellingDoor<
+impl<
     's,
     'r,
-    R,
-    D,
-    G,
-> {
+    R: Files<File = File> + Net + Clock,
+    D: Door + Drop,
+    G: Sink + Clerk + Drop,
+> TellingDoor<'s, 'r, R, D, G> {
     /// A door over that one, which tells in the log and in the metrics' file.
     pub fn new(
         rt: &'r R,
         alloc: Global,
         door: D,
         counters: &'s Counters,
-        file: MetricsFile<'r, R>,
+        metrics: MetricsTimes,
         log: G,
         is_quiet: bool,
     ) -> TellingDoor<'s, 'r, R, D, G>
@@ -126,7 +128,7 @@ impl<'s, 'r, R: Files<File = File> + Net + Clock, D: Door + Drop, G: Sink + Drop
             alloc,
             door,
             counters,
-            file,
+            metrics,
             log,
             is_quiet,
             fenced: Telling::new(),
@@ -144,16 +146,19 @@ impl<'s, 'r, R: Files<File = File> + Net + Clock, D: Door + Drop, G: Sink + Drop
             self.tell_thrown();
             self.tell_refused();
         }
-        if self.file.is_due() {
+        self.tell_unwritten(rt);
+        if self.metrics.is_due(self.rt) {
             self.tell_metrics(rt);
         }
     }
 
     /// Tells all that is left, at the end of all lives.
-    pub fn finish<W: Wait>(self, rt: &W) {
+    pub fn finish<W: Wait + Clock>(self, rt: &W) {
         let mut door = self;
         door.tell_changes(rt);
         door.tell_metrics(rt);
+        door.log.settle(rt);
+        door.tell_unwritten(rt);
     }
 
     /// Tells the changes of the member table that wait on the bulletin.
@@ -191,22 +196,33 @@ impl<'s, 'r, R: Files<File = File> + Net + Clock, D: Door + Drop, G: Sink + Drop
         }
     }
 
-    /// Writes the metrics' file, once something was counted. It tells once that it can't be written.
+    /// Has the metrics file written, once something was counted.
     fn tell_metrics<W: Wait>(&mut self, rt: &W)
         ensures { self.new ≡ self.old }
     {
-        let Some((measures, outside)) = self.counters.read(rt) else {
+        let Some(figures) = self.counters.figures(rt) else {
             return;
         };
-        if let Some(notice) = self.file.write(&measures, &outside) {
-            if self.counters.bulletin.count_unwritten() == 0 {
-                notice.tell_notice(self.rt, self.alloc, &mut self.log);
-            }
+        if let Some(path) = self.metrics.path_now(self.rt) {
+            self.log.hand_over(rt, path, figures);
+        }
+    }
+
+    /// Tells that the metrics file can't be written, the first time that it couldn't be.
+    fn tell_unwritten<W: Wait>(&mut self, rt: &W)
+        ensures { self.new ≡ self.old }
+    {
+        let (Some(why), Some(path)) = (self.log.fault(rt), self.metrics.path()) else {
+            return;
+        };
+        if self.counters.bulletin.count_unwritten() == 0 {
+            let notice = Notice::unwritten_metrics(self.rt, path, why.words());
+            notice.tell_notice(self.rt, self.alloc, &mut self.log);
         }
     }
 }
 
-impl<'s, 'r, R: Files<File = File> + Net + Clock, D: Door + Drop, G: Sink + Drop> Door
+impl<'s, 'r, R: Files<File = File> + Net + Clock, D: Door + Drop, G: Sink + Clerk + Drop> Door
     for TellingDoor<'s, 'r, R, D, G> {
     ghost faults = { λ d. D.faults d };
 
