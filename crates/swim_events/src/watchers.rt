@@ -94,14 +94,7 @@ impl Watcher {
         self.drop_sent(count)
     }
 
-    /// Whether the watcher keeps up: it was told all, or all is to be sent to it.
-    pub fn keeps_up(&self) -> bool
-        ensures { IsTrue result ↔ (self.now.standing ≡ WatcherStanding.Following) }
-    {
-        self.standing == WatcherStanding::Following
-    }
-
-    /// Whether it can't be told all any more.
+    /// Whether the watcher can't be told all any more.
     pub fn is_losing(&self) -> bool
         ensures { result ≡ is_behind self.now }
     {

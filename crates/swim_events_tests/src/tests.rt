@@ -227,7 +227,7 @@ fn tells_entries_to_all_of_them(rt: HostRuntime) -> Result<(), Fail> {
 
 // It was told 4,095 lines and of its loss, and it is over once all was sent.
 fn assert_lost<R: Abort>(rt: &R, slow: &mut Watcher) {
-    assert!(rt; !slow.keeps_up());
+    assert!(rt; slow.is_losing());
     assert!(rt; slow.pending().len() == 65_527);
     assert_same(
         rt,
