@@ -248,7 +248,7 @@ ends_long script rest left old mid new form budget after s c i kept =
 
 -- at one that goes past the size of a script
 pub ends_oversize : (script rest left : List ℕ) (old mid new : Option (List ℕ)) (form : Form) (budget : ℕ) (s : Played)
-    (c : Course script rest old mid form budget s) → IsOversize rest budget → Keeps mid new →
+    (c : Course script rest old mid form budget s) → IsOversize rest left budget → Keeps mid new →
     RunsTo script left old new (at_line (s.lines + 1) Size) Size
 ends_oversize script rest left old mid new form budget s c i kept =
     let before = lines_of c.turns in

@@ -32,7 +32,7 @@ before_next n script before more count cut =
     reverse-reverse before)
 
 -- one line more was read
-cut_more : (before : List (List ℕ)) (piece : List ℕ) (more : List (List ℕ)) →
+pub cut_more : (before : List (List ℕ)) (piece : List ℕ) (more : List (List ℕ)) →
     reverse before ++ (piece ∷ more) ≡ reverse (piece ∷ before) ++ more
 cut_more before piece more = sym (append_assoc (reverse before) (piece ∷ []) more) ∙
     ap (λ (lines : List (List ℕ)). lines ++ more) (sym (reverse_onto before piece []))

@@ -1,4 +1,5 @@
 pub mod Answered
+pub mod BytesRead
 pub mod CourseEnds
 pub mod Courses
 pub mod Digits

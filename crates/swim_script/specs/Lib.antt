@@ -5,6 +5,7 @@ pub mod Forms
 pub mod Headers
 pub mod Holds
 pub mod Outcomes
+pub mod Reads
 pub mod Script
 pub mod Texts
 pub mod FaultTexts

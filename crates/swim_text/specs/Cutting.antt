@@ -5,6 +5,7 @@ use Rattle.std.specs.Int.{from_bool}
 use Rattle.std.specs.List.{onto_first, flat_map}
 use Rattle.std.specs.Io.KnownBytes.{Keeps, Consumes, IsAtEnd}
 use Rattle.std.proofs.Common.{ap, sym, ◌∙◌, arith, append_assoc, append-nil, length-append}
+use Rattle.std.proofs.lemmas.List.{length-take, take-take}
 use Rattle.std.proofs.lemmas.List.Folds.{list_any-append}
 use Rattle.swim_text.specs.declared.lines.Taken.{Taken}
 use Rattle.swim_text.specs.declared.lines.Taken.TheVariants.{Line, Size, Failed, Unsent}
@@ -147,6 +148,17 @@ pub part_length : (part : List ℕ) (is_ended : Bool) → length (part ++ feed_i
     length part + from_bool is_ended
 part_length part true = length-append part (10 ∷ [])
 part_length part false = length-append part []
+
+-- a part of some of the bytes, the first ones, is a part of all
+pub part_of_front : (bytes part : List ℕ) (is_ended : Bool) (most : ℕ) → (0 < length bytes → 0 < most) →
+    IsPart (take most bytes) part is_ended → IsPart bytes part is_ended
+part_of_front bytes part is_ended most some is = record {
+  front = sym (take-take (length (part ++ feed_if is_ended)) most bytes
+      (omega (arith, is.fits, length-take most bytes))) ∙ is.front;
+  fits = omega (arith, is.fits, length-take most bytes);
+  some = λ any. is.some (omega (arith, any, some any, length-take most bytes));
+  within = is.within;
+}
 
 -- what a step does to the bytes taken: there are more of them, or the line has ended
 abbrev pub Steps : Option Taken → Option (List ℕ) → Option (List ℕ) → List ℕ → List ℕ → ℕ → ℕ → ℕ → ℕ → Bool → Bool →
@@ -311,9 +323,19 @@ ends (Some text) (Some rest) (Some more) line limit budget now is_long t e k =
 -- a part that goes past the budget, with its line feed where it has one
 past : (text rest more part : List ℕ) (budget now : ℕ) (is_ended : Bool) (taken : List ℕ) → text ≡ taken ++ rest →
     has_feed taken ≡ false → length taken + now ≡ budget
-    → rest ≡ (part ++ feed_if is_ended) ++ more → has_feed part ≡ false → now < length (part ++ feed_if is_ended) →
-    IsOversize text budget
-past text rest more part budget now is_ended taken cut within spent c e over = by is_ended c over
+    → rest ≡ (part ++ feed_if is_ended) ++ more → has_feed part ≡ false →
+    length (part ++ feed_if is_ended) ≡ now + 1 → IsOversize text more budget
+past text rest more part budget now is_ended taken cut within spent c e over =
+    let x = by is_ended c over in
+    record {
+      piece = x.piece;
+      more = x.more;
+      first = x.first;
+      over = x.over;
+      taken = taken ++ (part ++ feed_if is_ended);
+      whole = cut ∙ ap (λ l. taken ++ l) c ∙ sym (append_assoc taken (part ++ feed_if is_ended) more);
+      spent = omega (arith, length-append taken (part ++ feed_if is_ended), spent, over);
+    }
   where
     all : (tail : List ℕ) → rest ≡ part ++ tail → text ≡ (taken ++ part) ++ tail
     all tail c = cut ∙ ap (λ l. taken ++ l) c ∙ sym (append_assoc taken part tail)
@@ -321,7 +343,8 @@ past text rest more part budget now is_ended taken cut within spent c e over = b
     none : has_feed (taken ++ part) ≡ false
     none = has_feed_then taken part within e
 
-    by : (b : Bool) → rest ≡ (part ++ feed_if b) ++ more → now < length (part ++ feed_if b) → IsOversize text budget
+    by : (b : Bool) → rest ≡ (part ++ feed_if b) ++ more → length (part ++ feed_if b) ≡ now + 1 →
+        Exceeds (pieces text) budget
     by true c over = record {
       piece = (taken ++ part) ++ 10 ∷ [];
       more = pieces more;
@@ -348,7 +371,7 @@ past text rest more part budget now is_ended taken cut within spent c e over = b
         }
 
 pub oversteps : (line final part : List ℕ) (is_ended : Bool) (limit now after : ℕ) (was_long is_long : Bool) →
-    has_feed part ≡ false → now < length (part ++ feed_if is_ended)
+    has_feed part ≡ false → length (part ++ feed_if is_ended) ≡ now + 1
     → TakesPart (Some Size) part is_ended line final limit now after was_long is_long
 oversteps line final part is_ended limit now after was_long is_long e over mid new budget c None t = tt
 oversteps line final part is_ended limit now after was_long is_long e over None new budget c (Some text) t = absurd t

@@ -5,6 +5,7 @@ pub mod Memory
 pub mod Numbers
 pub mod Parts
 pub mod Polled
+pub mod Reads
 pub mod ShortLines
 pub mod Streams
 pub mod TwoPuts

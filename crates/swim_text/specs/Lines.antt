@@ -37,12 +37,15 @@ pub record IsLong (text rest : List ℕ) (limit budget after : ℕ) : Type 0 whe
   pub long : limit < length (bare piece)
   pub spent : length piece + after ≡ budget
 
--- the text begins with a line that goes past the budget of bytes
-pub record IsOversize (text : List ℕ) (budget : ℕ) : Type 0 where
+-- the text begins with a line that goes past the budget of bytes, of which one byte more was taken
+pub record IsOversize (text rest : List ℕ) (budget : ℕ) : Type 0 where
   pub piece : List ℕ
   pub more : List (List ℕ)
   pub first : pieces text ≡ piece ∷ more
   pub over : budget < length piece
+  pub taken : List ℕ
+  pub whole : text ≡ taken ++ rest
+  pub spent : length taken ≡ budget + 1
 
 -- some bytes of the first line were taken, and not its line feed
 pub record IsCutShort (text rest : List ℕ) (budget after : ℕ) : Type 0 where
@@ -55,7 +58,7 @@ pub record IsCutShort (text rest : List ℕ) (budget after : ℕ) : Type 0 where
 abbrev pub Takes : Taken → List ℕ → List ℕ → List ℕ → ℕ → ℕ → ℕ → Type 0
 Takes Line text rest line limit budget after = IsLine text rest line limit budget after
 Takes Long text rest line limit budget after = IsLong text rest limit budget after
-Takes Size text rest line limit budget after = IsOversize text budget
+Takes Size text rest line limit budget after = IsOversize text rest budget
 Takes Over text rest line limit budget after = (text ≡ []) × (rest ≡ []) × (after ≡ budget)
 Takes Failed text rest line limit budget after = IsCutShort text rest budget after
 Takes Unsent text rest line limit budget after = IsCutShort text rest budget after

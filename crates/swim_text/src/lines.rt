@@ -1,7 +1,7 @@
 //! Lines of a source.
 
-ghost use Rattle.std.specs.Prelude.{◌≡◌, ℕ, ◌<◌, ◌≤◌, ◌++◌, length, false, None as none, Some as some, is_some, IfSome};
-ghost use Rattle.std.specs.Prelude.{IfNone};
+ghost use Rattle.std.specs.Prelude.{◌≡◌, ℕ, ◌+◌, ◌<◌, ◌≤◌, ◌++◌, length, false, None as none, Some as some, is_some};
+ghost use Rattle.std.specs.Prelude.{IfSome, IfNone};
 ghost use Rattle.std.specs.Io.KnownBytes.{Keeps};
 ghost use Rattle.swim_text.specs.Streams.{Gives, failures_then, failures_if};
 ghost use Rattle.swim_text.specs.Lines.{TakesKnown, has_feed, ended, failures_read, failures_sent};
@@ -33,8 +33,9 @@ pub enum Taken {
 }
 
 /// Reads the next line into `line`, without its line feed. What follows the last line feed is a line if it has a
-/// byte. Each byte of the line, with its line feed, lowers the budget by one. Before each read that may wait for the
-/// outside, the writer is flushed, so that whoever sits at the other end sees every answer first.
+/// byte. Each byte of the line, with its line feed, lowers the budget by one, and of a line that goes past it one byte
+/// more is read. Before each read that may wait for the outside, the writer is flushed, so that whoever sits at the
+/// other end sees every answer first.
 ///
 /// What `line` holds is told at `Taken::Line` alone.
 pub fn next_line<R: Source, W: Sink, const LIMIT: usize>(
@@ -88,11 +89,21 @@ fn read_ready<R: Source, const LIMIT: usize>(
     ensures not_over { ¬ (result ≡ some Taken.Over) }
     ensures not_failed { ¬ (result ≡ some Taken.Failed) }
 {
-    let (part, is_ended) = first_part(reader.ready());
+    let (part, is_ended) = part_within(reader.ready(), *budget);
     let count = part.len() + usize::from(is_ended);
     let met = take_part(line, is_long, budget, part, is_ended);
     reader.skip(count);
     met
+}
+
+/// The first line of some bytes without its line feed, and whether it has one; of a line that goes past the budget, as
+/// much as shows that.
+fn part_within(bytes: &[u8], budget: u32) -> (&[u8], bool)
+    ensures part { IsPart bytes.now result.0.now result.1 }
+    ensures within { length (result.0.now ++ feed_if result.1) ≤ budget + 1 }
+{
+    let most = bytes.len().min(budget as usize + 1);
+    first_part(&bytes[..most])
 }
 
 /// The first line of some bytes without its line feed, and whether it has one.
@@ -146,7 +157,8 @@ fn take_part<const LIMIT: usize>(
     part: &[u8],
     is_ended: bool,
 ) -> Option<Taken>
-    requires { has_feed part.now ≡ false }
+    requires unfed { has_feed part.now ≡ false }
+    requires within { length (part.now ++ feed_if is_ended) ≤ budget.old + 1 }
     ensures takes { TakesPart result part.now is_ended
         line.old.items line.new.items LIMIT budget.old budget.new is_long.old is_long.new }
     ensures reads { (n : ℕ) → failures_met failures_read n result ≡ n }

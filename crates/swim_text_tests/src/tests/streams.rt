@@ -123,6 +123,17 @@ fn refuses_lines(rt: HostRuntime) {
     assert_refused(&rt, &mut page, b"ab\nabcde\n", 8, Taken::Size);
 }
 
+// Of a line that is too large one byte more is read than it may have, also where more of them are ready.
+#[test]
+fn leaves_what_a_large_line_has_beyond(rt: HostRuntime) {
+    let mut source = Text::new(b"abcdef\n");
+    let mut page = Page::new(rt.alloc());
+    let mut line = ArrayVec::<u8, 9>::new();
+    let mut budget = 3;
+    assert!(rt; next_line(&mut source, &mut page, &mut line, &mut budget) == Taken::Size);
+    assert!(rt; source.byte() == Byte::One(b'e'));
+}
+
 #[test]
 fn tells_failures_in_mid_stream(rt: HostRuntime) {
     let mut source = Text::failing_after(b"ab\ncd", 4);

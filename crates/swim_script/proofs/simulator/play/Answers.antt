@@ -1,6 +1,6 @@
 use Rattle.std.proofs.Common.{ℕ, ◌+◌, ◌-◌, List, Err, refl, sym, ap, subst, ◌∙◌, arith}
 use Rattle.swim_text.specs.Lines.{TakesKnown}
-use Rattle.swim_text.specs.declared.lines.Taken.TheVariants.{Line}
+use Rattle.swim_text.specs.declared.lines.Taken.TheVariants.{Line, Long, Size, Over, Failed, Unsent}
 use Rattle.swim_script.specs.declared.faults.ScriptFault.{ScriptFault}
 use Rattle.swim_script.specs.declared.forms.Form.TheVariants.{Script}
 use Rattle.swim_script.specs.Script.{RunsKnown}
@@ -9,6 +9,7 @@ use Rattle.swim_script.specs.Forms.{form_after}
 use Rattle.swim_script.specs.Holds.{Played, CourseKnown}
 use Rattle.swim_script.proofs.Known.{start_known, next_known, stop_known, long_known, oversize_known, unread_known}
 use Rattle.swim_script.proofs.Known.{unsent_known, ending_known, passed_on, left_known, left_at_fault}
+use Rattle.swim_script.proofs.BytesRead.{reads_known}
 use Rattle.swim_script.proofs.simulator.play.Goals as goal
 
 pub loop-session-init : goal.loop-session-init
@@ -141,3 +142,51 @@ returns-in-Over-clause-leaves g c =
     (g.W.Sink.written c.loop-session.writer) (g.W.Sink.written c.next_line.new.writer)
     c.next_line.new.line.items c.loop-session.form c.loop-session.budget c.next_line.new.budget c.loop-session.session
     c.end.result c.loop-session.invariant.course c.in-Over.ensures.takes c.in-Over.ensures.kept
+
+pub returns-in_err-turn-in-Line-clause-within : goal.returns-in_err-turn-in-Line-clause-within
+returns-in_err-turn-in-Line-clause-within g c =
+    reads_known Line (g.R.Source.left c.args.reader.now) (g.R.Source.left c.loop-session.reader)
+    (g.R.Source.left c.next_line.new.reader) (g.W.Sink.written c.args.writer.now)
+    (g.W.Sink.written c.loop-session.writer) c.next_line.new.line.items c.loop-session.form 2048
+    c.loop-session.budget c.next_line.new.budget c.loop-session.session c.loop-session.invariant.course
+    c.in-Line.ensures.takes
+
+pub returns-in-Over-clause-within : goal.returns-in-Over-clause-within
+returns-in-Over-clause-within g c =
+    reads_known Over (g.R.Source.left c.args.reader.now) (g.R.Source.left c.loop-session.reader)
+    (g.R.Source.left c.next_line.new.reader) (g.W.Sink.written c.args.writer.now)
+    (g.W.Sink.written c.loop-session.writer) c.next_line.new.line.items c.loop-session.form 2048
+    c.loop-session.budget c.next_line.new.budget c.loop-session.session c.loop-session.invariant.course
+    c.in-Over.ensures.takes
+
+pub returns-in-Long-clause-within : goal.returns-in-Long-clause-within
+returns-in-Long-clause-within g c =
+    reads_known Long (g.R.Source.left c.args.reader.now) (g.R.Source.left c.loop-session.reader)
+    (g.R.Source.left c.next_line.new.reader) (g.W.Sink.written c.args.writer.now)
+    (g.W.Sink.written c.loop-session.writer) c.next_line.new.line.items c.loop-session.form 2048
+    c.loop-session.budget c.next_line.new.budget c.loop-session.session c.loop-session.invariant.course
+    c.in-Long.ensures.takes
+
+pub returns-in-Size-clause-within : goal.returns-in-Size-clause-within
+returns-in-Size-clause-within g c =
+    reads_known Size (g.R.Source.left c.args.reader.now) (g.R.Source.left c.loop-session.reader)
+    (g.R.Source.left c.next_line.new.reader) (g.W.Sink.written c.args.writer.now)
+    (g.W.Sink.written c.loop-session.writer) c.next_line.new.line.items c.loop-session.form 2048
+    c.loop-session.budget c.next_line.new.budget c.loop-session.session c.loop-session.invariant.course
+    c.in-Size.ensures.takes
+
+pub returns-in-Failed-clause-within : goal.returns-in-Failed-clause-within
+returns-in-Failed-clause-within g c =
+    reads_known Failed (g.R.Source.left c.args.reader.now) (g.R.Source.left c.loop-session.reader)
+    (g.R.Source.left c.next_line.new.reader) (g.W.Sink.written c.args.writer.now)
+    (g.W.Sink.written c.loop-session.writer) c.next_line.new.line.items c.loop-session.form 2048
+    c.loop-session.budget c.next_line.new.budget c.loop-session.session c.loop-session.invariant.course
+    c.in-Failed.ensures.takes
+
+pub returns-in-Unsent-clause-within : goal.returns-in-Unsent-clause-within
+returns-in-Unsent-clause-within g c =
+    reads_known Unsent (g.R.Source.left c.args.reader.now) (g.R.Source.left c.loop-session.reader)
+    (g.R.Source.left c.next_line.new.reader) (g.W.Sink.written c.args.writer.now)
+    (g.W.Sink.written c.loop-session.writer) c.next_line.new.line.items c.loop-session.form 2048
+    c.loop-session.budget c.next_line.new.budget c.loop-session.session c.loop-session.invariant.course
+    c.in-Unsent.ensures.takes

@@ -4,4 +4,4 @@ use Rattle.swim_text.proofs.lines.read_ready.Goals as goal
 pub returns-clause-spends : goal.returns-clause-spends
 returns-clause-spends g c =
     λ none. c.take_part-met.ensures.spends none
-    (c.first_part-is_ended.ensures.some (omega (arith, ap length c.ready.ensures.bytes, c.requires)))
+    (c.part_within-is_ended.ensures.part.some (omega (arith, ap length c.ready.ensures.bytes, c.requires)))

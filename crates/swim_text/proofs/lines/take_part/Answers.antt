@@ -6,8 +6,8 @@ pub returns-then-count-budget-clause-takes : goal.returns-then-count-budget-clau
 returns-then-count-budget-clause-takes g c =
     let line = c.args.line.now.items in
     oversteps line line c.args.part.now c.args.is_ended g.row.LIMIT c.args.budget.now c.args.budget.now
-    c.args.is_long.now c.args.is_long.now c.requires
-    (omega (arith, part_length c.args.part.now c.args.is_ended, c.from.ensures))
+    c.args.is_long.now c.args.is_long.now c.requires.unfed
+    (omega (arith, part_length c.args.part.now c.args.is_ended, c.from.ensures, c.requires.within))
 
 pub returns-then-is_ended-clause-takes : goal.returns-then-is_ended-clause-takes
 returns-then-is_ended-clause-takes g c =
@@ -16,4 +16,4 @@ returns-then-is_ended-clause-takes g c =
     let one = rw c.if-is_ended.true at c.from.ensures in
     rw (c.if-is_ended.true, c.at_end.ensures, one)
     (comes_to_feed c.args.line.now.items c.keep.new.line.items part g.row.LIMIT c.args.budget.now after
-    c.args.is_long.now c.keep.result c.requires (omega (arith, one)) c.keep.ensures)
+    c.args.is_long.now c.keep.result c.requires.unfed (omega (arith, one)) c.keep.ensures)
