@@ -14,7 +14,8 @@ use Rattle.swim_rejoin.specs.Knockers.{Kept, Follows}
 use Rattle.swim_rejoin.specs.Knocking.{knocked_by, ping_of}
 use Rattle.swim_work.specs.Posts.{ArePosted, AtSender, IsFresh, Posted, starts_in}
 
--- what a look at the member table shows: a table of the node; or nothing, where nobody looks or the node is closed
+-- what a look at the member table shows: a table that some changes make of the opening, of which isn't said that they
+-- are the journal's; or nothing, where nobody looks or the node is closed
 abbrev pub IsLook : Setting → List Row → Type 0
 IsLook o rows = (rows ≡ []) ⊎ ((log : List Change) × (rows ≡ table_after o log))
 

@@ -17,7 +17,8 @@ use Rattle.swim_work.specs.Calling.{Hears, IsMessage, Joins}
 use Rattle.swim_work.specs.Posts.{AtSender}
 use Rattle.swim_life.specs.declared.rejoining.Returning.{Returning}
 
--- what the receiver learns between two datagrams: a table of the node, or a knock that the ticker told it of
+-- what the receiver learns between two datagrams: a table that some changes make of the opening, or that somebody was
+-- knocked at; of neither is said that it is the node's
 abbrev pub IsNews : Setting → Event → Type 0
 IsNews o (Looked rows) = (log : List Change) × (rows ≡ table_after o log)
 IsNews o (Knocked id number) = Unit {0}
