@@ -1,6 +1,6 @@
 -- The line of an event reads back as the event.
-use Rattle.std.proofs.Common.{◌≡◌, ℕ, ◌-◌, ◌<◌, ◌^◌, false, List, [], ◌∷◌, ◌++◌, map, Ok, codes, decimal, refl, sym, ap, ◌∙◌}
-use Rattle.std.proofs.Common.{arith, append_assoc}
+use Rattle.std.proofs.Common.{◌≡◌, ℕ, ◌-◌, ◌<◌, ◌^◌, false, List, [], ◌∷◌, ◌++◌, map, Ok, codes, decimal}
+use Rattle.std.proofs.Common.{refl, sym, ap, ◌∙◌, arith, append_assoc}
 use Rattle.swim_text.specs.Cutting.{pieces_at, bare_at}
 use Rattle.swim_text.specs.Lines.{pieces, bare, has_feed}
 use Rattle.swim_text.specs.Numbers.{number_read, positive_read}
