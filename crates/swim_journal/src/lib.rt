@@ -12,4 +12,4 @@ pub use headings::put_header;
 pub use lines::put_call;
 pub use naming::PageNaming;
 pub use scribe::Scribe;
-pub use writing::{STEP_CALLS, put_kept};
+pub use writing::{STEP_CALLS, put_kept, put_unless_cut};

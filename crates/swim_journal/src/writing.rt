@@ -28,8 +28,8 @@ pub fn put_kept<W: Sink>(writer: &mut W, kept: &Kept) -> bool
     put_answer(writer, kept.position, &kept.reply)
 }
 
-/// The same, as long as the sink took all: once it failed, nothing more is written.
-pub(crate) fn put_unless_cut<W: Sink>(writer: &mut W, is_whole: bool, kept: &Kept) -> bool
+/// The lines of an answered call, as long as the sink took all: once it failed, nothing more is written.
+pub fn put_unless_cut<W: Sink>(writer: &mut W, is_whole: bool, kept: &Kept) -> bool
     ensures bytes { is_whole ≡ true → Puts (W.written writer.old) (W.written writer.new) (kept_text kept.now) result }
     ensures failures { is_whole ≡ true → W.failures writer.new ≡ failures_if (W.failures writer.old) result }
     ensures cut { is_whole ≡ false → (result ≡ false) × (writer.new ≡ writer.old) }

@@ -1,9 +1,6 @@
 -- Those who watch a life, as its journal is read and as bytes are sent, and the reporter who hears of it.
-use Rattle.std.proofs.Common.{◌≡◌, ◌⊎◌, inl, inr, ℕ, ◌==◌, Bool, true, false, List, [], ◌∷◌, ◌++◌, length, MatchBool}
-use Rattle.std.proofs.Common.{Option, refl, sym}
-use Rattle.std.proofs.Common.{ap, subst, ◌∙◌, eqb-true}
+use Rattle.std.proofs.Common.{◌≡◌, ℕ, List, [], ◌∷◌, ◌++◌, Option, refl, sym, ap, subst, ◌∙◌}
 use Rattle.std.proofs.lemmas.List.{same_from_push}
-use mathlib.Core.List.{IsPrefix}
 use Rattle.swim_history.specs.declared.rows.Change.{Change}
 use Rattle.swim_history.specs.declared.rows.Row.{Row}
 use Rattle.swim_history.specs.declared.entries.Entry.{Entry}
@@ -19,51 +16,12 @@ use Rattle.swim_events.specs.Watched.{Lived, lived_on}
 use Rattle.swim_events.specs.Watching.{Known, known}
 use Rattle.swim_work.specs.Posts.{Grows}
 use Rattle.swim_work.proofs.Posting.{grows_both}
-use Rattle.swim_life.specs.Reports.{Report, Began, Called, HearsOf, life_reports}
+use Rattle.swim_life.specs.Reports.{Report, Began, Called, life_reports}
 use Rattle.swim_life.specs.Watched.{AreToldLife, AreToldOn, Tells, TellsAll, lived}
 
 not_empty : {A : Type 0} (xs : List A) (x : A) → [] ≡ xs ++ x ∷ [] → ⊥
 not_empty [] x is = cc is
 not_empty (y ∷ xs) x is = cc is
-
--- what begins a list with one more at its end begins the list, or is all of it
-begins_push : {A : Type 0} (read xs : List A) (x : A) → IsPrefix read (xs ++ x ∷ []) →
-    IsPrefix read xs ⊎ (read ≡ xs ++ x ∷ [])
-begins_push [] xs x p = inl (xs, refl)
-begins_push (y ∷ []) [] x p = inr (cc (p.1))
-begins_push (y ∷ z ∷ read) [] x p = absurd (cc (p.1))
-begins_push (y ∷ read) (z ∷ xs) x p =
-    let heads : y ≡ z = cc (p.1) in
-    elim (begins_push read xs x (p.0, cc (p.1))) [
-      | inl q ↦ inl (q.0, cc (heads, q.1))
-      | inr same ↦ inr (cc (heads, same))
-    ]
-
--- a history of which these calls were read
-record IsPart (h : List Entry) (read : List Filing) : Type 0 where
-  newer : List Entry
-  before : List Entry
-  cut : h ≡ newer ++ before
-  are : filings_of before ≡ read
-
--- what begins the calls of a history are the calls of a beginning of it
-part_of : (h : List Entry) (read : List Filing) → IsPrefix read (filings_of h) → IsPart h read
-part_of [] [] p = record { newer = []; before = []; cut = refl; are = refl }
-part_of [] (f ∷ read) p = absurd (cc (p.1))
-part_of (e ∷ h) read p = elim (begins_push read (filings_of h) (filing_of h e) p) [
-  | inl q ↦
-      (let was = part_of h read q in record {
-        newer = e ∷ was.newer;
-        before = was.before;
-        cut = ap (λ l. e ∷ l) was.cut;
-        are = was.are;
-      })
-  | inr same ↦ record { newer = []; before = e ∷ h; cut = refl; are = sym same }
-]
-
-run_before : (o : Setting) (newer before : List Entry) → IsRun o (newer ++ before) → IsRun o before
-run_before o [] before run = run
-run_before o (e ∷ newer) before run = run_before o newer before run.1
 
 -- nothing was read
 pub none_told : (o : Setting) (guests : List AtGuest) (heard hears : Option (List Report)) (read : List Filing)
@@ -154,32 +112,6 @@ sent_told o guests heard hears read w were now told tells =
       told = λ number older first. told (lived number o h ∷ older) (was.told number older first);
       reported = was.reported;
     }
-
--- all was read of a life that is over; or else nobody watches any more
-pub whole_told : (all : Bool) (o : Setting) (guests : List AtGuest) (heard hears : Option (List Report))
-    (read : List Filing)
-    (w : Known) (were now : List AtGuest) (h : List Entry) → TellsAll o guests heard read w were hears → IsSetting o →
-    IsRun o h → (length read ≡ length h → read ≡ filings_of h) → all ≡ (length read == length h) →
-    MatchBool all (now ≡ were) (now ≡ []) → AreToldOn o guests h now
-whole_told false o guests heard hears read w were now h tells s run whole all are = λ number older first. rw are tt
-whole_told true o guests heard hears read w were now h tells s run whole all are =
-    λ number older first.
-    rw are ((tells h s run (sym (whole (eqb-true (length read) (length h) (sym all))))).told number older first)
-
--- what the reporter heard of a life of which so much was read
-pub whole_heard : (all : Bool) (o : Setting) (guests : List AtGuest) (heard hears : Option (List Report))
-    (read : List Filing)
-    (w : Known) (were : List AtGuest) (h : List Entry) → TellsAll o guests heard read w were hears → IsSetting o →
-    IsRun o h → IsPrefix read (filings_of h) → (length read ≡ length h → read ≡ filings_of h) →
-    all ≡ (length read == length h) → HearsOf all o h heard hears
-whole_heard true o guests heard hears read w were h tells s run front whole all =
-    (tells h s run (sym (whole (eqb-true (length read) (length h) (sym all))))).reported
-whole_heard false o guests heard hears read w were h tells s run front whole all =
-    let part = part_of h read front in
-    let was =
-    tells part.before s (run_before o part.newer part.before (subst (λ (l : List Entry). IsRun o l) part.cut run))
-    part.are in
-    record { newer = part.newer; before = part.before; cut = part.cut; heard = was.reported }
 
 -- a life that began with its line
 pub life_told : (number : ℕ) (o opening : Setting) (old put named now : List AtGuest) (h : List Entry) → opening ≡ o →

@@ -12,7 +12,7 @@ use Rattle.swim_life.specs.declared.lives.LivesEnd.TheVariants as life_ends
 use Rattle.swim_life.specs.declared.pasts.Past.{Past}
 use Rattle.swim_life.specs.Endings.{TellsLife, TellsText, Written, stopped_text}
 use Rattle.swim_life.specs.Lives.{IsDrawnLife, TellsEnd, end_after, end_without, number_after}
-use Rattle.swim_life.specs.Reports.{Report, HearsLives, HearsOf}
+use Rattle.swim_life.specs.Reports.{Report, HasHeardOf, HearsLives}
 use Rattle.swim_life.specs.Watched.{AreToldLife, lived as life_of}
 use Rattle.swim_life.specs.Watching.{AreWatched, told_lives}
 use Rattle.swim_life.proofs.Living.{HaveLived, none_lived, one_more_lived, last_lived, last_stopped, last_opened}
@@ -44,12 +44,12 @@ told_more number next lives past mid now number_is opening_is told are =
     (told (told_lives lives) are))
 
 heard_more : (next : Setting) (lives : List Past) (past : Past) (heard mid hears : Option (List Report)) →
-    past.journal.opening ≡ next → HearsOf past.is_read next past.journal.past mid hears → HearsLives lives heard mid →
+    past.journal.opening ≡ next → HasHeardOf next past.journal.past mid hears → HearsLives lives heard mid →
     HearsLives (past ∷ lives) heard hears
 heard_more next lives past heard mid hears opening_is of_it are = (
   mid,
   are,
-  subst (λ o. HearsOf past.is_read o past.journal.past mid hears) (sym opening_is) of_it,
+  subst (λ o. HasHeardOf o past.journal.past mid hears) (sym opening_is) of_it,
 )
 
 pub one_more_watched : (first : Setting) (limit : ℕ) (seed : List ℕ) (next after : Setting) (number count : ℕ)
@@ -57,7 +57,7 @@ pub one_more_watched : (first : Setting) (limit : ℕ) (seed : List ℕ) (next a
     (past : Past) →
     HaveWatched first limit seed next number old mid before there heard between →
     IsDrawnLife next limit seed number past →
-    AreToldLife number next there past.journal.past now → HearsOf past.is_read next past.journal.past between hears →
+    AreToldLife number next there past.journal.past now → HasHeardOf next past.journal.past between hears →
     end_after past.why ≡ None → past.is_stopped ≡ false → TellsLife number past mid new →
     after ≡ setting_after past.journal.opening past.journal.past → count ≡ min (number + 1) (2 ^ 64 - 1) →
     HaveWatched first limit seed after count old new before now heard hears
@@ -76,7 +76,7 @@ pub last_watched : (first : Setting) (limit : ℕ) (seed : List ℕ) (next : Set
     (before there now : List AtGuest) (heard between hears : Option (List Report)) (past : Past) (end : LivesEnd) →
     HaveWatched first limit seed next number old mid before there heard between →
     IsDrawnLife next limit seed number past →
-    AreToldLife number next there past.journal.past now → HearsOf past.is_read next past.journal.past between hears →
+    AreToldLife number next there past.journal.past now → HasHeardOf next past.journal.past between hears →
     end_after past.why ≡ Some end → TellsLife number past mid new →
     AreWatched first limit seed old new end before now heard hears
 unfolding last_lived
@@ -93,7 +93,7 @@ pub stopped_watched : (first : Setting) (limit : ℕ) (seed : List ℕ) (next : 
     (before there now : List AtGuest) (heard between hears : Option (List Report)) (past : Past) →
     HaveWatched first limit seed next number old mid before there heard between →
     IsDrawnLife next limit seed number past →
-    AreToldLife number next there past.journal.past now → HearsOf past.is_read next past.journal.past between hears →
+    AreToldLife number next there past.journal.past now → HasHeardOf next past.journal.past between hears →
     end_after past.why ≡ None → past.is_stopped ≡ true → TellsLife number past mid told →
     TellsText stopped_text told new →
     AreWatched first limit seed old new life_ends.Stopped before now heard hears
@@ -111,7 +111,7 @@ pub ended_watched : (first : Setting) (limit : ℕ) (seed : List ℕ) (next : Se
     (before there now : List AtGuest) (heard between hears : Option (List Report)) (past : Past) (end : LivesEnd) →
     HaveWatched first limit seed next number old mid before there heard between →
     IsDrawnLife next limit seed number past →
-    AreToldLife number next there past.journal.past now → HearsOf past.is_read next past.journal.past between hears →
+    AreToldLife number next there past.journal.past now → HasHeardOf next past.journal.past between hears →
     TellsEnd number past mid new (Some end) → AreWatched first limit seed old new end before now heard hears
 ended_watched first limit seed next number old mid new before there now heard between hears past end so is told of_it
     (inl (line, ends)) =

@@ -1,4 +1,5 @@
 pub mod Boxed
+pub mod Cried
 pub mod Crying
 pub mod Fullness
 pub mod Heard
@@ -8,8 +9,8 @@ pub mod LifeFiles
 pub mod Living
 pub mod Receiving
 pub mod Rejoined
+pub mod Rounds
 pub mod Same
 pub mod Sent
 pub mod Showing
 pub mod Told
-pub mod Written

@@ -12,7 +12,7 @@ use Rattle.swim_journal.specs.Replays.{IsDrawnRun, IsJournalFile}
 use Rattle.swim_life.specs.declared.pasts.Past.{Past}
 use Rattle.swim_life.specs.Draws.{WasDrawn}
 use Rattle.swim_life.specs.Lives.{IsLife, IsDrawnLife}
-use Rattle.swim_life.specs.Reports.{Report, HearsOf}
+use Rattle.swim_life.specs.Reports.{Report, HasHeardOf}
 use Rattle.swim_events.specs.Guests.{AtGuest}
 use Rattle.swim_life.specs.Watched.{AreToldLife}
 use Rattle.swim_life.specs.Written.{IsFile, IsWritten}
@@ -75,10 +75,10 @@ told_with_cut number opening before after past new cut same is =
     subst (λ (p : Past). AreToldLife number opening before p.journal.past after) (sym same) is
 
 pub heard_with_cut : (opening : Setting) (heard hears : Option (List Report)) (past new : Past) (cut : Bool) →
-    new ≡ record past { is_cut = cut } → HearsOf past.is_read opening past.journal.past heard hears →
-    HearsOf new.is_read opening new.journal.past heard hears
+    new ≡ record past { is_cut = cut } → HasHeardOf opening past.journal.past heard hears →
+    HasHeardOf opening new.journal.past heard hears
 heard_with_cut opening heard hears past new cut same is =
-    subst (λ (p : Past). HearsOf p.is_read opening p.journal.past heard hears) (sym same) is
+    subst (λ (p : Past). HasHeardOf opening p.journal.past heard hears) (sym same) is
 
 pub same_but_cut : (past new : Past) (cut : Bool) → new ≡ record past { is_cut = cut } →
     new ≡ record past { is_cut = new.is_cut }

@@ -1,3 +1,4 @@
+pub mod Closing
 pub mod Desk
 pub mod Draws
 pub mod Endings
@@ -12,6 +13,7 @@ pub mod Places
 pub mod Posts
 pub mod Rejoining
 pub mod Reports
+pub mod Rounds
 pub mod Showing
 pub mod Turns
 pub mod Watched

@@ -1,5 +1,5 @@
 -- What a reporter hears of lives.
-use Rattle.std.specs.Prelude.{◌≡◌, Bool, true, false, List, [], ◌∷◌, ◌++◌, Option}
+use Rattle.std.specs.Prelude.{List, [], ◌∷◌, ◌++◌, Option}
 use Rattle.swim_history.specs.declared.rows.Change.{Change}
 use Rattle.swim_history.specs.declared.entries.Entry.{Entry}
 use Rattle.swim_history.specs.Changes.{change_by}
@@ -27,21 +27,9 @@ life_reports o (e ∷ before) =
 abbrev pub HasHeardOf : Setting → List Entry → Option (List Report) → Option (List Report) → Type 0
 HasHeardOf o h old new = Grows old new (life_reports o h)
 
--- the same of a beginning of this history
-pub record HasHeardPart (o : Setting) (h : List Entry) (old new : Option (List Report)) : Type 0 where
-  pub newer : List Entry
-  pub before : List Entry
-  pub cut : h ≡ newer ++ before
-  pub heard : HasHeardOf o before old new
-
--- it heard of all its calls, where all were read
-abbrev pub HearsOf : Bool → Setting → List Entry → Option (List Report) → Option (List Report) → Type 0
-HearsOf true o h old new = HasHeardOf o h old new
-HearsOf false o h old new = HasHeardPart o h old new
-
 -- it heard of lives, the newest first
 abbrev pub HearsLives : List Past → Option (List Report) → Option (List Report) → Type 0
 HearsLives [] old new = Grows old new []
 HearsLives (past ∷ before) old new =
     (mid : Option (List Report)) × HearsLives before old mid
-    × HearsOf past.is_read past.journal.opening past.journal.past mid new
+    × HasHeardOf past.journal.opening past.journal.past mid new

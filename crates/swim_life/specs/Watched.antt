@@ -1,5 +1,5 @@
 -- What those are told who watch lives.
-use Rattle.std.specs.Prelude.{◌≡◌, ℕ, List, [], ◌∷◌, Option}
+use Rattle.std.specs.Prelude.{◌≡◌, ℕ, List, [], ◌∷◌, ◌++◌, Option}
 use Rattle.swim_history.specs.declared.entries.Entry.{Entry}
 use Rattle.swim_history.specs.Run.{IsRun}
 use Rattle.swim_history.specs.Setting.{Setting, IsSetting}
@@ -41,6 +41,21 @@ abbrev pub TellsAll : Setting → List AtGuest → Option (List Report) → List
     Option (List Report) → Type 0
 TellsAll o guests heard read w now hears =
     (h : List Entry) → IsSetting o → IsRun o h → filings_of h ≡ read → Tells o h guests heard w now hears
+
+-- whoever was told of some calls of a life stays so: what is known before and after, who watches, and what the reporter
+-- has heard
+abbrev pub StayTold : Known → List AtGuest → Option (List Report) → Known → List AtGuest → Option (List Report) →
+    Type 0
+StayTold w were hears v are hears_then =
+    (o : Setting) (guests : List AtGuest) (heard : Option (List Report)) (read : List Filing) →
+    TellsAll o guests heard read w were hears → TellsAll o guests heard read v are hears_then
+
+-- and is told of these calls after them
+abbrev pub AreToldMore : Known → List AtGuest → Option (List Report) → List Filing → Known → List AtGuest →
+    Option (List Report) → Type 0
+AreToldMore w were hears more v are hears_then =
+    (o : Setting) (guests : List AtGuest) (heard : Option (List Report)) (read : List Filing) →
+    TellsAll o guests heard read w were hears → TellsAll o guests heard (read ++ more) v are hears_then
 
 -- what a contract sees of who reads a journal, writes it and tells what it changes
 pub record AtCrier (W Y : Type 0) : Type 0 where

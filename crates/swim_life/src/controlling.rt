@@ -1,9 +1,11 @@
 //! The controller, the third of a life's workers: it serves the connections of a hall, each in its turn.
 
-ghost use Rattle.std.specs.Prelude.{◌≡◌, ◌↔◌, ◌<◌, true, Some, Err, IfErr, IfSome};
+ghost use Rattle.std.specs.Prelude.{◌≡◌, ◌↔◌, ◌<◌, ℕ, true, Some, Err, IfErr, IfSome};
 ghost use Rattle.std.specs.Option.{unwrap_or};
+ghost use Rattle.swim_life.specs.Desk.{Asks};
 ghost use Rattle.swim_life.specs.Ends.{IsOfConnection, end_of, why_at};
 ghost use Rattle.swim_life.specs.Faults.{AsksDoor, ServesNext, ShutsOut};
+ghost use Rattle.swim_life.specs.Rounds.{EndsByTurns, HaveTurns, WasToldToStop};
 
 use crate::gates::{Door, Knock};
 use crate::halls::Hall;
@@ -22,7 +24,8 @@ use swim_work::{Faults, Meter, Why};
 const ROUNDS: u32 = 16;
 
 /// The controller: takes in who comes, and serves all connections side by side. No reply to a control line sends a
-/// datagram.
+/// datagram. It is told to stop by a connection alone, with its newest turn.
+#[tactic(auto, using(crate::proofs::Rounds::stopped_by_turns))]
 pub(crate) fn control<N: Naming, H: Wait + Drop, R: Wait, D: Door + Drop, K: Speaker>(
     rt: &R,
     alloc: Global,
@@ -33,7 +36,10 @@ pub(crate) fn control<N: Naming, H: Wait + Drop, R: Wait, D: Door + Drop, K: Spe
     speaker: &K,
     hall: &mut Hall<D>,
     meter: &Meter,
-) -> Left<N, 2> {
+) -> Left<N, 2>
+    ensures stopped { result.is_stopped ≡ true
+        → WasToldToStop (Asks N.opening N.limit) hall.new.connections.talks }
+{
     let mut desk = NodeDesk::new(node, held, viewer, speaker);
     let end = serve_on(rt, alloc, over, &mut desk, hall, meter);
     desk.show(meter);
@@ -51,6 +57,7 @@ fn serve_on<N: Naming, H: Wait + Drop, R: Wait, D: Door + Drop, K: Speaker>(
     meter: &Meter,
 ) -> Option<Why>
     ensures full { result ≡ Some Why.JournalFull → 0 < desk.new.seat.full }
+    ensures turns { EndsByTurns (Asks N.opening N.limit) hall.new.connections.talks desk.new result }
 {
     let mut faults = Faults::none();
     for _turn in rt.forever() {
@@ -94,6 +101,7 @@ fn serve_next<N: Naming, H: Wait + Drop, R: Wait, D: Door + Drop, K: Speaker>(
     ensures serves { ServesNext hall.old.connections (D.faults hall.old.door) faults.old.in_a_row result
         (D.faults hall.new.door) faults.new.in_a_row }
     ensures full { result ≡ Some Why.JournalFull → 0 < desk.new.seat.full }
+    ensures turns { EndsByTurns (Asks N.opening N.limit) hall.new.connections.talks desk.new result }
 {
     let is_there = match let_in(rt, alloc, faults, hall) {
         Ok(is_there) => is_there,
@@ -161,6 +169,7 @@ fn shut_out(faults: &mut Faults, connections: usize) -> Option<Why>
 /// Turns of each connection, round after round while something comes of one: whether something came, or why the
 /// controller ends. Neither the door nor the clock is asked between rounds, so that many short lines don't wait for
 /// them.
+#[tactic(auto, using(crate::proofs::Rounds::no_turns, crate::proofs::Rounds::rounds_both))]
 fn serve_rounds<N: Naming, H: Wait + Drop, R: Wait, D: Door + Drop, K: Speaker>(
     rt: &R,
     alloc: Global,
@@ -170,6 +179,8 @@ fn serve_rounds<N: Naming, H: Wait + Drop, R: Wait, D: Door + Drop, K: Speaker>(
     ensures ends { IfErr result IsOfConnection }
     ensures full { result ≡ Err Why.JournalFull → 0 < desk.new.seat.full }
     ensures door { D.faults hall.new.door ≡ D.faults hall.old.door }
+    ensures turns { (now : ℕ) × HaveTurns (Asks N.opening N.limit) now hall.old.connections.talks
+        hall.new.connections.talks desk.old desk.new (end_of result) }
 {
     let now = hall.door.now();
     for round in 0..ROUNDS {
@@ -180,8 +191,9 @@ fn serve_rounds<N: Naming, H: Wait + Drop, R: Wait, D: Door + Drop, K: Speaker>(
     Ok(true)
 }
 
-/// A turn of each connection: whether something came of one, or why the controller ends. The others have their turns
-/// later then, maybe in the next life.
+/// A turn of each connection: whether something came of one, or why the controller ends, which is the newest turn alone.
+/// The others have their turns later then, maybe in the next life.
+#[tactic(auto, using(crate::proofs::Rounds::no_turns, crate::proofs::Rounds::one_turn_more, crate::proofs::Rounds::last_turn))]
 fn serve_each<N: Naming, H: Wait + Drop, R: Wait, D: Door + Drop, K: Speaker>(
     rt: &R,
     alloc: Global,
@@ -192,6 +204,8 @@ fn serve_each<N: Naming, H: Wait + Drop, R: Wait, D: Door + Drop, K: Speaker>(
     ensures ends { IfErr result IsOfConnection }
     ensures full { result ≡ Err Why.JournalFull → 0 < desk.new.seat.full }
     ensures door { hall.new.door ≡ hall.old.door }
+    ensures turns { HaveTurns (Asks N.opening N.limit) now hall.old.connections.talks hall.new.connections.talks
+        desk.old desk.new (end_of result) }
 {
     let mut is_busy = false;
     for _place in 0..hall.connections.len() {

@@ -1,16 +1,16 @@
 //! Who reads a node's journal while the node runs: it writes it down, tells its changes to those who watch, and its
 //! calls to a reporter.
 
-ghost use Rattle.std.specs.Prelude.{◌≡◌, false, true};
-ghost use Rattle.swim_events.specs.Watching.{Known};
+ghost use Rattle.std.specs.Prelude.{◌≡◌, true};
 ghost use Rattle.swim_life.specs.Watched.{TellsAll};
 
+use crate::audiences::Audience;
 use crate::naming::GuestNaming;
-use crate::reporters::{Reporter, Standing};
+use crate::reporters::Reporter;
 use std::alloc::Global;
 use std::marker::Model;
 use std::sync::Wait;
-use swim_events::{Entrance, Gallery, MOST_WATCHERS, Outlet, Watching, tell_next};
+use swim_events::{Entrance, Gallery, MOST_WATCHERS, Outlet};
 use swim_journal::{STEP_CALLS, Scribe};
 use swim_node::Node;
 use swim_targets::Chooser;
@@ -21,13 +21,7 @@ use swim_work::Meters;
 /// reporter hears of each call. A contract sees its scribe, what is known, those who watch, and the reporter.
 pub(crate) struct Crier<N: GuestNaming, W: Sink + Drop, E: Outlet + Drop, Y: Reporter + Drop> {
     scribe: Scribe<N, W>,
-    watching: Watching,
-    gallery: Gallery<E>,
-    reporter: Y,
-    // How many calls were read.
-    read: u64,
-    // How many watchers of this life didn't keep up.
-    lost: u64,
+    audience: Audience<E, Y>,
 }
 
 // By hand, so that whoever holds one proves a single call where it is dropped, and not each field.
@@ -36,11 +30,7 @@ impl<N: GuestNaming, W: Sink + Drop, E: Outlet + Drop, Y: Reporter + Drop> Drop
     fn drop(self) {
         let Crier {
             scribe: _,
-            watching: _,
-            gallery: _,
-            reporter: _,
-            read: _,
-            lost: _,
+            audience: _,
         } = self;
     }
 }
@@ -53,12 +43,13 @@ impl<N: GuestNaming, W: Sink + Drop, E: Outlet + Drop, Y: Reporter + Drop> Model
 
     ghost view = { λ c. record {
       scribe = c.scribe;
-      watching = c.watching;
-      gallery = c.gallery;
-      reporter = c.reporter;
+      watching = c.audience.watching;
+      gallery = c.audience.gallery;
+      reporter = c.audience.reporter;
     } };
 
-    ghost invariant = { λ c. TellsAll N.opening N.guests N.heard c.scribe.read c.watching c.gallery (Y.heard c.reporter) };
+    ghost invariant = { λ c. TellsAll N.opening N.guests N.heard c.scribe.read c.audience.watching c.audience.gallery
+        (Y.heard c.audience.reporter) };
 }
 
 impl<N: GuestNaming, W: Sink + Drop, E: Outlet + Drop, Y: Reporter + Drop> Crier<N, W, E, Y> {
@@ -76,16 +67,9 @@ impl<N: GuestNaming, W: Sink + Drop, E: Outlet + Drop, Y: Reporter + Drop> Crier
     {
         let mut reporter = reporter;
         reporter.begins(node.opening());
-        let watching = Watching::new(node.opening());
+        let audience = Audience::new(node.opening(), gallery, reporter);
         let scribe = Scribe::new(alloc, node, writer);
-        Crier {
-            scribe,
-            watching,
-            gallery,
-            reporter,
-            read: 0,
-            lost: 0,
-        }
+        Crier { scribe, audience }
     }
 
     /// Reads what was added to the journal since the last time, at most 1,024 calls, and hands on what was written. It
@@ -98,30 +82,11 @@ impl<N: GuestNaming, W: Sink + Drop, E: Outlet + Drop, Y: Reporter + Drop> Crier
     ) -> bool
         ensures sent { self.new.scribe.whole ≡ true → W.held self.new.scribe.writer ≡ 0 }
     {
-        let losing = self.gallery.losing();
+        let losing = self.audience.losing();
         let is_more = self.read_on(rt, node);
-        let more = self.gallery.losing().saturating_sub(losing);
-        self.lost = self.lost.saturating_add(more as u64);
-        self.rest(rt, meters);
+        self.rest(rt, meters, losing);
         self.hand_on();
         is_more
-    }
-
-    /// Reads all that stands in the journal. It is for the time when nobody calls any more.
-    pub(crate) fn finish<C: Chooser, H: Wait + Drop, R: Wait>(
-        &mut self,
-        rt: &R,
-        node: &Node<N, C, H>,
-        meters: &Meters,
-    )
-        ensures sent { self.new.scribe.whole ≡ true → W.held self.new.scribe.writer ≡ 0 }
-    {
-        for _step in rt.forever() {
-            if !self.step(rt, node, meters) {
-                return;
-            }
-        }
-        unreachable!()
     }
 
     /// Takes in who has come to watch, and sends to each what it takes now. It waits for nobody, and gives up to whom
@@ -135,20 +100,14 @@ impl<N: GuestNaming, W: Sink + Drop, E: Outlet + Drop, Y: Reporter + Drop> Crier
         self.send(entrance.now());
     }
 
-    /// The scribe, those who watch, who were told what it read, and the reporter, who heard of it.
-    pub(crate) fn into_parts(self) -> (Scribe<N, W>, Gallery<E>, Y)
+    /// The scribe, and those who were told of what it read.
+    pub(crate) fn into_parts(self) -> (Scribe<N, W>, Audience<E, Y>)
         ensures scribe { result.0 ≡ self.scribe }
-        ensures told { (w : Known) × TellsAll N.opening N.guests N.heard result.0.read w result.1 (Y.heard result.2) }
+        ensures told { TellsAll N.opening N.guests N.heard result.0.read result.1.watching result.1.gallery
+            (Y.heard result.1.reporter) }
     {
-        let Crier {
-            scribe,
-            watching: _,
-            gallery,
-            reporter,
-            read: _,
-            lost: _,
-        } = self;
-        (scribe, gallery, reporter)
+        let Crier { scribe, audience } = self;
+        (scribe, audience)
     }
 
     /// Hands on what was written.
@@ -181,45 +140,24 @@ impl<N: GuestNaming, W: Sink + Drop, E: Outlet + Drop, Y: Reporter + Drop> Crier
         let Some(next) = self.scribe.next(rt, node) else {
             return false;
         };
-        let kept = &next.kept;
-        let change = tell_next(
-            &mut self.watching,
-            &mut self.gallery,
-            &kept.call,
-            &kept.reply,
-        );
-        self.reporter.hear(rt, &next, &change);
-        self.read = self.read.saturating_add(1);
+        self.audience.hear(rt, &next);
         true
     }
 
     /// Tells the reporter how the life stands.
-    fn rest<R: Wait>(&mut self, rt: &R, meters: &Meters)
+    fn rest<R: Wait>(&mut self, rt: &R, meters: &Meters, losing: usize)
         ensures { self.new.scribe ≡ self.old.scribe }
     {
-        let standing = Standing {
-            read: self.read,
-            metered: meters.read(),
-            watchers: self.gallery.len() as u64,
-            lost: self.lost,
-        };
-        self.reporter.rest(rt, standing);
+        self.audience.rest(rt, meters, losing);
     }
 
     /// Takes in the next who has come: whether there was one.
     fn let_in<I: Entrance<E>>(&mut self, alloc: Global, entrance: &mut I) -> bool {
-        if self.gallery.is_full() {
-            return false;
-        }
-        let Some(outlet) = entrance.next() else {
-            return false;
-        };
-        let _is_in = self.gallery.admit(alloc, self.watching.rows(), outlet);
-        true
+        self.audience.let_in(alloc, entrance)
     }
 
     /// Sends to each who watches, at this time.
     fn send(&mut self, time: u64) {
-        self.gallery.send(time);
+        self.audience.send(time);
     }
 }

@@ -1,10 +1,11 @@
 //! Lives with files: each life's journal in a file of its own, where a shelf opens one.
 
-ghost use Rattle.std.specs.Prelude.{◌≡◌, IfOk, MatchResult, true};
+ghost use Rattle.std.specs.Prelude.{◌≡◌, ◌||◌, ◌∷◌, [], Bool, IfOk, MatchResult, not};
 ghost use Rattle.swim_targets.specs.Draws.{of_seed};
 ghost use Rattle.swim_life.specs.Lives.{IsDrawnLife};
 ghost use Rattle.swim_life.specs.Notices.{Notices};
-ghost use Rattle.swim_life.specs.Reports.{HearsOf};
+ghost use Rattle.swim_work.specs.Posts.{Grows};
+ghost use Rattle.swim_life.specs.Reports.{HasHeardOf};
 ghost use Rattle.swim_life.specs.Watched.{AreToldLife};
 ghost use Rattle.swim_life.specs.Written.{IsFile};
 
@@ -67,7 +68,7 @@ pub(crate) fn live_next<
         (λ past. AreToldLife number opening gallery.old past.journal.past gallery.new)
         (λ fault. gallery.new ≡ gallery.old) }
     ensures reported { MatchResult result
-        (λ past. HearsOf past.is_read opening past.journal.past (Y.heard reporter.old) (Y.heard reporter.new))
+        (λ past. HasHeardOf opening past.journal.past (Y.heard reporter.old) (Y.heard reporter.new))
         (λ fault. Y.heard reporter.new ≡ Y.heard reporter.old) }
     ensures notices { Notices (F.written notices.old, F.failures notices.old)
         (F.written notices.new, F.failures notices.new) }
@@ -122,7 +123,7 @@ fn live_unfiled<
         (λ past. AreToldLife number opening gallery.old past.journal.past gallery.new)
         (λ fault. gallery.new ≡ gallery.old) }
     ensures reported { MatchResult result
-        (λ past. HearsOf past.is_read opening past.journal.past (Y.heard reporter.old) (Y.heard reporter.new))
+        (λ past. HasHeardOf opening past.journal.past (Y.heard reporter.old) (Y.heard reporter.new))
         (λ fault. Y.heard reporter.new ≡ Y.heard reporter.old) }
 {
     let chooser = chooser_of(terms, number);
@@ -151,7 +152,8 @@ fn live_unfiled<
     }
 }
 
-/// Gives the file of a life back to its shelf.
+/// Gives the file of a life back to its shelf. The life is told as cut exactly where it was before, or the shelf answers
+/// that the file isn't kept.
 #[tactic(auto, using(crate::proofs::LifeFiles::same_but_cut))]
 fn put_back<V: Sink + Drop, S: Shelf<V>, F: Sink>(
     shelf: &mut S,
@@ -162,13 +164,14 @@ fn put_back<V: Sink + Drop, S: Shelf<V>, F: Sink>(
 ) -> Past
     requires { IsFile S.fresh (V.written lived.writer) terms.limit terms.seed number lived.past }
     ensures past { result ≡ record lived.past { is_cut = result.is_cut } }
-    ensures cut { lived.past.is_cut ≡ true → result.is_cut ≡ true }
+    ensures cut { (is_kept : Bool) × Grows (S.kept shelf.old) (S.kept shelf.new) (is_kept ∷ [])
+        × (result.is_cut ≡ (lived.past.is_cut || not is_kept)) }
     ensures notices { Notices (F.written notices.old, F.failures notices.old)
         (F.written notices.new, F.failures notices.new) }
 {
     let Lived { past, writer } = lived;
     let is_kept = shelf.close(terms, number, &past, writer, notices);
-    let is_cut = past.is_cut || !is_kept;
+    let is_cut = past.is_cut | !is_kept;
     with_cut(past, is_cut)
 }
 
@@ -212,7 +215,7 @@ fn live_filed<
         (λ lived. AreToldLife number opening gallery.old lived.past.journal.past gallery.new)
         (λ fault. gallery.new ≡ gallery.old) }
     ensures reported { MatchResult result
-        (λ lived. HearsOf lived.past.is_read opening lived.past.journal.past (Y.heard reporter.old) (Y.heard reporter.new))
+        (λ lived. HasHeardOf opening lived.past.journal.past (Y.heard reporter.old) (Y.heard reporter.new))
         (λ fault. Y.heard reporter.new ≡ Y.heard reporter.old) }
 {
     let mut writer = writer;

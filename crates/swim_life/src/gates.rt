@@ -69,13 +69,19 @@ pub trait Herald {
 
 /// Where the files of the lives' journals are, one for each life.
 pub trait Shelf<W: Sink> {
+    ghost use Rattle.std.specs.Prelude.{Bool, List, Option};
+
     // what the sink of a new file was given, where that is known
     ghost fresh: { Option (List ℕ) };
+
+    // of each file that it took back so far, oldest first, whether it is kept for good; where that is known
+    ghost kept: { Self → Option (List Bool) };
 
     /// Opens a new file for the life of this number; `None` where lives have no files. The sink of a file that could
     /// not be made takes nothing.
     fn open<F: Sink>(&mut self, number: u64, notices: &mut F) -> Option<W>
         ensures fresh { IfSome result (λ writer. W.written writer ≡ fresh) }
+        ensures kept { kept self.new ≡ kept self.old }
         ensures notices { Notices (F.written notices.old, F.failures notices.old)
             (F.written notices.new, F.failures notices.new) };
 
@@ -90,6 +96,7 @@ pub trait Shelf<W: Sink> {
         notices: &mut F,
     ) -> bool
         requires { IsFile fresh (W.written writer) terms.limit terms.seed number past.now }
-        ensures { Notices (F.written notices.old, F.failures notices.old)
+        ensures kept { Grows (kept self.old) (kept self.new) (result ∷ []) }
+        ensures notices { Notices (F.written notices.old, F.failures notices.old)
             (F.written notices.new, F.failures notices.new) };
 }

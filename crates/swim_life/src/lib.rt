@@ -1,6 +1,8 @@
 //! Lives of a daemon: a node with its workers over a line of datagrams, a pace of ticks and a door for operators.
 #![tactic(auto)]
 
+mod audiences;
+mod closing;
 mod controlling;
 mod crews;
 mod criers;
@@ -43,7 +45,7 @@ pub use lives::{Lived, LivesEnd, Terms, live, live_recorded, run_lives};
 pub use naming::GuestNaming;
 pub use nowhere::{Never, NoEntrance, NoOutlet, NoReporter, NoShelf, Nowhere};
 pub use pasts::Past;
-pub use places::{Place, Sight};
+pub use places::{Place, Remover, Sight, SystemRemover};
 pub use posts::Posts;
 pub use rejoining::Returning;
 pub use reporters::{Reporter, Speaker, Standing};

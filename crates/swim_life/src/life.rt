@@ -8,7 +8,7 @@ ghost use Rattle.swim_work.specs.Ends.{both, why_of};
 ghost use Rattle.swim_work.specs.Posts.{IsFresh};
 ghost use Rattle.swim_life.specs.Knocking.{HaveKnocked};
 ghost use Rattle.swim_life.specs.Posts.{HavePosted};
-ghost use Rattle.swim_life.specs.Reports.{HearsOf};
+ghost use Rattle.swim_life.specs.Reports.{HasHeardOf};
 ghost use Rattle.swim_life.specs.Watched.{AreToldOn};
 ghost use Rattle.swim_life.specs.Written.{IsWritten};
 
@@ -170,8 +170,7 @@ pub fn run_life<
     ensures knocked { HaveKnocked N.opening N.rejoin result.past.journal.past (O.posted (box_value result.posts.knocking))
         result.knocks }
     ensures watched { AreToldOn N.opening N.guests result.past.journal.past result.gallery }
-    ensures reported { HearsOf result.past.is_read N.opening result.past.journal.past N.heard (Y.heard result.reporter) }
-    ensures read { result.past.is_cut ≡ false → result.past.is_read ≡ true }
+    ensures reported { HasHeardOf N.opening result.past.journal.past N.heard (Y.heard result.reporter) }
 {
     let (viewers, _fourth) = apart(viewers);
     let (workers, fourth) = held(returning.rejoin(), node.opening(), seats, viewers, posts);
@@ -300,8 +299,7 @@ fn closed<
         result.knocks }
     ensures full { result.past.why ≡ Why.JournalFull → length result.past.journal.past ≡ N.limit }
     ensures watched { AreToldOn N.opening N.guests result.past.journal.past result.gallery }
-    ensures reported { HearsOf result.past.is_read N.opening result.past.journal.past N.heard (Y.heard result.reporter) }
-    ensures read { result.past.is_cut ≡ false → result.past.is_read ≡ true }
+    ensures reported { HasHeardOf N.opening result.past.journal.past N.heard (Y.heard result.reporter) }
     ensures why { result.past.why ≡ why_of ended.first.why ended.second.why ended.third.why ended.all_began }
     ensures stopped { result.past.is_stopped
         ≡ (ended.first.is_stopped || ended.second.is_stopped || ended.third.is_stopped) }
@@ -336,7 +334,6 @@ fn closed<
             wire: counts.wire,
             refused: counts.refused,
             is_cut: !recorded.is_whole,
-            is_read: recorded.is_read,
         },
         seats: recorded.seats,
         posts: Posts {

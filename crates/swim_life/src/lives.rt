@@ -6,7 +6,7 @@ ghost use Rattle.swim_targets.specs.Draws.{DrawsOrder, DrawsPlace};
 ghost use Rattle.swim_life.specs.Draws.{WasDrawn};
 ghost use Rattle.swim_life.specs.Lives.{AreLived, IsLife, TellsEnd, end_after, end_without};
 ghost use Rattle.swim_life.specs.Notices.{Notices};
-ghost use Rattle.swim_life.specs.Reports.{HearsOf};
+ghost use Rattle.swim_life.specs.Reports.{HasHeardOf};
 ghost use Rattle.swim_life.specs.Watched.{AreToldLife};
 ghost use Rattle.swim_life.specs.Watching.{AreWatched};
 ghost use Rattle.swim_life.specs.Written.{IsWritten};
@@ -288,9 +288,8 @@ pub fn live_recorded<
         (λ lived. AreToldLife number opening gallery.old lived.past.journal.past gallery.new)
         (λ fault. gallery.new ≡ gallery.old) }
     ensures reported { MatchResult result
-        (λ lived. HearsOf lived.past.is_read opening lived.past.journal.past (Y.heard reporter.old) (Y.heard reporter.new))
+        (λ lived. HasHeardOf opening lived.past.journal.past (Y.heard reporter.old) (Y.heard reporter.new))
         (λ fault. Y.heard reporter.new ≡ Y.heard reporter.old) }
-    ensures read { IfOk result (λ lived. lived.past.is_cut ≡ false → lived.past.is_read ≡ true) }
 {
     let Ok(parts) = Parts::make(alloc, limit) else {
         return Err(OpenFault::NoMemory);

@@ -9,7 +9,7 @@ ghost use Rattle.swim_events.specs.Guests.{put_text};
 ghost use Rattle.swim_events.specs.Texts.{life_text};
 ghost use Rattle.swim_work.specs.Posts.{IsFresh};
 ghost use Rattle.swim_life.specs.Lives.{IsLife};
-ghost use Rattle.swim_life.specs.Reports.{HearsOf};
+ghost use Rattle.swim_life.specs.Reports.{HasHeardOf};
 ghost use Rattle.swim_life.specs.Watched.{AreToldLife};
 ghost use Rattle.swim_life.specs.Written.{IsWritten};
 
@@ -82,9 +82,8 @@ pub(crate) fn live_so<
         (λ lived. AreToldLife number opening gallery.old lived.past.journal.past gallery.new)
         (λ fault. gallery.new ≡ gallery.old) }
     ensures reported { MatchResult result
-        (λ lived. HearsOf lived.past.is_read opening lived.past.journal.past (Y.heard reporter.old) (Y.heard reporter.new))
+        (λ lived. HasHeardOf opening lived.past.journal.past (Y.heard reporter.old) (Y.heard reporter.new))
         (λ fault. Y.heard reporter.new ≡ Y.heard reporter.old) }
-    ensures read { IfOk result (λ lived. lived.past.is_cut ≡ false → lived.past.is_read ≡ true) }
 {
     let (node, seats, viewers, posts) = opened::<N, R, O>(
         rt, alloc, parts, opening, chooser, limit, post,

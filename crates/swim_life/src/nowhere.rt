@@ -127,6 +127,8 @@ pub struct NoShelf {}
 impl Shelf<Nowhere> for NoShelf {
     ghost fresh = { None };
 
+    ghost kept = { λ s. None };
+
     #[tactic(auto, using(crate::specs::Notices::no_notices))]
     fn open<F: Sink>(&mut self, _number: u64, _notices: &mut F) -> Option<Nowhere> {
         None

@@ -22,8 +22,6 @@ pub struct Past {
     pub refused: u64,
     /// Whether its journal was to be written, and not all of it was taken and handed on.
     pub is_cut: bool,
-    /// Whether all of its journal was read, by those who watch and the reporter.
-    pub is_read: bool,
 }
 
 /// A life whose journal is told as cut, or isn't.

@@ -1,7 +1,8 @@
 //! The place of a control socket: what stands at its path, and whether that may be removed.
 
-ghost use Rattle.std.specs.Prelude.{◌≡◌, ◌↔◌, true};
-ghost use Rattle.swim_life.specs.Places.{sight_of};
+ghost use Rattle.std.specs.Prelude.{◌≡◌, ◌↔◌, ◌∷◌, [], None, true};
+ghost use Rattle.swim_life.specs.Places.{Clears, Removes, sight_of};
+ghost use Rattle.swim_work.specs.Posts.{Grows};
 
 use mio::net::UnixStream;
 use std::fs::{File, TryLockError};
@@ -42,6 +43,30 @@ pub enum Presence {
     Unknown,
 }
 
+/// What removes a socket.
+pub trait Remover {
+    ghost use Rattle.std.specs.Prelude.{ℕ, List, Option};
+
+    // the paths at which it was told to remove what stands there, oldest first; where they are known
+    ghost removed: { Self → Option (List (List ℕ)) };
+
+    /// Removes what stands at a path. `false` where that failed.
+    fn remove<R: Files>(&mut self, rt: &R, path: &str) -> bool
+        ensures { Grows (removed self.old) (removed self.new) (path.now ∷ []) };
+}
+
+/// The system removes.
+#[derive(Drop)]
+pub struct SystemRemover {}
+
+impl Remover for SystemRemover {
+    ghost removed = { λ r. None };
+
+    fn remove<R: Files>(&mut self, rt: &R, path: &str) -> bool {
+        fs::remove_file(rt, path).is_ok()
+    }
+}
+
 /// What is known of a path.
 #[derive(Clone, Copy, Debug, PartialEq, Eq)]
 pub enum Sight {
@@ -78,13 +103,18 @@ impl Model for Place {
 impl Place {
     /// Takes a path, and removes what stands there if it is a stale socket. That is done under a lock of its folder, so
     /// that no other daemon binds a socket there between the look and the removal. Without the lock, as where the
-    /// folder can't be read or somebody else has it for a second, nothing is removed.
-    pub fn take<R: Files<File = File> + Net + Clock>(rt: &R, path: &str) -> Place
-        ensures { result.is_cleared ≡ true → (result.sight ≡ Sight.Stale) × (result.is_locked ≡ true) }
+    /// folder can't be read or somebody else has it for a second, nothing is removed. Whatever else stands there stays,
+    /// and so does all that stands elsewhere.
+    pub fn take<R: Files<File = File> + Net + Clock, E: Remover>(
+        rt: &R,
+        remover: &mut E,
+        path: &str,
+    ) -> Place
+        ensures { Removes path.now (E.removed remover.old) (E.removed remover.new) result }
     {
         let lock = lock_of(rt, folder_of(path));
         let sight = look(rt, path);
-        let is_cleared = lock.is_some() && sight == Sight::Stale && remove(rt, path, sight);
+        let is_cleared = clear(rt, remover, path, sight, lock.is_some());
         Place {
             sight,
             is_cleared,
@@ -179,10 +209,19 @@ pub fn sight_of(found: Found, met: Presence) -> Sight
     }
 }
 
-/// Removes a stale socket. Whether that was done.
-fn remove<R: Files>(rt: &R, path: &str, sight: Sight) -> bool
-    requires { sight ≡ Sight.Stale }
+/// Removes what was found so at a path, if it is a stale socket and the lock of its folder is held. Whether that was
+/// done.
+fn clear<R: Files, E: Remover>(
+    rt: &R,
+    remover: &mut E,
+    path: &str,
+    sight: Sight,
+    is_locked: bool,
+) -> bool
+    ensures { Clears path.now (E.removed remover.old) (E.removed remover.new) sight is_locked result }
 {
-    prove!(sight == Sight::Stale);
-    fs::remove_file(rt, path).is_ok()
+    if sight != Sight::Stale || !is_locked {
+        return false;
+    }
+    remover.remove(rt, path)
 }

@@ -1,16 +1,17 @@
 //! The writer, the fourth of a life's workers: it writes the journal down while the life goes on, tells those who
 //! watch, and has the reporter hear of each call.
 
-ghost use Rattle.std.specs.Prelude.{◌≡◌, ◌≤◌, ◌&&◌, ◌==◌, [], ◌∷◌, MatchBool, length, true};
+ghost use Rattle.std.specs.Prelude.{◌≡◌, ◌≤◌, [], ◌∷◌, length, true};
 ghost use Rattle.swim_text.specs.Streams.{Puts};
 ghost use Rattle.swim_history.specs.Changes.{changes};
 ghost use Rattle.swim_node.specs.Following.{filings_of};
 ghost use Rattle.swim_node.specs.OneHistory.{AreFullWhereMet, IsOneHistory};
 ghost use Rattle.swim_node.specs.Seats.{AreTheSeats};
 ghost use Rattle.swim_journal.specs.Journals.{calls_text, AreReadBack};
-ghost use Rattle.swim_life.specs.Reports.{HearsOf};
+ghost use Rattle.swim_life.specs.Reports.{HasHeardOf};
 ghost use Rattle.swim_life.specs.Watched.{AreToldOn};
 
+use crate::closing::finish;
 use crate::criers::Crier;
 use crate::holding::{Seats, seats_of};
 use crate::naming::GuestNaming;
@@ -70,20 +71,18 @@ fn next_beat<R: Wait, Q: Pace>(rt: &R, is_more: bool, pause: &mut Q) -> Beat {
 }
 
 /// What is left of a node that was closed: its journal, its seats, the sink of its journal, whether that took all of
-/// the journal's text and handed it on, whether all of it was read, those who watch, and the reporter.
+/// the journal's text and handed it on, those who watch, and the reporter.
 #[derive(Drop)]
 pub(crate) struct Recorded<N: GuestNaming, W: Sink + Drop, E: Outlet + Drop, Y: Reporter + Drop> {
     pub(crate) journal: Journal,
     pub(crate) seats: Seats<N>,
     pub(crate) writer: W,
     pub(crate) is_whole: bool,
-    pub(crate) is_read: bool,
     pub(crate) gallery: Gallery<E>,
     pub(crate) reporter: Y,
 }
 
-/// Writes and tells what is left of the journal of a node that nobody calls any more, and closes it.
-#[tactic(auto, using(crate::proofs::Written::is_written, crate::proofs::Written::is_back, crate::proofs::Crying::whole_told))]
+/// Closes a node that nobody calls any more, and writes and tells what is left of its journal: all of it.
 pub(crate) fn close_recorded<
     N: GuestNaming,
     C: Chooser,
@@ -113,50 +112,39 @@ pub(crate) fn close_recorded<
     ensures back { result.is_whole ≡ true → AreReadBack (filings_of result.journal.past) }
     ensures sent { result.is_whole ≡ true → W.held result.writer ≡ 0 }
     ensures watched { AreToldOn N.opening N.guests result.journal.past result.gallery }
-    ensures reported { HearsOf result.is_read N.opening result.journal.past N.heard (Y.heard result.reporter) }
-    ensures read { result.is_whole ≡ true → result.is_read ≡ true }
+    ensures reported { HasHeardOf N.opening result.journal.past N.heard (Y.heard result.reporter) }
 {
-    let mut crier = crier;
-    crier.finish(rt, &node, meters);
-    let (scribe, gallery, reporter) = crier.into_parts();
+    let (scribe, audience) = crier.into_parts();
     let (follower, writer, is_taken) = scribe.into_parts();
+    let mut audience = audience;
+    let mut writer = writer;
     let read = follower.len();
     let (journal, seats, _news) = node.close_followed(rt, seats, follower);
-    let is_read = is_all(read, journal.len());
-    let is_whole = are_both(is_taken, is_read);
-    let gallery = where_all(gallery, is_read);
+    let place = place_behind(read, journal.len());
+    let is_whole = finish(
+        rt,
+        &journal,
+        place,
+        meters,
+        &mut writer,
+        is_taken,
+        &mut audience,
+    );
+    let (gallery, reporter) = audience.into_parts();
     Recorded {
         journal,
         seats: seats_of(seats),
         writer,
         is_whole,
-        is_read,
         gallery,
         reporter,
     }
 }
 
-/// Those who watch, where all of the journal was read: nobody, where it wasn't, as what wasn't read can't be told any
-/// more.
-fn where_all<E: Outlet + Drop>(gallery: Gallery<E>, is_read: bool) -> Gallery<E>
-    ensures { MatchBool is_read (result ≡ gallery) (result ≡ []) }
+/// The place behind so many calls of a journal of so many entries.
+fn place_behind(read: usize, entries: u32) -> u32
+    requires { read ≤ entries }
+    ensures { result ≡ read }
 {
-    let mut gallery = gallery;
-    if !is_read {
-        gallery.clear();
-    }
-    gallery
-}
-
-fn are_both(one: bool, other: bool) -> bool
-    ensures { result ≡ (one && other) }
-{
-    one && other
-}
-
-/// Whether so many calls are all of a journal of so many entries.
-fn is_all(read: usize, entries: u32) -> bool
-    ensures { result ≡ (read == entries) }
-{
-    read == entries as usize
+    read as u32
 }

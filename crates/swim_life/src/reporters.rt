@@ -46,7 +46,8 @@ pub trait Reporter {
     fn begins(&mut self, opening: &Opening)
         ensures { Grows (heard self.old) (heard self.new) (Began opening.now ∷ []) };
 
-    /// Hears of a call: whose it is, its reply, and what it changed of the member table.
+    /// Hears of a call: whose it is, its reply, and what it changed of the member table. Where the journal is written, the
+    /// call's text was put before, and that of the next one wasn't.
     fn hear<R: Wait>(&mut self, rt: &R, next: &Followed, change: &Option<Change>)
         ensures { Grows (heard self.old) (heard self.new) (Called next.now change.now ∷ []) };
 

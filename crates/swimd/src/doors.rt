@@ -13,7 +13,7 @@ use std::fs::File;
 use std::io::ErrorKind;
 use std::net::Net;
 use std::rt::{Clock, Files};
-use swim_life::{Place, UnixDoor};
+use swim_life::{Place, SystemRemover, UnixDoor};
 use swim_text::Sink;
 
 /// The door at the path of the control socket, from which a stale socket is removed, or why there is none. So many
@@ -32,7 +32,8 @@ pub fn open_door<'r, R: Files<File = File> + Net + Clock, F: Sink>(
     ensures notices { Notices (F.written faults.old, F.failures faults.old)
         (F.written faults.new, F.failures faults.new) }
 {
-    let place = Place::take(rt, path);
+    let mut remover = SystemRemover {};
+    let place = Place::take(rt, &mut remover, path);
     if place.is_cleared() {
         Notice::removed(rt, path).tell_notice(rt, alloc, faults);
     }

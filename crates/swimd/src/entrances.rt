@@ -14,7 +14,7 @@ use std::net::Net;
 use std::rt::{Clock, Files};
 use swim_config::SocketPath;
 use swim_events::{Event, Gallery, Outlet};
-use swim_life::{Place, Sight, UnixEntrance};
+use swim_life::{Place, Sight, SystemRemover, UnixEntrance};
 use swim_text::Sink;
 
 /// How often a life's journal is read, and written to its file, in milliseconds.
@@ -67,7 +67,8 @@ fn bind_entrance<'r, R: Files<File = File> + Net + Clock, F: Sink>(
     ensures notices { Notices (F.written faults.old, F.failures faults.old)
         (F.written faults.new, F.failures faults.new) }
 {
-    let place = Place::take(rt, path);
+    let mut remover = SystemRemover {};
+    let place = Place::take(rt, &mut remover, path);
     if place.is_cleared() {
         Notice::removed(rt, path).tell_notice(rt, alloc, faults);
     }

@@ -93,6 +93,8 @@ fn remove_old<R: Files<File = File>>(
 impl<'r, R: Files<File = File> + Net + Clock> Shelf<JournalFile<'r, R>> for Folder<'r, R> {
     ghost fresh = { None };
 
+    ghost kept = { λ s. None };
+
     #[tactic(auto, using(swim_life::specs::Notices::no_notices))]
     fn open<F: Sink>(&mut self, number: u64, notices: &mut F) -> Option<JournalFile<'r, R>> {
         let Some(dir) = &self.files.dir else {

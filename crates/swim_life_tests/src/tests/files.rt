@@ -59,6 +59,8 @@ struct Player {
 impl Shelf<File> for Player {
     ghost fresh = { None };
 
+    ghost kept = { λ s. None };
+
     #[tactic(auto, using(swim_life::specs::Notices::no_notices))]
     fn open<F: Sink>(&mut self, _number: u64, _notices: &mut F) -> Option<File> {
         Some(File {

@@ -47,8 +47,3 @@ returns-clause-watched g c = c.close_recorded-recorded.ensures.watched
 
 pub returns-clause-reported : goal.returns-clause-reported
 returns-clause-reported g c = c.close_recorded-recorded.ensures.reported
-
-pub returns-clause-read : goal.returns-clause-read
-returns-clause-read g c =
-    let journal = c.close_recorded-recorded in
-    λ e. journal.ensures.read (not-false journal.result.is_whole e)

@@ -35,6 +35,3 @@ returns-clause-watched g c = c.closed.ensures.watched
 
 pub returns-clause-reported : goal.returns-clause-reported
 returns-clause-reported g c = c.closed.ensures.reported
-
-pub returns-clause-read : goal.returns-clause-read
-returns-clause-read g c = c.closed.ensures.read

@@ -13,9 +13,6 @@ pub returns-clause-sent : goal.returns-clause-sent
 returns-clause-sent g c =
     rw (c.leave.ensures.past, c.leave.ensures.writer) c.run_life-life.ensures.sent
 
-pub returns-clause-read : goal.returns-clause-read
-returns-clause-read g c = rw c.leave.ensures.past c.run_life-life.ensures.read
-
 pub returns-clause-reported : goal.returns-clause-reported
 returns-clause-reported g c =
     rw (c.leave.ensures.past, c.leave.ensures.reporter, c.requires.opening, sym c.requires.heard)

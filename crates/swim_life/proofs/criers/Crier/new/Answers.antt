@@ -4,6 +4,7 @@ use Rattle.swim_life.proofs.criers.Crier.new.Goals as goal
 
 pub invariant_of-result : goal.invariant_of-result
 invariant_of-result g c =
-    none_told g.N.Naming.opening g.N.GuestNaming.guests g.N.GuestNaming.heard (g.Y.Reporter.heard c.begins.new.self)
-    c.new-scribe.result.read c.new-watching.result c.args.gallery
+    let audience = c.new-audience.result in
+    none_told g.N.Naming.opening g.N.GuestNaming.guests g.N.GuestNaming.heard
+    (g.Y.Reporter.heard audience.reporter) c.new-scribe.result.read audience.watching audience.gallery
     (search rules) (search rules) (search rules) (search rules)
