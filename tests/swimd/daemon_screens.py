@@ -7,7 +7,8 @@ import select
 import subprocess
 import time
 
-from tests.swimd.daemon_asking import Server, must_be, ran
+from tests.swimd.daemon_asking import must_be, ran
+from tests.swimd.daemon_impostors import Server
 
 # A title, a bell, a byte 0, one of two bytes, a return, a delete; and what stands for each of these.
 STEERING = b"a\x1b]0;b\x07c\0d\xc3\xa9e\rf\x7fg~ h\n"

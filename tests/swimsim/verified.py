@@ -11,47 +11,13 @@ import re
 import resource
 import subprocess
 import tempfile
-from typing import NamedTuple
 
 from tests.swimsim.cases import SECONDS, difference
-
-FIRST = "journal 1\n"
-ROWS = ["row 2 10.0.0.2:7000\n", "row 3 10.0.0.3:7000\n"]
-HEAD = [FIRST, "open 1 1 1 3 0 1000\n", *ROWS]
-HEAD_2 = [FIRST, "open 1 1 1 3 0 1000\n", "wire 2\n", *ROWS]
-SEED = "0" * 64
-
-
-def ack(member, number, version=1):
-    """An ack of that member for a probe of member 1 in the period of that number."""
-    return f"hear 10.0.0.{member}:7000 5357{version:02x}03{member:08x}00000001{member:08x}{number:016x}\n"
-
-
-def told(*calls):
-    """The lines of calls, each with its answer behind it."""
-    return [line for place, (call, answer) in enumerate(calls) for line in (call, f"= {place} {answer}\n")]
-
-
-TICK = "tick\n"
-STARTED, ASKED, QUIET = (TICK, "started judged - probe 2 1"), (TICK, "asked 2 1 by 3"), (TICK, "quiet")
-JUDGED = (TICK, "started judged 2 probe 3 2")
-WHOLE = [*HEAD, *told(STARTED, ASKED, QUIET, JUDGED)]
-EVIDENCE = "judged 2 in period 1: probed at entry 0, relays 3 asked at entry 1, no ack of period 1 until entry 3\n"
-TELLS = "a: entries 4 confirmed 4 periods 2 judged 1\n" + EVIDENCE
-
-
-class Verified(NamedTuple):
-    """Files by their names, in their order, and the status with what is written."""
-
-    name: str
-    files: list
-    status: int
-    stdout: str
-    stderr: str = ""
-
-
-def one(name, lines, status, stdout, stderr=""):
-    return Verified(name, [("a", "".join(lines))], status, stdout, stderr)
+from tests.swimsim.verified_files import (
+    ack, one, told, ASKED, EVIDENCE, FIRST, HEAD, HEAD_2, JUDGED, ONE, ONE_TELLS, QUIET, ROWS, STARTED, TELLS, TICK,
+    TWO, TWO_TELLS, Verified, WHOLE
+)
+from tests.swimsim.verified_lives import lives, starts
 
 
 def judgements():
@@ -193,117 +159,6 @@ def differences():
     yield one("another first line", ["journal 2\n", *WHOLE[1:]], 1, "", foreign)
     yield one("another first line, cut", ["journal 2"], 1, "", foreign)
     yield one("a script", WHOLE[1:4] + [TICK], 1, "", foreign)
-
-
-LIFE = f"row 2 10.0.0.2:7000\nseed {SEED} 0\n"
-ALONE = told(STARTED, (TICK, "asked 2 1 by -"), QUIET, (TICK, "started judged 2 probe -"))
-NEXT = "row 2 10.0.0.2:7000 failed 1\n"
-ONE = "".join([FIRST, "open 1 1 1 3 0 4\n", LIFE, *ALONE])
-TWO = "".join([FIRST, "open 1 1 1 3 2 4\n", NEXT, f"seed {SEED} 1\n", *told((TICK, "started judged - probe -"))])
-# The life behind it begins with period 4, as that one used 3.
-THREE = "".join([FIRST, "open 1 1 1 3 3 4\n", NEXT, f"seed {SEED} 2\n", *told((TICK, "started judged - probe -"))])
-ONE_TELLS = "one: entries 4 confirmed 4 periods 2 judged 1\n"
-ONE_TELLS += "judged 2 in period 1: probed at entry 0, no relays asked at entry 1, no ack of period 1 until entry 3\n"
-TWO_TELLS = "two: entries 1 confirmed 1 periods 1 judged 0\n"
-
-
-def lives():
-    """Files of one daemon, whose second life goes on from what the first left."""
-    both = lambda one, two: [("one", one), ("two", two)]
-    yield Verified("two lives", both(ONE, TWO), 0, ONE_TELLS + TWO_TELLS)
-    three_tells = TWO_TELLS.replace("two", "three")
-    three = [*both(ONE, TWO), ("three", THREE)]
-    yield Verified("three lives", three, 0, ONE_TELLS + TWO_TELLS + three_tells)
-    stderr = "swimsim: two: does not follow three: the last period number isn't the one that was left\n"
-    yield Verified("two lives, swapped", three[:0:-1], 1, three_tells + TWO_TELLS, stderr)
-    stderr = "swimsim: three: does not follow one: the last period number isn't the one that was left\n"
-    yield Verified("three lives without the second", three[::2], 1, ONE_TELLS + three_tells, stderr)
-    breaks = {
-        "it is another member's": ("open 1 1", "open 9 1"),
-        "another number of relays is asked": ("open 1 1", "open 1 2"),
-        "the timeout or the period is another": ("1 3 2 4", "1 4 2 4"),
-        "the version of its own messages is another": ("open 1 1 1 3 2 4\n", "open 1 1 1 3 2 4\nwire 2\n"),
-        "the members aren't those that were left": (" failed 1", " failed 2"),
-        "the last period number isn't the one that was left": ("1 3 2 4", "1 3 3 4"),
-        "the journal may have another number of entries": ("1 3 2 4", "1 3 2 5"),
-        "the seed is another": ("seed 0", "seed 1"),
-        "its life isn't the next": (f"{SEED} 1", f"{SEED} 2"),
-    }
-    for why, (old, new) in breaks.items():
-        stderr = f"swimsim: two: does not follow one: {why}\n"
-        yield Verified(f"two lives: {why}", both(ONE, TWO.replace(old, new, 1)), 1, ONE_TELLS + TWO_TELLS, stderr)
-    address = TWO.replace("10.0.0.2:7000", "10.0.0.2:7001")
-    stderr = "swimsim: two: does not follow one: the members aren't those that were left\n"
-    yield Verified("two lives: an address", both(ONE, address), 1, ONE_TELLS + TWO_TELLS, stderr)
-    unseeded = TWO.replace(f"seed {SEED} 1\n", "")
-    yield Verified("two lives, one without a seed", both(ONE, unseeded), 0, ONE_TELLS + TWO_TELLS)
-    header = "".join(TWO.splitlines(True)[:4])
-    empty = "two: entries 0 confirmed 0 periods 0 judged 0\n"
-    yield Verified("a second life without a call", both(ONE, header), 0, ONE_TELLS + empty)
-    stderr = "swimsim: two: does not follow one: its life isn't the next\n"
-    yield Verified(
-        "another second life without a call",
-        both(ONE, header.replace(f"{SEED} 1", f"{SEED} 7")),
-        1,
-        ONE_TELLS + empty,
-        stderr,
-    )
-    yield Verified("a second life whose header is cut", both(ONE, header[: header.index("row")]), 0, ONE_TELLS + empty)
-    yield Verified(
-        "the same, in the midst of a line",
-        both(ONE, header[: header.index("seed") + 9]),
-        0,
-        ONE_TELLS + empty + "cut before entry 0\n",
-    )
-    cut = ONE_TELLS.splitlines(True)[0].replace("4 confirmed 4 periods 2 judged 1", "4 confirmed 3 periods 1 judged 0")
-    stderr = "swimsim: two: does not follow one: what one left isn't known, as it isn't whole\n"
-    shorter = "".join(ONE.splitlines(True)[:-1])
-    yield Verified("a first life that is cut", both(shorter, TWO), 1, cut + "cut behind entry 2\n" + TWO_TELLS, stderr)
-    yield Verified(
-        "a second life that is cut", both(ONE, TWO + "ti"), 0, ONE_TELLS + TWO_TELLS + "cut behind entry 0\n"
-    )
-
-
-def starts():
-    """Files of one daemon that was started again: the header of a start's first life tells LIFE 0."""
-    again = ("again", ONE)
-    anew = "again: a new start\n" + ONE_TELLS.replace("one:", "again:")
-    yield Verified("two starts", [("one", ONE), again], 0, ONE_TELLS + anew)
-    files = [("one", ONE), ("two", TWO), again]
-    yield Verified("a start behind two lives", files, 0, ONE_TELLS + TWO_TELLS + anew)
-    later = ("later", TWO)
-    tells = ONE_TELLS + TWO_TELLS + anew + TWO_TELLS.replace("two", "later")
-    yield Verified("two starts of two lives", [*files, later], 0, tells)
-    killed = [("one", ONE), ("two", TWO + "ti"), again]
-    yield Verified(
-        "a start behind a life that is cut", killed, 0, ONE_TELLS + TWO_TELLS + "cut behind entry 0\n" + anew
-    )
-    other = ONE.replace("open 1 1 1 3 0 4", "open 1 1 1 3 7 4").replace("probe 2 1", "probe 2 8")
-    other = ("again", other.replace("asked 2 1 ", "asked 2 8 "))
-    tells = anew.replace("period 1:", "period 8:").replace("of period 1 ", "of period 8 ")
-    yield Verified("a start with another last number", [("one", ONE), other], 0, ONE_TELLS + tells)
-    wrong = ONE.replace("quiet", "quie")
-    faulty = "one: entries 3 confirmed 2 periods 1 judged 0\n"
-    stderr = "swimsim: one: line 10: differs, behind entry 1\n"
-    yield Verified("a start behind a life with a fault", [("one", wrong), again], 1, faulty + anew, stderr)
-    foreign = "swimsim: one: it is no journal file: its first line isn't `journal 1`\n"
-    yield Verified("a start behind what is no journal file", [("one", "notes\n"), again], 1, anew, foreign)
-    stderr = "swimsim: later: does not follow again: its life isn't the next\n"
-    skipped = TWO.replace(f"{SEED} 1", f"{SEED} 2")
-    yield Verified(
-        "a life that isn't the next of its start", [("one", ONE), again, ("later", skipped)], 1,
-        ONE_TELLS + anew + TWO_TELLS.replace("two", "later"), stderr
-    )
-    unseeded = ONE.replace(f"seed {SEED} 0\n", "")
-    stderr = "swimsim: again: does not follow one: the members aren't those that were left\n"
-    tells = ONE_TELLS + ONE_TELLS.replace("one:", "again:")
-    yield Verified("a life that tells no seed begins no start", [("one", ONE), ("again", unseeded)], 1, tells, stderr)
-    shorter, header = "".join(ONE.splitlines(True)[:-1]), "".join(ONE.splitlines(True)[:2])
-    cut = ONE_TELLS.splitlines(True)[0].replace("4 confirmed 4 periods 2 judged 1", "4 confirmed 3 periods 1 judged 0")
-    tells = cut + "cut behind entry 2\nagain: entries 0 confirmed 0 periods 0 judged 0\n"
-    yield Verified("a header that is cut, behind a life that is", [("one", shorter), ("again", header)], 0, tells)
-    tells = cut + "cut behind entry 2\nagain: entries 0 confirmed 0 periods 0 judged 0\ncut before entry 0\n"
-    yield Verified("an empty file behind a life that is cut", [("one", shorter), ("again", "")], 0, tells)
 
 
 def expected_of_front(text):
