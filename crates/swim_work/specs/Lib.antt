@@ -1,4 +1,5 @@
 pub mod Answers
+pub mod Callers
 pub mod Calling
 pub mod Ends
 pub mod Finished

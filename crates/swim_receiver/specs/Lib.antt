@@ -1,0 +1,4 @@
+pub mod Datagrams
+pub mod Receiving
+pub mod Rejoining
+pub mod Showing

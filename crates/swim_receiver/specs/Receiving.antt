@@ -1,0 +1,96 @@
+-- What the receiver does in a life.
+use Rattle.std.specs.Prelude.{◌≡◌, ℕ, List, [], take, Option, Some, None}
+use Rattle.swim_wire.specs.Address.{Address}
+use Rattle.swim_history.specs.declared.rows.Change.{Change}
+use Rattle.swim_history.specs.Setting.{Setting}
+use Rattle.swim_node.specs.Seats.{Seated}
+use Rattle.swim_rejoin.specs.Histories.{Event}
+use Rattle.swim_work.specs.declared.counts.Why.{Why}
+use Rattle.swim_work.specs.declared.lines.Got.{Got}
+use Rattle.swim_work.specs.declared.lines.Got.TheVariants.{Datagram, Idle, Fault}
+use Rattle.swim_work.specs.declared.workers.End.{End}
+use Rattle.swim_work.specs.Ends.{end_at, one_fault_more}
+use Rattle.swim_work.specs.Gates.{Received}
+use Rattle.swim_work.specs.Callers.{fresh_seat, nothing}
+use Rattle.swim_work.specs.Posts.{AtSender, HasSent, Posted, at_sender}
+use Rattle.swim_work.specs.Turns.{HasWorked, IsTurn}
+use Rattle.swim_receiver.specs.declared.rejoining.Returning.{Returning}
+use Rattle.swim_receiver.specs.Rejoining.{HearsAndJoins, IsOfSame, IsReturning, LearnsOn}
+use Rattle.swim_receiver.specs.Showing.{AreShown}
+
+-- what is true of a receiver between its turns: the caller that sends, how many faults the line gave in a row, and what
+-- happened to members that come back
+pub record AtReceiver (O : Type 0) : Type 0 where
+  pub sender : AtSender O
+  pub row : ℕ
+  pub told : List Event
+
+abbrev pub at_receiver : {O : Type 0} → AtSender O → ℕ → List Event → AtReceiver O
+at_receiver sender row told = record { sender = sender; row = row; told = told }
+
+-- what comes of an answer of the line: a datagram is heard, and whoever it shows to be there again is joined; a fault
+-- counts, and any other answer ends the row
+abbrev pub HearsGot : {O : Type 0} → Setting → ℕ → ℕ → ℕ → List Event → Got → List ℕ → AtReceiver O → Option Why →
+    AtReceiver O →
+    Type 0
+HearsGot o limit rejoin me h (Datagram count source) bytes old end new =
+    HearsAndJoins o limit rejoin me h (take count bytes) source old.sender end new.sender new.told × (new.row ≡ 0)
+HearsGot o limit rejoin me h Idle bytes old end new =
+    (new.sender ≡ old.sender) × (new.told ≡ h) × (new.row ≡ 0) × (end ≡ None)
+HearsGot o limit rejoin me h Fault bytes old end new =
+    (new.sender ≡ old.sender) × (new.told ≡ h) × (new.row ≡ one_fault_more old.row) × (end ≡ end_at new.row)
+
+-- a turn, in which it may look at the member table, and learn of knocks
+abbrev pub HearsNext : {O : Type 0} → Setting → ℕ → ℕ → ℕ → Received → AtReceiver O → Option Why → AtReceiver O → Type 0
+HearsNext o limit rejoin me given old end new =
+    (h : List Event) × LearnsOn o old.told h × HearsGot o limit rejoin me h given.got given.bytes old end new
+
+-- what a contract sees of it: the caller that sends, how many faults the line gave in a row, what the line gave so far,
+-- and what is remembered of members that come back
+pub record AtTurn (O : Type 0) : Type 0 where
+  pub sender : AtSender O
+  pub row : ℕ
+  pub received : Option (List Received)
+  pub returning : Returning
+
+abbrev pub at_turn : {O : Type 0} → AtSender O → ℕ → Option (List Received) → Returning → AtTurn O
+at_turn sender row received returning =
+    record { sender = sender; row = row; received = received; returning = returning }
+
+-- a turn, whatever happened to members before
+abbrev pub HasTurned : {O : Type 0} → Setting → ℕ → AtTurn O → Option Why → AtTurn O → Type 0
+HasTurned o limit old end new =
+    (h : List Event) → IsReturning old.returning h → (told : List Event) × IsReturning new.returning told
+    × IsTurn (HearsNext o limit old.returning.rejoiner.rejoin old.returning.rejoiner.me) old.received new.received
+    (at_receiver old.sender old.row h) end (at_receiver new.sender new.row told)
+
+-- turns, one for each answer of the line, whatever happened to members before
+abbrev pub HasHeard : {O : Type 0} → Setting → ℕ → AtTurn O → Option Why → AtTurn O → Type 0
+HasHeard o limit old end new =
+    (h : List Event) → IsReturning old.returning h → (told : List Event) × IsReturning new.returning told
+    × HasWorked (HearsNext o limit old.returning.rejoiner.rejoin old.returning.rejoiner.me) old.received new.received
+    (at_receiver old.sender old.row h) end (at_receiver new.sender new.row told)
+
+-- what it owns: what its line gave and was shown so far, its post, and what it remembers of members that come back
+pub record Owned (O : Type 0) : Type 0 where
+  pub received : Option (List Received)
+  pub listed : Option (List (List Address))
+  pub post : O
+  pub returning : Returning
+
+abbrev pub owned : {O : Type 0} → Option (List Received) → Option (List (List Address)) → O → Returning → Owned O
+owned received listed post returning =
+    record { received = received; listed = listed; post = post; returning = returning }
+
+-- what the receiver has done in a life: a turn for each answer of its line. Each datagram became the next call of its
+-- seat, or was counted, and who came back was joined; its post was handed the datagrams of the replies to its seat's
+-- calls; and whatever the line was shown are the members of a table of the node
+pub record HearsLife {O : Type 0} (posted : O → Option (List Posted)) (o : Setting) (limit : ℕ) (old : Owned O)
+    (seat : Seated) (end : End) (new : Owned O) : Type 0 where
+  pub row : ℕ
+  pub heard : HasHeard o limit (at_turn (at_sender (fresh_seat seat.number) old.post nothing) 0 old.received old.returning)
+      end.why (at_turn (at_sender seat new.post end.counts) row new.received new.returning)
+  pub sent : HasSent o seat.calls (posted old.post) (posted new.post) end.counts.unsent
+  pub same : IsOfSame old.returning new.returning
+  pub seen : List Change
+  pub shown : AreShown o [] seen old.listed new.listed

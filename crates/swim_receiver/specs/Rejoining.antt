@@ -1,0 +1,90 @@
+-- Which members the receiver of a life joins again by itself.
+use Rattle.std.specs.Prelude.{◌≡◌, ℕ, ◌+◌, ◌-◌, ◌^◌, min, Bool, true, false, All, List, [], ◌∷◌, ◌++◌, Option, Some, None}
+use Rattle.std.specs.Prelude.{option_and_then}
+use Rattle.swim_wire.specs.Address.{Address}
+use Rattle.swim_wire.specs.Messages.{Message}
+use Rattle.swim_history.specs.declared.rows.Change.{Change}
+use Rattle.swim_history.specs.declared.rows.Row.{Row}
+use Rattle.swim_history.specs.Changes.{table_after}
+use Rattle.swim_history.specs.Setting.{Setting}
+use Rattle.swim_rejoin.specs.Believing.{believed}
+use Rattle.swim_rejoin.specs.Histories.{Event, table_in}
+use Rattle.swim_rejoin.specs.Histories.Event.{Joined, Knocked, Looked}
+use Rattle.swim_rejoin.specs.Rejoiners.{Follows}
+use Rattle.swim_work.specs.declared.counts.Why.{Why}
+use Rattle.swim_work.specs.declared.tidings.Note.{Note}
+use Rattle.swim_work.specs.Calling.{Hears, IsMessage, Joins}
+use Rattle.swim_work.specs.Posts.{AtSender}
+use Rattle.swim_receiver.specs.declared.rejoining.Returning.{Returning}
+
+-- what the receiver learns between two datagrams: a table of the node, or a knock that the ticker told it of
+abbrev pub IsNews : Setting → Event → Type 0
+IsNews o (Looked rows) = (log : List Change) × (rows ≡ table_after o log)
+IsNews o (Knocked id number) = Unit {0}
+IsNews o (Joined id period) = ⊥
+
+-- it learnt some of that
+abbrev pub LearnsOn : Setting → List Event → List Event → Type 0
+LearnsOn o h now = (more : List Event) × (now ≡ more ++ h) × All (IsNews o) more
+
+-- all that happened, and then these knocks, oldest first
+abbrev pub with_knocks : List Note → List Event → List Event
+with_knocks [] h = h
+with_knocks (note ∷ notes) h = with_knocks notes (Knocked note.id note.number ∷ h)
+
+-- how many times a member was joined again
+abbrev pub joins_in : List Event → ℕ
+joins_in [] = 0
+joins_in (Knocked id number ∷ before) = joins_in before
+joins_in (Looked rows ∷ before) = joins_in before
+joins_in (Joined id period ∷ before) = joins_in before + 1
+
+-- what is remembered is what all that happened comes to, newest first, with the rows of the table that was last looked
+-- at, and with the number of joins, which stops at 2^64-1
+abbrev pub IsReturning : Returning → List Event → Type 0
+IsReturning r h =
+    Follows r.rejoiner h × (r.rows.items ≡ table_in h) × (r.rejoins ≡ min (joins_in h) (2 ^ 64 - 1))
+
+abbrev pub Learns : Setting → Returning → Returning → Type 0
+Learns o old new = (h : List Event) → IsReturning old h → (now : List Event) × LearnsOn o h now × IsReturning new now
+
+-- for the same member, which knocks as often
+abbrev pub IsOfSame : Returning → Returning → Type 0
+IsOfSame old new =
+    (new.rejoin ≡ old.rejoin) × (new.rejoiner.rejoin ≡ old.rejoiner.rejoin) × (new.rejoiner.me ≡ old.rejoiner.me)
+
+-- who is to be joined again after it, with the row that the table shows which was last looked at
+abbrev pub whom : ℕ → ℕ → List Event → Address → Option Message → Option Row
+whom rejoin me h source message = option_and_then (λ m. believed rejoin me h m source) message
+
+-- that it was joined again is remembered where it was, and nothing where it wasn't
+abbrev pub IsJoinTold : Row → Bool → List Event → List Event → Type 0
+IsJoinTold row true h told = (period : ℕ) × (told ≡ Joined row.id period ∷ h)
+IsJoinTold row false h told = told ≡ h
+
+-- a member is joined again, and that is remembered, or nothing is
+abbrev pub JoinsAgain : {O : Type 0} → Setting → ℕ → Row → Returning → AtSender O → Option Why → AtSender O →
+    Returning → Type 0
+JoinsAgain o limit row before old end new after =
+    (is_joined : Bool) × Joins o limit row old end new is_joined
+    × ((h : List Event) → IsReturning before h →
+    (told : List Event) × IsReturning after told × IsJoinTold row is_joined h told)
+
+-- what follows the call for a datagram: nothing where nobody is to be joined again, and else the call that joins it
+abbrev pub JoinsThen : {O : Type 0} → Setting → ℕ → Option Row → List Event → AtSender O → Option Why → Option Why →
+    AtSender O →
+    List Event → Type 0
+JoinsThen o limit None h mid heard end new told = (new ≡ mid) × (end ≡ heard) × (told ≡ h)
+JoinsThen o limit (Some row) h mid heard end new told =
+    (is_joined : Bool) × Joins o limit row mid end new is_joined × IsJoinTold row is_joined h told
+
+-- a datagram was heard, and then whoever it shows to be there again was joined
+pub record HearsAndJoins {O : Type 0} (o : Setting) (limit rejoin me : ℕ) (h : List Event) (bytes : List ℕ)
+    (source : Address)
+    (old : AtSender O) (end : Option Why) (new : AtSender O) (told : List Event) : Type 0 where
+  pub mid : AtSender O
+  pub heard : Option Why
+  pub hears : Hears o limit bytes source old heard mid
+  pub message : Option Message
+  pub is : IsMessage o bytes source old heard mid message
+  pub joins : JoinsThen o limit (whom rejoin me h source message) h mid heard end new told
