@@ -1,0 +1,5 @@
+pub mod Files
+pub mod Recording
+pub mod Reports
+pub mod Transcripts
+pub mod Watched
