@@ -134,7 +134,8 @@ call_refused o limit d (Wire f) old end new may is = record {
   become = (may, tt);
   heard = ap (λ (s : AtSender _). heard_in s.seat.calls) is.same ∙ sym (append-nil (heard_in old.seat.calls));
   wire = λ within.
-      let more : new.counts.wire ≡ min (old.counts.wire + 1) (2 ^ 64 - 1) = ap (λ (s : AtSender _). s.counts.wire) is.same
+      let more : new.counts.wire ≡ min (old.counts.wire + 1) (2 ^ 64 - 1) =
+      ap (λ (s : AtSender _). s.counts.wire) is.same
       in omega (arith, more);
   joins = 0;
   refused = λ within.
@@ -223,7 +224,8 @@ then_joined o limit (Some row) h mid heard end new told (is_joined, inr refused,
     join_refused o limit refused.0 mid end new refused.1 refused.2
 
 first_heard : {O : Type 0} (o : Setting) (limit : ℕ) (bytes : List ℕ) (source : Address) (old : AtSender O)
-    (end : Option Why) (new : AtSender O) → Hears o limit bytes source old end new → HeardOn ((bytes, source) ∷ []) old new
+    (end : Option Why) (new : AtSender O) → Hears o limit bytes source old end new →
+    HeardOn ((bytes, source) ∷ []) old new
 first_heard o limit bytes source old end new (inl (call, (m, text, is), made)) =
     call_heard o (bytes, source) call m old end new text is made
 first_heard o limit bytes source old end new (inr (fault, may, is)) =
@@ -273,7 +275,8 @@ all_heard o limit rejoin me given old (Some why) new is =
 pub each_is_heard : {O : Type 0} (posted : O → Option (List Posted)) (o : Setting) (limit : ℕ) (old : Owned O)
     (seat : Seated) (end : End) (new : Owned O) → HearsLife posted o limit old seat end new →
     (h : List Event) → IsReturning old.returning h →
-    (given : List Received) × Grows old.received new.received given × AreHeard (datagrams_in given) seat.calls end.counts
+    (given : List Received) × Grows old.received new.received given
+    × AreHeard (datagrams_in given) seat.calls end.counts
 each_is_heard posted o limit old seat end new life h is =
     let worked = (life.heard h is).2 in
     let heard = all_heard o limit old.returning.rejoiner.rejoin old.returning.rejoiner.me worked.given _ end.why _

@@ -19,7 +19,8 @@ use Rattle.swim_work.specs.Turns.{IsTurn}
 use Rattle.swim_work.proofs.Sent.{none_sent}
 use Rattle.swim_work.proofs.Turning.{last_turned, none_turned, one_more_turned}
 use Rattle.swim_receiver.specs.declared.rejoining.Returning.{Returning}
-use Rattle.swim_receiver.specs.Receiving.{AtReceiver, AtTurn, HasHeard, HasTurned, HearsGot, HearsLife, HearsNext, Owned}
+use Rattle.swim_receiver.specs.Receiving.{AtReceiver, AtTurn, HasHeard, HasTurned, HearsGot, HearsLife}
+use Rattle.swim_receiver.specs.Receiving.{HearsNext, Owned}
 use Rattle.swim_receiver.specs.Receiving.{at_receiver, at_turn}
 use Rattle.swim_receiver.specs.Rejoining.{HearsAndJoins, IsOfSame, IsReturning, Learns}
 use Rattle.swim_receiver.specs.Showing.{AreShown}
@@ -200,13 +201,15 @@ life_heard posted o limit old new first seat none counts begins row why end befo
     let from_none : HasHeard o limit (at_turn (at_sender first old.post none) 0 old.received old.returning) why now =
     subst (λ (n : ℕ). HasHeard o limit (at_turn (at_sender first old.post none) n old.received old.returning) why now)
     at_none heard in
-    let from_nothing : HasHeard o limit (at_turn (at_sender first old.post nothing) 0 old.received old.returning) why now =
+    let from_nothing : HasHeard o limit (at_turn (at_sender first old.post nothing) 0 old.received old.returning) why
+    now =
     subst (λ (c : Counts). HasHeard o limit (at_turn (at_sender first old.post c) 0 old.received old.returning) why now)
     zero from_none in
     rw is (record {
       row = row;
-      heard = subst (λ (s : Seated). HasHeard o limit (at_turn (at_sender s old.post nothing) 0 old.received old.returning)
-          why now) first_is from_nothing;
+      heard = subst (λ (s : Seated).
+          HasHeard o limit (at_turn (at_sender s old.post nothing) 0 old.received old.returning) why now)
+          first_is from_nothing;
       sent = sends (posted old.post) (rw zero (none_sent o first.calls (posted old.post) no_calls));
       same = of_same;
       seen = seen;

@@ -88,8 +88,9 @@ owned received listed post returning =
 pub record HearsLife {O : Type 0} (posted : O → Option (List Posted)) (o : Setting) (limit : ℕ) (old : Owned O)
     (seat : Seated) (end : End) (new : Owned O) : Type 0 where
   pub row : ℕ
-  pub heard : HasHeard o limit (at_turn (at_sender (fresh_seat seat.number) old.post nothing) 0 old.received old.returning)
-      end.why (at_turn (at_sender seat new.post end.counts) row new.received new.returning)
+  pub heard : HasHeard o limit
+      (at_turn (at_sender (fresh_seat seat.number) old.post nothing) 0 old.received old.returning) end.why
+      (at_turn (at_sender seat new.post end.counts) row new.received new.returning)
   pub sent : HasSent o seat.calls (posted old.post) (posted new.post) end.counts.unsent
   pub same : IsOfSame old.returning new.returning
   pub seen : List Change
