@@ -1,7 +1,6 @@
 //! Gates of a life in memory, which tell each other how far they are.
 
 mod doors;
-mod failing;
 mod heralds;
 mod lines;
 mod paces;
@@ -9,9 +8,6 @@ mod posts;
 mod signals;
 
 pub use self::doors::{NoDoor, OneDoor, RefusingDoor};
-pub use self::failing::{
-    FailingDoor, FailingLine, FailingOutlet, FailingPost, FailingShelf, FailingSink, Failure, Which,
-};
 pub use self::heralds::Counter;
 pub use self::lines::{PING, PingLine, line};
 pub use self::paces::{StopPace, pace};
