@@ -12,6 +12,8 @@ from tests.support.parts import TOP
 
 # What `rt ci` says of a crate that it proved, and of one whose tests it proved.
 PROVED = re.compile(r"rt: (\w+)(: its tests are)? proved$")
+# What it says of a crate that an earlier run on the same machine proved, whose program is there when `rt ci` is over.
+KEPT = re.compile(r"rt: (\w+) is kept: ")
 
 
 class Play:

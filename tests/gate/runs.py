@@ -9,7 +9,7 @@ from concurrent.futures import ThreadPoolExecutor
 
 from tests.gate.meters import Meter
 from tests.gate.parts import CI, EDITS
-from tests.gate.plays import PROVED, Edits, Play, Queue
+from tests.gate.plays import KEPT, PROVED, Edits, Play, Queue
 from tests.support.lanes import lanes
 from tests.support.parts import LEFT_OUT
 
@@ -108,9 +108,11 @@ class Run:
         plays = [(it, Play([*it.words, *map(self.find, it.programs)])) for it in shared]
         proofs = Play(CI.words, env=with_lanes()).begin()
         queue, edits = Queue(plays, parts_at_a_time()), Edits(EDITS.words).begin() if with_edits else None
+        kept = []
 
         def hear(line):
             found = PROVED.match(line)
+            kept.extend(it[1] for it in [KEPT.match(line)] if it)
             if found and found[2]:
                 queue.add(found[1])
             elif found:
@@ -124,6 +126,8 @@ class Run:
             self.tell(CI, proofs, hear)
             if edits:
                 pool.submit(edits.end)
+            for it in kept:
+                queue.add(it)
             lacking = queue.close()
             for part, play in plays:
                 self.leave_out_unbuilt(part) if part in lacking else self.tell(part, play)
