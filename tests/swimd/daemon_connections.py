@@ -6,7 +6,7 @@ import subprocess
 import threading
 import time
 
-from tests.support.daemons import SECONDS, connected, must, stop_all, talk, until
+from tests.support.daemons import SECONDS, connected, introduced, must, stop_all, talk, until
 from tests.support.datagrams import ACK, PING, datagram, fields
 
 MINUTE = 60_000
@@ -100,12 +100,11 @@ class Crowd:
 
 def clients_of_every_kind(machine):
     """Through ten lives nobody is judged, then the member that is killed is, and `stop` is served at once."""
-    members = machine.members(5, k=3, rtt=5, period=20, tick_ms=20)
-    first, last = members[0], members[-1]
-    first.values["journal"] = 60
-    first.write()
-    for it in members:
-        it.start()
+    values = {"k": 3, "rtt": 5, "period": 20, "tick_ms": 20}
+    first = machine.started(1, journal=60, **values)
+    # They are told of each other when all are there: so nobody is judged who came late.
+    members = introduced([first, *(machine.started(id, **values) for id in range(2, 6))])
+    last = members[-1]
     crowd = Crowd(first)
     try:
 
