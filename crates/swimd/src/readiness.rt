@@ -18,11 +18,15 @@ pub const STANDARD_ERROR: RawFd = 2;
 const LOOK_MS: u64 = 10;
 
 /// Whether a stream takes a line without a wait, now or within so many looks of 10 milliseconds each. A pipe does that
-/// has room, as long as nobody else writes into it; what the system can't say it of, as a file, always does.
+/// has room, as long as nobody else writes into it; what the system can't say it of, as a file, always does. Where there
+/// is no memory to ask with, it counts as taken: a wait is better than a line that is lost.
 pub fn is_taken<R: Net>(rt: &R, alloc: Global, descriptor: RawFd, looks: u32) -> bool {
     match has_room(rt, alloc, descriptor, looks) {
         Ok(has_room) => has_room,
-        Err(fault) => fault.kind() == ErrorKind::PermissionDenied,
+        Err(fault) => {
+            let kind = fault.kind();
+            kind == ErrorKind::PermissionDenied || kind == ErrorKind::OutOfMemory
+        }
     }
 }
 
