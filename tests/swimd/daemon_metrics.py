@@ -8,7 +8,7 @@ import subprocess
 import time
 from collections import Counter
 
-from tests.support.daemons import SECONDS, must, until
+from tests.support.daemons import SECONDS, introduced, must, until
 from tests.support.datagrams import ACK, PING, datagram, fields
 from tests.support.journals import journals
 from tests.support.parts import leave_out
@@ -169,11 +169,9 @@ def must_be_counted(samples, daemon, **others):
 def metrics_of_a_group(machine):
     """Of three daemons, one of which is killed: at the end the file says what the journal files say, and what the
     configuration has."""
-    daemons = machine.members(3)
-    for it in daemons:
-        it.values["metrics"] = f"{machine.folder}/{it.id}.prom"
-        it.write()
-        it.start()
+    path = lambda id: f"{machine.folder}/{id}.prom"
+    # They are told of each other when all are there: so nobody is judged who came late.
+    daemons = introduced([machine.started(id, metrics=path(id)) for id in range(1, 4)])
     first, _, last = daemons
     samples = written(first.values["metrics"])
     must(samples["swimd_member_id", None] == 1 and samples["swimd_lives_total", None] == 1, f"it says {samples}")
