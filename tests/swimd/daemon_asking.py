@@ -6,6 +6,7 @@ import signal
 import socket
 import subprocess
 import time
+from contextlib import contextmanager
 
 from tests.support.daemons import SECONDS, come, must, until
 from tests.swimd.daemon_lines import LISTED, quiet
@@ -158,18 +159,9 @@ def many_stops_at_once(machine):
         must(daemon.ended().why == "stopped", "it ended otherwise")
 
 
-def a_daemon_that_stands_still(machine):
-    """Five seconds are waited where no word says how long; as many clients as the queue takes hold nobody up either."""
-    daemon = quiet(machine)
-    daemon.child.send_signal(signal.SIGSTOP)
-    try:
-        began = time.monotonic()
-        must_be(asked(daemon, "list"), (b"", b"ask timeout\n", 5), "a daemon that is stopped")
-        must(4.9 < time.monotonic() - began < 5 + SOON, f"five seconds last {time.monotonic() - began:.1f}")
-    finally:
-        daemon.child.send_signal(signal.SIGCONT)
-    until(lambda: asked(daemon, "list") == (LISTED, b"", 0), "the daemon goes on")
-    path = f"{machine.folder}/full.sock"
+@contextmanager
+def full_queue(path):
+    """A socket that listens at a path and lets nobody more in, and those who wait there."""
     with socket.socket(socket.AF_UNIX) as full:
         full.bind(path)
         full.listen(0)
@@ -182,12 +174,30 @@ def a_daemon_that_stands_still(machine):
                 it.connect(path)
         except BlockingIOError:
             pass
+        try:
+            yield full, waiting
+        finally:
+            for it in waiting:
+                it.close()
+
+
+def a_daemon_that_stands_still(machine):
+    """Five seconds are waited where no word says how long; as many clients as the queue takes hold nobody up either."""
+    daemon = quiet(machine)
+    daemon.child.send_signal(signal.SIGSTOP)
+    try:
+        began = time.monotonic()
+        must_be(asked(daemon, "list"), (b"", b"ask timeout\n", 5), "a daemon that is stopped")
+        must(4.9 < time.monotonic() - began < 5 + SOON, f"five seconds last {time.monotonic() - began:.1f}")
+    finally:
+        daemon.child.send_signal(signal.SIGCONT)
+    until(lambda: asked(daemon, "list") == (LISTED, b"", 0), "the daemon goes on")
+    path = f"{machine.folder}/full.sock"
+    with full_queue(path):
         began = time.monotonic()
         found = ran(machine.program, "ask", "--control", path, "--timeout", "1", "list")
         must_be(found, (b"", b"ask timeout\n", 5), "a socket whose queue is full")
         must(time.monotonic() - began < SOON, "a limit of a second lasts longer at a full queue")
-        for it in waiting:
-            it.close()
     must(daemon.stop().status == 0, "it ended otherwise")
 
 

@@ -6,7 +6,7 @@ import threading
 import time
 
 from tests.support.daemons import SECONDS, come, must
-from tests.swimd.daemon_asking import SOON, must_be, ran
+from tests.swimd.daemon_asking import SOON, full_queue, must_be, ran
 
 
 class Server:
@@ -128,18 +128,7 @@ def one_limit_for_both(machine):
     """A queue that is full for two of three seconds, and then nobody who answers: three seconds are waited, not
     five."""
     path = f"{machine.folder}/late.sock"
-    with socket.socket(socket.AF_UNIX) as full:
-        full.bind(path)
-        full.listen(0)
-        waiting = []
-        try:
-            while True:
-                it = socket.socket(socket.AF_UNIX)
-                it.setblocking(False)
-                waiting.append(it)
-                it.connect(path)
-        except BlockingIOError:
-            pass
+    with full_queue(path) as (full, waiting):
         took = []
         taking = threading.Timer(2.0, lambda: took.extend(full.accept() for _ in waiting))
         taking.start()
@@ -151,7 +140,7 @@ def one_limit_for_both(machine):
             taking.join(SECONDS)
         must_be(found, (b"", b"ask timeout\n", 5), "a socket whose queue is full for two seconds")
         must(2.9 < seconds < 4.5, f"a limit of three seconds lasts {seconds:.1f}")
-        for it in [*waiting, *(it for it, _ in took)]:
+        for it, _ in took:
             it.close()
 
 

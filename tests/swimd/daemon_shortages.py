@@ -12,6 +12,7 @@ from tests.support.daemons import SECONDS, connected, introduced, must, until
 from tests.support.datagrams import ACK, PING, datagram, fields
 from tests.support.sayings import LIVES_AND_CLOSING, TIME, but_for_notices
 from tests.support.watchers import Watcher, hear
+from tests.swimd.daemon_connections import is_closed
 from tests.swimd.daemon_starting import must_say, refusal
 
 MINUTE = 60_000
@@ -47,16 +48,6 @@ def must_be_up(daemon, other):
 def left(clients):
     """Those of these connections that are still open. What they were told is thrown away."""
     return [it for it in clients if not is_closed(it)]
-
-
-def is_closed(client):
-    while select.select([client], [], [], 0)[0]:
-        try:
-            if not client.recv(65_536):
-                return True
-        except ConnectionResetError:
-            return True
-    return False
 
 
 def let_in(clients):
