@@ -10,7 +10,6 @@ use Rattle.std.proofs.lemmas.List.Folds.{list_any-append}
 use Rattle.swim_text.specs.declared.lines.Taken.{Taken}
 use Rattle.swim_text.specs.declared.lines.Taken.TheVariants.{Line, Size, Failed, Unsent}
 use Rattle.swim_text.specs.Lines.{pieces, bare, has_feed, IsOversize, IsCutShort, Takes, TakesKnown, ended}
-use Rattle.swim_text.specs.Lines.{failures_read, failures_sent}
 
 -- ---- the first line of a text
 
@@ -393,25 +392,3 @@ cut_short (Some text) (Some rest) (Some more) line final limit budget now is_lon
     short : IsCutShort text more budget now
     short =
         record { taken = t.taken; whole = t.cut ∙ ap (λ l. t.taken ++ l) (sym k); within = t.within; spent = t.spent }
-
--- ---- the failures that a line's end counts
-
--- the failures after a step, which may have ended the line
-abbrev pub failures_met : (ℕ → Taken → ℕ) → ℕ → Option Taken → ℕ
-failures_met count n None = n
-failures_met count n (Some taken) = count n taken
-
-pub read_none : (n : ℕ) (is_empty is_long : Bool) → failures_read n (ended is_empty is_long) ≡ n
-read_none n true is_long = refl
-read_none n false true = refl
-read_none n false false = refl
-
-pub sent_none : (n : ℕ) (is_empty is_long : Bool) → failures_sent n (ended is_empty is_long) ≡ n
-sent_none n true is_long = refl
-sent_none n false true = refl
-sent_none n false false = refl
-
--- a line was taken only where some byte was
-pub ended_line : (is_empty is_long : Bool) → ended is_empty is_long ≡ Line → is_empty ≡ false
-ended_line true is_long e = absurd cc
-ended_line false is_long e = refl

@@ -1,5 +1,6 @@
 pub mod Buffers
 pub mod Cutting
+pub mod Failures
 pub mod Lines
 pub mod Memory
 pub mod Numbers

@@ -5,7 +5,8 @@ ghost use Rattle.std.specs.Prelude.{IfSome, IfNone};
 ghost use Rattle.std.specs.Io.KnownBytes.{Keeps};
 ghost use Rattle.swim_text.specs.Streams.{Gives, failures_then, failures_if};
 ghost use Rattle.swim_text.specs.Lines.{TakesKnown, has_feed, ended, failures_read, failures_sent};
-ghost use Rattle.swim_text.specs.Cutting.{KeepsPart, IsPart, Steps, TakesPart, feed_if, failures_met};
+ghost use Rattle.swim_text.specs.Cutting.{KeepsPart, IsPart, Steps, TakesPart, feed_if};
+ghost use Rattle.swim_text.specs.Failures.{failures_met};
 
 use crate::parts::cut;
 use crate::streams::{Byte, Sink, Source};

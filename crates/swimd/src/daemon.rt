@@ -40,12 +40,12 @@ use swim_life::{
 use swim_text::Sink;
 use swim_wire::Peer;
 
-/// Runs the daemon of a configuration file, and writes how its lives ended. Once there is a configuration no line waits
-/// for a reader. What stands in the way of a start is told in the details. Among the faults stands what the
-/// configuration is warned of, and then, while it runs, notices; where it is quiet, only that a stale socket was
-/// removed, and how many lines of lives were left out. Where the group has keys, and the configuration tells no last
-/// number, the detector begins behind the clock's. In the log stands where datagrams came from that nobody of the group
-/// sent, or more than the fence lets in.
+/// Runs the daemon of a configuration file, and writes how its lives ended. Once there is a configuration a line waits
+/// for its reader only where memory is refused to ask whether it is taken. What stands in the way of a start is told in
+/// the details. Among the faults stands what the configuration is warned of, and then, while it runs, notices; where it
+/// is quiet, only that a stale socket was removed, and how many lines of lives were left out. Where the group has keys,
+/// and the configuration tells no last number, the detector begins behind the clock's. In the log stands where datagrams
+/// came from that nobody of the group sent, or more than the fence lets in.
 pub fn run<
     R: Files<File = File> + Net + Clock + Threads + Wait + Sync,
     W: Timely,

@@ -18,7 +18,8 @@ const CLOSING_LOOKS: u32 = 100;
 
 /// A sink that can be told to wait for nobody.
 pub trait Timely: Sink {
-    /// From now on no line waits for a reader. One that isn't taken at once is left out.
+    /// From now on no line waits for a reader: one that isn't taken at once is left out. Where memory is refused to ask
+    /// whether it is taken, it is written, and may wait.
     fn hurry(&self);
 
     /// Gets how many lines were left out.
