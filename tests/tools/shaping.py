@@ -1,0 +1,47 @@
+"""What tests/tools/layout reads out of sources: what functions take, and which modules import one another in a circle."""
+
+from pathlib import Path
+
+from tests.support.signatures import cycles_of, functions_of, imports_of, modules_of
+from tests.tools.copies import unlike
+
+WIDE = """\
+// fn told(a: A, b: B) stands in a comment.
+pub fn write<'a, W: Sink, F: FnOnce(u8, u8) -> (W, u8)>(
+    &mut self,
+    writer: &'a mut W,
+    pair: (u8, u8), // two, that count once
+    then: F,
+) -> Result<W, Fault>
+    ensures { W.written writer.old ≡ codes "fn (" }
+{}
+
+fn idle() {}
+"""
+IMPORTS = {
+    "lib": "mod first;\nmod second;\n",
+    "first": "use crate::second::{Second, take};\n",
+    "second": "use crate::{first, rooms::third};\n",
+    "rooms/third": "use crate::first::First;\n// use crate::alone::Alone;\n",
+    "alone": "use crate::first::First;\nuse std::mem;\n",
+}
+
+
+def parameters_are_counted(_programs, folder):
+    """Type parameters without lifetimes, and parameters with the one that the method is called on."""
+    path = Path(folder, "wide.rt")
+    path.write_text(WIDE, encoding="utf-8")
+    return unlike("the functions", [("write", 2, 4), ("idle", 0, 0)], [*functions_of(path)])
+
+
+def circles_of_imports_are_found(_programs, folder):
+    """Who imports the circle, and isn't imported by it, is no part of it; nor is who is named in a comment."""
+    for name, text in IMPORTS.items():
+        path = Path(folder, "src", f"{name}.rt")
+        path.parent.mkdir(parents=True, exist_ok=True)
+        path.write_text(text, encoding="utf-8")
+    found = cycles_of(imports_of(modules_of(folder)))
+    return unlike("the circles", [["first", "rooms::third", "second"]], found)
+
+
+SHAPING = [parameters_are_counted, circles_of_imports_are_found]
