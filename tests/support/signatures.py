@@ -16,7 +16,7 @@ def code_of(path):
 
 
 def bracketed(code, start):
-    """The parts between the bracket that stands there and its other one, as commas divide them, and the place behind."""
+    """The parts between the bracket that stands there and its other one, by its commas, and the place behind."""
     depth, part, parts = 0, "", []
     for place in range(start, len(code)):
         sign = code[place]

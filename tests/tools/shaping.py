@@ -1,4 +1,4 @@
-"""What tests/tools/layout reads out of sources: what functions take, and which modules import one another in a circle."""
+"""What tests/tools/layout reads out of sources: what functions take, and the circles of modules."""
 
 from pathlib import Path
 
