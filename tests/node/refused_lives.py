@@ -7,7 +7,7 @@ import time
 
 from tests.node.refusing import REFUSED
 from tests.node.refused_runs import AS_EVER, NO_MEMORY, NOT_BEGUN
-from tests.support.daemons import DaemonFault, Machine
+from tests.support.daemons import PORTS_TRIED, DaemonFault, Machine, PortTaken
 from tests.support.sayings import first_line_of
 
 LATER = "no memory for a later life"
@@ -32,7 +32,10 @@ def run(refuser, program, number):
         while daemon.child.poll() is None and time.monotonic() < end and not stopped(daemon):
             time.sleep(0.02)
         stdout, stderr = daemon.child.communicate(timeout=SECONDS)
-        return daemon.read + stdout, daemon.said + stderr, daemon.child.returncode
+        stdout, stderr = daemon.read + stdout, daemon.said + stderr
+        if first_line_of(stderr.replace(REFUSED, b"", 1)) == b"bind listen\n":
+            raise PortTaken(f"port {daemon.port} is taken")
+        return stdout, stderr, daemon.child.returncode
 
 
 def stopped(daemon):
@@ -62,11 +65,13 @@ def judged(stdout, stderr, status):
 def of_later_lives(refuser, pool, program):
     """Each run with one request refused, from the first of a start on into the fourth life."""
 
-    def tried(number):
+    def tried(number, ports=PORTS_TRIED):
         try:
             ran = run(refuser, program, number)
             ending, is_good = judged(*ran)
             return ending, [] if is_good else [f"request {number}: {ran}"]
+        except PortTaken as fault:
+            return tried(number, ports - 1) if ports > 1 else (NOT_BEGUN, [f"request {number}: {fault}"])
         except (DaemonFault, OSError, subprocess.SubprocessError) as fault:
             return AS_EVER, [f"request {number}: {type(fault).__name__}: {fault}"]
 
