@@ -218,15 +218,13 @@ life_controlled o limit before after old new first seat began desk saw begins ro
     ∙ (ap (λ (n : ℕ). seated first.number [] n) unmet ∙ sym (ap fresh_seat same)) in
     let desk_is : desk ≡ at_desk seat desk.seen desk.refused =
     ap (λ (s : Seated). at_desk s desk.seen desk.refused) (sym seat_is) in
+    let start = at_control old (at_desk (fresh_seat seat.number) saw 0) 0 in
     let now = at_control new desk row in
     let from_none : HasControlled o limit before after (at_control old began 0) why now =
     subst (λ (n : ℕ). HasControlled o limit before after (at_control old began n) why now) at_none has in
-    let from_fresh : HasControlled o limit before after (at_control old (at_desk (fresh_seat seat.number) saw 0) 0) why
-    now =
+    let from_fresh : HasControlled o limit before after start why now =
     subst (λ (s : Seated). HasControlled o limit before after (at_control old (at_desk s saw 0) 0) why now) first_is
     (subst (λ (d : AtDesk). HasControlled o limit before after (at_control old d 0) why now) began_is from_none) in
-    let to_seat : HasControlled o limit before after (at_control old (at_desk (fresh_seat seat.number) saw 0) 0) why
-    (at_control new (at_desk seat desk.seen desk.refused) row) =
-    subst (λ (d : AtDesk). HasControlled o limit before after (at_control old (at_desk (fresh_seat seat.number) saw 0) 0)
-    why (at_control new d row)) desk_is from_fresh in
-    rw is (record { first = saw; seen = desk.seen; row = row; controlled = to_seat; counted = refl })
+    let whole : HasControlled o limit before after start why (at_control new (at_desk seat desk.seen desk.refused) row)
+    = subst (λ (d : AtDesk). HasControlled o limit before after start why (at_control new d row)) desk_is from_fresh in
+    rw is (record { first = saw; seen = desk.seen; row = row; controlled = whole; counted = refl })

@@ -1,4 +1,4 @@
--- Which calls a turn of a connection gives its desk, apart from all that desks got before. The calls are counted, and of
+-- Which calls a turn of a connection gives its desk, apart from all that desks got before. Calls are counted, and of
 -- those from a number on this desk knows what it was asked.
 use Rattle.std.proofs.Common.{◌≡◌, ℕ, ◌+◌, ◌≤◌, List, [], ◌∷◌, ◌++◌, Option, Some, None, Result, Ok, Err, refl, sym}
 use Rattle.std.proofs.Common.{subst, ap, ◌∙◌, inl, inr, ◌⊎◌, arith}
