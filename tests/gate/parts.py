@@ -38,7 +38,14 @@ def room(name, what, programs, *needs, **marks):
 RUSTC, VALGRIND, OBJDUMP, TOML = "rustc", "valgrind", "objdump", "toml"
 SWIMSIM, SWIMD = ("swimsim",), ("swimd",)
 ALL_PROGRAMS = (
-    "swim_detector_tests", "swim_node_tests", "swim_life_tests", "swim_config_tests", "swimsim", "swimd", "node_bench"
+    "swim_detector_tests",
+    "swim_node_tests",
+    "swim_desk_tests",
+    "swim_life_tests",
+    "swim_config_tests",
+    "swimsim",
+    "swimd",
+    "node_bench",
 )
 
 CHECK = Part("check", "what changed, and what stands on it, over what was proved before", ["tests/support/check"])

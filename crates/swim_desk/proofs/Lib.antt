@@ -1,0 +1,10 @@
+pub mod Answered
+pub mod Becoming
+pub mod Connected
+pub mod Controlled
+pub mod Ended
+pub mod Fullness
+pub mod Numbered
+pub mod Since
+pub mod Steps
+pub mod Told

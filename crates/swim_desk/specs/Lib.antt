@@ -1,0 +1,5 @@
+pub mod Connected
+pub mod Controlling
+pub mod Desk
+pub mod Doors
+pub mod Ending
