@@ -30,13 +30,12 @@ use std::rt::{Clock, Files};
 use std::sync::Wait;
 use std::thread::Threads;
 use swim_config::{Config, ConfigFault};
+use swim_desk::Door;
+use swim_devices::{ClockSleeper, SleepingPace, UdpLine, UnixEntrance};
 use swim_events::{Entrance, Gallery};
 use swim_guard::{ClockTimepiece, FencedLine, SealedLine, SealedPost};
 use swim_keys::Keys;
-use swim_life::{
-    ClockSleeper, Door, Hall, LivesEnd, Returning, SleepingPace, Terms, UdpLine, UnixEntrance,
-    run_lives,
-};
+use swim_life::{Hall, LivesEnd, Returning, Terms, run_lives};
 use swim_text::Sink;
 use swim_wire::Peer;
 

@@ -4,7 +4,7 @@ ghost use Rattle.swim_work.specs.Gates.{FitsInto};
 use super::*;
 use std::net::{Net, UdpSocket};
 use std::thread::join;
-use swim_life::UdpLine;
+use swim_devices::UdpLine;
 use swim_work::{Beat, Got, Post};
 
 // A socket of this machine that tells when the receiver asked again after a datagram.

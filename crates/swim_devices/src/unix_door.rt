@@ -2,7 +2,6 @@
 
 ghost use Rattle.std.specs.Prelude.{None};
 
-use crate::gates::{Door, Knock};
 use crate::receptions::{Arrival, Guest, Reception};
 use crate::unix_streams::{StreamSink, StreamSource};
 use mio::unix::SourceFd;
@@ -14,6 +13,7 @@ use std::os::fd::{AsRawFd, RawFd};
 use std::rt::{Clock, Files};
 use std::sync::Wait;
 use std::time::{Duration, Instant};
+use swim_desk::{Door, Knock};
 
 /// How long the door waits, in milliseconds.
 const WAIT_MS: u64 = 100;

@@ -1,6 +1,6 @@
 use Rattle.std.proofs.Common.{◌+◌, ◌-◌, ◌≤◌, drop, arith, length-take}
 use Rattle.swim_text.specs.Buffers.{drop_range}
-use Rattle.swim_life.proofs.unix_streams.StreamSourceSource.skip.Goals as goal
+use Rattle.swim_devices.proofs.unix_streams.StreamSourceSource.skip.Goals as goal
 
 pub returns-clause-ready : goal.returns-clause-ready
 returns-clause-ready c =

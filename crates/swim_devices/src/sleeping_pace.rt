@@ -1,7 +1,7 @@
 //! The pace of a daemon: it sleeps from tick to tick.
 
 ghost use Rattle.std.specs.Prelude.{◌≡◌, None};
-ghost use Rattle.swim_life.specs.Pacing.{Beats, HasSlept};
+ghost use Rattle.swim_devices.specs.Pacing.{Beats, HasSlept};
 
 use std::marker::Model;
 use std::rt::Clock;
@@ -55,7 +55,7 @@ pub struct SleepingPace<S: Sleeper + Drop> {
 }
 
 impl<S: Sleeper + Drop> Model for SleepingPace<S> {
-    ghost use Rattle.swim_life.specs.Pacing.{Pacing};
+    ghost use Rattle.swim_devices.specs.Pacing.{Pacing};
 
     ghost Value = { Pacing };
 

@@ -1,11 +1,11 @@
 -- What is known of a path at which a socket is to be bound.
 use Rattle.std.specs.Prelude.{◌≡◌, ◌⊎◌, ℕ, Bool, true, false, List, [], ◌∷◌, Option}
-use Rattle.swim_life.specs.declared.places.Found.{Found}
-use Rattle.swim_life.specs.declared.places.Found.TheVariants as found
-use Rattle.swim_life.specs.declared.places.Presence.{Presence}
-use Rattle.swim_life.specs.declared.places.Presence.TheVariants as met
-use Rattle.swim_life.specs.declared.places.Sight.{Sight}
-use Rattle.swim_life.specs.declared.places.Sight.TheVariants.{Free, Stale, Served, NoSocket, Unclear}
+use Rattle.swim_devices.specs.declared.places.Found.{Found}
+use Rattle.swim_devices.specs.declared.places.Found.TheVariants as found
+use Rattle.swim_devices.specs.declared.places.Presence.{Presence}
+use Rattle.swim_devices.specs.declared.places.Presence.TheVariants as met
+use Rattle.swim_devices.specs.declared.places.Sight.{Sight}
+use Rattle.swim_devices.specs.declared.places.Sight.TheVariants.{Free, Stale, Served, NoSocket, Unclear}
 use Rattle.swim_work.specs.Posts.{Grows}
 
 -- what a contract sees of a place: what was found there, whether the lock of its folder is held, and whether what was

@@ -1,7 +1,7 @@
 //! The place of a control socket: what stands at its path, and whether that may be removed.
 
 ghost use Rattle.std.specs.Prelude.{◌≡◌, ◌↔◌, ◌∷◌, [], None, true};
-ghost use Rattle.swim_life.specs.Places.{Clears, Removes, sight_of};
+ghost use Rattle.swim_devices.specs.Places.{Clears, Removes, sight_of};
 ghost use Rattle.swim_work.specs.Posts.{Grows};
 
 use mio::net::UnixStream;
@@ -93,7 +93,7 @@ pub struct Place {
 
 impl Model for Place {
     ghost use Rattle.std.specs.Prelude.{is_some};
-    ghost use Rattle.swim_life.specs.Places.{Seen};
+    ghost use Rattle.swim_devices.specs.Places.{Seen};
 
     ghost Value = { Seen };
 

@@ -1,0 +1,18 @@
+//! The devices of a daemon, as the gates that its workers ask: a UDP socket, the system's clock, and Unix sockets for
+//! operators and for those who watch.
+#![tactic(auto)]
+
+mod places;
+mod receptions;
+mod sleeping_pace;
+mod udp_line;
+mod unix_door;
+mod unix_entrance;
+mod unix_streams;
+
+pub use places::{Place, Remover, Sight, SystemRemover};
+pub use sleeping_pace::{ClockSleeper, Sleeper, SleepingPace};
+pub use udp_line::UdpLine;
+pub use unix_door::UnixDoor;
+pub use unix_entrance::{StreamOutlet, UnixEntrance};
+pub use unix_streams::{StreamSink, StreamSource};
