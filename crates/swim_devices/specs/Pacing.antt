@@ -1,15 +1,15 @@
 -- A pace that sleeps from tick to tick.
-use Rattle.std.specs.Prelude.{◌≡◌, ℕ, ◌+◌, ◌-◌, ◌<◌, ◌≤◌, Option, Some, None}
+use Rattle.std.specs.Prelude.{◌≡◌, ℕ, ◌+◌, ◌-◌, ◌<◌, ◌≤◌, List, Option, Some, None}
 use Rattle.swim_work.specs.declared.paces.Beat.{Beat}
 use Rattle.swim_work.specs.declared.paces.Beat.TheVariants.{Tick, Idle, Stop}
 
--- how many milliseconds a tick has, how many of the present one are left, and for how many its sleeper slept so far,
--- where
--- that is known
+-- how many milliseconds a tick has, how many of the present one are left, for how many its sleeper slept so far, where
+-- that is known, and the beats that were given so far, oldest first
 pub record Pacing : Type 0 where
   pub tick : ℕ
   pub left : ℕ
   pub slept : Option ℕ
+  pub beats : List Beat
 
 -- so many milliseconds were slept, where that is known; what isn't known stays so
 abbrev pub HasSlept : Option ℕ → ℕ → Option ℕ → Type 0

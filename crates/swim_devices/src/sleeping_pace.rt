@@ -1,6 +1,6 @@
 //! The pace of a daemon: it sleeps from tick to tick.
 
-ghost use Rattle.std.specs.Prelude.{◌≡◌, None};
+ghost use Rattle.std.specs.Prelude.{◌≡◌, ◌+◌, [], ◌∷◌, ◌++◌, Some, map};
 ghost use Rattle.swim_devices.specs.Pacing.{Beats, HasSlept};
 
 use std::marker::Model;
@@ -8,6 +8,7 @@ use std::rt::Clock;
 use std::sync::Wait;
 use std::thread;
 use std::time::Duration;
+use swim_trail::Trail;
 use swim_work::{Beat, Pace};
 
 /// The longest sleep at once, in milliseconds, so that the ticker sees soon that its life is over.
@@ -25,23 +26,50 @@ pub trait Sleeper {
         ensures { HasSlept (slept self.old) milliseconds (slept self.new) };
 }
 
-/// A sleeper by a clock. How long a sleep really lasts is a matter of the system.
+/// A sleeper by a clock. A contract sees for how many milliseconds it told the system to sleep; how long a sleep really
+/// lasts is a matter of the system.
 #[derive(Drop)]
 pub struct ClockSleeper<K: Clock + Drop> {
     clock: K,
+    asked: Trail<u32>,
+}
+
+impl<K: Clock + Drop> Model for ClockSleeper<K> {
+    ghost use Rattle.std.specs.Prelude.{ℕ};
+    ghost use Rattle.swim_devices.specs.Trails.{sum_in};
+
+    ghost Value = { ℕ };
+
+    ghost view = { λ s. sum_in s.asked.items };
 }
 
 impl<K: Clock + Drop> ClockSleeper<K> {
-    pub fn new(clock: K) -> ClockSleeper<K> {
-        ClockSleeper { clock }
+    /// A sleeper by this clock, which didn't sleep yet.
+    pub fn new(clock: K) -> ClockSleeper<K>
+        ensures { result ≡ 0 }
+    {
+        ClockSleeper {
+            clock,
+            asked: Trail::new(),
+        }
+    }
+
+    /// Has the system sleep, and notes for how long. Nothing else sleeps or notes anything.
+    fn sleep_once(&mut self, milliseconds: u32)
+        ensures { self.new ≡ self.old + milliseconds }
+    {
+        thread::sleep(&self.clock, Duration::from_millis(u64::from(milliseconds)));
+        self.asked.note(&milliseconds, &[]);
     }
 }
 
 impl<K: Clock + Drop> Sleeper for ClockSleeper<K> {
-    ghost slept = { λ s. None };
+    ghost slept = { λ s. Some s };
 
-    fn sleep(&mut self, milliseconds: u32) {
-        thread::sleep(&self.clock, Duration::from_millis(u64::from(milliseconds)));
+    fn sleep(&mut self, milliseconds: u32)
+        ensures { self.new ≡ self.old + milliseconds }
+    {
+        self.sleep_once(milliseconds);
     }
 }
 
@@ -52,31 +80,41 @@ pub struct SleepingPace<S: Sleeper + Drop> {
     tick_ms: u32,
     // How much of the present tick was not slept yet.
     left_ms: u32,
+    given: Trail<Beat>,
 }
 
 impl<S: Sleeper + Drop> Model for SleepingPace<S> {
+    ghost use Rattle.std.specs.Prelude.{map};
     ghost use Rattle.swim_devices.specs.Pacing.{Pacing};
+    ghost use Rattle.swim_trail.specs.Noted.{value_in};
 
     ghost Value = { Pacing };
 
-    ghost view = { λ p. record { tick = p.tick_ms; left = p.left_ms; slept = S.slept p.sleeper } };
+    ghost view = { λ p. record {
+      tick = p.tick_ms;
+      left = p.left_ms;
+      slept = S.slept p.sleeper;
+      beats = map value_in p.given.items;
+    } };
 }
 
 impl<S: Sleeper + Drop> SleepingPace<S> {
     /// A pace of so many milliseconds a tick.
     pub fn new(sleeper: S, tick_ms: u32) -> SleepingPace<S>
-        ensures { result ≡ record { tick = tick_ms; left = tick_ms; slept = S.slept sleeper } }
+        ensures { result ≡ record { tick = tick_ms; left = tick_ms; slept = S.slept sleeper; beats = [] } }
     {
         SleepingPace {
             sleeper,
             tick_ms,
             left_ms: tick_ms,
+            given: Trail::new(),
         }
     }
 
     /// Sleeps for what is left of the tick, or for a tenth of a second of it, and gives the tick where that is over.
     fn sleep_on(&mut self) -> Beat
-        ensures { Beats self.old result self.new }
+        ensures beats { Beats self.old result self.new }
+        ensures given { self.new.beats ≡ self.old.beats }
     {
         let time = self.left_ms.min(LONGEST_MS);
         self.sleeper.sleep(time);
@@ -90,11 +128,15 @@ impl<S: Sleeper + Drop> SleepingPace<S> {
 }
 
 impl<S: Sleeper + Drop> Pace for SleepingPace<S> {
-    ghost beats = { λ p. None };
+    ghost beats = { λ p. Some p.beats };
 
+    #[tactic(auto, using(swim_trail::specs::Noted::map_more))]
     fn next<R: Wait>(&mut self, _rt: &R) -> Beat
-        ensures { Beats self.old result self.new }
+        ensures beats { Beats self.old result self.new }
+        ensures given { self.new.beats ≡ self.old.beats ++ result ∷ [] }
     {
-        self.sleep_on()
+        let beat = self.sleep_on();
+        self.given.note(&beat, &[]);
+        beat
     }
 }

@@ -1,72 +1,80 @@
-//! The line of a daemon: a UDP socket.
+//! Where a daemon's datagrams come in: a UDP socket.
 
-ghost use Rattle.std.specs.Prelude.{◌≡◌, ◌↔◌, ◌⊎◌, None};
+ghost use Rattle.std.specs.Prelude.{◌≡◌, ◌↔◌, ◌⊎◌, [], ◌∷◌, ◌++◌, None, Some, map};
 ghost use Rattle.swim_work.specs.Gates.{FitsInto};
 
-use std::io;
+use crate::addresses::to_peer;
 use std::io::ErrorKind;
-use std::net::{Ipv4Addr, Net, SocketAddr, SocketAddrV4, UdpSocket};
+use std::marker::Model;
+use std::net::UdpSocket;
 use std::sync::Wait;
-use std::time::Duration;
+use swim_trail::Trail;
 use swim_wire::Peer;
-use swim_work::{Got, Line, Post};
+use swim_work::{Got, Line};
 
-/// How long a receive waits for a datagram, in milliseconds.
-const WAIT_MS: u64 = 100;
+const _: () = prove!(size_of::<UdpLine<'static>>() == size_of::<&UdpSocket>());
 
-/// A UDP socket. It makes one system call for a datagram that it receives, and one for a datagram that it sends.
+/// A line over a UDP socket. It makes one system call for a datagram that it receives. A contract sees what it answered
+/// so far, oldest first.
 #[derive(Drop)]
-pub struct UdpLine {
-    socket: UdpSocket,
+pub struct UdpLine<'s> {
+    socket: &'s UdpSocket,
+    answered: Trail<Got>,
 }
 
-impl UdpLine {
-    /// A socket bound to this address. Fails where the system refuses it, as where another socket is bound to it.
-    pub fn bind<R: Net>(rt: &R, listen: Peer) -> io::Result<UdpLine> {
-        UdpLine::over(UdpSocket::bind(rt, to_address(listen))?)
-    }
+impl<'s> Model for UdpLine<'s> {
+    ghost use Rattle.std.specs.Prelude.{List, map};
+    ghost use Rattle.swim_work.specs.Gates.{Received};
 
-    /// The line of a socket that is bound already. Fails where the system can't limit its waits, to 100 milliseconds.
-    pub fn over(socket: UdpSocket) -> io::Result<UdpLine> {
-        socket.set_read_timeout(Some(Duration::from_millis(WAIT_MS)))?;
-        Ok(UdpLine { socket })
-    }
+    ghost Value = { List Received };
+
+    ghost view = { λ l. map (λ i. record { got = i.0; bytes = i.1 }) l.answered.items };
 }
 
-// The workers share the socket, so each has a reference to it.
-impl<'s> Line for &'s UdpLine {
-    ghost received = { λ s. None };
-
-    ghost listed = { λ s. None };
-
-    fn receive<R: Wait>(&mut self, _rt: &R, bytes: &mut [u8]) -> Got
-        ensures { FitsInto result bytes.new }
+impl<'s> UdpLine<'s> {
+    /// A line that answered nothing yet.
+    pub(crate) fn new(socket: &'s UdpSocket) -> UdpLine<'s>
+        ensures { result ≡ [] }
     {
-        match self.socket.recv_from(bytes) {
+        UdpLine {
+            socket,
+            answered: Trail::new(),
+        }
+    }
+
+    /// Asks the socket once, and notes what is answered. Nothing else asks it or notes anything.
+    #[tactic(auto, using(swim_trail::specs::Noted::map_more))]
+    fn receive_one(&mut self, bytes: &mut [u8]) -> Got
+        ensures fits { FitsInto result bytes.new }
+        ensures answered { self.new ≡ self.old ++ record { got = result; bytes = bytes.new } ∷ [] }
+    {
+        let got = match self.socket.recv_from(bytes) {
             Ok((count, source)) => match to_peer(source) {
                 Some(peer) => Got::Datagram(count, peer),
                 None => Got::Idle,
             },
             Err(fault) => got_by(fault.kind()),
-        }
+        };
+        self.answered.note(&got, bytes);
+        got
     }
-
-    fn list(&mut self, _members: &[Peer]) {}
 }
 
-impl<'s> Post for &'s UdpLine {
-    ghost posted = { λ s. None };
+impl<'s> Line for UdpLine<'s> {
+    ghost received = { λ l. Some l };
 
-    fn fresh(&self) -> &'s UdpLine {
-        *self
+    ghost listed = { λ l. None };
+
+    fn receive<R: Wait>(&mut self, _rt: &R, bytes: &mut [u8]) -> Got
+        ensures fits { FitsInto result bytes.new }
+        ensures received { self.new ≡ self.old ++ record { got = result; bytes = bytes.new } ∷ [] }
+    {
+        self.receive_one(bytes)
     }
 
-    fn send<R: Wait>(&mut self, _rt: &R, bytes: &[u8], to: Peer) -> bool {
-        match self.socket.send_to(bytes, to_address(to)) {
-            Ok(count) => count == bytes.len(),
-            Err(_) => false,
-        }
-    }
+    fn list(&mut self, _members: &[Peer])
+        ensures received { self.new ≡ self.old }
+    {}
 }
 
 /// What a receive got that failed so: nothing where it waited in vain or was interrupted, and else a fault of the line.
@@ -77,22 +85,5 @@ fn got_by(kind: ErrorKind) -> Got
     match kind {
         ErrorKind::WouldBlock | ErrorKind::Interrupted => Got::Idle,
         _ => Got::Fault,
-    }
-}
-
-/// The system's form of an address.
-fn to_address(peer: Peer) -> SocketAddrV4 {
-    let [first, second, third, fourth] = peer.ip;
-    SocketAddrV4::new(Ipv4Addr::new(first, second, third, fourth), peer.port)
-}
-
-/// An address as members have one: of IPv4, with a port other than 0.
-pub(crate) fn to_peer(address: SocketAddr) -> Option<Peer> {
-    match address {
-        SocketAddr::V4(address) if address.port() != 0 => Some(Peer {
-            ip: address.ip().octets(),
-            port: address.port(),
-        }),
-        _ => None,
     }
 }

@@ -1,54 +1,19 @@
 //! The entrance of a daemon for those who watch: a Unix socket.
 
-ghost use Rattle.std.specs.Prelude.{None};
-ghost use Rattle.swim_events.specs.Guests.{Takes};
+ghost use Rattle.std.specs.Prelude.{◌≡◌, [], IfSome};
 
 use crate::receptions::{Arrival, Guest, Reception};
+use crate::stream_outlet::StreamOutlet;
 use crate::unix_door::{OF_A_DOOR, OF_AN_OPERATOR, OWN};
 use std::alloc::Global;
 use std::io;
-use std::io::{ErrorKind, Read, Write};
 use std::net::Net;
-use std::os::unix::net::UnixStream;
 use std::rt::{Clock, Files};
-use std::sync::Arc;
 use std::time::Instant;
-use swim_events::{Entrance, Offer, Outlet};
-
-/// How many bytes that a watcher sends are thrown away at a time.
-const THROWN_BYTES: usize = 512;
+use swim_events::Entrance;
 
 /// So many operators are let in however many watch.
 const OPERATORS: usize = 4;
-
-/// Where the bytes of one go who watches. The stream is one that doesn't wait. What comes from it is thrown away. No
-/// contract knows its bytes.
-#[derive(Drop)]
-pub struct StreamOutlet {
-    stream: UnixStream,
-    // The place of the connection, which it has as long as this stands.
-    _place: Arc<()>,
-}
-
-impl Outlet for StreamOutlet {
-    ghost taken = { λ o. None };
-
-    ghost offers = { λ o. None };
-
-    fn offer(&mut self, bytes: &[u8]) -> Offer
-        ensures { Takes result bytes.now None None }
-    {
-        let mut thrown = [0u8; THROWN_BYTES];
-        let _read = self.stream.read(&mut thrown);
-        match self.stream.write(bytes) {
-            Ok(count) => Offer::Took(count.min(bytes.len())),
-            Err(fault) => match fault.kind() {
-                ErrorKind::WouldBlock | ErrorKind::Interrupted => Offer::Full,
-                _ => Offer::Gone,
-            },
-        }
-    }
-}
 
 /// A Unix socket that only its owner may connect to, or none. Its file stays when it is dropped.
 #[derive(Drop)]
@@ -106,12 +71,11 @@ impl<K: Clock + Drop> UnixEntrance<K> {
 }
 
 impl<K: Clock + Drop> Entrance<StreamOutlet> for UnixEntrance<K> {
-    fn next(&mut self) -> Option<StreamOutlet> {
+    fn next(&mut self) -> Option<StreamOutlet>
+        ensures { IfSome result (λ outlet. outlet.taken ≡ []) }
+    {
         match self.reception.as_mut()?.next() {
-            Arrival::Came(Guest { stream, place }) => Some(StreamOutlet {
-                stream,
-                _place: place,
-            }),
+            Arrival::Came(Guest { stream, place }) => Some(StreamOutlet::new(stream, place)),
             Arrival::Refused => {
                 self.refused = self.refused.saturating_add(1);
                 None
