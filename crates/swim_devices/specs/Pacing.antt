@@ -1,5 +1,6 @@
 -- A pace that sleeps from tick to tick.
 use Rattle.std.specs.Prelude.{◌≡◌, ℕ, ◌+◌, ◌-◌, ◌<◌, ◌≤◌, List, Option, Some, None}
+use Rattle.std.specs.List.{sum_by}
 use Rattle.swim_work.specs.declared.paces.Beat.{Beat}
 use Rattle.swim_work.specs.declared.paces.Beat.TheVariants.{Tick, Idle, Stop}
 
@@ -25,3 +26,14 @@ Beats old Tick new = (old.left ≤ 100) × HasSlept old.slept old.left new.slept
 Beats old Idle new = (100 < old.left) × HasSlept old.slept 100 new.slept × (new.tick ≡ old.tick) ×
     (new.left ≡ old.left - 100)
 Beats old Stop new = ⊥
+
+-- how many milliseconds are over with a beat, where a tick has so many
+abbrev pub over_with : ℕ → Beat → ℕ
+over_with tick Tick = tick
+over_with tick Idle = 0
+over_with tick Stop = 0
+
+-- all ticks that were given were slept, and what is over of the present one
+abbrev pub IsSlept : Option ℕ → ℕ → ℕ → List Beat → Type 0
+IsSlept None tick left beats = Unit {0}
+IsSlept (Some slept) tick left beats = (left ≤ tick) × (sum_by (over_with tick) beats + (tick - left) ≤ slept)

@@ -85,7 +85,7 @@ pub struct SleepingPace<S: Sleeper + Drop> {
 
 impl<S: Sleeper + Drop> Model for SleepingPace<S> {
     ghost use Rattle.std.specs.Prelude.{map};
-    ghost use Rattle.swim_devices.specs.Pacing.{Pacing};
+    ghost use Rattle.swim_devices.specs.Pacing.{IsSlept, Pacing};
     ghost use Rattle.swim_trail.specs.Noted.{value_in};
 
     ghost Value = { Pacing };
@@ -96,10 +96,13 @@ impl<S: Sleeper + Drop> Model for SleepingPace<S> {
       slept = S.slept p.sleeper;
       beats = map value_in p.given.items;
     } };
+
+    ghost invariant = { λ p. IsSlept (S.slept p.sleeper) p.tick_ms p.left_ms (map value_in p.given.items) };
 }
 
 impl<S: Sleeper + Drop> SleepingPace<S> {
     /// A pace of so many milliseconds a tick.
+    #[tactic(auto, using(crate::proofs::Slept::none_slept))]
     pub fn new(sleeper: S, tick_ms: u32) -> SleepingPace<S>
         ensures { result ≡ record { tick = tick_ms; left = tick_ms; slept = S.slept sleeper; beats = [] } }
     {
@@ -111,18 +114,22 @@ impl<S: Sleeper + Drop> SleepingPace<S> {
         }
     }
 
-    /// Sleeps for what is left of the tick, or for a tenth of a second of it, and gives the tick where that is over.
+    /// Sleeps for what is left of the tick, or for a tenth of a second of it, and gives the tick where that is over. What
+    /// it gives it notes.
+    #[tactic(auto, using(crate::proofs::Slept::idle_slept, crate::proofs::Slept::tick_slept, swim_trail::specs::Noted::map_more))]
     fn sleep_on(&mut self) -> Beat
         ensures beats { Beats self.old result self.new }
-        ensures given { self.new.beats ≡ self.old.beats }
+        ensures given { self.new.beats ≡ self.old.beats ++ result ∷ [] }
     {
         let time = self.left_ms.min(LONGEST_MS);
         self.sleeper.sleep(time);
         self.left_ms -= time;
         if self.left_ms > 0 {
+            self.given.note(&Beat::Idle, &[]);
             return Beat::Idle;
         }
         self.left_ms = self.tick_ms;
+        self.given.note(&Beat::Tick, &[]);
         Beat::Tick
     }
 }
@@ -130,13 +137,10 @@ impl<S: Sleeper + Drop> SleepingPace<S> {
 impl<S: Sleeper + Drop> Pace for SleepingPace<S> {
     ghost beats = { λ p. Some p.beats };
 
-    #[tactic(auto, using(swim_trail::specs::Noted::map_more))]
     fn next<R: Wait>(&mut self, _rt: &R) -> Beat
         ensures beats { Beats self.old result self.new }
         ensures given { self.new.beats ≡ self.old.beats ++ result ∷ [] }
     {
-        let beat = self.sleep_on();
-        self.given.note(&beat, &[]);
-        beat
+        self.sleep_on()
     }
 }
