@@ -13,13 +13,13 @@ use Rattle.swim_guard.specs.declared.thrown.Thrown.{Thrown}
 use Rattle.swim_guard.specs.Thrown.{one_thrown}
 
 -- what a contract sees of a line over another with a fence between them: the line below, the time that it asked at
--- last, the
--- fence, and what was thrown away
+-- last, the fence, what was thrown away, and what it answered so far, oldest first
 pub record AtFence (L : Type 0) : Type 0 where
   pub line : L
   pub time : ℕ
   pub fence : Kept
   pub fenced : Thrown
+  pub answered : List Received
 
 -- whatever happened to the fence before, this happened to it then
 pub record Happens (old new : Kept) (event : Event) : Type 0 where

@@ -54,10 +54,11 @@ pub record AtLine (L : Type 0) : Type 0 where
   pub keys : Option Keyring
   pub forged : Thrown
 
--- what a contract sees of a post over another
+-- what a contract sees of a post over another: that one, the keys, and what it was handed so far, oldest first
 pub record AtPost (O : Type 0) : Type 0 where
   pub post : O
   pub keys : Option Keyring
+  pub handed : List Posted
 
 -- the line below was asked once: what it got is handed on, and counted where it is thrown away
 pub record HandsOn {L : Type 0} (received : L → Option (List Received)) (old new : AtLine L) (got : Got)

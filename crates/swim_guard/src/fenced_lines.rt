@@ -1,6 +1,6 @@
 //! A line from which nobody is heard more often than a fence lets in.
 
-ghost use Rattle.std.specs.Prelude.{◌≡◌, ◌≤◌, ◌∷◌, [], None, length};
+ghost use Rattle.std.specs.Prelude.{◌≡◌, ◌≤◌, ◌∷◌, ◌++◌, [], None, Some, length, map};
 ghost use Rattle.swim_fence.specs.Fences.{Follows};
 ghost use Rattle.swim_work.specs.Gates.{FitsInto};
 ghost use Rattle.swim_work.specs.Posts.{Grows};
@@ -12,21 +12,24 @@ use crate::timepieces::Timepiece;
 use std::marker::Model;
 use std::sync::Wait;
 use swim_fence::Fence;
+use swim_trail::Trail;
 use swim_wire::{KNOWN_MEMBERS, Peer};
 use swim_work::{Got, Line};
 
 /// A line over another, with a fence between them. It hands on each datagram that the fence lets in, as it is, and
 /// throws the others away, before anything is looked at but where they came from. A contract sees the line below, the
-/// time of the newest datagram, the fence, and what was thrown away.
+/// time of the newest datagram, the fence, what was thrown away, and what it answered so far.
 #[derive(Drop)]
 pub struct FencedLine<L: Line, T: Timepiece> {
     line: L,
     timepiece: T,
     fence: Fence,
     fenced: Thrown,
+    answered: Trail<Got>,
 }
 
 impl<L: Line, T: Timepiece> Model for FencedLine<L, T> {
+    ghost use Rattle.std.specs.Prelude.{map};
     ghost use Rattle.swim_guard.specs.Fenced.{AtFence};
 
     ghost Value = { AtFence L };
@@ -36,6 +39,7 @@ impl<L: Line, T: Timepiece> Model for FencedLine<L, T> {
       time = T.time f.timepiece;
       fence = f.fence;
       fenced = f.fenced;
+      answered = map (λ i. record { got = i.0; bytes = i.1 }) f.answered.items;
     } };
 }
 
@@ -47,12 +51,14 @@ impl<L: Line, T: Timepiece> FencedLine<L, T> {
         ensures rate { result.fence.rate ≡ rate }
         ensures fence { Follows result.fence [] }
         ensures fenced { result.fenced ≡ record { count = 0; newest = None } }
+        ensures answered { result.answered ≡ [] }
     {
         FencedLine {
             line,
             timepiece,
             fence: Fence::new(rate),
             fenced: Thrown::none(),
+            answered: Trail::new(),
         }
     }
 
@@ -62,6 +68,7 @@ impl<L: Line, T: Timepiece> FencedLine<L, T> {
         ensures later { self.old.time ≤ self.new.time }
         ensures asked { IsAsked self.old.fence self.new.fence source self.new.time result }
         ensures fenced { self.new.fenced ≡ one_thrown (thrown_if result source) self.old.fenced }
+        ensures answered { self.new.answered ≡ self.old.answered }
     {
         let now = self.timepiece.now();
         let passes = self.fence.admits(&source, now);
@@ -70,29 +77,42 @@ impl<L: Line, T: Timepiece> FencedLine<L, T> {
         }
         passes
     }
+
+    /// Notes an answer, with what stands in the buffer.
+    #[tactic(auto, using(swim_trail::specs::Noted::map_more))]
+    fn answer(&mut self, got: Got, bytes: &[u8]) -> Got
+        ensures got { result ≡ got }
+        ensures answered { self.new ≡ record self.old {
+          answered = self.old.answered ++ record { got = got; bytes = bytes.now } ∷ [];
+        } }
+    {
+        self.answered.note(&got, bytes);
+        got
+    }
 }
 
 impl<L: Line, T: Timepiece> Line for FencedLine<L, T> {
-    // What it handed on hangs on all that happened, and stays unknown here: the clauses below tell what it hands on.
-    ghost received = { λ f. None };
+    ghost received = { λ f. Some f.answered };
 
     ghost listed = { λ f. L.listed f.line };
 
     fn receive<R: Wait>(&mut self, rt: &R, bytes: &mut [u8]) -> Got
         ensures fits { FitsInto result bytes.new }
+        ensures received { self.new.answered ≡ self.old.answered ++ record { got = result; bytes = bytes.new } ∷ [] }
         ensures listed { L.listed self.new.line ≡ L.listed self.old.line }
         ensures lets { LetsOn L.received self.old self.new result bytes.new }
     {
         let got = self.line.receive(rt, bytes);
         match got {
-            Got::Datagram(_, source) if !self.admits(source) => Got::Idle,
-            _ => got,
+            Got::Datagram(_, source) if !self.admits(source) => self.answer(Got::Idle, bytes),
+            _ => self.answer(got, bytes),
         }
     }
 
     fn list(&mut self, members: &[Peer])
         requires { length members.now ≤ KNOWN_MEMBERS }
-        ensures received { L.received self.new.line ≡ L.received self.old.line }
+        ensures received { self.new.answered ≡ self.old.answered }
+        ensures below { L.received self.new.line ≡ L.received self.old.line }
         ensures listed { Grows (L.listed self.old.line) (L.listed self.new.line) (members.now ∷ []) }
         ensures shown { IsShown self.old self.new members.now }
     {

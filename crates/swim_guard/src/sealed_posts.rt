@@ -1,6 +1,6 @@
 //! A post that signs what it is handed.
 
-ghost use Rattle.std.specs.Prelude.{◌≡◌, None};
+ghost use Rattle.std.specs.Prelude.{◌≡◌, ◌∷◌, ◌++◌, [], None, Some, map};
 ghost use Rattle.std.specs.Option.{option_map};
 ghost use Rattle.swim_work.specs.Posts.{IsFresh};
 ghost use Rattle.swim_guard.specs.Guarded.{Hands};
@@ -8,51 +8,50 @@ ghost use Rattle.swim_guard.specs.Guarded.{Hands};
 use std::marker::Model;
 use std::sync::Wait;
 use swim_keys::Keys;
+use swim_trail::Trail;
 use swim_wire::{LONGEST_DATAGRAM_BYTES, Peer};
 use swim_work::Post;
 
 /// A post over another. Where there are keys, it hands on each datagram with its tag by the first of them; where there
-/// are none, as it is. Bytes that are longer than a datagram aren't taken. A contract sees the post below and the keys.
+/// are none, as it is. Bytes that are longer than a datagram aren't taken. A contract sees the post below, the keys, and
+/// what it was handed so far.
 #[derive(Drop)]
 pub struct SealedPost<'k, O: Post + Drop> {
     post: O,
     keys: Option<&'k Keys>,
+    handed: Trail<(Peer, bool)>,
 }
 
 impl<'k, O: Post + Drop> Model for SealedPost<'k, O> {
     ghost use Rattle.std.specs.Option.{option_map};
+    ghost use Rattle.std.specs.Prelude.{map};
     ghost use Rattle.swim_guard.specs.Guarded.{AtPost};
 
     ghost Value = { AtPost O };
 
-    ghost view = { λ s. record { post = s.post; keys = option_map (λ keys. keys.now) s.keys } };
+    ghost view = { λ s. record {
+      post = s.post;
+      keys = option_map (λ keys. keys.now) s.keys;
+      handed = map (λ i. record { bytes = i.1; to = i.0.0; is_taken = i.0.1 }) s.handed.items;
+    } };
 }
 
 impl<'k, O: Post + Drop> SealedPost<'k, O> {
-    /// A post over that one.
+    /// A post over that one, which was handed nothing yet.
     pub fn new(post: O, keys: Option<&'k Keys>) -> SealedPost<'k, O>
-        ensures { result ≡ record { post = post; keys = option_map (λ keys. keys.now) keys.entry } }
-    {
-        SealedPost { post, keys }
-    }
-}
-
-impl<'k, O: Post + Drop> Post for SealedPost<'k, O> {
-    // What it was handed stays unknown here: the clauses below tell what it hands on.
-    ghost posted = { λ s. None };
-
-    fn fresh(&self) -> SealedPost<'k, O>
-        ensures fresh { IsFresh (O.posted result.post) }
-        ensures keys { result.keys ≡ self.now.keys }
+        ensures { result ≡ record { post = post; keys = option_map (λ keys. keys.now) keys.entry; handed = [] } }
     {
         SealedPost {
-            post: self.post.fresh(),
-            keys: self.keys,
+            post,
+            keys,
+            handed: Trail::new(),
         }
     }
 
-    fn send<R: Wait>(&mut self, rt: &R, bytes: &[u8], to: Peer) -> bool
-        ensures { Hands O.posted self.old self.new bytes.now to result }
+    /// Hands a datagram on, with its tag where there are keys. `false` where that failed.
+    fn hand_on<R: Wait>(&mut self, rt: &R, bytes: &[u8], to: Peer) -> bool
+        ensures hands { Hands O.posted self.old self.new bytes.now to result }
+        ensures handed { self.new.handed ≡ self.old.handed }
     {
         if LONGEST_DATAGRAM_BYTES < bytes.len() {
             return false;
@@ -61,5 +60,32 @@ impl<'k, O: Post + Drop> Post for SealedPost<'k, O> {
             Some(keys) => self.post.send(rt, keys.seal(bytes).as_slice(), to),
             None => self.post.send(rt, bytes, to),
         }
+    }
+}
+
+impl<'k, O: Post + Drop> Post for SealedPost<'k, O> {
+    ghost posted = { λ s. Some s.handed };
+
+    fn fresh(&self) -> SealedPost<'k, O>
+        ensures fresh { result.handed ≡ [] }
+        ensures below { IsFresh (O.posted result.post) }
+        ensures keys { result.keys ≡ self.now.keys }
+    {
+        SealedPost {
+            post: self.post.fresh(),
+            keys: self.keys,
+            handed: Trail::new(),
+        }
+    }
+
+    #[tactic(auto, using(swim_trail::specs::Noted::map_more))]
+    fn send<R: Wait>(&mut self, rt: &R, bytes: &[u8], to: Peer) -> bool
+        ensures posted { self.new.handed ≡ self.old.handed
+            ++ record { bytes = bytes.now; to = to; is_taken = result } ∷ [] }
+        ensures hands { Hands O.posted self.old self.new bytes.now to result }
+    {
+        let is_taken = self.hand_on(rt, bytes, to);
+        self.handed.note(&(to, is_taken), bytes);
+        is_taken
     }
 }

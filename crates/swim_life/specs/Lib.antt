@@ -4,12 +4,9 @@ pub mod Draws
 pub mod Endings
 pub mod Ends
 pub mod Faults
-pub mod Gates
 pub mod Knocking
 pub mod Lives
 pub mod Notices
-pub mod Pacing
-pub mod Places
 pub mod Posts
 pub mod Rejoining
 pub mod Reports

@@ -7,7 +7,6 @@ ghost use Rattle.swim_life.specs.Ends.{IsOfConnection, end_of, why_at};
 ghost use Rattle.swim_life.specs.Faults.{AsksDoor, ServesNext, ShutsOut};
 ghost use Rattle.swim_life.specs.Rounds.{EndsByTurns, HaveTurns, WasToldToStop};
 
-use crate::gates::{Door, Knock};
 use crate::halls::Hall;
 use crate::holding::{Held, Left};
 use crate::node_desk::NodeDesk;
@@ -16,6 +15,7 @@ use std::alloc::Global;
 use std::sync::Wait;
 use std::sync::atomic::{AtomicBool, Ordering};
 use swim_control::{Served, Stand};
+use swim_desk::{Door, Knock};
 use swim_node::{Naming, Node, Viewer};
 use swim_targets::Seeded;
 use swim_work::{Faults, Meter, Why};

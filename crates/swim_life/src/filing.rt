@@ -9,7 +9,7 @@ ghost use Rattle.swim_life.specs.Reports.{HasHeardOf};
 ghost use Rattle.swim_life.specs.Watched.{AreToldLife};
 ghost use Rattle.swim_life.specs.Written.{IsFile};
 
-use crate::gates::{Door, Shelf};
+use crate::gates::Shelf;
 use crate::halls::Hall;
 use crate::lives::{Lived, Terms, live_recorded};
 use crate::nowhere::Nowhere;
@@ -19,6 +19,7 @@ use crate::reporters::{Reporter, Speaker};
 use std::alloc::Global;
 use std::sync::Wait;
 use std::thread::Threads;
+use swim_desk::Door;
 use swim_events::{Entrance, Gallery, Outlet};
 use swim_history::Opening;
 use swim_journal::laws::a_header_tells_its_opening;

@@ -2,9 +2,9 @@
 
 ghost use Rattle.std.specs.Prelude.{◌≡◌};
 
-use crate::gates::Door;
 use std::alloc::Global;
 use swim_control::Connections;
+use swim_desk::Door;
 
 /// A door, and the connections that came in by it and are served. They go on from life to life.
 #[derive(Drop)]

@@ -14,7 +14,6 @@ ghost use Rattle.swim_life.specs.Written.{IsWritten};
 
 use crate::crews::{Workers, apart, held};
 use crate::criers::Crier;
-use crate::gates::Door;
 use crate::halls::Hall;
 use crate::holding::{Held, Seats};
 use crate::lives::Lived;
@@ -30,6 +29,7 @@ use std::alloc::Global;
 use std::sync::Wait;
 use std::sync::atomic::AtomicBool;
 use std::thread::Threads;
+use swim_desk::Door;
 use swim_events::{Entrance, Gallery, Outlet};
 use swim_node::{Naming, Node, Seat, Viewer};
 use swim_targets::Seeded;

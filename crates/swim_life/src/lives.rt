@@ -13,7 +13,7 @@ ghost use Rattle.swim_life.specs.Written.{IsWritten};
 
 use crate::endings::{tell_life, tell_stopped};
 use crate::filing::live_next;
-use crate::gates::{Door, Herald, Shelf};
+use crate::gates::{Herald, Shelf};
 use crate::halls::Hall;
 use crate::named_lives::live_so;
 use crate::nowhere::{Never, NoEntrance, NoOutlet, NoReporter, Nowhere};
@@ -24,6 +24,7 @@ use std::alloc::Global;
 use std::marker::Brand;
 use std::sync::Wait;
 use std::thread::Threads;
+use swim_desk::Door;
 use swim_events::{Entrance, Gallery, Outlet};
 use swim_history::Opening;
 use swim_node::{OpenFault, Parts};

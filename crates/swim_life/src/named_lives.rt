@@ -13,7 +13,6 @@ ghost use Rattle.swim_life.specs.Reports.{HasHeardOf};
 ghost use Rattle.swim_life.specs.Watched.{AreToldLife};
 ghost use Rattle.swim_life.specs.Written.{IsWritten};
 
-use crate::gates::Door;
 use crate::halls::Hall;
 use crate::life::run_life;
 use crate::lives::Lived;
@@ -25,6 +24,7 @@ use std::alloc::Global;
 use std::mem;
 use std::sync::Wait;
 use std::thread::Threads;
+use swim_desk::Door;
 use swim_events::{Entrance, Event, Gallery, Outlet};
 use swim_history::Opening;
 use swim_node::{Node, OpenFault, Parts, Seat, Viewer};

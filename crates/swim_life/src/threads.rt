@@ -7,7 +7,6 @@ ghost use Rattle.swim_work.specs.Ends.{both};
 
 use crate::controlling::control;
 use crate::criers::Crier;
-use crate::gates::Door;
 use crate::halls::Hall;
 use crate::holding::{Ended, Held, Left, Ticked};
 use crate::knocking::KnockNaming;
@@ -25,6 +24,7 @@ use std::sync::Wait;
 use std::sync::atomic::{AtomicBool, Ordering};
 use std::thread;
 use std::thread::{JoinHandle, Scope, SpawnError, Threads};
+use swim_desk::Door;
 use swim_events::{Entrance, Outlet};
 use swim_node::{Naming, Node, Viewer};
 use swim_targets::{Chooser, Seeded};

@@ -30,13 +30,12 @@ use std::rt::{Clock, Files};
 use std::sync::Wait;
 use std::thread::Threads;
 use swim_config::{Config, ConfigFault};
+use swim_desk::Door;
+use swim_devices::{ClockSleeper, SleepingPace, UdpEndpoint, UnixEntrance};
 use swim_events::{Entrance, Gallery};
 use swim_guard::{ClockTimepiece, FencedLine, SealedLine, SealedPost};
 use swim_keys::Keys;
-use swim_life::{
-    ClockSleeper, Door, Hall, LivesEnd, Returning, SleepingPace, Terms, UdpLine, UnixEntrance,
-    run_lives,
-};
+use swim_life::{Hall, LivesEnd, Returning, Terms, run_lives};
 use swim_text::Sink;
 use swim_wire::Peer;
 
@@ -142,8 +141,8 @@ fn start<
         (F.written faults.new, F.failures faults.new) }
     ensures explains { Explains result details.new }
 {
-    let line = match UdpLine::bind(rt, config.listen) {
-        Ok(line) => line,
+    let endpoint = match UdpEndpoint::bind(rt, config.listen) {
+        Ok(endpoint) => endpoint,
         Err(fault) => {
             tell_listen(config.listen, &fault, details);
             return Outcome::NoListen;
@@ -166,11 +165,11 @@ fn start<
     };
     announce(rt, alloc, &config, is_quiet, faults);
     live(
-        rt, alloc, config, is_quiet, &line, door, entrance, writer, faults, log,
+        rt, alloc, config, is_quiet, &endpoint, door, entrance, writer, faults, log,
     )
 }
 
-/// Lives over this line and this door, and the other gates of a configuration.
+/// Lives over this endpoint and this door, and the other gates of a configuration.
 #[tactic(auto, using(swim_life::specs::Notices::no_notices))]
 fn live<
     R: Files<File = File> + Net + Clock + Threads + Wait + Sync,
@@ -184,7 +183,7 @@ fn live<
     alloc: Global,
     config: Config,
     is_quiet: bool,
-    line: &UdpLine,
+    endpoint: &UdpEndpoint,
     door: D,
     entrance: UnixEntrance<K>,
     writer: &mut W,
@@ -209,7 +208,7 @@ fn live<
         alloc,
         config,
         is_quiet,
-        line,
+        endpoint,
         keys.as_ref(),
         &counters,
         chronicler,
@@ -236,7 +235,7 @@ fn live_counted<
     alloc: Global,
     config: Config,
     is_quiet: bool,
-    line: &'g UdpLine,
+    endpoint: &'g UdpEndpoint,
     keys: Option<&'g Keys>,
     counters: &'g Counters,
     mut chronicler: Chronicler<'g>,
@@ -253,11 +252,11 @@ fn live_counted<
         (F.written faults.new, F.failures faults.new) }
 {
     let terms = terms_of(&config);
-    let fenced = FencedLine::new(line, ClockTimepiece::new(rt), config.fence);
+    let fenced = FencedLine::new(endpoint.line(), ClockTimepiece::new(rt), config.fence);
     let fenced = NotingLine::new(fenced, &counters.strangers.fenced);
     let sealed = SealedLine::new(fenced, keys);
     let mut hearing = NotingLine::new(sealed, &counters.strangers.forged);
-    let sending = SealedPost::new(line, keys);
+    let sending = SealedPost::new(endpoint.post(), keys);
     let metrics = MetricsTimes::new(config.metrics);
     let door = TellingDoor::new(rt, alloc, door, counters, metrics, log, is_quiet);
     let mut hall = Hall::new(alloc, door);

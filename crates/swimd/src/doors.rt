@@ -13,7 +13,7 @@ use std::fs::File;
 use std::io::ErrorKind;
 use std::net::Net;
 use std::rt::{Clock, Files};
-use swim_life::{Place, SystemRemover, UnixDoor};
+use swim_devices::{Place, SystemRemover, UnixDoor};
 use swim_text::Sink;
 
 /// The door at the path of the control socket, from which a stale socket is removed, or why there is none. So many

@@ -13,8 +13,8 @@ use std::io;
 use std::net::Net;
 use std::rt::{Clock, Files};
 use swim_config::SocketPath;
+use swim_devices::{Place, Sight, SystemRemover, UnixEntrance};
 use swim_events::{Event, Gallery, Outlet};
-use swim_life::{Place, Sight, SystemRemover, UnixEntrance};
 use swim_text::Sink;
 
 /// How often a life's journal is read, and written to its file, in milliseconds.

@@ -4,8 +4,8 @@ use crate::notices::Notice;
 use std::fmt::Write;
 use std::rt::Clock;
 use std::sync::atomic::{AtomicU64, Ordering};
+use swim_devices::{StreamOutlet, UnixEntrance};
 use swim_events::Entrance;
-use swim_life::{StreamOutlet, UnixEntrance};
 
 /// How many connections were turned away, operators' and watchers'. Threads share it.
 #[derive(Drop)]

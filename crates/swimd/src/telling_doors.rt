@@ -3,7 +3,7 @@
 
 ghost use Rattle.std.specs.Prelude.{◌≡◌, ◌∷◌, []};
 ghost use Rattle.swim_work.specs.Posts.{Grows};
-ghost use Rattle.swim_life.specs.Gates.{is_fault};
+ghost use Rattle.swim_desk.specs.Doors.{is_fault};
 
 use crate::clerks::Clerk;
 use crate::counters::Counters;
@@ -19,7 +19,7 @@ use std::net::Net;
 use std::rt::{Clock, Files};
 use std::sync::Wait;
 use std::time::{Duration, Instant};
-use swim_life::{Door, Knock};
+use swim_desk::{Door, Knock};
 use swim_text::Sink;
 use swim_wire::Peer;
 

@@ -3,8 +3,8 @@ ghost use Rattle.std.specs.Prelude.{None};
 use super::lives::assert_ended;
 use super::*;
 use arrayvec::ArrayVec;
+use swim_desk::{Door, Knock};
 use swim_doubles::Text;
-use swim_life::{Door, Knock};
 use swim_text::Sink;
 
 // A list, a join of no id, and a line that is cut off.

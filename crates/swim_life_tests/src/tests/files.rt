@@ -6,8 +6,9 @@ ghost use Rattle.swim_text.specs.Streams.{Puts, failures_if};
 
 use super::short_lives::live_shortly;
 use super::*;
+use swim_devices::{ClockSleeper, SleepingPace};
 use swim_doubles::Text;
-use swim_life::{ClockSleeper, NoEntrance, NoOutlet, NoReporter, Shelf, SleepingPace};
+use swim_life::{NoEntrance, NoOutlet, NoReporter, Shelf};
 use swim_script::{Session, run};
 use swim_text::Sink;
 

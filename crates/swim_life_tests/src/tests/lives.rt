@@ -2,7 +2,7 @@
 
 use super::gates::RefusingDoor;
 use super::*;
-use swim_life::Door;
+use swim_desk::Door;
 
 // An operator lists the members while the line is idle; then a ping comes, and is acked; then the operator stops the
 // life. None of the three could go on without the other two, so the workers are at work at the same time.

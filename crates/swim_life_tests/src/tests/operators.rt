@@ -7,7 +7,7 @@ use super::readers::{Moment, Seen, Who};
 use std::alloc::Global;
 use std::rt::Clock;
 use std::sync::Wait;
-use swim_life::{Door, Knock};
+use swim_desk::{Door, Knock};
 use swim_text::{Byte, Look, Page, Polled, Source};
 
 /// The lines of the operator: that member 3 joins, and that member 2 is removed.

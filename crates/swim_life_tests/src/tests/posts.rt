@@ -9,8 +9,9 @@ ghost use Rattle.swim_work.specs.Posts.{IsFresh};
 use super::*;
 use std::alloc::AllocError;
 use std::marker::{Brand, Model};
+use swim_desk::Door;
 use swim_life::{
-    Door, GuestNaming, Life, Never, NoEntrance, NoOutlet, NoReporter, Nowhere, Posts, run_life,
+    GuestNaming, Life, Never, NoEntrance, NoOutlet, NoReporter, Nowhere, Posts, run_life,
 };
 use swim_node::{Node, Parts, Seat, Viewer};
 use swim_work::Got;

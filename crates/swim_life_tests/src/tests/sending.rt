@@ -5,8 +5,8 @@ ghost use Rattle.std.specs.Prelude.{None};
 use super::desk::Expecting;
 use super::lives::assert_ended;
 use super::*;
+use swim_desk::{Door, Knock};
 use swim_doubles::Text;
-use swim_life::{Door, Knock};
 
 // A post that tells that it was handed a datagram, and is done with it when the operator was answered.
 #[derive(Drop)]

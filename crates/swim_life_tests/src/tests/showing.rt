@@ -5,8 +5,8 @@ ghost use Rattle.swim_work.specs.Gates.{FitsInto};
 
 use super::*;
 use std::sync::atomic::AtomicU32;
+use swim_desk::{Door, Knock};
 use swim_doubles::Text;
-use swim_life::{Door, Knock};
 use swim_text::Sink;
 use swim_work::Got;
 

@@ -4,18 +4,33 @@ ghost use Rattle.swim_work.specs.Gates.{FitsInto};
 use super::*;
 use std::net::{Net, UdpSocket};
 use std::thread::join;
-use swim_life::UdpLine;
-use swim_work::{Beat, Got, Post};
+use swim_devices::{UdpEndpoint, UdpLine};
+use swim_work::{Beat, Got};
 
-// A socket of this machine that tells when the receiver asked again after a datagram.
+// What tells when the receiver asked again after a datagram.
 #[derive(Drop)]
-struct WatchedLine {
-    line: UdpLine,
+struct Watch {
     has_heard: AtomicBool,
     has_asked_again: AtomicBool,
 }
 
-impl<'l> Line for &'l WatchedLine {
+impl Watch {
+    fn new() -> Watch {
+        Watch {
+            has_heard: AtomicBool::new(false),
+            has_asked_again: AtomicBool::new(false),
+        }
+    }
+}
+
+// A line that tells its watch.
+#[derive(Drop)]
+struct WatchedLine<'s, 'w> {
+    line: UdpLine<'s>,
+    watch: &'w Watch,
+}
+
+impl<'s, 'w> Line for WatchedLine<'s, 'w> {
     ghost received = { λ line. None };
 
     ghost listed = { λ line. None };
@@ -23,31 +38,17 @@ impl<'l> Line for &'l WatchedLine {
     fn receive<R: Wait>(&mut self, rt: &R, bytes: &mut [u8]) -> Got
         ensures { FitsInto result bytes.new }
     {
-        if is_set(&self.has_heard) {
-            set(&self.has_asked_again);
+        if is_set(&self.watch.has_heard) {
+            set(&self.watch.has_asked_again);
         }
-        let mut line = &self.line;
-        let got = line.receive(rt, bytes);
+        let got = self.line.receive(rt, bytes);
         if matches!(got, Got::Datagram(..)) {
-            set(&self.has_heard);
+            set(&self.watch.has_heard);
         }
         got
     }
 
     fn list(&mut self, _members: &[Peer]) {}
-}
-
-impl<'l> Post for &'l WatchedLine {
-    ghost posted = { λ post. None };
-
-    fn fresh(&self) -> &'l WatchedLine {
-        *self
-    }
-
-    fn send<R: Wait>(&mut self, rt: &R, bytes: &[u8], to: Peer) -> bool {
-        let mut line = &self.line;
-        line.send(rt, bytes, to)
-    }
 }
 
 // A tick, then, once the signal is set, three more, and a stop.
@@ -79,8 +80,8 @@ impl<'s, K: Clock + Drop> Pace for FourTicks<'s, K> {
 // A daemon pings another of the same process, and hears its ack in time.
 #[test]
 fn two_daemons(rt: HostRuntime) -> Result<(), Fail> {
-    let (first, _first_peer) = line(&rt)?;
-    let (second, second_peer) = line(&rt)?;
+    let (first, _first_peer) = endpoint(&rt)?;
+    let (second, second_peer) = endpoint(&rt)?;
     let rows = [(id(2), second_peer)];
     let first_opening = Opening::check(id(1), 0, 1, 3, &rows, 0, Version::One).map_err(
         |_| "an opening",
@@ -131,16 +132,12 @@ fn replied(journal: &Journal, place: u32, reply: &Reply) -> bool {
     }
 }
 
-fn line<R: Net>(rt: &R) -> Result<(WatchedLine, Peer), Fail> {
+fn endpoint<R: Net>(rt: &R) -> Result<(UdpEndpoint, Peer), Fail> {
     let socket = UdpSocket::bind(rt, "127.0.0.1:0").map_err(|_| "a socket")?;
     let address = socket.local_addr().map_err(|_| "its address")?;
     let peer = peer_at(address.port()).ok_or("a port")?;
-    let line = WatchedLine {
-        line: UdpLine::over(socket).map_err(|_| "a line")?,
-        has_heard: AtomicBool::new(false),
-        has_asked_again: AtomicBool::new(false),
-    };
-    Ok((line, peer))
+    let endpoint = UdpEndpoint::over(socket).map_err(|_| "an endpoint")?;
+    Ok((endpoint, peer))
 }
 
 // The address of a socket of this machine with that port, if it is one.
@@ -157,15 +154,28 @@ fn ticking<R: Threads + Wait + Clock + Send + Sync + Copy + Drop>(
     rt: &R,
     alloc: Global,
     opening: Opening,
-    line: &WatchedLine,
+    endpoint: &UdpEndpoint,
 ) -> Option<Past> {
+    let watch = Watch::new();
     let mut pace = FourTicks {
         clock: *rt,
-        signal: &line.has_asked_again,
+        signal: &watch.has_asked_again,
         ticks: 0,
         turns: 0,
     };
-    live_alone(rt, alloc, opening, 1000, &mut &*line, &line, &mut pace)
+    let mut line = WatchedLine {
+        line: endpoint.line(),
+        watch: &watch,
+    };
+    live_alone(
+        rt,
+        alloc,
+        opening,
+        1000,
+        &mut line,
+        &endpoint.post(),
+        &mut pace,
+    )
 }
 
 // The life of the second, which ends after the first's.
@@ -173,7 +183,7 @@ fn answering<R: Threads + Wait + Clock + Send + Sync + Copy + Drop>(
     rt: &R,
     alloc: Global,
     opening: Opening,
-    line: &WatchedLine,
+    endpoint: &UdpEndpoint,
     has_ended: &AtomicBool,
 ) -> Option<Past> {
     let mut pace = StopPace {
@@ -182,5 +192,13 @@ fn answering<R: Threads + Wait + Clock + Send + Sync + Copy + Drop>(
         ticks: 0,
         turns: 0,
     };
-    live_alone(rt, alloc, opening, 1000, &mut &*line, &line, &mut pace)
+    live_alone(
+        rt,
+        alloc,
+        opening,
+        1000,
+        &mut endpoint.line(),
+        &endpoint.post(),
+        &mut pace,
+    )
 }

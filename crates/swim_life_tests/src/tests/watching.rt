@@ -6,8 +6,9 @@ use super::operators::{Lines, OneOperator};
 use super::readers::{Gate, Moment, Reader, Seen, Who};
 use super::short_lives::live_shortly;
 use super::*;
+use swim_devices::{ClockSleeper, SleepingPace};
 use swim_events::{Event, Watching};
-use swim_life::{ClockSleeper, NoReporter, NoShelf, Nowhere, SleepingPace, live_recorded};
+use swim_life::{NoReporter, NoShelf, Nowhere, live_recorded};
 
 // Who came before the life: the table then, that the life begins, and each of its changes.
 const EARLY: &[u8] =

@@ -6,8 +6,8 @@ use super::signals::{Signals, TURNS, is_set, pause, set};
 use arrayvec::ArrayVec;
 use std::rt::Clock;
 use std::sync::Wait;
+use swim_desk::{Door, Knock};
 use swim_doubles::Text;
-use swim_life::{Door, Knock};
 use swim_text::{Byte, Look, Page, Polled, Sink, Source};
 
 /// The table of members 2 and 3, as `list` answers.

@@ -1,0 +1,5 @@
+pub mod Addresses
+pub mod Offers
+pub mod Pacing
+pub mod Places
+pub mod Trails
