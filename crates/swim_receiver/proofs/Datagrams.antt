@@ -1,6 +1,6 @@
 -- Each datagram became one call, or was counted: from turn to turn.
-use Rattle.std.proofs.Common.{◌≡◌, ℕ, ◌+◌, ◌-◌, ◌^◌, ◌≤◌, min, List, [], ◌∷◌, ◌++◌, take, flat_map, Option, Some, None}
-use Rattle.std.proofs.Common.{refl, sym, subst, ap, ◌∙◌, inl, inr, arith, append_assoc, append-nil, zero-add}
+use Rattle.std.proofs.Common.{◌≡◌, ℕ, ◌+◌, ◌-◌, ◌^◌, ◌≤◌, min, List, [], ◌∷◌, ◌++◌, take, Option, Some, None}
+use Rattle.std.proofs.Common.{sym, ap, ◌∙◌, inl, inr, arith, append_assoc, append-nil, zero-add}
 use Rattle.std.proofs.lemmas.Grind.{flat_map-append}
 use Rattle.swim_wire.specs.Address.{Address}
 use Rattle.swim_wire.specs.Layout.{IsTextOf}
@@ -19,19 +19,18 @@ use Rattle.swim_work.specs.declared.counts.Why.{Why}
 use Rattle.swim_work.specs.declared.lines.Got.{Got}
 use Rattle.swim_work.specs.declared.lines.Got.TheVariants.{Datagram, Idle, Fault}
 use Rattle.swim_work.specs.declared.workers.End.{End}
-use Rattle.swim_work.specs.Calling.{Hears, IsMade, IsRefused, Joins}
-use Rattle.swim_work.specs.Callers.{fresh_seat, nothing}
+use Rattle.swim_work.specs.Calling.{Hears, IsMade, IsRefused}
 use Rattle.swim_work.specs.Gates.{Received}
 use Rattle.swim_work.specs.Outcomes.{Outcome, call_by, calls_among, memory_in}
 use Rattle.swim_work.specs.Outcomes.Outcome.{Answered, Refused}
-use Rattle.swim_work.specs.Posts.{AtSender, Grows, Posted, at_sender}
+use Rattle.swim_work.specs.Posts.{AtSender, Grows, Posted}
 use Rattle.swim_work.specs.Turns.{EndsSo, Turns}
 use Rattle.swim_work.proofs.Outcomes.{counted, memory_both}
 use Rattle.swim_node.specs.Seats.{Seated}
-use Rattle.swim_receiver.specs.Datagrams.{AreHeard, BecomeSo, BecomesSo, datagram_by, datagrams_in, heard_by}
+use Rattle.swim_receiver.specs.Datagrams.{AreHeard, BecomeSo, datagram_by, datagrams_in, heard_by}
 use Rattle.swim_receiver.specs.Datagrams.{heard_in, wire_in}
 use Rattle.swim_receiver.specs.Receiving.{AtReceiver, HearsGot, HearsLife, HearsNext, Owned}
-use Rattle.swim_receiver.specs.Rejoining.{HearsAndJoins, IsReturning, JoinsThen}
+use Rattle.swim_receiver.specs.Rejoining.{IsReturning, JoinsThen}
 
 -- ---- some datagrams, and then others
 

@@ -1,12 +1,11 @@
 -- What became of the datagrams that a line gave.
-use Rattle.std.specs.Prelude.{◌≡◌, ℕ, ◌+◌, ◌-◌, ◌^◌, min, List, [], ◌∷◌, ◌++◌, take, flat_map, Option, Some}
+use Rattle.std.specs.Prelude.{◌≡◌, ℕ, ◌+◌, ◌-◌, ◌^◌, min, List, [], ◌∷◌, take, flat_map, Some}
 use Rattle.swim_wire.specs.Address.{Address}
 use Rattle.swim_wire.specs.Layout.{IsTextOf, first_fault}
 use Rattle.swim_wire.specs.Messages.{Message}
 use Rattle.swim_history.specs.declared.calls.Call.{Call}
 use Rattle.swim_history.specs.declared.calls.Call.TheVariants.{Hear}
 use Rattle.swim_history.specs.declared.seats.Kept.{Kept}
-use Rattle.swim_node.specs.declared.receipts.CallFault.{CallFault}
 use Rattle.swim_node.specs.declared.receipts.CallFault.TheVariants.{Wire, NoMemory, JournalFull}
 use Rattle.swim_work.specs.declared.counts.Counts.{Counts}
 use Rattle.swim_work.specs.declared.lines.Got.{Got}

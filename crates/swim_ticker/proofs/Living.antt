@@ -1,5 +1,5 @@
 -- What the ticker did in a life, of what it did turn by turn.
-use Rattle.std.proofs.Common.{◌≡◌, ℕ, List, [], Option, refl, sym, subst, ap, ◌∙◌}
+use Rattle.std.proofs.Common.{◌≡◌, ℕ, List, [], Option, sym, ap, ◌∙◌}
 use Rattle.swim_history.specs.declared.seats.Kept.{Kept}
 use Rattle.swim_history.specs.Setting.{Setting}
 use Rattle.swim_node.specs.Seats.{Seated}
@@ -11,7 +11,7 @@ use Rattle.swim_work.specs.Ends.{both}
 use Rattle.swim_work.specs.Posts.{Posted, at_sender}
 use Rattle.swim_work.specs.Turns.{HasTicked}
 use Rattle.swim_work.proofs.Sent.{none_sent}
-use Rattle.swim_ticker.specs.Knocking.{AtKnocking, IsKnocking, KnocksAtStarts, at_knocking}
+use Rattle.swim_ticker.specs.Knocking.{AtKnocking, IsKnocking, KnocksAtStarts}
 use Rattle.swim_ticker.specs.Ticking.{Owned, TicksLife}
 
 abbrev seated : ℕ → List Kept → ℕ → Seated

@@ -6,7 +6,6 @@ use Rattle.std.proofs.lemmas.Grind.{flat_map-append}
 use Rattle.std.proofs.lemmas.List.{length-append}
 use Rattle.std.proofs.lemmas.List.Elements.{All-nil, All-cons, All-append}
 use Rattle.swim_history.specs.declared.calls.Call.TheVariants.{Tick}
-use Rattle.swim_history.specs.declared.seats.Kept.{Kept}
 use Rattle.swim_history.specs.Setting.{Setting}
 use Rattle.swim_node.specs.declared.receipts.CallFault.{CallFault}
 use Rattle.swim_node.specs.declared.receipts.CallFault.TheVariants as faults
@@ -17,7 +16,7 @@ use Rattle.swim_work.specs.declared.counts.Why.{Why}
 use Rattle.swim_work.specs.declared.paces.Beat.{Beat}
 use Rattle.swim_work.specs.declared.paces.Beat.TheVariants as beats
 use Rattle.swim_work.specs.declared.workers.End.{End}
-use Rattle.swim_work.specs.Calling.{IsMade, IsRefused, Ticks}
+use Rattle.swim_work.specs.Calling.{IsMade, IsRefused}
 use Rattle.swim_work.specs.Outcomes.{Outcome, call_by, calls_among, memory_in}
 use Rattle.swim_work.specs.Outcomes.Outcome.{Answered, Refused}
 use Rattle.swim_work.specs.Posts.{AtSender, Grows, Posted}

@@ -1,6 +1,6 @@
 -- What became of some calls, and then of others.
 use Rattle.std.proofs.Common.{◌≡◌, ℕ, ◌+◌, ◌-◌, ◌^◌, ◌≤◌, min, List, [], ◌∷◌, ◌++◌, sym, arith, zero-add}
-use Rattle.swim_work.specs.Outcomes.{Outcome, memory_by, memory_in}
+use Rattle.swim_work.specs.Outcomes.{Outcome, memory_in}
 
 pub memory_both : (xs ys : List Outcome) → memory_in (xs ++ ys) ≡ memory_in xs + memory_in ys
 memory_both [] ys = sym (zero-add (memory_in ys))
