@@ -1,6 +1,6 @@
 -- Each datagram became one call, or was counted: from turn to turn.
-use Rattle.std.proofs.Common.{◌≡◌, ℕ, ◌+◌, ◌-◌, ◌^◌, ◌≤◌, min, List, [], ◌∷◌, ◌++◌, take, flat_map, Option, Some, None}
-use Rattle.std.proofs.Common.{refl, sym, subst, ap, ◌∙◌, inl, inr, arith, append_assoc, append-nil, zero-add}
+use Rattle.std.proofs.Common.{◌≡◌, ℕ, ◌+◌, ◌-◌, ◌^◌, ◌≤◌, min, List, [], ◌∷◌, ◌++◌, take, Option, Some, None}
+use Rattle.std.proofs.Common.{sym, ap, ◌∙◌, inl, inr, arith, append_assoc, append-nil, zero-add}
 use Rattle.std.proofs.lemmas.Grind.{flat_map-append}
 use Rattle.swim_wire.specs.Address.{Address}
 use Rattle.swim_wire.specs.Layout.{IsTextOf}
@@ -19,17 +19,18 @@ use Rattle.swim_work.specs.declared.counts.Why.{Why}
 use Rattle.swim_work.specs.declared.lines.Got.{Got}
 use Rattle.swim_work.specs.declared.lines.Got.TheVariants.{Datagram, Idle, Fault}
 use Rattle.swim_work.specs.declared.workers.End.{End}
-use Rattle.swim_work.specs.Calling.{Hears, IsMade, IsRefused, Joins}
-use Rattle.swim_work.specs.Callers.{fresh_seat, nothing}
+use Rattle.swim_work.specs.Calling.{Hears, IsMade, IsRefused}
 use Rattle.swim_work.specs.Gates.{Received}
-use Rattle.swim_work.specs.Posts.{AtSender, Grows, Posted, at_sender}
+use Rattle.swim_work.specs.Outcomes.{Outcome, call_by, calls_among, memory_in}
+use Rattle.swim_work.specs.Outcomes.Outcome.{Answered, Refused}
+use Rattle.swim_work.specs.Posts.{AtSender, Grows, Posted}
 use Rattle.swim_work.specs.Turns.{EndsSo, Turns}
+use Rattle.swim_work.proofs.Outcomes.{counted, memory_both}
 use Rattle.swim_node.specs.Seats.{Seated}
-use Rattle.swim_receiver.specs.Datagrams.{AreHeard, BecomeSo, BecomesSo, Outcome, call_by, calls_among, datagram_by}
-use Rattle.swim_receiver.specs.Datagrams.{datagrams_in, heard_by, heard_in, memory_in, wire_in}
-use Rattle.swim_receiver.specs.Datagrams.Outcome.{Answered, Refused}
+use Rattle.swim_receiver.specs.Datagrams.{AreHeard, BecomeSo, datagram_by, datagrams_in, heard_by}
+use Rattle.swim_receiver.specs.Datagrams.{heard_in, wire_in}
 use Rattle.swim_receiver.specs.Receiving.{AtReceiver, HearsGot, HearsLife, HearsNext, Owned}
-use Rattle.swim_receiver.specs.Rejoining.{HearsAndJoins, IsReturning, JoinsThen}
+use Rattle.swim_receiver.specs.Rejoining.{IsReturning, JoinsThen}
 
 -- ---- some datagrams, and then others
 
@@ -44,10 +45,6 @@ wire_both : (xs ys : List Outcome) → wire_in (xs ++ ys) ≡ wire_in xs + wire_
 wire_both [] ys = sym (zero-add (wire_in ys))
 wire_both (x ∷ xs) ys = let is = wire_both xs ys in omega (arith, is)
 
-memory_both : (xs ys : List Outcome) → memory_in (xs ++ ys) ≡ memory_in xs + memory_in ys
-memory_both [] ys = sym (zero-add (memory_in ys))
-memory_both (x ∷ xs) ys = let is = memory_both xs ys in omega (arith, is)
-
 -- what became of some datagrams between two states of a caller: as `AreHeard`, of the calls and the counts in between
 record HeardOn {O : Type 0} (datagrams : List (List ℕ × Address)) (old new : AtSender O) : Type 0 where
   outcomes : List Outcome
@@ -57,15 +54,6 @@ record HeardOn {O : Type 0} (datagrams : List (List ℕ × Address)) (old new : 
   joins : ℕ
   refused : old.counts.refused ≤ 2 ^ 64 - 1 →
       new.counts.refused ≡ min (old.counts.refused + (memory_in outcomes + joins)) (2 ^ 64 - 1)
-
--- a count, and then another
-counted : (a b c m n mn : ℕ) → (a ≤ 2 ^ 64 - 1 → b ≡ min (a + m) (2 ^ 64 - 1)) →
-    (b ≤ 2 ^ 64 - 1 → c ≡ min (b + n) (2 ^ 64 - 1)) → mn ≡ m + n → a ≤ 2 ^ 64 - 1 → c ≡ min (a + mn) (2 ^ 64 - 1)
-counted a b c m n mn first then is within =
-    let mid : b ≡ min (a + m) (2 ^ 64 - 1) = first within in
-    let below : b ≤ 2 ^ 64 - 1 = omega (arith, mid) in
-    let last : c ≡ min (b + n) (2 ^ 64 - 1) = then below in
-    omega (arith, mid, last, is)
 
 both_heard : {O : Type 0} (ds es : List (List ℕ × Address)) (a b c : AtSender O) → HeardOn ds a b → HeardOn es b c →
     HeardOn (ds ++ es) a c

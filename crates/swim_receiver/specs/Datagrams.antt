@@ -1,17 +1,18 @@
 -- What became of the datagrams that a line gave.
-use Rattle.std.specs.Prelude.{◌≡◌, ℕ, ◌+◌, ◌-◌, ◌^◌, min, List, [], ◌∷◌, ◌++◌, take, flat_map, Option, Some}
+use Rattle.std.specs.Prelude.{◌≡◌, ℕ, ◌+◌, ◌-◌, ◌^◌, min, List, [], ◌∷◌, take, flat_map, Some}
 use Rattle.swim_wire.specs.Address.{Address}
 use Rattle.swim_wire.specs.Layout.{IsTextOf, first_fault}
 use Rattle.swim_wire.specs.Messages.{Message}
 use Rattle.swim_history.specs.declared.calls.Call.{Call}
 use Rattle.swim_history.specs.declared.calls.Call.TheVariants.{Hear}
 use Rattle.swim_history.specs.declared.seats.Kept.{Kept}
-use Rattle.swim_node.specs.declared.receipts.CallFault.{CallFault}
 use Rattle.swim_node.specs.declared.receipts.CallFault.TheVariants.{Wire, NoMemory, JournalFull}
 use Rattle.swim_work.specs.declared.counts.Counts.{Counts}
 use Rattle.swim_work.specs.declared.lines.Got.{Got}
 use Rattle.swim_work.specs.declared.lines.Got.TheVariants.{Datagram}
 use Rattle.swim_work.specs.Gates.{Received}
+use Rattle.swim_work.specs.Outcomes.{Outcome, calls_among, memory_in}
+use Rattle.swim_work.specs.Outcomes.Outcome.{Answered, Refused}
 
 -- the datagram that an answer of a line is, if it is one: its bytes, and where it came from
 abbrev pub datagram_by : Got → List ℕ → List (List ℕ × Address)
@@ -21,11 +22,6 @@ datagram_by got bytes = []
 -- the datagrams among the answers of a line, oldest first
 abbrev pub datagrams_in : List Received → List (List ℕ × Address)
 datagrams_in given = flat_map (λ r. datagram_by r.got r.bytes) given
-
--- what becomes of a datagram: a call, with its place in the journal and its reply; or why there is none
-pub data Outcome : Type 0 where
-  Answered : (kept : Kept) → Outcome
-  Refused : (fault : CallFault) → Outcome
 
 -- that becomes of this datagram: the call is for its message, or its bytes have that fault, or the node had no room
 abbrev pub BecomesSo : List ℕ × Address → Outcome → Type 0
@@ -40,15 +36,7 @@ BecomeSo [] [] = Unit {0}
 BecomeSo (d ∷ ds) (x ∷ xs) = BecomesSo d x × BecomeSo ds xs
 BecomeSo ds xs = ⊥
 
--- the calls among them
-abbrev pub call_by : Outcome → List Kept
-call_by (Answered k) = k ∷ []
-call_by (Refused fault) = []
-
-abbrev pub calls_among : List Outcome → List Kept
-calls_among xs = flat_map call_by xs
-
--- how many were no datagrams of the protocol, and for how many there was no memory
+-- how many were no datagrams of the protocol
 abbrev pub wire_by : Outcome → ℕ
 wire_by (Refused (Wire fault)) = 1
 wire_by x = 0
@@ -56,14 +44,6 @@ wire_by x = 0
 abbrev pub wire_in : List Outcome → ℕ
 wire_in [] = 0
 wire_in (x ∷ xs) = wire_by x + wire_in xs
-
-abbrev pub memory_by : Outcome → ℕ
-memory_by (Refused NoMemory) = 1
-memory_by x = 0
-
-abbrev pub memory_in : List Outcome → ℕ
-memory_in [] = 0
-memory_in (x ∷ xs) = memory_by x + memory_in xs
 
 -- the calls for datagrams among those of a seat
 abbrev pub heard_by : Call → Kept → List Kept

@@ -1,5 +1,5 @@
 -- What the receiver does in a life.
-use Rattle.std.specs.Prelude.{◌≡◌, ℕ, List, [], take, Option, Some, None}
+use Rattle.std.specs.Prelude.{◌≡◌, ℕ, List, [], take, Option, None}
 use Rattle.swim_wire.specs.Address.{Address}
 use Rattle.swim_history.specs.declared.rows.Change.{Change}
 use Rattle.swim_history.specs.Setting.{Setting}

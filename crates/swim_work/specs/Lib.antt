@@ -5,5 +5,6 @@ pub mod Ends
 pub mod Finished
 pub mod Gates
 pub mod Noting
+pub mod Outcomes
 pub mod Posts
 pub mod Turns

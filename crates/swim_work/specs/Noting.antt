@@ -1,6 +1,10 @@
 -- What the ticker leaves for the receiver.
-use Rattle.std.specs.Prelude.{ℕ, ◌==◌, List, [], ◌∷◌, ◌++◌, length, Option, Some, None, if◌then◌else◌}
+use Rattle.std.specs.Prelude.{◌≡◌, ℕ, ◌==◌, List, [], ◌∷◌, ◌++◌, length, Option, Some, None, if◌then◌else◌}
+use Rattle.std.specs.Option.{option_map}
+use Rattle.swim_history.specs.declared.rows.Row.{Row}
 use Rattle.swim_rejoin.specs.declared.knockers.KnockPing.{KnockPing}
+use Rattle.swim_rejoin.specs.Knockers.{Follows, Kept, knock_at}
+use Rattle.swim_rejoin.specs.Knocking.{knocked_by}
 use Rattle.swim_work.specs.declared.tidings.Note.{Note}
 
 -- at whom a knock is, and its number
@@ -15,3 +19,13 @@ most_notes = 64
 abbrev pub noted : List Note → Option KnockPing → List Note
 noted notes None = notes
 noted notes (Some knock) = if length notes == most_notes then notes else notes ++ note_of knock ∷ []
+
+-- the period with that number begins, and the table has these rows: the knock that is due, if one is, and what the
+-- knocker keeps
+pub record Begins (old : Kept) (rows : List Row) (number : ℕ) (knock : Option KnockPing) (new : Kept) : Type 0 where
+  pub rejoin : new.rejoin ≡ old.rejoin
+  pub me : new.me ≡ old.me
+  pub version : new.version ≡ old.version
+  pub due : (h : List (List Row)) → Follows old h →
+      knock ≡ option_map (knock_at old.me old.version number) (knocked_by old.rejoin h rows)
+  pub follows : (h : List (List Row)) → Follows old h → Follows new (rows ∷ h)

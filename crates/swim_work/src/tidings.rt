@@ -1,12 +1,13 @@
 //! What the ticker leaves for the receiver: that it's time to look at the member table, and its knocks.
 
 ghost use Rattle.std.specs.Prelude.{◌≡◌, [], Some};
-ghost use Rattle.swim_work.specs.Noting.{noted};
+ghost use Rattle.swim_work.specs.Noting.{Begins, noted};
 
 use arrayvec::ArrayVec;
 use std::sync::atomic::{AtomicBool, Ordering};
 use std::sync::{Mutex, Wait};
-use swim_rejoin::KnockPing;
+use swim_history::Row;
+use swim_rejoin::{KnockPing, Knocker};
 use swim_wire::{Id, PeriodNumber};
 
 /// How many knocks may wait for the receiver. It takes them over at least once a tick, and one comes in a period at
@@ -52,6 +53,22 @@ impl Tidings {
         if let Some(knock) = knock {
             self.note(knock);
         }
+    }
+
+    /// The knocker begins the period with that number: the knock that is due, if one is, waits for the receiver.
+    fn begin(
+        &mut self,
+        knocker: &mut Knocker,
+        rows: &[Row],
+        period: PeriodNumber,
+    ) -> Option<KnockPing>
+        ensures period { self.new.period ≡ period }
+        ensures notes { self.new.notes.items ≡ noted self.old.notes.items result }
+        ensures begins { Begins knocker.old rows.now period result knocker.new }
+    {
+        let knock = knocker.start(rows, period);
+        self.add(period.get(), &knock);
+        knock
     }
 
     /// A knock more waits.
@@ -105,6 +122,21 @@ impl TidingsBoard {
     /// Leaves word of the period that runs, and of the knock that is to be sent in it, if one is.
     pub fn leave<R: Wait>(&self, rt: &R, period: u64, knock: &Option<KnockPing>) {
         self.tidings.lock(rt).add(period, knock);
+    }
+
+    /// The knocker begins the period with that number, when the member table has these rows: the knock that is due, if
+    /// one is. Word of both is left, before the knock can be sent: its ack may come at once. So each knock of which
+    /// word is left is one that the caller is given, and has yet to send.
+    pub fn begin<R: Wait>(
+        &self,
+        rt: &R,
+        knocker: &mut Knocker,
+        rows: &[Row],
+        period: PeriodNumber,
+    ) -> Option<KnockPing>
+        ensures { Begins knocker.old rows.now period result knocker.new }
+    {
+        self.tidings.lock(rt).begin(knocker, rows, period)
     }
 
     /// Takes what was left.

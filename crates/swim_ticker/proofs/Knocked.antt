@@ -1,0 +1,164 @@
+-- What was knocked, start by start.
+use Rattle.std.proofs.Common.{◌≡◌, ℕ, suc, ◌+◌, ◌-◌, ◌^◌, ◌≤◌, min, List, [], ◌∷◌, length, Option, Some, None}
+use Rattle.std.proofs.Common.{Bool, not, map, refl, sym, subst, ap, ◌∙◌, arith}
+use Rattle.std.specs.Int.{from_bool}
+use Rattle.std.specs.Option.{option_map}
+use Rattle.std.specs.Prelude.{All}
+use Rattle.std.proofs.lemmas.List.Elements.{All-nil, All-cons}
+use Rattle.std.proofs.lemmas.List.{length-append, length-map}
+use Rattle.swim_wire.specs.Address.{Address}
+use Rattle.swim_wire.specs.Messages.{Message}
+use Rattle.swim_wire.specs.Layout.{text_of}
+use Rattle.swim_history.specs.declared.rows.Row.{Row}
+use Rattle.swim_history.specs.Setting.{Setting}
+use Rattle.swim_rejoin.specs.declared.knockers.KnockPing.{KnockPing}
+use Rattle.swim_rejoin.specs.Knockers.{Kept, Follows, knock_at}
+use Rattle.swim_rejoin.specs.Knocking.{knocked_by}
+use Rattle.swim_work.specs.Ends.{both}
+use Rattle.swim_work.specs.Noting.{Begins}
+use Rattle.swim_work.specs.Posts.{ArePosted, Grows, Posted, datagram, handed}
+use Rattle.swim_work.proofs.Posting.{none_posted, one_more_posted}
+use Rattle.swim_work.proofs.Sent.{are_both}
+use Rattle.swim_ticker.specs.Knocking.{AreKnocks, AtKnocking, HasKnocked, IsKnocking, IsLook, KnocksOn, at_knocking}
+use Rattle.swim_ticker.specs.Knocking.{knock_of, knocks_of, number_after, sent_as}
+
+-- no period started yet
+pub none_knocked : (o : Setting) (rejoin : ℕ) (k : Kept) (now : Option (List Posted)) → k.rejoin ≡ rejoin →
+    k.me ≡ o.me → k.version ≡ o.version → Follows k [] → o.last ≡ min (o.last + 0) (2 ^ 64 - 1) →
+    IsKnocking o rejoin 0 now (at_knocking k o.last now 0)
+none_knocked o rejoin k now rejoin_is me version follows within = record {
+  has = record {
+    looks = [];
+    each = All-nil (IsLook o);
+    at_starts = refl;
+    unsent = 0;
+    posted = none_posted now;
+    counted = omega arith;
+  };
+  number = within;
+  rejoin_is = rejoin_is;
+  me = me;
+  version = version;
+  follows = follows;
+}
+
+-- none started since
+pub still_knocking : (o : Setting) (at : AtKnocking) → KnocksOn o 0 at at
+still_knocking o at = λ rejoin starts then before is_then is.
+    let same : then ≡ starts = omega (arith, is_then) in
+    rw same is
+
+-- a knock as the knocker gives it is the one of its definition
+sent_is : (o : Setting) (k : Kept) (number : ℕ) (whom : Option Row) → k.me ≡ o.me → k.version ≡ o.version →
+    sent_as (option_map (knock_at k.me k.version number) whom) ≡ knock_of o number whom
+sent_is o k number None me version = refl
+sent_is o k number (Some row) me version = rw (me, version) refl
+
+-- a period more started
+pub one_more_knocked : (o : Setting) (old new : Kept) (rows : List Row) (number next : ℕ) (knock : Option KnockPing)
+    (posted now : Option (List Posted)) (knocks count more : ℕ) → IsLook o rows →
+    next ≡ min (number + 1) (2 ^ 64 - 1) → Begins old rows next knock new →
+    AreKnocks (sent_as knock) posted now count → more ≡ min (knocks + count) (2 ^ 64 - 1) →
+    KnocksOn o 1 (at_knocking old number posted knocks) (at_knocking new next now more)
+one_more_knocked o old new rows number next knock posted now knocks count more look next_is begins sent more_is =
+    λ rejoin starts then before is_then is.
+    let has = is.has in
+    let looks = has.looks in
+    let fewer = knocks_of o rejoin looks in
+    let so_many : length looks ≡ starts = has.at_starts in
+    let was : number ≡ min (o.last + starts) (2 ^ 64 - 1) = is.number in
+    let next_number : next ≡ number_after o (length looks + 1) = omega (arith, was, next_is, so_many) in
+    let one = knock_of o (number_after o (length looks + 1)) (knocked_by rejoin looks rows) in
+    let this : sent_as knock ≡ one =
+    ap sent_as (begins.due looks is.follows) ∙ (sent_is o old next (knocked_by old.rejoin looks rows) is.me is.version
+    ∙ (ap (λ n. knock_of o n (knocked_by old.rejoin looks rows)) next_number
+    ∙ ap (λ r. knock_of o (number_after o (length looks + 1)) (knocked_by r looks rows)) is.rejoin_is)) in
+    record {
+      has = record {
+        looks = rows ∷ looks;
+        each = All-cons (IsLook o) rows looks look has.each;
+        at_starts = (let e : suc (length looks) ≡ then = omega (arith, so_many, is_then) in e);
+        unsent = has.unsent + sent.0;
+        posted = are_both fewer one before posted now has.unsent sent.0 has.posted
+            (subst (λ (ms : List (Address × Message)). ArePosted ms posted now sent.0) this sent.1);
+        counted =
+            (let before_it : knocks ≡ min (length fewer) (2 ^ 64 - 1) = has.counted in
+            let is_count : count ≡ length (sent_as knock) = sent.2 in
+            let same : length (sent_as knock) ≡ length one = ap (λ (ms : List (Address × Message)). length ms) this in
+            omega (arith, before_it, is_count, more_is, same, length-append fewer one));
+      };
+      number = (let e : next ≡ min (o.last + then) (2 ^ 64 - 1) = omega (arith, was, next_is, is_then) in e);
+      rejoin_is = begins.rejoin ∙ is.rejoin_is;
+      me = begins.me ∙ is.me;
+      version = begins.version ∙ is.version;
+      follows = begins.follows looks is.follows;
+    }
+
+-- ---- a knock is sent, or there is none
+
+pub no_knock : (knock : Option KnockPing) (now : Option (List Posted)) → knock ≡ None →
+    AreKnocks (sent_as knock) now now 0
+no_knock knock now none = rw none (0, none_posted now, refl)
+
+pub one_knock : (knock : Option KnockPing) (k : KnockPing) (old new : Option (List Posted)) (bytes : List ℕ)
+    (is_taken : Bool) →
+    knock ≡ Some k → Grows old new (record { bytes = bytes; to = k.peer; is_taken = is_taken } ∷ []) →
+    bytes ≡ text_of k.message →
+    AreKnocks (sent_as knock) old new 1
+one_knock knock k old new bytes is_taken is grows text =
+    rw is (
+      from_bool (not is_taken),
+      one_more_posted ((k.peer, k.message) ∷ []) old old new 0 (from_bool (not is_taken)) 0 (k.peer, k.message) bytes
+          is_taken
+          (none_posted old) (omega arith) refl grows text (omega arith),
+      refl,
+    )
+
+-- ---- what was handed over in a life
+
+-- as many as the definition has
+so_many_posted : (ms : List (Address × Message)) (posted : List Posted) → map handed posted ≡ map datagram ms →
+    length posted ≡ length ms
+so_many_posted ms posted each =
+    sym (length-map posted handed) ∙ (ap (λ (l : List (Address × List ℕ)). length l) each ∙ length-map ms datagram)
+
+pub all_knocked : (o : Setting) (rejoin starts : ℕ) (before now : Option (List Posted)) (old knocks new : ℕ) →
+    HasKnocked o rejoin starts before now knocks → new ≡ both old knocks →
+    (looks : List (List Row)) × All (IsLook o) looks × (length looks ≡ starts)
+    × (posted : List Posted) × Grows before now posted
+    × (map handed posted ≡ map datagram (knocks_of o rejoin looks))
+    × (new ≡ min (old + length posted) (2 ^ 64 - 1))
+all_knocked o rejoin starts before now old knocks new has counted =
+    let all = knocks_of o rejoin has.looks in
+    let so_many : length has.posted.posted ≡ length all = so_many_posted all has.posted.posted has.posted.each in
+    let are : knocks ≡ min (length all) (2 ^ 64 - 1) = has.counted in (
+      has.looks,
+      has.each,
+      has.at_starts,
+      has.posted.posted,
+      has.posted.grows,
+      has.posted.each,
+      (omega (arith, so_many, are, counted)),
+    )
+
+no_knocks : (o : Setting) (looks : List (List Row)) → knocks_of o 0 looks ≡ []
+no_knocks o [] = refl
+no_knocks o (rows ∷ before) = rw (no_knocks o before) refl
+
+map_to_none : (posted : List Posted) → map handed posted ≡ [] → posted ≡ []
+map_to_none [] is = refl
+map_to_none (p ∷ posted) is = absurd (cc is)
+
+-- with a rejoin of 0 there are none
+pub none_knocked_with_0 : (o : Setting) (starts : ℕ) (before now : Option (List Posted)) (old knocks new : ℕ) →
+    HasKnocked o 0 starts before now knocks → new ≡ both old knocks → old ≤ 2 ^ 64 - 1 →
+    Grows before now [] × (new ≡ old)
+none_knocked_with_0 o starts before now old knocks new has counted within =
+    let none = no_knocks o has.looks in
+    let each : map handed has.posted.posted ≡ [] =
+    has.posted.each ∙ ap (λ (ms : List (Address × Message)). map datagram ms) none in
+    let are : knocks ≡ min 0 (2 ^ 64 - 1) =
+    has.counted ∙ ap (λ (ms : List (Address × Message)). min (length ms) (2 ^ 64 - 1)) none in (
+      subst (λ (l : List Posted). Grows before now l) (map_to_none has.posted.posted each) has.posted.grows,
+      (omega (arith, are, counted, within)),
+    )

@@ -1,0 +1,3 @@
+pub mod Knocked
+pub mod Living
+pub mod Ticked

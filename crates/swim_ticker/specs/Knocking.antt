@@ -1,0 +1,87 @@
+-- What the ticker of a life knocks.
+use Rattle.std.specs.Prelude.{◌≡◌, ◌⊎◌, ℕ, ◌+◌, ◌-◌, ◌^◌, min, All, List, [], ◌∷◌, ◌++◌, length}
+use Rattle.std.specs.Prelude.{Option, Some, None}
+use Rattle.swim_wire.specs.Address.{Address}
+use Rattle.swim_wire.specs.Messages.{Message}
+use Rattle.swim_history.specs.declared.rows.Change.{Change}
+use Rattle.swim_history.specs.declared.rows.Row.{Row}
+use Rattle.swim_history.specs.declared.seats.Kept.{Kept as KeptCall}
+use Rattle.swim_history.specs.Changes.{table_after}
+use Rattle.swim_history.specs.Setting.{Setting}
+use Rattle.swim_rejoin.specs.declared.knockers.KnockPing.{KnockPing}
+use Rattle.swim_rejoin.specs.Knockers.{Kept, Follows}
+use Rattle.swim_rejoin.specs.Knocking.{knocked_by, ping_of}
+use Rattle.swim_work.specs.Posts.{ArePosted, Posted, starts_in}
+
+-- what a look at the member table shows: a table that some changes make of the opening, of which isn't said that they
+-- are the journal's; or nothing, where nobody looks or the node is closed
+abbrev pub IsLook : Setting → List Row → Type 0
+IsLook o rows = (rows ≡ []) ⊎ ((log : List Change) × (rows ≡ table_after o log))
+
+-- the number of the period that runs after so many starts; it stops at 2^64-1
+abbrev pub number_after : Setting → ℕ → ℕ
+number_after o starts = min (o.last + starts) (2 ^ 64 - 1)
+
+-- the knock at a member with that row, in the period with that number, if there is one
+abbrev pub knock_of : Setting → ℕ → Option Row → List (Address × Message)
+knock_of o number None = []
+knock_of o number (Some row) = (row.peer, ping_of o.me o.version row.id number) ∷ []
+
+-- the knocks at the starts of periods, oldest first, where the looks at these starts showed those rows, newest first
+abbrev pub knocks_of : Setting → ℕ → List (List Row) → List (Address × Message)
+knocks_of o rejoin [] = []
+knocks_of o rejoin (rows ∷ before) =
+    knocks_of o rejoin before ++ knock_of o (number_after o (length before + 1)) (knocked_by rejoin before rows)
+
+-- at each of so many starts of periods was looked, and all that was handed over since are the knocks at these starts,
+-- each once, in order: as many as were counted, and the count stops at 2^64-1
+pub record HasKnocked (o : Setting) (rejoin starts : ℕ) (before now : Option (List Posted)) (knocks : ℕ) : Type 0 where
+  pub looks : List (List Row)
+  pub each : All (IsLook o) looks
+  pub at_starts : length looks ≡ starts
+  pub unsent : ℕ
+  pub posted : ArePosted (knocks_of o rejoin looks) before now unsent
+  pub counted : knocks ≡ min (length (knocks_of o rejoin looks)) (2 ^ 64 - 1)
+
+-- what a contract sees of who knocks: what the knocker keeps, the number of the period that runs, what the post was
+-- handed so far, and how many knocks there were
+pub record AtKnocking : Type 0 where
+  pub knocker : Kept
+  pub number : ℕ
+  pub posted : Option (List Posted)
+  pub knocks : ℕ
+
+abbrev pub at_knocking : Kept → ℕ → Option (List Posted) → ℕ → AtKnocking
+at_knocking knocker number posted knocks =
+    record { knocker = knocker; number = number; posted = posted; knocks = knocks }
+
+-- that was handed over at so many starts, by a knocker of this node, and what it keeps is what these starts come to
+pub record IsKnocking (o : Setting) (rejoin starts : ℕ) (before : Option (List Posted)) (now : AtKnocking) : Type
+    0 where
+  pub has : HasKnocked o rejoin starts before now.posted now.knocks
+  pub number : now.number ≡ number_after o starts
+  pub rejoin_is : now.knocker.rejoin ≡ rejoin
+  pub me : now.knocker.me ≡ o.me
+  pub version : now.knocker.version ≡ o.version
+  pub follows : Follows now.knocker has.looks
+
+-- if that was so of some starts, it is so with so many more
+abbrev pub KnocksOn : Setting → ℕ → AtKnocking → AtKnocking → Type 0
+KnocksOn o more old new =
+    (rejoin starts then : ℕ) (before : Option (List Posted)) → then ≡ starts + more →
+    IsKnocking o rejoin starts before old → IsKnocking o rejoin then before new
+
+-- and if it was so of the starts that some calls began, it is so of those that the calls began since
+abbrev pub KnocksAtStarts : Setting → List KeptCall → AtKnocking → List KeptCall → AtKnocking → Type 0
+KnocksAtStarts o calls old after new =
+    (rejoin : ℕ) (before : Option (List Posted)) → IsKnocking o rejoin (starts_in calls) before old →
+    IsKnocking o rejoin (starts_in after) before new
+
+-- a knock as it is handed over
+abbrev pub sent_as : Option KnockPing → List (Address × Message)
+sent_as None = []
+sent_as (Some knock) = (knock.peer, knock.message) ∷ []
+
+-- these were handed over, and are so many
+abbrev pub AreKnocks : List (Address × Message) → Option (List Posted) → Option (List Posted) → ℕ → Type 0
+AreKnocks messages old new count = (unsent : ℕ) × ArePosted messages old new unsent × (count ≡ length messages)

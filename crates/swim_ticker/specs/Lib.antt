@@ -1,0 +1,3 @@
+pub mod Knocking
+pub mod Ticking
+pub mod Ticks

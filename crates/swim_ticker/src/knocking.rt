@@ -1,0 +1,118 @@
+//! The ticker's knocks at members that were judged failed.
+
+ghost use Rattle.std.specs.Prelude.{◌≡◌, ℕ, ◌<◌, List, Option};
+ghost use Rattle.std.specs.Int.{from_bool};
+ghost use Rattle.swim_ticker.specs.Knocking.{AreKnocks, IsKnocking, IsLook, KnocksOn, at_knocking, sent_as};
+ghost use Rattle.swim_work.specs.Posts.{Posted};
+
+use std::sync::Wait;
+use swim_history::{Opening, Table};
+use swim_node::{Naming, Viewer};
+use swim_rejoin::{KnockPing, Knocker};
+use swim_wire::{PeriodNumber, encode};
+use swim_work::{Post, TidingsBoard};
+
+/// Who knocks in a life: a viewer of its member table, the number of the period that runs, and how many knocks there
+/// were.
+#[derive(Drop)]
+pub(crate) struct Knocking<N: Naming> {
+    viewer: Viewer<N>,
+    pub(crate) knocker: Knocker,
+    // Whether it knocks at all.
+    is_open: bool,
+    pub(crate) number: u64,
+    pub(crate) knocks: u64,
+}
+
+impl<N: Naming> Knocking<N> {
+    /// It knocks at every `rejoin`-th start of a period. None started yet.
+    #[tactic(auto, using(crate::proofs::Knocked::none_knocked))]
+    pub(crate) fn new(rejoin: u16, opening: &Opening, viewer: Viewer<N>) -> Knocking<N>
+        requires { opening.now ≡ N.opening }
+        ensures knocking { (posted : Option (List Posted)) → IsKnocking N.opening rejoin 0 posted
+            (at_knocking result.knocker result.number posted result.knocks) }
+    {
+        Knocking {
+            viewer,
+            knocker: Knocker::new(rejoin, opening.me(), opening.version()),
+            is_open: rejoin > 0,
+            number: opening.last(),
+            knocks: 0,
+        }
+    }
+
+    /// A tick passed, with which a period starts, or doesn't. In any case it's time for the receiver to look.
+    pub(crate) fn pass<O: Post, R: Wait>(
+        &mut self,
+        rt: &R,
+        board: &TidingsBoard,
+        post: &mut O,
+        is_started: bool,
+    )
+        ensures { KnocksOn N.opening (from_bool is_started)
+            (at_knocking self.old.knocker self.old.number (O.posted post.old) self.old.knocks)
+            (at_knocking self.new.knocker self.new.number (O.posted post.new) self.new.knocks) }
+    {
+        if is_started {
+            self.start(rt, board, post);
+        } else {
+            board.make_due();
+        }
+    }
+
+    /// A period starts: the receiver is told of it, and of the knock that is due, if one is, before that is sent.
+    fn start<O: Post, R: Wait>(&mut self, rt: &R, board: &TidingsBoard, post: &mut O)
+        ensures { KnocksOn N.opening 1
+            (at_knocking self.old.knocker self.old.number (O.posted post.old) self.old.knocks)
+            (at_knocking self.new.knocker self.new.number (O.posted post.new) self.new.knocks) }
+    {
+        let rows = look(&mut self.viewer, self.is_open);
+        let number = self.number.saturating_add(1);
+        let period = period_of(number);
+        let knock = board.begin(rt, &mut self.knocker, rows.as_slice(), period);
+        board.make_due();
+        let count = send(rt, post, &knock);
+        let knocks = self.knocks.saturating_add(count);
+        self.number = number;
+        self.knocks = knocks;
+    }
+}
+
+/// The rows of the member table, where somebody is to look at it.
+fn look<N: Naming>(viewer: &mut Viewer<N>, is_open: bool) -> Table
+    ensures look { IsLook N.opening result.items }
+{
+    if !is_open {
+        return Table::new();
+    }
+    match viewer.list() {
+        Some(table) => table,
+        None => Table::new(),
+    }
+}
+
+/// The period with that number.
+fn period_of(number: u64) -> PeriodNumber
+    requires { 0 < number }
+    ensures { result ≡ number }
+{
+    match PeriodNumber::new(number) {
+        Some(period) => period,
+        None => PeriodNumber::default(),
+    }
+}
+
+/// Sends a knock, if there is one. How many there were. That it can't be sent changes nothing: the next one is due
+/// soon.
+#[tactic(auto, using(crate::proofs::Knocked::no_knock, crate::proofs::Knocked::one_knock))]
+fn send<R: Wait, O: Post>(rt: &R, post: &mut O, knock: &Option<KnockPing>) -> u64
+    ensures { AreKnocks (sent_as knock.now) (O.posted post.old) (O.posted post.new) result }
+{
+    match knock {
+        Some(knock) => {
+            let _is_taken = post.send(rt, encode(&knock.message).as_slice(), knock.peer);
+            1
+        }
+        None => 0,
+    }
+}

@@ -1,0 +1,169 @@
+//! The ticker: who gives a node its ticks. It reads the shared flag once a turn, and then asks its pace once.
+
+ghost use Rattle.std.specs.Prelude.{◌≡◌, ◌<◌, Some};
+ghost use Rattle.swim_work.specs.Callers.{SendsOn};
+ghost use Rattle.swim_work.specs.Posts.{at_sender};
+ghost use Rattle.swim_work.specs.Turns.{HasTicked, IsTurn, TicksNext};
+ghost use Rattle.swim_ticker.specs.Knocking.{KnocksAtStarts, at_knocking};
+
+use crate::knocking::Knocking;
+use std::sync::Wait;
+use std::sync::atomic::{AtomicBool, Ordering};
+use swim_node::{Naming, Node, Seat, Viewer};
+use swim_targets::Seeded;
+use swim_work::{Beat, Caller, Done, End, Meter, Pace, Post, TidingsBoard, Why, Worker};
+
+/// Gives a node the ticks of a pace, and sends the datagrams of the replies by a post. At every `rejoin`-th start of a
+/// period it knocks at a member that was judged failed, by a second post. On the board it leaves word for the receiver:
+/// when to look at the members, which period runs, and each knock.
+#[derive(Drop)]
+pub struct Ticker<'b, P: Pace + Drop, O: Post + Drop> {
+    /// Gives the ticks.
+    pub pace: P,
+    /// Takes the datagrams of the replies.
+    pub post: O,
+    /// Takes the knocks.
+    pub knock_post: O,
+    /// Starts of a period for each knock. With 0 nobody is knocked at.
+    pub rejoin: u16,
+    /// Knocks so far, over all lives. The count stops at 2^64-1.
+    pub knocks: u64,
+    /// Where word is left for the receiver.
+    pub board: &'b TidingsBoard,
+}
+
+impl<'b, P: Pace + Drop, O: Post + Drop> Worker for Ticker<'b, P, O> {
+    ghost use Rattle.swim_ticker.specs.Ticking.{TicksLife, owned};
+
+    ghost works = { λ old o limit seat end new. TicksLife O.posted o limit
+        (owned (P.beats old.pace) old.post (O.posted old.knock_post) old.rejoin old.knocks) seat end
+        (owned (P.beats new.pace) new.post (O.posted new.knock_post) new.rejoin new.knocks) };
+
+    fn work<N: Naming, H: Wait + Drop, R: Wait>(
+        &mut self,
+        rt: &R,
+        node: &Node<N, Seeded, H>,
+        over: &AtomicBool,
+        seat: Seat<N>,
+        viewer: Viewer<N>,
+        meter: &Meter,
+    ) -> Done<N> {
+        let mut ticking = Ticking {
+            caller: Caller::new(seat),
+            knocking: Knocking::new(self.rejoin, node.opening(), viewer),
+        };
+        let why = self.tick_on(rt, node, over, &mut ticking, meter);
+        ticking.show(meter);
+        self.knocks = self.knocks.saturating_add(ticking.knocking.knocks);
+        done(ticking, why)
+    }
+}
+
+/// What the ticker is in a life: a caller of its node, and who knocks.
+#[derive(Drop)]
+struct Ticking<N: Naming> {
+    caller: Caller<N>,
+    knocking: Knocking<N>,
+}
+
+impl<N: Naming> Ticking<N> {
+    /// Shows what it counted.
+    fn show(&self, meter: &Meter) {
+        self.caller.show(meter);
+        meter.show_knocks(self.knocking.knocks);
+    }
+}
+
+/// Hands back the seat.
+fn done<N: Naming>(ticking: Ticking<N>, why: Option<Why>) -> Done<N>
+    ensures seat { result.seat ≡ ticking.caller.seat }
+    ensures end { result.end ≡ record { why = why; counts = ticking.caller.counts } }
+{
+    let Ticking {
+        caller,
+        knocking: _,
+    } = ticking;
+    Done {
+        seat: caller.seat,
+        end: End {
+            why,
+            counts: caller.counts,
+        },
+    }
+}
+
+impl<'b, P: Pace + Drop, O: Post + Drop> Ticker<'b, P, O> {
+    /// Ticks until the life is over (`None`), or until the ticker ends, and why.
+    fn tick_on<N: Naming, H: Wait + Drop, R: Wait>(
+        &mut self,
+        rt: &R,
+        node: &Node<N, Seeded, H>,
+        over: &AtomicBool,
+        ticking: &mut Ticking<N>,
+        meter: &Meter,
+    ) -> Option<Why>
+        ensures ticked { HasTicked N.opening N.limit (P.beats self.old.pace) (P.beats self.new.pace)
+            (at_sender ticking.old.caller.seat self.old.post ticking.old.caller.counts) result
+            (at_sender ticking.new.caller.seat self.new.post ticking.new.caller.counts) }
+        ensures sent { SendsOn O.posted N.opening
+            (at_sender ticking.old.caller.seat self.old.post ticking.old.caller.counts)
+            (at_sender ticking.new.caller.seat self.new.post ticking.new.caller.counts) }
+        ensures knocks { KnocksAtStarts N.opening ticking.old.caller.seat.calls
+            (at_knocking ticking.old.knocking.knocker ticking.old.knocking.number (O.posted self.old.knock_post)
+            ticking.old.knocking.knocks) ticking.new.caller.seat.calls
+            (at_knocking ticking.new.knocking.knocker ticking.new.knocking.number (O.posted self.new.knock_post)
+            ticking.new.knocking.knocks) }
+        ensures number { ticking.new.caller.seat.number ≡ ticking.old.caller.seat.number }
+        ensures rejoin { self.new.rejoin ≡ self.old.rejoin }
+        ensures earlier { self.new.knocks ≡ self.old.knocks }
+        ensures full { result ≡ Some Why.JournalFull → 0 < ticking.new.caller.seat.full }
+    {
+        for _turn in rt.forever() {
+            if over.load(Ordering::SeqCst) {
+                return None;
+            }
+            ticking.show(meter);
+            if let Some(end) = self.tick_next(rt, node, ticking) {
+                return Some(end);
+            }
+        }
+        unreachable!()
+    }
+
+    /// A turn of the ticker; why it ends, if it does. After a tick the receiver is told that it's time to look.
+    fn tick_next<N: Naming, H: Wait + Drop, R: Wait>(
+        &mut self,
+        rt: &R,
+        node: &Node<N, Seeded, H>,
+        ticking: &mut Ticking<N>,
+    ) -> Option<Why>
+        ensures turn { IsTurn (TicksNext N.opening N.limit) (P.beats self.old.pace) (P.beats self.new.pace)
+            (at_sender ticking.old.caller.seat self.old.post ticking.old.caller.counts) result
+            (at_sender ticking.new.caller.seat self.new.post ticking.new.caller.counts) }
+        ensures sent { SendsOn O.posted N.opening
+            (at_sender ticking.old.caller.seat self.old.post ticking.old.caller.counts)
+            (at_sender ticking.new.caller.seat self.new.post ticking.new.caller.counts) }
+        ensures knocks { KnocksAtStarts N.opening ticking.old.caller.seat.calls
+            (at_knocking ticking.old.knocking.knocker ticking.old.knocking.number (O.posted self.old.knock_post)
+            ticking.old.knocking.knocks) ticking.new.caller.seat.calls
+            (at_knocking ticking.new.knocking.knocker ticking.new.knocking.number (O.posted self.new.knock_post)
+            ticking.new.knocking.knocks) }
+        ensures number { ticking.new.caller.seat.number ≡ ticking.old.caller.seat.number }
+        ensures rejoin { self.new.rejoin ≡ self.old.rejoin }
+        ensures earlier { self.new.knocks ≡ self.old.knocks }
+        ensures full { result ≡ Some Why.JournalFull → 0 < ticking.new.caller.seat.full }
+    {
+        match self.pace.next(rt) {
+            Beat::Tick => {
+                let (end, is_started) = ticking.caller.tick(rt, node, &mut self.post);
+                let board = self.board;
+                ticking
+                    .knocking
+                    .pass(rt, board, &mut self.knock_post, is_started);
+                end
+            }
+            Beat::Idle => None,
+            Beat::Stop => Some(Why::Stopped),
+        }
+    }
+}
