@@ -1,0 +1,5 @@
+pub mod Endings
+pub mod Filing
+pub mod Keeping
+pub mod Notices
+pub mod Told
