@@ -26,7 +26,7 @@ help:
 	@echo '                tests of those, and runs the short parts of tests/; it takes what was proved before as it is'
 	@echo 'make test       rt ci (every proof and test), and the parts of tests/ that run the built programs, in some 40 minutes'
 	@echo '                with four processors; tests/all --list names them, and tests/all --only NAME runs one'
-	@echo 'make edits      tries wrong bodies, each of which the prover has to refuse: 20 minutes behind a make test'
+	@echo 'make edits      tries wrong bodies, each of which the prover has to refuse: half an hour behind a make test'
 	@echo 'make compare    runs swimsim and tests/reference on random scripts, and swimd on random configurations and'
 	@echo '                control lines beside models of both, and compares what they write'
 	@echo 'make fuzz       gives both programs mutations of valid scripts, datagrams, configurations and control lines, for ten'
