@@ -13,13 +13,11 @@ ghost use Rattle.swim_history.specs.After.{setting_after, NumbersGoOn};
 
 use crate::changing::copy_table;
 use crate::journals::Journal;
+use crate::replies::MOST_RELAYS;
 use crate::rows::{Row, RowState, Table};
 use std::marker::Model;
 use swim_wire::{Id, KNOWN_MEMBERS, Peer, Version};
 use thiserror::Error;
-
-/// The most members that are asked for an indirect probe.
-pub const MOST_RELAYS: usize = 8;
 
 /// The longest period, in ticks.
 pub const LONGEST_PERIOD: u32 = 65535;

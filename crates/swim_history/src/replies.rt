@@ -4,10 +4,12 @@ ghost use Rattle.std.specs.Prelude.{◌≡◌};
 ghost use Rattle.swim_history.specs.Reasons.{drop_number, refusal_number};
 
 use crate::copies::copied;
-use crate::openings::MOST_RELAYS;
 use arrayvec::ArrayVec;
 use swim_wire::{Id, Message, Peer};
 use thiserror::Error;
+
+/// The most members that are asked for an indirect probe.
+pub const MOST_RELAYS: usize = 8;
 
 /// A ping that a new period begins with.
 #[derive(Clone, Copy, Debug, PartialEq, Eq)]

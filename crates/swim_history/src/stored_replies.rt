@@ -5,8 +5,7 @@ ghost use Rattle.swim_history.specs.declared.replies.Relay.{Relay};
 ghost use Rattle.swim_history.specs.Storing.StoredReplies.{relays_in, reply_at, reply_among, start_in, IsAskedWithin};
 
 use crate::copies::copied;
-use crate::openings::MOST_RELAYS;
-use crate::replies::{DropReason, Probe, Refusal, Relay, Reply};
+use crate::replies::{DropReason, MOST_RELAYS, Probe, Refusal, Relay, Reply};
 use swim_wire::{Id, Message, Peer};
 
 /// A reply, but for the relays that it asks: of those it tells how many there are, and where they stand among
