@@ -153,12 +153,12 @@ def launched_with_threads(machine, most, user, id=1):
 
 def no_thread_for_a_caller(machine):
     """Where a thread is refused for the program itself, for the receiver, or after it for the ticker, the others end,
-    and the daemon says that there was no memory."""
+    and the daemon says that there was no memory. The one for the metrics, which is the third, is missed by nobody."""
     if os.getuid() != 0:
         print("  not tried, since it needs another user than this one")
         return
     closing = b"ended no memory entries 0 judged 0 unsent 0 wire 0 refused 0\n"
-    for most, text in ((1, b""), (2, closing), (3, closing)):
+    for most, text in ((1, b""), (2, closing), (3, closing), (4, closing)):
         daemon = launched_with_threads(machine, most, "callers", id=most)
         stdout, stderr = daemon.child.communicate(timeout=SECONDS)
         found = stdout, first_line_of(stderr), daemon.child.returncode
@@ -166,16 +166,16 @@ def no_thread_for_a_caller(machine):
 
 
 def no_thread_for_the_writer(machine):
-    """Where a fifth thread is refused, the whole file is written when the life ends."""
+    """Where a sixth thread is refused, the whole file is written when the life ends."""
     if os.getuid() != 0:
         print("  not tried, since it needs another user than this one")
         return
-    daemon, peer = launched_with_threads(machine, 4, "writer"), machine.socket()
+    daemon, peer = launched_with_threads(machine, 5, "writer"), machine.socket()
     daemon.ready()
     number = filled(daemon, peer, 1)
     pinged(peer, daemon, number)
     threads = len(os.listdir(f"/proc/{daemon.child.pid}/task"))
-    must(threads == 4, f"it has {threads} threads")
+    must(threads == 5, f"it has {threads} threads")
     time.sleep(0.3)
     must(told(journals(machine.journals)[-1].text) == [], "the file of a life is written while it lasts")
     closing, files = daemon.stop(), journals(machine.journals)

@@ -1,8 +1,6 @@
 """What becomes of a daemon's metrics' file where it can't be written."""
 
-import contextlib
 import os
-import shutil
 import socket
 import stat
 import subprocess
@@ -10,13 +8,14 @@ import time
 
 from tests.support.daemons import SECONDS, must, until
 from tests.support.datagrams import PING, datagram
+from tests.support.disks import disk, hanging
 from tests.swimd.daemon_journal_faults import limited
 from tests.swimd.daemon_metrics import AT_ONCE, MINUTE, PAUSE, counted, file_of, stats_of, written
 from tests.swimd.daemon_starting import must_say, refusal, told_lines
 
 # The file has more.
 FEW_BYTES = 4_096
-IMAGE_BYTES, JOURNAL = 16 * 2**20, 50
+JOURNAL = 50
 # How it begins, and what is told of something else at its path.
 BEGINNING = "# HELP swimd_"
 KEPT = "what lies there is no metrics file; it is kept"
@@ -39,33 +38,14 @@ def a_folder_that_is_gone(machine):
     must(written(path)["swimd_verdicts_total", None] == 1, "once the folder is there, the file isn't written")
 
 
-@contextlib.contextmanager
-def frozen(image, folder):
-    """A file system of its own in that folder, which is frozen as long as this is entered: who writes there waits. False
-    where none can be made here."""
-    with open(image, "wb") as file:
-        file.truncate(IMAGE_BYTES)
-    steps = [["mkfs.ext4", "-q", image], ["mount", "-o", "loop", image, folder], ["fsfreeze", "-f", folder]]
-    are_there = os.getuid() == 0 and all(shutil.which(it[0]) for it in steps)
-    is_frozen = are_there and not any(subprocess.run(it, capture_output=True, timeout=SECONDS).returncode for it in steps)
-    try:
-        yield is_frozen
-    finally:
-        if is_frozen:
-            subprocess.run(["fsfreeze", "-u", folder], timeout=SECONDS)
-
-
 def a_disk_that_hangs(machine):
     """While the metrics wait for their disk, operators and members are answered, lives change, and the daemon stops. All
     is written once the disk goes on."""
-    folder, peer = f"{machine.folder}/disk", machine.socket()
-    os.mkdir(folder)
-    path = f"{folder}/1.prom"
-    try:
-        with frozen(f"{machine.folder}/image", folder) as is_frozen:
-            if not is_frozen:
-                print("  not tried, since no file system may be frozen here")
-                return
+    with disk(machine) as folder:
+        if folder is None:
+            return
+        path, peer = f"{folder}/1.prom", machine.socket()
+        with hanging(folder):
             daemon = machine.started(tick_ms=20, journal=JOURNAL, fence=0, metrics=path)
             for number in range(1, 5 * JOURNAL):
                 peer.sendto(datagram(PING, 9, 9, 1, number), daemon.address)
@@ -77,8 +57,6 @@ def a_disk_that_hangs(machine):
             until(lambda: daemon.lives_so_far() and b"ended stopped" in daemon.read, "it ends", AT_ONCE)
         must(daemon.ended().status == 0, "it ended otherwise")
         must(written(path)["swimd_lives_total", None] > 2, "its last figures aren't written")
-    finally:
-        subprocess.run(["umount", "-l", folder], capture_output=True, timeout=SECONDS)
 
 
 def must_be_unwritten(daemon, path, why):
@@ -106,7 +84,7 @@ def a_disk_that_is_full(machine):
 
 def a_file_that_may_not_be_so_large(machine):
     path, how = f"{machine.folder}/1.prom", {"preexec_fn": lambda: limited(FEW_BYTES)}
-    daemon = machine.started(how=how, tick_ms=MINUTE, metrics=path, journal_dir=None)
+    daemon = machine.started(how=how, tick_ms=MINUTE, metrics=path)
     must_be_unwritten(daemon, path, "the file would be too large")
 
 

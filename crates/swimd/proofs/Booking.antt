@@ -6,7 +6,7 @@ use Rattle.swim_history.specs.declared.replies.Reply.{Reply}
 use Rattle.swim_history.specs.Setting.{Setting}
 use Rattle.swim_events.specs.Watched.{Lived, lived_on}
 use Rattle.swim_work.specs.Ends.{both}
-use Rattle.swim_life.specs.declared.reporters.Standing.{Standing}
+use Rattle.swim_recorder.specs.declared.reporters.Standing.{Standing}
 use Rattle.swim_metrics.specs.Following.{Follows, Measured, begun}
 use Rattle.swimd.specs.Booked.{AreCounted}
 use Rattle.swimd.specs.Totals.{no_life, totals_with}

@@ -18,7 +18,7 @@ use Rattle.swimd.specs.Checking.{ChecksKnown, Shows}
 use Rattle.swim_config.specs.Configuration.{config_of}
 use Rattle.swim_config.specs.Inputs.{IsRead}
 use Rattle.swim_config.specs.Reading.{OrNoMemory}
-use Rattle.swim_life.specs.Endings.{Written}
+use Rattle.swim_keeper.specs.Endings.{Written}
 
 -- of a text that is too large, the first bytes tell as much
 pub config_of_first : (text : List ℕ) → config_of (take 65537 text) ≡ config_of text

@@ -7,6 +7,7 @@ pub mod Explained
 pub mod Given
 pub mod Indented
 pub mod Keys
+pub mod Kept
 pub mod Lines
 pub mod Noticed
 pub mod Shown

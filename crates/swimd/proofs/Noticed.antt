@@ -2,8 +2,8 @@
 use Rattle.std.proofs.Common.{◌≡◌, ℕ, false, List, [], ◌∷◌, refl, sym, subst, inl, inr}
 use Rattle.swim_text.specs.Lines.{has_feed}
 use Rattle.swim_config.specs.declared.config.Config.{Config}
-use Rattle.swim_life.specs.Endings.{TellsText, Written}
-use Rattle.swim_life.specs.Notices.{Notices, line_text, notices_both}
+use Rattle.swim_keeper.specs.Endings.{TellsText, Written}
+use Rattle.swim_keeper.specs.Notices.{Notices, line_text, notices_both}
 use Rattle.swimd.specs.declared.outcomes.Outcome.{Outcome}
 use Rattle.swimd.specs.Daemon.{IsNoDoor, IsNoEntrance, Starts}
 

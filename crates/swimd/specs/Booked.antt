@@ -5,7 +5,7 @@ use Rattle.swim_wire.specs.Address.{Address}
 use Rattle.swim_history.specs.declared.rows.Change.{Change}
 use Rattle.swim_history.specs.declared.rows.Change.TheVariants.{Up, Failed, Gone}
 use Rattle.swim_events.specs.Watched.{Lived}
-use Rattle.swim_life.specs.declared.reporters.Standing.{Standing}
+use Rattle.swim_recorder.specs.declared.reporters.Standing.{Standing}
 use Rattle.swim_metrics.specs.declared.hearings.LastHearing.{LastHearing}
 use Rattle.swim_metrics.specs.FailedFor.{failed_for}
 use Rattle.swim_metrics.specs.Following.{Follows, Measured, measures_of}

@@ -3,7 +3,7 @@ use Rattle.std.specs.Prelude.{◌≡◌, ◌⊎◌, ℕ, Bool, not, List, [], �
 use Rattle.std.specs.Io.KnownBytes.{Appends, Consumes}
 use Rattle.hex.specs.Hex.{encode_lower}
 use Rattle.swim_text.specs.Streams.{Puts, PutsFront, failures_if}
-use Rattle.swim_life.specs.Endings.{Written}
+use Rattle.swim_keeper.specs.Endings.{Written}
 use Rattle.swim_config.specs.declared.config_fault.ConfigFault.TheVariants.{NoMemory}
 use Rattle.swimd.specs.declared.outcomes.Outcome.{Outcome}
 use Rattle.swimd.specs.declared.outcomes.Outcome.TheVariants.{Usage, Refused, Helped, Unwritten, NoRandom}

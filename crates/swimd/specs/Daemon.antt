@@ -2,17 +2,17 @@
 use Rattle.std.specs.Prelude.{◌≡◌, ◌⊎◌, ℕ, List, Ok, Err}
 use Rattle.swim_config.specs.declared.config.Config.{Config}
 use Rattle.swim_config.specs.declared.config_fault.ConfigFault.TheVariants as faults
-use Rattle.swim_life.specs.declared.lives.LivesEnd.{LivesEnd}
-use Rattle.swim_life.specs.declared.lives.LivesEnd.TheVariants as ends
+use Rattle.swim_crew.specs.declared.pasts.LivesEnd.{LivesEnd}
+use Rattle.swim_crew.specs.declared.pasts.LivesEnd.TheVariants as ends
 use Rattle.swimd.specs.declared.outcomes.Outcome.{Outcome}
 use Rattle.swimd.specs.declared.outcomes.Outcome.TheVariants.{Unread, Refused, NoListen, NoControl, NoMemory, Stopped}
 use Rattle.swimd.specs.declared.outcomes.Outcome.TheVariants.{Socket}
 use Rattle.swimd.specs.declared.outcomes.Outcome.TheVariants.{NoEvents, NoPlace}
 use Rattle.swim_config.specs.Beginnings.{begun_at}
 use Rattle.swim_config.specs.Configuration.{config_of}
-use Rattle.swim_life.specs.Endings.{Written}
-use Rattle.swim_life.specs.Lives.{AreLived}
-use Rattle.swim_life.specs.Notices.{Notices}
+use Rattle.swim_keeper.specs.Endings.{Written}
+use Rattle.swim_keeper.specs.Notices.{Notices}
+use Rattle.swim_keeper.specs.Told.{AreWritten}
 use Rattle.swim_config.specs.Reading.{OrNoMemory}
 use Rattle.swimd.specs.Checking.{Warned}
 
@@ -34,11 +34,10 @@ outcome_of ends.NoMemory = Refused faults.NoMemory
 outcome_of ends.NoPlace = NoPlace
 
 -- lives were lived from the configuration's opening, with journals of at most as many entries as it says and draws of
--- its
--- seed
+-- its seed
 pub record IsLivedBy (config : Config) (old new : Written) (outcome : Outcome) : Type 0 where
   pub end : LivesEnd
-  pub lived : AreLived config.opening config.journal config.seed old new end
+  pub lived : AreWritten (record { seed = config.seed; limit = config.journal }) config.opening old new end
   pub is : outcome ≡ outcome_of end
 
 -- why there is no control socket, and no events' socket

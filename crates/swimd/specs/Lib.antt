@@ -5,7 +5,6 @@ pub mod Checking
 pub mod Commands
 pub mod Daemon
 pub mod Details
-pub mod OldFiles
 pub mod Outcomes
 pub mod Screens
 pub mod Totals

@@ -1,6 +1,6 @@
 -- What is counted of lives beside their calls.
 use Rattle.swim_work.specs.Ends.{both}
-use Rattle.swim_life.specs.declared.reporters.Standing.{Standing}
+use Rattle.swim_recorder.specs.declared.reporters.Standing.{Standing}
 use Rattle.swimd.specs.declared.totals.Totals.{Totals}
 
 -- what was counted of lives that are over, and of one more that stands so

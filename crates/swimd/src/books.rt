@@ -16,9 +16,9 @@ use crate::bulletins::Counted;
 use crate::happenings::Happening;
 use crate::totals::Totals;
 use swim_history::{Change, Opening};
-use swim_life::Standing;
 use swim_metrics::{Hearings, Metrics};
 use swim_node::Followed;
+use swim_recorder::Standing;
 use swim_wire::Id;
 use swim_work::Metered;
 

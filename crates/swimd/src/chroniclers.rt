@@ -7,8 +7,8 @@ use crate::counters::Counters;
 use std::alloc::{AllocError, Global};
 use std::sync::Wait;
 use swim_history::{Change, Opening};
-use swim_life::{Reporter, Standing};
 use swim_node::Followed;
+use swim_recorder::{Reporter, Standing};
 
 /// A chronicler over a bulletin.
 #[derive(Drop)]
@@ -16,8 +16,8 @@ pub struct Chronicler<'b> {
     counters: &'b Counters,
     // Whether changes aren't told.
     is_quiet: bool,
-    // In a box, as it is handed from life to life and into a thread. None of who only stands in.
-    book: Option<Box<Book>>,
+    // In a box, as it is handed from life to life and into a thread.
+    book: Box<Book>,
 }
 
 impl<'b> Chronicler<'b> {
@@ -31,7 +31,7 @@ impl<'b> Chronicler<'b> {
         Ok(Chronicler {
             counters,
             is_quiet,
-            book: Some(book),
+            book,
         })
     }
 }
@@ -39,37 +39,21 @@ impl<'b> Chronicler<'b> {
 impl<'b> Reporter for Chronicler<'b> {
     ghost heard = { λ c. None };
 
-    fn fresh(&self) -> Chronicler<'b> {
-        Chronicler {
-            counters: self.counters,
-            is_quiet: self.is_quiet,
-            book: None,
-        }
-    }
-
     fn begins(&mut self, opening: &Opening) {
-        if let Some(book) = &mut self.book {
-            book.begins(opening);
-        }
+        self.book.begins(opening);
     }
 
     fn hear<R: Wait>(&mut self, rt: &R, next: &Followed, change: &Option<Change>) {
-        let Some(book) = &mut self.book else {
-            return;
-        };
         if let (Some(change), false) = (change, self.is_quiet) {
-            let happening = book.happening(next.seat, change);
+            let happening = self.book.happening(next.seat, change);
             self.counters.bulletin.add(rt, happening);
         }
-        book.read(next, change);
+        self.book.read(next, change);
     }
 
     fn rest<R: Wait>(&mut self, rt: &R, standing: Standing) {
-        let Some(book) = &mut self.book else {
-            return;
-        };
-        book.stands(standing);
-        if let Some(counted) = book.counted() {
+        self.book.stands(standing);
+        if let Some(counted) = self.book.counted() {
             self.counters.bulletin.show(rt, counted);
         }
     }

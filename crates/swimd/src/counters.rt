@@ -10,7 +10,6 @@ use crate::words::VERSION;
 use std::sync::Wait;
 use swim_config::Config;
 use swim_control::StatsText;
-use swim_life::Speaker;
 use swim_metrics::{Measures, Outside, put_stats};
 use swim_wire::Id;
 
@@ -58,6 +57,17 @@ impl Counters {
             refusals: Refusals::new(),
             facts: Facts::of(config),
         }
+    }
+
+    /// What was counted by now, as it is told to an operator: lines, and a dot in the last one.
+    pub fn stats<R: Wait>(&self, rt: &R) -> StatsText {
+        let mut sink = TextSink::new();
+        if let Some(figures) = self.figures(rt) {
+            if put_stats(&mut sink, &figures.measures(), &figures.outside()) {
+                return sink.into_text();
+            }
+        }
+        no_stats()
     }
 
     /// What was counted by now. `None` before the first life.
@@ -137,18 +147,6 @@ fn outside_of(
         knocks: counted.knocks,
         own_joins: counted.own_joins,
         unwritten,
-    }
-}
-
-impl Speaker for Counters {
-    fn stats<R: Wait>(&self, rt: &R) -> StatsText {
-        let mut sink = TextSink::new();
-        if let Some(figures) = self.figures(rt) {
-            if put_stats(&mut sink, &figures.measures(), &figures.outside()) {
-                return sink.into_text();
-            }
-        }
-        no_stats()
     }
 }
 

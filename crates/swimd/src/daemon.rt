@@ -1,43 +1,64 @@
 //! A daemon: the lives of a configuration over real devices.
 
 ghost use Rattle.std.specs.Prelude.{◌≡◌, []};
-ghost use Rattle.swim_life.specs.Notices.{Notices};
+ghost use Rattle.swim_keeper.specs.Notices.{Notices};
 ghost use Rattle.swimd.specs.Daemon.{Runs, Starts, outcome_of};
 ghost use Rattle.swimd.specs.Details.{Explains};
 
 use crate::checking::warn;
-use crate::chroniclers::Chronicler;
 use crate::clerks::Clerk;
 use crate::configurations::configuration;
 use crate::counters::Counters;
+use crate::crews::{Shared, leave};
 use crate::details::{Details, words_why};
 use crate::doors::open_door;
-use crate::entrances::{end_watching, open_entrance, pause_ms};
+use crate::entrances::open_entrance;
 use crate::folders::Folder;
+use crate::journal_files::JournalFile;
 use crate::metrics_times::MetricsTimes;
 use crate::notices::{Announcer, Notice};
 use crate::outcomes::Outcome;
-use crate::refusals::CountedEntrance;
-use crate::strangers::NotingLine;
-use crate::telling_doors::TellingDoor;
 use crate::timely_sinks::Timely;
 use jiff::Timestamp;
-use std::alloc::{AllocError, Global};
+use std::alloc::Global;
 use std::fs::File;
 use std::io;
 use std::net::Net;
 use std::rt::{Clock, Files};
 use std::sync::Wait;
 use std::thread::Threads;
-use swim_config::{Config, ConfigFault};
+use swim_config::{Config, ConfigFault, JournalFiles};
+use swim_crew::{LivesEnd, Terms, run_lives};
 use swim_desk::Door;
-use swim_devices::{ClockSleeper, SleepingPace, UdpEndpoint, UnixEntrance};
-use swim_events::{Entrance, Gallery};
-use swim_guard::{ClockTimepiece, FencedLine, SealedLine, SealedPost};
+use swim_devices::{UdpEndpoint, UnixEntrance};
+use swim_keeper::LifeKeeper;
+use swim_keeper::laws::a_kept_life_is_told;
 use swim_keys::Keys;
-use swim_life::{Hall, LivesEnd, Returning, Terms, run_lives};
 use swim_text::Sink;
 use swim_wire::Peer;
+use swim_work::TidingsBoard;
+
+/// Which configuration file a daemon is to have, and whether it is to be quiet.
+#[derive(Clone, Copy)]
+pub struct Launch<'p> {
+    pub path: &'p str,
+    pub is_quiet: bool,
+}
+
+/// A daemon that is to be started.
+#[derive(Drop)]
+struct Planned {
+    config: Config,
+    is_quiet: bool,
+}
+
+/// The sockets of a daemon.
+#[derive(Drop)]
+struct Sockets<D: Door + Drop, K: Clock + Drop> {
+    endpoint: UdpEndpoint,
+    door: D,
+    entrance: UnixEntrance<K>,
+}
 
 /// Runs the daemon of a configuration file, and writes how its lives ended. Once there is a configuration a line waits
 /// for its reader only where memory is refused to ask whether it is taken. What stands in the way of a start is told in
@@ -53,8 +74,7 @@ pub fn run<
 >(
     rt: &R,
     alloc: Global,
-    path: &str,
-    is_quiet: bool,
+    launch: Launch<'_>,
     writer: &mut W,
     faults: &mut F,
     log: G,
@@ -65,20 +85,23 @@ pub fn run<
         (F.written faults.old, F.failures faults.old) (F.written faults.new, F.failures faults.new) result }
     ensures explains { Explains result details.new }
 {
-    match configuration(rt, alloc, path, details) {
+    match configuration(rt, alloc, launch.path, details) {
         Ok(config) => {
             writer.hurry();
             faults.hurry();
             warn(&config, faults);
-            let config = config.begun_at(milliseconds(rt));
-            run_configured(rt, alloc, config, is_quiet, writer, faults, log, details)
+            let planned = Planned {
+                config: config.begun_at(milliseconds(rt)),
+                is_quiet: launch.is_quiet,
+            };
+            run_configured(rt, alloc, planned, writer, faults, log, details)
         }
         Err(outcome) => outcome,
     }
 }
 
 /// Runs the daemon of a configuration, and tells how many lines of its lives weren't taken.
-#[tactic(auto, using(swim_life::specs::Notices::no_notices, crate::proofs::Noticed::two_noticed))]
+#[tactic(auto, using(swim_keeper::specs::Notices::no_notices, crate::proofs::Noticed::two_noticed))]
 fn run_configured<
     R: Files<File = File> + Net + Clock + Threads + Wait + Sync,
     W: Timely,
@@ -87,27 +110,26 @@ fn run_configured<
 >(
     rt: &R,
     alloc: Global,
-    config: Config,
-    is_quiet: bool,
+    planned: Planned,
     writer: &mut W,
     faults: &mut F,
     log: G,
     details: &mut Details,
 ) -> Outcome
     requires { details.old ≡ [] }
-    ensures starts { Starts config (W.written writer.old, W.failures writer.old)
+    ensures starts { Starts planned.config (W.written writer.old, W.failures writer.old)
         (W.written writer.new, W.failures writer.new) result }
     ensures notices { Notices (F.written faults.old, F.failures faults.old)
         (F.written faults.new, F.failures faults.new) }
     ensures explains { Explains result details.new }
 {
-    let outcome = start(rt, alloc, config, is_quiet, writer, faults, log, details);
+    let outcome = start(rt, alloc, planned, writer, faults, log, details);
     tell_left_out(rt, alloc, writer.left_out(), faults);
     outcome
 }
 
 /// Tells how many lines of lives standard output didn't take, if it didn't take some.
-#[tactic(auto, using(swim_life::specs::Notices::no_notices))]
+#[tactic(auto, using(swim_keeper::specs::Notices::no_notices))]
 fn tell_left_out<R: Net + Clock, F: Sink>(rt: &R, alloc: Global, count: u64, faults: &mut F)
     ensures { Notices (F.written faults.old, F.failures faults.old)
         (F.written faults.new, F.failures faults.new) }
@@ -118,7 +140,7 @@ fn tell_left_out<R: Net + Clock, F: Sink>(rt: &R, alloc: Global, count: u64, fau
 }
 
 /// Opens the gates of a configuration, and lives over them.
-#[tactic(auto, using(swim_life::specs::Notices::no_notices, crate::proofs::Noticed::two_noticed, crate::proofs::Noticed::no_door, crate::proofs::Noticed::no_entrance, crate::proofs::Explained::nothing_explains))]
+#[tactic(auto, using(swim_keeper::specs::Notices::no_notices, crate::proofs::Noticed::two_noticed, crate::proofs::Noticed::no_door, crate::proofs::Noticed::no_entrance, crate::proofs::Explained::nothing_explains))]
 fn start<
     R: Files<File = File> + Net + Clock + Threads + Wait + Sync,
     W: Sink,
@@ -127,20 +149,20 @@ fn start<
 >(
     rt: &R,
     alloc: Global,
-    config: Config,
-    is_quiet: bool,
+    planned: Planned,
     writer: &mut W,
     faults: &mut F,
     log: G,
     details: &mut Details,
 ) -> Outcome
     requires { details.old ≡ [] }
-    ensures starts { Starts config (W.written writer.old, W.failures writer.old)
+    ensures starts { Starts planned.config (W.written writer.old, W.failures writer.old)
         (W.written writer.new, W.failures writer.new) result }
     ensures notices { Notices (F.written faults.old, F.failures faults.old)
         (F.written faults.new, F.failures faults.new) }
     ensures explains { Explains result details.new }
 {
+    let config = &planned.config;
     let endpoint = match UdpEndpoint::bind(rt, config.listen) {
         Ok(endpoint) => endpoint,
         Err(fault) => {
@@ -163,14 +185,17 @@ fn start<
         Ok(door) => door,
         Err(outcome) => return outcome,
     };
-    announce(rt, alloc, &config, is_quiet, faults);
-    live(
-        rt, alloc, config, is_quiet, &endpoint, door, entrance, writer, faults, log,
-    )
+    announce(rt, alloc, &planned, faults);
+    let sockets = Sockets {
+        endpoint,
+        door,
+        entrance,
+    };
+    live(rt, alloc, planned, sockets, writer, faults, log)
 }
 
-/// Lives over this endpoint and this door, and the other gates of a configuration.
-#[tactic(auto, using(swim_life::specs::Notices::no_notices))]
+/// Lives over these sockets, and the other gates of a configuration.
+#[tactic(auto, using(swim_keeper::specs::Notices::no_notices))]
 fn live<
     R: Files<File = File> + Net + Clock + Threads + Wait + Sync,
     W: Sink,
@@ -181,48 +206,39 @@ fn live<
 >(
     rt: &R,
     alloc: Global,
-    config: Config,
-    is_quiet: bool,
-    endpoint: &UdpEndpoint,
-    door: D,
-    entrance: UnixEntrance<K>,
+    planned: Planned,
+    sockets: Sockets<D, K>,
     writer: &mut W,
     faults: &mut F,
     log: G,
 ) -> Outcome
-    ensures starts { Starts config (W.written writer.old, W.failures writer.old)
+    ensures starts { Starts planned.config (W.written writer.old, W.failures writer.old)
         (W.written writer.new, W.failures writer.new) result }
     ensures notices { Notices (F.written faults.old, F.failures faults.old)
         (F.written faults.new, F.failures faults.new) }
 {
-    let Ok(mut returning) = returning_of(alloc, &config) else {
-        return Outcome::NoMemory;
-    };
-    let keys = Keys::of(config.keys.as_slice());
-    let counters = Counters::new(&config);
-    let Ok(chronicler) = Chronicler::new(alloc, &counters, is_quiet) else {
-        return Outcome::NoMemory;
-    };
-    live_counted(
-        rt,
-        alloc,
-        config,
-        is_quiet,
+    let Sockets {
         endpoint,
-        keys.as_ref(),
-        &counters,
-        chronicler,
-        &mut *returning,
         door,
         entrance,
-        writer,
-        faults,
-        log,
-    )
+    } = sockets;
+    let keys = Keys::of(planned.config.keys.as_slice());
+    let counters = Counters::new(&planned.config);
+    let board = TidingsBoard::new(planned.config.opening.last());
+    let shared = Shared {
+        rt,
+        alloc,
+        endpoint: &endpoint,
+        keys: keys.as_ref(),
+        counters: &counters,
+        board: &board,
+    };
+    live_shared(shared, planned, door, entrance, writer, faults, log)
 }
 
-/// The same, with these keys, these counters, and what is remembered of members that come back.
-fn live_counted<
+/// The same, with what the crew shares.
+#[tactic(auto, using(swim_keeper::specs::Notices::no_notices))]
+fn live_shared<
     'g,
     R: Files<File = File> + Net + Clock + Threads + Wait + Sync,
     W: Sink,
@@ -231,81 +247,60 @@ fn live_counted<
     D: Door + Drop,
     K: Clock + Drop + Send,
 >(
-    rt: &'g R,
-    alloc: Global,
-    config: Config,
-    is_quiet: bool,
-    endpoint: &'g UdpEndpoint,
-    keys: Option<&'g Keys>,
-    counters: &'g Counters,
-    mut chronicler: Chronicler<'g>,
-    returning: &mut Returning,
+    shared: Shared<'g, R>,
+    planned: Planned,
     door: D,
     entrance: UnixEntrance<K>,
-    writer: &mut W,
-    faults: &mut F,
+    writer: &'g mut W,
+    faults: &'g mut F,
     log: G,
 ) -> Outcome
-    ensures starts { Starts config (W.written writer.old, W.failures writer.old)
+    ensures starts { Starts planned.config (W.written writer.old, W.failures writer.old)
         (W.written writer.new, W.failures writer.new) result }
     ensures notices { Notices (F.written faults.old, F.failures faults.old)
         (F.written faults.new, F.failures faults.new) }
 {
+    let Planned {
+        mut config,
+        is_quiet,
+    } = planned;
+    let (rt, alloc) = (shared.rt, shared.alloc);
     let terms = terms_of(&config);
-    let fenced = FencedLine::new(endpoint.line(), ClockTimepiece::new(rt), config.fence);
-    let fenced = NotingLine::new(fenced, &counters.strangers.fenced);
-    let sealed = SealedLine::new(fenced, keys);
-    let mut hearing = NotingLine::new(sealed, &counters.strangers.forged);
-    let sending = SealedPost::new(endpoint.post(), keys);
-    let metrics = MetricsTimes::new(config.metrics);
-    let door = TellingDoor::new(rt, alloc, door, counters, metrics, log, is_quiet);
-    let mut hall = Hall::new(alloc, door);
-    let mut pace = SleepingPace::new(ClockSleeper::new(rt), config.tick_ms);
-    let mut herald = Announcer::new(rt, alloc, is_quiet);
+    let metrics = MetricsTimes::new(config.metrics.take());
+    let me = config.opening.me();
+    let files = JournalFiles {
+        dir: config.files.dir.take(),
+        keep: config.files.keep,
+    };
+    let Ok(shelf) = Folder::open(rt, alloc, files, me, seconds(rt), &log) else {
+        return Outcome::NoMemory;
+    };
+    let Ok(crew) = shared.crew(&config, is_quiet, metrics, door, entrance, log) else {
+        return Outcome::NoMemory;
+    };
     let opening = config.opening;
-    let mut shelf = Folder::new(rt, alloc, config.files, opening.me(), seconds(rt));
-    let mut pause = SleepingPace::new(ClockSleeper::new(rt), pause_ms(&config.events));
-    let mut entrance = CountedEntrance::new(entrance, &counters.refusals);
-    let mut gallery = Gallery::new(alloc);
-    let end = run_lives(
-        rt,
-        alloc,
-        opening,
-        terms,
-        &mut hearing,
-        &sending,
-        returning,
-        &mut pace,
-        &mut hall,
-        &mut shelf,
-        &mut pause,
+    let mut keeper = LifeKeeper {
         writer,
-        &mut herald,
-        faults,
-        &mut gallery,
-        &mut chronicler,
-        counters,
-        &mut entrance,
-    );
-    end_watching(&mut gallery, entrance.now());
-    hall.into_door().finish(rt);
+        notices: faults,
+        herald: Announcer::new(rt, alloc, is_quiet),
+        shelf,
+        board: shared.board,
+        terms,
+    };
+    let (end, crew) = run_lives(rt, alloc, opening, terms, crew, &mut keeper);
+    a_kept_life_is_told::<JournalFile<'_, R>>();
+    leave(rt, alloc, crew);
     outcome_of(end)
 }
 
 /// Tells that a daemon of this configuration listens, unless it is to be quiet.
-#[tactic(auto, using(swim_life::specs::Notices::no_notices))]
-fn announce<R: Net + Clock, F: Sink>(
-    rt: &R,
-    alloc: Global,
-    config: &Config,
-    is_quiet: bool,
-    faults: &mut F,
-)
+#[tactic(auto, using(swim_keeper::specs::Notices::no_notices))]
+fn announce<R: Net + Clock, F: Sink>(rt: &R, alloc: Global, planned: &Planned, faults: &mut F)
     ensures { Notices (F.written faults.old, F.failures faults.old)
         (F.written faults.new, F.failures faults.new) }
 {
-    if !is_quiet {
-        Notice::listens(rt, config).tell_notice(rt, alloc, faults);
+    if !planned.is_quiet {
+        Notice::listens(rt, &planned.config).tell_notice(rt, alloc, faults);
     }
 }
 
@@ -339,18 +334,6 @@ fn terms_of(config: &Config) -> Terms
         seed: config.seed,
         limit: config.journal,
     }
-}
-
-/// What is remembered of members that come back: of nobody yet. It is too large for a stack where memory is short.
-#[inline(never)]
-fn returning_of(alloc: Global, config: &Config) -> Result<Box<Returning>, AllocError> {
-    let returning = Returning::new(rejoin_of(config), config.opening.me());
-    Ok(Box::new(alloc, returning)?)
-}
-
-/// At every how manieth start of a period a daemon of this configuration knocks. The key has no higher number.
-fn rejoin_of(config: &Config) -> u16 {
-    u16::try_from(config.rejoin).unwrap_or(u16::MAX)
 }
 
 /// How a daemon ends whose lives ended so.

@@ -1,7 +1,7 @@
 //! The door at the control socket of a configuration.
 
 ghost use Rattle.std.specs.Prelude.{◌≡◌, IfErr, IfOk};
-ghost use Rattle.swim_life.specs.Notices.{Notices};
+ghost use Rattle.swim_keeper.specs.Notices.{Notices};
 ghost use Rattle.swimd.specs.Daemon.{IsNoDoor};
 
 use crate::details::Details;
@@ -18,7 +18,7 @@ use swim_text::Sink;
 
 /// The door at the path of the control socket, from which a stale socket is removed, or why there is none. So many
 /// descriptors are kept for others than operators.
-#[tactic(auto, using(swim_life::specs::Notices::no_notices))]
+#[tactic(auto, using(swim_keeper::specs::Notices::no_notices))]
 pub fn open_door<'r, R: Files<File = File> + Net + Clock, F: Sink>(
     rt: &'r R,
     alloc: Global,

@@ -1,7 +1,7 @@
 //! Where those come in who watch a daemon, and what they are told last.
 
 ghost use Rattle.std.specs.Prelude.{◌≡◌, IfErr, IfOk};
-ghost use Rattle.swim_life.specs.Notices.{Notices};
+ghost use Rattle.swim_keeper.specs.Notices.{Notices};
 ghost use Rattle.swimd.specs.Daemon.{IsNoEntrance};
 
 use crate::details::{Details, words_why};
@@ -34,7 +34,7 @@ pub fn pause_ms(events: &Option<SocketPath>) -> u32 {
 
 /// The entrance at the path of the events' socket, from which a stale socket is removed, or why there is none. Where no
 /// path is given it is closed.
-#[tactic(auto, using(swim_life::specs::Notices::no_notices))]
+#[tactic(auto, using(swim_keeper::specs::Notices::no_notices))]
 pub fn open_entrance<'r, R: Files<File = File> + Net + Clock, F: Sink>(
     rt: &'r R,
     alloc: Global,
@@ -54,7 +54,7 @@ pub fn open_entrance<'r, R: Files<File = File> + Net + Clock, F: Sink>(
 }
 
 /// The entrance at a path, from which a stale socket is removed.
-#[tactic(auto, using(swim_life::specs::Notices::no_notices))]
+#[tactic(auto, using(swim_keeper::specs::Notices::no_notices))]
 fn bind_entrance<'r, R: Files<File = File> + Net + Clock, F: Sink>(
     rt: &'r R,
     alloc: Global,

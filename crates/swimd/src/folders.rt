@@ -1,31 +1,27 @@
 //! The folder of the journal files, one for each life of a daemon.
 
 ghost use Rattle.std.specs.Prelude.{◌≡◌, None};
+ghost use Rattle.swim_keeper.specs.Notices.{Notices};
 
+use crate::clerks::Clerk;
+use crate::disk_desks::DiskDesk;
+use crate::file_faults::FileFault;
+use crate::file_sheets::{Begun, LostFile};
 use crate::journal_files::JournalFile;
 use crate::notices::Notice;
-use crate::old_files::{Stamp, others_in, path_of, removed};
-use crate::plain_files::make_file;
-use std::alloc::Global;
+use std::alloc::{AllocError, Global};
 use std::fs::File;
-use std::io::{self, ErrorKind};
 use std::net::Net;
 use std::rt::{Clock, Files};
+use std::sync::{Arc, Wait};
 use swim_config::JournalFiles;
-use swim_life::{Past, Shelf, Terms};
+use swim_disk::{DirPath, NewFile, Stamp};
+use swim_keeper::Shelf;
 use swim_text::Sink;
 use swim_wire::Id;
 
-/// The mode of a journal file: its owner alone may read and write it.
-const OWNER_ALONE: u32 = 0o600;
-
-/// How many seconds are tried for a file's name. A daemon that is started again and again takes one each time.
-const SECONDS_TRIED: u32 = 600;
-
-/// The folder in which a daemon makes a file for each of its lives, if it does. Each is new and its owner's alone. At a
-/// life's beginning old files of this member are removed. What fails is told among the notices. Where something lies at
-/// a file's path already, as a file of a start within the same second, that is kept, and the file and those of later
-/// lives are named by the next second that is free.
+/// The folder in which a daemon has a file made for each of its lives, if it does: by whoever serves its desk, so that no
+/// life waits for a disk longer than a moment. What fails is told among the notices.
 #[derive(Drop)]
 pub struct Folder<'r, R> {
     rt: &'r R,
@@ -33,119 +29,119 @@ pub struct Folder<'r, R> {
     files: JournalFiles,
     me: Id,
     began: u64,
+    desk: Arc<DiskDesk, Global>,
+    // How many lives had no file, as too many waited.
+    unfiled: u64,
 }
 
-impl<'r, R> Folder<'r, R> {
-    /// The folder of this member's files, whose daemon began so many seconds after 1970.
-    pub fn new(rt: &'r R, alloc: Global, files: JournalFiles, me: Id, began: u64) -> Folder<'r, R> {
-        Folder {
+impl<'r, R: Net + Clock + Wait> Folder<'r, R> {
+    /// The folder of this member's files, whose daemon began so many seconds after 1970, with the clerk's desk. Where
+    /// files are made, their memory is taken here.
+    pub fn open<G: Clerk>(
+        rt: &'r R,
+        alloc: Global,
+        files: JournalFiles,
+        me: Id,
+        began: u64,
+        clerk: &G,
+    ) -> Result<Folder<'r, R>, AllocError> {
+        let desk = clerk.desk()?;
+        if files.dir.is_some() {
+            desk.open_files(rt, alloc)?;
+        }
+        Ok(Folder {
             rt,
             alloc,
             files,
             me,
             began,
-        }
-    }
-}
-
-/// Makes the file of a life whose daemon began then, or in the next second for which there is none, and answers its
-/// second, too. `AlreadyExists` where there is none in all that are tried.
-fn make_free<R: Files<File = File>>(
-    rt: &R,
-    dir: &str,
-    me: Id,
-    first: Stamp,
-) -> io::Result<(Stamp, File)> {
-    let mut stamp = first;
-    for _try in 0..SECONDS_TRIED {
-        match make_file(rt, path_of(dir, me, stamp).as_str(), OWNER_ALONE) {
-            Ok(file) => return Ok((stamp, file)),
-            Err(fault) if fault.kind() == ErrorKind::AlreadyExists => {
-                stamp.began = stamp.began.saturating_add(1);
-            }
-            Err(fault) => return Err(fault),
-        }
-    }
-    Err(io::Error::from(ErrorKind::AlreadyExists))
-}
-
-/// Removes the oldest files of this member beside the new one, where there are more than stay. What can't be removed
-/// stays.
-fn remove_old<R: Files<File = File>>(
-    rt: &R,
-    alloc: Global,
-    dir: &str,
-    me: Id,
-    new: Stamp,
-    keep: u64,
-) {
-    if keep == 0 {
-        return;
-    }
-    let Ok(others) = others_in(rt, alloc, dir, me, new) else {
-        return;
-    };
-    for stamp in removed(others.as_slice(), keep) {
-        let _is_removed = rt.remove_file(path_of(dir, me, *stamp).as_str());
-    }
-}
-
-impl<'r, R: Files<File = File> + Net + Clock> Shelf<JournalFile<'r, R>> for Folder<'r, R> {
-    ghost fresh = { None };
-
-    ghost kept = { λ s. None };
-
-    #[tactic(auto, using(swim_life::specs::Notices::no_notices))]
-    fn open<F: Sink>(&mut self, number: u64, notices: &mut F) -> Option<JournalFile<'r, R>> {
-        let Some(dir) = &self.files.dir else {
-            return None;
-        };
-        let first = Stamp {
-            began: self.began,
-            life: number,
-        };
-        match make_free(self.rt, dir.as_str(), self.me, first) {
-            Ok((stamp, file)) => {
-                remove_old(
-                    self.rt,
-                    self.alloc,
-                    dir.as_str(),
-                    self.me,
-                    stamp,
-                    self.files.keep,
-                );
-                self.began = stamp.began;
-                Some(JournalFile::new(self.rt, Some(file)))
-            }
-            Err(fault) => {
-                let path = path_of(dir.as_str(), self.me, first);
-                let notice = Notice::unwritten(self.rt, path.as_str(), fault.kind());
-                notice.tell_notice(self.rt, self.alloc, notices);
-                Some(JournalFile::new(self.rt, None))
-            }
-        }
+            desk,
+            unfiled: 0,
+        })
     }
 
-    #[tactic(auto, using(swim_life::specs::Notices::no_notices))]
-    fn close<F: Sink>(
-        &mut self,
-        _terms: Terms,
-        number: u64,
-        _past: &Past,
-        writer: JournalFile<'r, R>,
-        notices: &mut F,
-    ) -> bool {
-        let mut writer = writer;
-        let is_kept = writer.keep();
-        if let (Some(fault), Some(dir)) = (writer.fault(), &self.files.dir) {
-            let stamp = Stamp {
+    /// The file of the life of this number, where lives have files.
+    fn file_of(&self, number: u64) -> Option<NewFile> {
+        let mut dir = DirPath::new();
+        let _is_whole = dir.try_push_str(self.files.dir.as_ref()?.as_str());
+        Some(NewFile {
+            dir,
+            me: self.me,
+            stamp: Stamp {
                 began: self.began,
                 life: number,
-            };
-            let path = path_of(dir.as_str(), self.me, stamp);
-            let notice = Notice::unwritten(self.rt, path.as_str(), fault);
-            notice.tell_notice(self.rt, self.alloc, notices);
+            },
+            keep: self.files.keep,
+        })
+    }
+
+    /// A file that the desk takes; one that takes nothing, where there is no memory for it.
+    fn opened(&self) -> JournalFile<'r, R> {
+        match Arc::try_clone(&self.desk) {
+            Ok(desk) => JournalFile::new(self.rt, Some(desk)),
+            Err(_) => JournalFile::new(self.rt, None),
         }
-        is_kept
+    }
+
+    /// Tells of a file that isn't whole.
+    #[tactic(auto, using(swim_keeper::specs::Notices::no_notices))]
+    fn tell_lost<F: Sink>(&self, lost: &LostFile, notices: &mut F)
+        ensures { Notices (F.written notices.old, F.failures notices.old)
+            (F.written notices.new, F.failures notices.new) }
+    {
+        let notice = Notice::unwritten(self.rt, lost.path.as_str(), lost.fault.words());
+        notice.tell_notice(self.rt, self.alloc, notices);
+    }
+
+    /// Begins the file of a life, and tells where there is none.
+    #[tactic(auto, using(swim_keeper::specs::Notices::no_notices))]
+    fn begin<F: Sink>(&mut self, new: NewFile, notices: &mut F) -> JournalFile<'r, R>
+        ensures { Notices (F.written notices.old, F.failures notices.old)
+            (F.written notices.new, F.failures notices.new) }
+    {
+        match self.desk.begin(self.rt, new) {
+            Begun::Going => self.opened(),
+            Begun::Refused(lost) => {
+                let _lost = self.desk.end(self.rt, Some(lost.fault));
+                self.tell_lost(&lost, notices);
+                JournalFile::new(self.rt, None)
+            }
+            Begun::TooMany => {
+                self.unfiled = self.unfiled.saturating_add(1);
+                let notice = Notice::unfiled(self.rt, new.path().as_str(), self.unfiled);
+                notice.tell_notice(self.rt, self.alloc, notices);
+                JournalFile::new(self.rt, None)
+            }
+        }
+    }
+}
+
+impl<'r, R: Files<File = File> + Net + Clock + Wait> Shelf<JournalFile<'r, R>> for Folder<'r, R> {
+    ghost fresh = { None };
+
+    ghost opened = { λ s. None };
+
+    ghost filed = { λ s. None };
+
+    #[tactic(auto, using(swim_keeper::specs::Notices::no_notices))]
+    fn open<F: Sink>(&mut self, number: u64, notices: &mut F) -> Option<JournalFile<'r, R>> {
+        let new = self.file_of(number)?;
+        Some(self.begin(new, notices))
+    }
+
+    #[tactic(auto, using(swim_keeper::specs::Notices::no_notices))]
+    fn close<F: Sink>(&mut self, _number: u64, sink: JournalFile<'r, R>, notices: &mut F) -> bool {
+        if !sink.is_going() {
+            return false;
+        }
+        let mut sink = sink;
+        let known = sink.finish();
+        match self.desk.end(self.rt, known) {
+            Some(lost) => {
+                self.tell_lost(&lost, notices);
+                false
+            }
+            None => true,
+        }
     }
 }

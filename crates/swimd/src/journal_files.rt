@@ -1,13 +1,15 @@
 //! Journal files as they are written.
 
-ghost use Rattle.std.specs.Prelude.{◌≡◌, true, false, length, None};
+ghost use Rattle.std.specs.Prelude.{◌≡◌, true, false, length, None, Some};
 ghost use Rattle.swim_text.specs.Streams.{failures_if};
 
 use crate::comments::comment_behind;
+use crate::disk_desks::DiskDesk;
+use crate::file_faults::FileFault;
 use arrayvec::ArrayVec;
-use std::fs::{File, OpenFile};
-use std::io::{ErrorKind, Write};
+use std::alloc::Global;
 use std::rt::Clock;
+use std::sync::{Arc, Wait};
 use swim_text::Sink;
 
 /// How many bytes of a file are held back at most.
@@ -16,27 +18,28 @@ const HELD_BYTES: usize = 16_384;
 /// How many bytes of a line are looked at: as many as there are in front of the word that says what was answered.
 const FRONT_BYTES: usize = 32;
 
-/// A journal file, as long as the system takes what is written. It holds back what it is given until it is flushed.
-/// Once a write has failed it takes nothing more, and knows why. It adds comments for people: behind its first line the
-/// program with its version and the time, and behind each line of a started period the seconds since 1970. No contract
-/// knows its bytes.
+/// A journal file, as long as its desk takes what is to be written, from where another thread writes it. It holds back
+/// what it is given until it is flushed. Once something was refused it takes nothing more, and knows why. It adds
+/// comments for people: behind its first line the program with its version and the time, and behind each line of a
+/// started period the seconds since 1970. No contract knows its bytes.
 #[derive(Drop)]
-pub struct JournalFile<'r, K> {
-    clock: &'r K,
-    file: Option<File>,
+pub struct JournalFile<'r, R> {
+    rt: &'r R,
+    // None once nothing more is taken.
+    desk: Option<Arc<DiskDesk, Global>>,
     held: ArrayVec<u8, HELD_BYTES>,
     // As much as is looked at of the line that isn't at its end yet.
     front: ArrayVec<u8, FRONT_BYTES>,
     failures: u64,
-    fault: Option<ErrorKind>,
+    fault: Option<FileFault>,
 }
 
-impl<'r, K: Clock> JournalFile<'r, K> {
-    /// A new file; without one, it takes nothing.
-    pub fn new(clock: &'r K, file: Option<File>) -> JournalFile<'r, K> {
+impl<'r, R: Clock + Wait> JournalFile<'r, R> {
+    /// The file that the desk has begun; without a desk, it takes nothing.
+    pub fn new(rt: &'r R, desk: Option<Arc<DiskDesk, Global>>) -> JournalFile<'r, R> {
         JournalFile {
-            clock,
-            file,
+            rt,
+            desk,
             held: ArrayVec::new(),
             front: ArrayVec::new(),
             failures: 0,
@@ -44,49 +47,43 @@ impl<'r, K: Clock> JournalFile<'r, K> {
         }
     }
 
-    /// Why the system refused a write, if it did.
-    pub fn fault(&self) -> Option<ErrorKind> {
+    /// Whether there was a file from the beginning on.
+    pub fn is_going(&self) -> bool {
+        self.desk.is_some() || self.fault.is_some()
+    }
+
+    /// Hands over what is held back, as the last of it: why not all was taken, if it wasn't.
+    pub fn finish(&mut self) -> Option<FileFault> {
+        let _is_sent = self.hand_on();
         self.fault
     }
 
-    /// Has the system keep for good what was written, and answers whether it does.
-    pub fn keep(&mut self) -> bool {
-        if !self.hand_on() {
-            return false;
-        }
-        let Some(file) = &self.file else {
-            return false;
-        };
-        match file.sync_data() {
-            Ok(()) => true,
-            Err(fault) => self.give_up(fault.kind()),
-        }
-    }
-
-    /// Writes what is held back, and answers whether the system took it.
+    /// Hands over what is held back, and answers whether the desk took it.
     fn hand_on(&mut self) -> bool
         ensures failures { self.new.failures ≡ self.old.failures }
         ensures sent { result ≡ true → length self.new.held.items ≡ 0 }
+        ensures gone { self.old.desk ≡ None → (result ≡ false) × (self.new.desk ≡ None) }
     {
-        let Some(file) = &mut self.file else {
+        let Some(desk) = &self.desk else {
             return false;
         };
-        match file.write_all(self.held.as_slice()) {
+        match desk.add(self.rt, self.held.as_slice()) {
             Ok(()) => {
                 self.held.clear();
                 true
             }
-            Err(fault) => self.give_up(fault.kind()),
+            Err(fault) => self.give_up(fault),
         }
     }
 
     /// Lets go of the file for this reason.
-    fn give_up(&mut self, fault: ErrorKind) -> bool
+    fn give_up(&mut self, fault: FileFault) -> bool
         ensures failures { self.new.failures ≡ self.old.failures }
-        ensures gone { result ≡ false }
+        ensures fault { self.new.fault ≡ Some fault }
+        ensures gone { (result ≡ false) × (self.new.desk ≡ None) }
     {
         self.fault = Some(fault);
-        self.file = None;
+        self.desk = None;
         false
     }
 
@@ -120,7 +117,7 @@ impl<'r, K: Clock> JournalFile<'r, K> {
         if !text.ends_with(b"\n") {
             return true;
         }
-        let comment = comment_behind(self.clock, self.front.as_slice());
+        let comment = comment_behind(self.rt, self.front.as_slice());
         self.front.clear();
         self.take(comment.as_str().as_bytes())
     }
@@ -136,7 +133,7 @@ impl<'r, K: Clock> JournalFile<'r, K> {
     }
 }
 
-impl<'r, K: Clock> Sink for JournalFile<'r, K> {
+impl<'r, R: Clock + Wait> Sink for JournalFile<'r, R> {
     ghost written = { λ f. None };
 
     ghost failures = { λ f. f.failures };

@@ -17,11 +17,17 @@ mod comments;
 mod configurations;
 mod control_lines;
 mod counters;
+mod crews;
 mod daemon;
 mod details;
+mod disk_desks;
+mod disk_sheets;
+mod disk_workers;
 mod doors;
 mod entrances;
 mod event_sockets;
+mod file_faults;
+mod file_sheets;
 mod folders;
 mod happenings;
 mod hints;
@@ -31,27 +37,25 @@ mod metrics_desks;
 mod metrics_files;
 mod metrics_times;
 mod notices;
-mod old_files;
 mod outcomes;
-mod plain_files;
 mod program_commands;
 mod readiness;
 mod refusals;
 mod screens;
 mod sockets;
+mod speakers;
 mod stacks;
 mod strangers;
-mod telling_doors;
 mod text_sinks;
 mod timely_sinks;
 mod totals;
 mod watch;
 mod words;
 
-use clerks::{Clerk, Log};
+use clerks::{Clerk, Desks, Log};
 use details::Details;
+use disk_workers::serve_disk;
 use hints::explain_no_text;
-use metrics_desks::MetricsDesk;
 use outcomes::Outcome;
 use readiness::{STANDARD_ERROR, STANDARD_OUTPUT};
 use screens::ScreenSink;
@@ -63,16 +67,16 @@ use std::io::{ErrorKind, IsTerminal};
 use std::net::Net;
 use std::process::ExitCode;
 use std::rt::{Clock, Files};
-use std::sync::{Arc, Wait};
+use std::sync::Wait;
 use std::thread::Threads;
 use swim_config::ConfigFault;
 use swim_text::{ReadSource, Sink, Source, WriteSink};
 use timely_sinks::{Timely, TimelySink};
 
-/// The program runs in a thread with a stack of its own. This one writes the metrics file meanwhile, as it alone may
-/// wait for a disk.
+/// The program runs in a thread with a stack of its own. This one writes journal files meanwhile, and another one the
+/// metrics, as they alone may wait for their disks.
 fn main(rt: HostRuntime) -> ExitCode {
-    let Some((desk, theirs)) = two_of(rt.alloc(), MetricsDesk::new()) else {
+    let Some((desks, theirs, written)) = desks(rt.alloc()) else {
         return ExitCode::from(tell_no_memory(&mut WriteSink::new(rt.stderr())));
     };
     let program = begin_on_own_stack(&rt, move || {
@@ -82,7 +86,7 @@ fn main(rt: HostRuntime) -> ExitCode {
         let screen = ScreenSink::new(WriteSink::new(rt.stdout()), is_terminal);
         let mut writer = TimelySink::new(&rt, alloc, STANDARD_OUTPUT, screen);
         let mut faults = TimelySink::new(&rt, alloc, STANDARD_ERROR, WriteSink::new(rt.stderr()));
-        let log = Log::new(WriteSink::new(rt.stderr()), &*theirs);
+        let log = Log::new(WriteSink::new(rt.stderr()), &theirs);
         let mut details = Details::new();
         let status = match words_given(&rt, &mut details) {
             Ok(texts) => {
@@ -103,7 +107,14 @@ fn main(rt: HostRuntime) -> ExitCode {
     });
     let status = match program {
         Ok(program) => {
-            desk.write_on(&rt);
+            let metrics = begin_on_own_stack(&rt, move || written.metrics.write_on(&rt));
+            if metrics.is_err() {
+                desks.metrics.close(&rt);
+            }
+            serve_disk(&rt, rt.alloc(), &*desks.journals);
+            if let Ok(metrics) = metrics {
+                metrics.join(&rt);
+            }
             program.join(&rt)
         }
         Err(_) => tell_no_memory(&mut WriteSink::new(rt.stderr())),
@@ -111,11 +122,12 @@ fn main(rt: HostRuntime) -> ExitCode {
     ExitCode::from(status)
 }
 
-/// Shares a value: two handles of it. `None` where memory is refused.
-fn two_of<T: Drop>(alloc: Global, value: T) -> Option<(Arc<T, Global>, Arc<T, Global>)> {
-    let one = Arc::new(alloc, value).ok()?;
-    let other = Arc::try_clone(&one).ok()?;
-    Some((one, other))
+/// The desks, for this thread, for the program's, and for that of the metrics. `None` where memory is refused.
+fn desks(alloc: Global) -> Option<(Desks, Desks, Desks)> {
+    let ours = Desks::new(alloc).ok()?;
+    let theirs = ours.shared().ok()?;
+    let written = ours.shared().ok()?;
+    Some((ours, theirs, written))
 }
 
 /// Does what the words of these texts ask. The status with which the program ends.

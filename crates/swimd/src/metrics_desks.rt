@@ -1,9 +1,10 @@
-//! Where figures are laid for the thread that writes the metrics file.
+//! Where figures are laid for the thread that writes the metrics file, which alone waits for its disk.
 
 use crate::counters::Figures;
 use crate::metrics_files::{Unwritten, write_metrics};
 use arrayvec::ArrayString;
 use std::fs::File;
+use std::io::ErrorKind;
 use std::mem;
 use std::rt::{Clock, Files};
 use std::sync::{Condvar, Mutex, Wait};
@@ -35,7 +36,7 @@ struct Sheet {
     is_closed: bool,
 }
 
-/// A desk between those who have figures and the thread that writes them to a file, which alone waits for the disk.
+/// A desk between those who have figures and the thread that writes them to a file.
 #[derive(Drop)]
 pub struct MetricsDesk {
     sheet: Mutex<Sheet>,
@@ -57,11 +58,16 @@ impl MetricsDesk {
     }
 
     /// Hands figures over for the file of that path, in place of earlier ones that nobody took. A path has at most 100
-    /// bytes.
+    /// bytes. Where the desk is closed, as there was no thread to write them, they aren't written.
     pub fn hand_over<R: Wait>(&self, rt: &R, path: &str, figures: Figures) {
         let mut own = ArrayString::new();
         let _is_whole = own.try_push_str(path);
-        self.sheet.lock(rt).handed = Some(Handed { path: own, figures });
+        let mut sheet = self.sheet.lock(rt);
+        if sheet.is_closed {
+            sheet.fault = Some(Unwritten::Refused(ErrorKind::OutOfMemory));
+            return;
+        }
+        sheet.handed = Some(Handed { path: own, figures });
         self.changed.notify_all();
     }
 

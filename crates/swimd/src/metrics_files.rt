@@ -1,12 +1,12 @@
 //! The file where metrics are told.
 
 use crate::details::words_of;
-use crate::plain_files::{is_file, make_file};
 use arrayvec::ArrayString;
 use std::fs;
 use std::fs::File;
 use std::io::{self, ErrorKind, Read, Write};
 use std::rt::Files;
+use swim_disk::{is_file, make_file};
 use swim_metrics::{Measures, Outside, put_exposition};
 use swim_text::{Sink, WriteSink};
 

@@ -1,12 +1,11 @@
 //! What a daemon tells people while it runs: lines on standard error, each with the time in UTC.
 
-ghost use Rattle.std.specs.Prelude.{◌≡◌, ℕ, false};
+ghost use Rattle.std.specs.Prelude.{◌≡◌, ℕ, None, false};
 ghost use Rattle.swim_text.specs.Lines.{has_feed};
-ghost use Rattle.swim_text.specs.Streams.{one_more};
-ghost use Rattle.swim_life.specs.Endings.{TellsText};
-ghost use Rattle.swim_life.specs.Notices.{Notices, line_text};
+ghost use Rattle.swim_keeper.specs.Endings.{TellsText};
+ghost use Rattle.swim_keeper.specs.Notices.{Notices, line_text};
 
-use crate::details::{TEXT_BYTES, add_printed, words_of};
+use crate::details::{TEXT_BYTES, add_printed};
 use crate::readiness::{STANDARD_ERROR, is_taken};
 use crate::words::VERSION;
 use arrayvec::ArrayVec;
@@ -14,12 +13,11 @@ use jiff::Timestamp;
 use std::alloc::Global;
 use std::fmt;
 use std::fmt::Write;
-use std::io::ErrorKind;
 use std::marker::Model;
 use std::net::Net;
 use std::rt::Clock;
 use swim_config::Config;
-use swim_life::Herald;
+use swim_keeper::Herald;
 use swim_text::Sink;
 use swim_wire::{Peer, Piece, put_pieces};
 
@@ -95,11 +93,20 @@ impl Notice {
         notice
     }
 
-    /// That a journal file can't be written any more, and why.
-    pub fn unwritten<K: Clock>(clock: &K, path: &str, fault: ErrorKind) -> Notice {
+    /// That a journal file isn't whole, and why.
+    pub fn unwritten<K: Clock>(clock: &K, path: &str, why: &str) -> Notice {
         let mut notice = Notice::begun(clock);
-        let words = words_of(fault);
-        let _is_added = write!(notice, "journal {path}: {words}");
+        let _is_added = write!(notice, "journal {path}: {why}");
+        notice
+    }
+
+    /// That a life has no journal file, as too many wait for their disk, and how many lives had none so far.
+    pub fn unfiled<K: Clock>(clock: &K, path: &str, count: u64) -> Notice {
+        let mut notice = Notice::begun(clock);
+        let _is_added = write!(
+            notice,
+            "journal {path}: too many files wait for their disk, lives without a file {count}"
+        );
         notice
     }
 
@@ -152,7 +159,7 @@ impl Notice {
     }
 
     /// Writes it, where standard error takes it at once. Where it can't be written nothing else changes.
-    #[tactic(auto, using(swim_life::specs::Notices::no_notices))]
+    #[tactic(auto, using(swim_keeper::specs::Notices::no_notices))]
     pub fn tell_notice<R: Net, F: Sink>(&self, rt: &R, alloc: Global, faults: &mut F)
         ensures { Notices (F.written faults.old, F.failures faults.old)
             (F.written faults.new, F.failures faults.new) }
@@ -187,34 +194,24 @@ pub struct Announcer<'r, R> {
     rt: &'r R,
     alloc: Global,
     is_quiet: bool,
-    begun: u64,
 }
 
 impl<'r, R> Announcer<'r, R> {
-    /// One who told of no life yet.
-    pub fn new(rt: &'r R, alloc: Global, is_quiet: bool) -> Announcer<'r, R>
-        ensures { result.begun ≡ 0 }
-    {
+    /// One who tells it in lines with the time, or is quiet.
+    pub fn new(rt: &'r R, alloc: Global, is_quiet: bool) -> Announcer<'r, R> {
         Announcer {
             rt,
             alloc,
             is_quiet,
-            begun: 0,
         }
     }
 }
 
 impl<'r, R: Net + Clock> Herald for Announcer<'r, R> {
-    ghost begun = { λ a. a.begun };
+    ghost begun = { λ a. None };
 
-    #[tactic(auto, using(swim_life::specs::Notices::no_notices))]
-    fn begins<F: Sink>(&mut self, number: u64, notices: &mut F)
-        requires { number ≡ self.old.begun }
-        ensures counts { self.new.begun ≡ one_more self.old.begun }
-        ensures notices { Notices (F.written notices.old, F.failures notices.old)
-            (F.written notices.new, F.failures notices.new) }
-    {
-        self.begun = number.saturating_add(1);
+    #[tactic(auto, using(swim_keeper::specs::Notices::no_notices))]
+    fn begins<F: Sink>(&mut self, number: u64, notices: &mut F) {
         if !self.is_quiet {
             Notice::begins(self.rt, number).tell_notice(self.rt, self.alloc, notices);
         }

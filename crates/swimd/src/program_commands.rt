@@ -10,7 +10,7 @@ ghost use Rattle.swimd.specs.Words.{IsAsked};
 use crate::ask::ask;
 use crate::checking::check;
 use crate::clerks::Clerk;
-use crate::daemon;
+use crate::daemon::{Launch, run};
 use crate::details::Details;
 use crate::hints::explain_words;
 use crate::key_making::make_key;
@@ -96,9 +96,10 @@ fn carry_out<
 {
     match read_words(alloc, words) {
         Ok(Asked::Check) => check(alloc, reader, writer, faults, details),
-        Ok(Asked::Run(file, is_quiet)) => daemon::run(
-            rt, alloc, file, is_quiet, writer, faults, log, details,
-        ),
+        Ok(Asked::Run(path, is_quiet)) => {
+            let launch = Launch { path, is_quiet };
+            run(rt, alloc, launch, writer, faults, log, details)
+        }
         Ok(Asked::Ask(request)) => ask_for(rt, &request, reader, writer, details),
         Ok(Asked::Watch(path, is_json)) => watch_daemon(rt, alloc, path, is_json, writer, details),
         Ok(Asked::MakeKey) => make_key(rt, writer),

@@ -3,7 +3,7 @@
 ghost use Rattle.std.specs.Prelude.{◌≡◌};
 ghost use Rattle.swimd.specs.Totals.{totals_with};
 
-use swim_life::Standing;
+use swim_recorder::Standing;
 
 /// What was counted of lives beside their calls. Each count stops at 2^64-1.
 #[derive(Clone, Copy)]

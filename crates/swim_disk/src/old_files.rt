@@ -1,7 +1,7 @@
 //! Journal files of earlier lives, by their names, and which of them go.
 
 ghost use Rattle.std.specs.Prelude.{◌≡◌};
-ghost use Rattle.swimd.specs.OldFiles.{removed};
+ghost use Rattle.swim_disk.specs.OldFiles.{removed};
 
 use crate::plain_files::is_file;
 use arrayvec::{ArrayString, ArrayVec};

@@ -1,9 +1,5 @@
-//! A door that tells people what happens: changes of the member table, datagrams that are thrown away, connections that
-//! are turned away, and metrics. The worker at the door has the time for it, so that nobody else waits.
-
-ghost use Rattle.std.specs.Prelude.{◌≡◌, ◌∷◌, []};
-ghost use Rattle.swim_work.specs.Posts.{Grows};
-ghost use Rattle.swim_desk.specs.Doors.{is_fault};
+//! Who tells people what happens: changes of the member table, datagrams that are thrown away, connections that are
+//! turned away, and metrics. The controller has the time for it, so that nobody else waits.
 
 use crate::clerks::Clerk;
 use crate::counters::Counters;
@@ -14,12 +10,13 @@ use crate::refusals::refused;
 use crate::strangers::SharedThrown;
 use std::alloc::Global;
 use std::fs::File;
-use std::marker::Model;
 use std::net::Net;
 use std::rt::{Clock, Files};
 use std::sync::Wait;
 use std::time::{Duration, Instant};
-use swim_desk::{Door, Knock};
+use swim_control::StatsText;
+use swim_desk::Speaker;
+use swim_disk::MOST_FILES;
 use swim_text::Sink;
 use swim_wire::Peer;
 
@@ -78,59 +75,43 @@ impl Telling {
     }
 }
 
-/// A door over another. Each time it is asked for the next connection it tells what there is to be told, and waits for
-/// nobody: each change of the member table, how many datagrams were thrown away and where the newest came from, and how
-/// many connections were turned away, of each kind at most once a minute; and every ten seconds it hands the metrics over,
-/// to be written. Where it
-/// is quiet it tells nothing in the log but that metrics can't be written.
+/// Tells what happens. Once a turn of the controller it tells what there is to be told, and waits for nobody: each change
+/// of the member table, how many datagrams were thrown away and where the newest came from, and how many connections were
+/// turned away, of each kind at most once a minute; and every ten seconds it hands the metrics over, to be written. Where
+/// it is quiet it tells nothing in the log but that metrics can't be written, and which journal files aren't whole.
 #[derive(Drop)]
-pub struct TellingDoor<'s, 'r, R, D: Door + Drop, G: Sink + Clerk + Drop> {
+pub struct LogSpeaker<'s, 'r, R, G: Sink + Clerk + Drop> {
     rt: &'r R,
     alloc: Global,
-    door: D,
     counters: &'s Counters,
     metrics: MetricsTimes,
     log: G,
     is_quiet: bool,
+    // How many operators were turned away, as far as it counted them.
+    turned_away: u64,
     fenced: Telling,
     forged: Telling,
     refused: Telling,
 }
 
-// A contract sees the door below.
-impl<'s, 'r, R, D: Door + Drop, G: Sink + Clerk + Drop> Model for TellingDoor<'s, 'r, R, D, G> {
-    ghost Value = { D };
-
-    ghost view = { λ d. d.door };
-}
-
-impl<
-    's,
-    'r,
-    R: Files<File = File> + Net + Clock,
-    D: Door + Drop,
-    G: Sink + Clerk + Drop,
-> TellingDoor<'s, 'r, R, D, G> {
-    /// A door over that one, which tells in the log and in the metrics' file.
+impl<'s, 'r, R: Files<File = File> + Net + Clock, G: Sink + Clerk + Drop> LogSpeaker<'s, 'r, R, G> {
+    /// One who tells in the log and in the metrics' file.
     pub fn new(
         rt: &'r R,
         alloc: Global,
-        door: D,
         counters: &'s Counters,
         metrics: MetricsTimes,
         log: G,
         is_quiet: bool,
-    ) -> TellingDoor<'s, 'r, R, D, G>
-        ensures { result ≡ door }
-    {
-        TellingDoor {
+    ) -> LogSpeaker<'s, 'r, R, G> {
+        LogSpeaker {
             rt,
             alloc,
-            door,
             counters,
             metrics,
             log,
             is_quiet,
+            turned_away: 0,
             fenced: Telling::new(),
             forged: Telling::new(),
             refused: Telling::new(),
@@ -138,33 +119,41 @@ impl<
     }
 
     /// Tells what there is to be told.
-    fn tell_what_is_due<W: Wait>(&mut self, rt: &W)
-        ensures { self.new ≡ self.old }
-    {
+    fn tell_what_is_due<W: Wait>(&mut self, rt: &W) {
         if !self.is_quiet {
             self.tell_changes(rt);
             self.tell_thrown();
             self.tell_refused();
         }
         self.tell_unwritten(rt);
+        self.tell_lost(rt);
         if self.metrics.is_due(self.rt) {
             self.tell_metrics(rt);
         }
     }
 
     /// Tells all that is left, at the end of all lives.
-    pub fn finish<W: Wait + Clock>(self, rt: &W) {
-        let mut door = self;
-        door.tell_changes(rt);
-        door.tell_metrics(rt);
-        door.log.settle(rt);
-        door.tell_unwritten(rt);
+    pub fn finish<W: Wait + Clock>(&mut self, rt: &W) {
+        self.tell_changes(rt);
+        self.tell_metrics(rt);
+        self.log.settle(rt);
+        self.tell_unwritten(rt);
+        for _file in 0..MOST_FILES {
+            self.tell_lost(rt);
+        }
+    }
+
+    /// Counts the operators who were turned away, so many so far.
+    fn count_turned_away(&mut self, turned_away: u64) {
+        if turned_away != self.turned_away {
+            let more = turned_away.saturating_sub(self.turned_away);
+            self.counters.refusals.add(more);
+            self.turned_away = turned_away;
+        }
     }
 
     /// Tells the changes of the member table that wait on the bulletin.
-    fn tell_changes<W: Wait>(&mut self, rt: &W)
-        ensures { self.new ≡ self.old }
-    {
+    fn tell_changes<W: Wait>(&mut self, rt: &W) {
         let Some((waiting, more)) = self.counters.bulletin.take(rt) else {
             return;
         };
@@ -172,9 +161,7 @@ impl<
     }
 
     /// Tells of the datagrams that were thrown away, if they are to be told.
-    fn tell_thrown(&mut self)
-        ensures { self.new ≡ self.old }
-    {
+    fn tell_thrown(&mut self) {
         let strangers = &self.counters.strangers;
         if let Some((count, newest)) = self.fenced.due(self.rt, &strangers.fenced) {
             let notice = Notice::fenced(self.rt, newest, count);
@@ -187,9 +174,7 @@ impl<
     }
 
     /// Tells of the connections that were turned away, if they are to be told.
-    fn tell_refused(&mut self)
-        ensures { self.new ≡ self.old }
-    {
+    fn tell_refused(&mut self) {
         let count = self.counters.refusals.count();
         if self.refused.is_due(self.rt, count) {
             refused(self.rt, count).tell_notice(self.rt, self.alloc, &mut self.log);
@@ -197,9 +182,7 @@ impl<
     }
 
     /// Has the metrics file written, once something was counted.
-    fn tell_metrics<W: Wait>(&mut self, rt: &W)
-        ensures { self.new ≡ self.old }
-    {
+    fn tell_metrics<W: Wait>(&mut self, rt: &W) {
         let Some(figures) = self.counters.figures(rt) else {
             return;
         };
@@ -208,10 +191,16 @@ impl<
         }
     }
 
+    /// Tells of a journal file of an earlier life that isn't whole, if there is one.
+    fn tell_lost<W: Wait>(&mut self, rt: &W) {
+        if let Some(lost) = self.log.take_lost(rt) {
+            let notice = Notice::unwritten(self.rt, lost.path.as_str(), lost.fault.words());
+            notice.tell_notice(self.rt, self.alloc, &mut self.log);
+        }
+    }
+
     /// Tells that the metrics file can't be written, the first time that it couldn't be.
-    fn tell_unwritten<W: Wait>(&mut self, rt: &W)
-        ensures { self.new ≡ self.old }
-    {
+    fn tell_unwritten<W: Wait>(&mut self, rt: &W) {
         let (Some(why), Some(path)) = (self.log.fault(rt), self.metrics.path()) else {
             return;
         };
@@ -222,35 +211,15 @@ impl<
     }
 }
 
-impl<'s, 'r, R: Files<File = File> + Net + Clock, D: Door + Drop, G: Sink + Clerk + Drop> Door
-    for TellingDoor<'s, 'r, R, D, G> {
-    ghost faults = { λ d. D.faults d };
+impl<'s, 'r, R: Files<File = File> + Net + Clock, G: Sink + Clerk + Drop> Speaker
+    for LogSpeaker<'s, 'r, R, G> {
+    fn stats<W: Wait>(&self, rt: &W) -> StatsText {
+        self.counters.stats(rt)
+    }
 
-    type Reader = D::Reader;
-
-    type Writer = D::Writer;
-
-    fn next<W: Wait>(&mut self, rt: &W) -> Knock<D::Reader, D::Writer>
-        ensures { Grows (D.faults self.old) (D.faults self.new) (is_fault result ∷ []) }
-    {
+    fn tell<W: Wait>(&mut self, rt: &W, turned_away: u64) {
+        self.count_turned_away(turned_away);
         self.tell_what_is_due(rt);
-        let knock = self.door.next(rt);
-        if matches!(&knock, Knock::Refused) {
-            self.counters.refusals.add(1);
-        }
-        knock
-    }
-
-    fn wait<W: Wait>(&mut self, rt: &W)
-        ensures { D.faults self.new ≡ D.faults self.old }
-    {
-        self.door.wait(rt);
-    }
-
-    fn now(&mut self) -> u64
-        ensures { D.faults self.new ≡ D.faults self.old }
-    {
-        self.door.now()
     }
 }
 

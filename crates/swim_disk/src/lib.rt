@@ -1,0 +1,15 @@
+//! Journal files on a disk that may be slow: how they are named and made, which of earlier lives go, and what waits to
+//! be written into them.
+#![tactic(auto)]
+
+mod backlogs;
+mod new_files;
+mod old_files;
+mod pending;
+mod plain_files;
+
+pub use backlogs::{Backlog, Draft, FileTask, MOST_FILES};
+pub use new_files::{DirPath, NewFile};
+pub use old_files::{FilePath, Stamp, path_of};
+pub use pending::{FILE_BYTES, Pending};
+pub use plain_files::{is_file, make_file};

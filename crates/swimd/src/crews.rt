@@ -1,0 +1,184 @@
+//! The crew of a daemon: its workers and its recorder, over the gates of a configuration.
+
+use crate::chroniclers::Chronicler;
+use crate::clerks::Clerk;
+use crate::counters::Counters;
+use crate::entrances::{end_watching, pause_ms};
+use crate::journal_files::JournalFile;
+use crate::metrics_times::MetricsTimes;
+use crate::refusals::CountedEntrance;
+use crate::speakers::LogSpeaker;
+use crate::strangers::NotingLine;
+use std::alloc::{AllocError, Global};
+use std::fs::File;
+use std::net::Net;
+use std::rt::{Clock, Files};
+use std::sync::Wait;
+use swim_config::Config;
+use swim_control::Connections;
+use swim_crew::Crew;
+use swim_desk::{Controller, Door, Hall};
+use swim_devices::{
+    ClockSleeper, SleepingPace, StreamOutlet, UdpEndpoint, UdpLine, UdpPost, UnixEntrance,
+};
+use swim_events::{Entrance, Gallery};
+use swim_guard::{ClockTimepiece, FencedLine, SealedLine, SealedPost};
+use swim_keys::Keys;
+use swim_receiver::{Receiver, Returning};
+use swim_recorder::JournalRecorder;
+use swim_text::Sink;
+use swim_ticker::Ticker;
+use swim_work::TidingsBoard;
+
+/// By which a daemon hears: what comes faster than the fence lets in is thrown away first, and then what has no tag by a
+/// key of the group. Of both is noted how many there were.
+pub type GuardedLine<'g, R> = NotingLine<
+    'g,
+    SealedLine<'g, NotingLine<'g, FencedLine<UdpLine<'g>, ClockTimepiece<&'g R>>>>,
+>;
+
+/// By which it sends, with a tag where the group has keys.
+pub type GuardedPost<'g> = SealedPost<'g, UdpPost<'g>>;
+
+/// By which it waits.
+pub type ClockPace<'g, R> = SleepingPace<ClockSleeper<&'g R>>;
+
+/// The recorder of a daemon.
+pub type DaemonRecorder<'g, R, K> = JournalRecorder<
+    JournalFile<'g, R>,
+    ClockPace<'g, R>,
+    StreamOutlet,
+    CountedEntrance<'g, K>,
+    Chronicler<'g>,
+>;
+
+/// The crew of a daemon.
+pub type DaemonCrew<'g, R, D, G, K> = Crew<
+    Receiver<'g, GuardedLine<'g, R>, GuardedPost<'g>>,
+    Ticker<'g, ClockPace<'g, R>, GuardedPost<'g>>,
+    Controller<D, LogSpeaker<'g, 'g, R, G>>,
+    DaemonRecorder<'g, R, K>,
+>;
+
+/// What the crew of a daemon shares.
+#[derive(Drop)]
+pub struct Shared<'g, R> {
+    pub rt: &'g R,
+    pub alloc: Global,
+    pub endpoint: &'g UdpEndpoint,
+    pub keys: Option<&'g Keys>,
+    pub counters: &'g Counters,
+    pub board: &'g TidingsBoard,
+}
+
+impl<'g, R: Files<File = File> + Net + Clock + Wait> Shared<'g, R> {
+    /// The crew of a daemon of this configuration, at this door and this entrance.
+    pub fn crew<D: Door + Drop, G: Sink + Clerk + Drop, K: Clock + Drop>(
+        &self,
+        config: &Config,
+        is_quiet: bool,
+        metrics: MetricsTimes,
+        door: D,
+        entrance: UnixEntrance<K>,
+        log: G,
+    ) -> Result<DaemonCrew<'g, R, D, G, K>, AllocError> {
+        Ok(Crew {
+            first: self.receiver(config)?,
+            second: self.ticker(config)?,
+            third: self.controller(metrics, is_quiet, door, log)?,
+            recorder: self.recorder(config, is_quiet, entrance)?,
+        })
+    }
+
+    /// The receiver. It is too large for a stack where memory is short.
+    #[inline(never)]
+    fn receiver(
+        &self,
+        config: &Config,
+    ) -> Result<Box<Receiver<'g, GuardedLine<'g, R>, GuardedPost<'g>>>, AllocError> {
+        let strangers = &self.counters.strangers;
+        let timepiece = ClockTimepiece::new(self.rt);
+        let line = FencedLine::new(self.endpoint.line(), timepiece, config.fence);
+        let line = NotingLine::new(line, &strangers.fenced);
+        let line = SealedLine::new(line, self.keys);
+        let receiver = Receiver {
+            line: NotingLine::new(line, &strangers.forged),
+            post: SealedPost::new(self.endpoint.post(), self.keys),
+            returning: Returning::new(rejoin_of(config), config.opening.me()),
+            board: self.board,
+        };
+        Ok(Box::new(self.alloc, receiver)?)
+    }
+
+    /// The ticker.
+    fn ticker(
+        &self,
+        config: &Config,
+    ) -> Result<Box<Ticker<'g, ClockPace<'g, R>, GuardedPost<'g>>>, AllocError> {
+        let ticker = Ticker {
+            pace: SleepingPace::new(ClockSleeper::new(self.rt), config.tick_ms),
+            post: SealedPost::new(self.endpoint.post(), self.keys),
+            knock_post: SealedPost::new(self.endpoint.post(), self.keys),
+            rejoin: rejoin_of(config),
+            knocks: 0,
+            board: self.board,
+        };
+        Ok(Box::new(self.alloc, ticker)?)
+    }
+
+    /// The controller, at this door. Its speaker tells in this log.
+    fn controller<D: Door + Drop, G: Sink + Clerk + Drop>(
+        &self,
+        metrics: MetricsTimes,
+        is_quiet: bool,
+        door: D,
+        log: G,
+    ) -> Result<Box<Controller<D, LogSpeaker<'g, 'g, R, G>>>, AllocError> {
+        let speaker = LogSpeaker::new(self.rt, self.alloc, self.counters, metrics, log, is_quiet);
+        let controller = Controller {
+            alloc: self.alloc,
+            hall: Hall::new(self.alloc, door),
+            speaker,
+        };
+        Ok(Box::new(self.alloc, controller)?)
+    }
+
+    /// The recorder, with this entrance for those who watch. It is too large for a stack where memory is short.
+    #[inline(never)]
+    fn recorder<K: Clock + Drop>(
+        &self,
+        config: &Config,
+        is_quiet: bool,
+        entrance: UnixEntrance<K>,
+    ) -> Result<Box<DaemonRecorder<'g, R, K>>, AllocError> {
+        let recorder = JournalRecorder::new(
+            self.alloc,
+            &config.opening,
+            SleepingPace::new(ClockSleeper::new(self.rt), pause_ms(&config.events)),
+            Gallery::new(self.alloc),
+            CountedEntrance::new(entrance, &self.counters.refusals),
+            Chronicler::new(self.alloc, self.counters, is_quiet)?,
+        );
+        Ok(Box::new(self.alloc, recorder)?)
+    }
+}
+
+/// After the last life: those who watch are told that nothing happens any more, operators are served no more, and what
+/// is left is told.
+pub fn leave<
+    R: Files<File = File> + Net + Clock + Wait,
+    D: Door + Drop,
+    G: Sink + Clerk + Drop,
+    K: Clock + Drop,
+>(rt: &R, alloc: Global, crew: DaemonCrew<'_, R, D, G, K>) {
+    let mut crew = crew;
+    let time = crew.recorder.entrance.now();
+    end_watching(&mut crew.recorder.gallery, time);
+    crew.third.hall.connections = Connections::new(alloc);
+    crew.third.speaker.finish(rt);
+}
+
+/// At every how manieth start of a period a daemon of this configuration knocks. The key has no higher number.
+fn rejoin_of(config: &Config) -> u16 {
+    u16::try_from(config.rejoin).unwrap_or(u16::MAX)
+}

@@ -1,0 +1,147 @@
+//! What lies on the desk of the disk.
+
+use crate::file_faults::FileFault;
+use crate::file_sheets::{FileSheet, LostFile};
+use std::rt::Clock;
+use std::time::{Duration, Instant};
+use swim_disk::{FileTask, NewFile};
+
+/// A disk hangs that isn't done with one thing after so many milliseconds.
+const HANGS_MS: u64 = 500;
+
+/// What the disk has to do next.
+#[derive(Drop)]
+pub enum Task {
+    /// Something for a journal file.
+    File(FileTask),
+    /// Nothing more will come.
+    End,
+}
+
+/// What lies on a desk.
+#[derive(Drop)]
+pub struct Sheet {
+    /// What is known of journal files. `None` where there are none.
+    pub files: Option<FileSheet>,
+    /// Whether nothing more is handed over.
+    pub is_closed: bool,
+    /// Since when the disk is at something, if it is.
+    pub busy_since: Option<Instant>,
+}
+
+impl Sheet {
+    /// Nothing.
+    pub fn new() -> Sheet {
+        Sheet {
+            files: None,
+            is_closed: false,
+            busy_since: None,
+        }
+    }
+
+    /// What is to be done next, if there is something. Bytes for a file are laid onto the page.
+    pub fn next(&mut self, page: &mut [u8]) -> Option<Task> {
+        if let Some(files) = &mut self.files {
+            if let Some(task) = files.next(page) {
+                return Some(Task::File(task));
+            }
+        }
+        if self.is_closed {
+            Some(Task::End)
+        } else {
+            None
+        }
+    }
+
+    /// Whether the disk hangs.
+    pub fn is_hanging<K: Clock>(&self, clock: &K) -> bool {
+        match &self.busy_since {
+            Some(since) => match since.elapsed(clock) {
+                Ok(time) => Duration::from_millis(HANGS_MS) <= time,
+                Err(_) => true,
+            },
+            None => false,
+        }
+    }
+
+    /// Whether the disk has yet to make the newest file.
+    pub fn is_making(&self) -> bool {
+        match &self.files {
+            Some(files) => files.is_making(),
+            None => false,
+        }
+    }
+
+    /// Whether the disk has yet to finish the newest file.
+    pub fn is_finishing(&self) -> bool {
+        match &self.files {
+            Some(files) => files.is_finishing(),
+            None => false,
+        }
+    }
+
+    /// Whether the disk isn't done with all files that are over.
+    pub fn is_unsettled(&self) -> bool {
+        match &self.files {
+            Some(files) => files.is_unsettled(),
+            None => false,
+        }
+    }
+
+    /// Whether there is no room yet for so many bytes of the newest file.
+    pub fn is_full_for(&self, count: usize) -> bool {
+        match &self.files {
+            Some(files) => files.is_full_for(count),
+            None => false,
+        }
+    }
+
+    /// Begins a file. `false` where too many wait, or there are none.
+    pub fn begin(&mut self, new: NewFile) -> bool {
+        match &mut self.files {
+            Some(files) => files.begin(new),
+            None => false,
+        }
+    }
+
+    /// Adds a text to the newest file.
+    pub fn add(&mut self, text: &[u8]) -> Result<(), FileFault> {
+        match &mut self.files {
+            Some(files) => files.add(text),
+            None => Err(FileFault::Slow),
+        }
+    }
+
+    /// The newest file, where it is known not to be whole.
+    pub fn known_lost(&self) -> Option<LostFile> {
+        let files = self.files.as_ref()?;
+        files.lost_for(files.fault())
+    }
+
+    /// Ends the newest file, which isn't whole for a reason that is known, if for one.
+    pub fn end(&mut self, known: Option<FileFault>) -> Option<LostFile> {
+        let Some(files) = &mut self.files else {
+            return None;
+        };
+        let lost = files.lost_for(known);
+        files.end(lost.is_some());
+        lost
+    }
+
+    /// The newest file, which is over, if it is known by now not to be whole. Otherwise people are told later.
+    pub fn take_ended(&mut self) -> Option<LostFile> {
+        let Some(files) = &mut self.files else {
+            return None;
+        };
+        let fault = files.take_fault();
+        files.lost_for(fault)
+    }
+
+    /// Takes a file that isn't whole, which nobody was told yet.
+    pub fn take_lost(&mut self) -> Option<LostFile> {
+        match &mut self.files {
+            Some(files) => files.take_lost(),
+            None => None,
+        }
+    }
+}

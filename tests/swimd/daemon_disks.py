@@ -1,0 +1,136 @@
+"""Daemons whose journal files lie on a disk that hangs: nobody waits for it, and what becomes of the files is told."""
+
+import itertools
+import os
+import re
+import time
+
+from tests.support.daemons import SECONDS, introduced, must, until
+from tests.support.datagrams import PING, datagram
+from tests.support.disks import disk, fill, hanging
+from tests.support.journals import front, journals, must_play, told
+from tests.support.sayings import TIME
+from tests.swimd.daemon_journal_faults import told_faults
+from tests.swimd.daemon_journals import MINUTE, filled, must_be_told
+from tests.swimd.daemon_shortages import MOST_SECONDS, soon
+
+JOURNAL, HANGS = 300, 4.0
+# A period of a second.
+TIMES = {"tick_ms": 20, "rtt": 10, "period": 50}
+# So many files may wait for the disk.
+MOST_FILES = 4
+TOO_MANY = re.compile(
+    TIME + rb" journal [^\n]*-(\d+)\.swim: too many files wait for their disk, lives without a file (\d+)\n"
+)
+# So many have more than a block of the disk.
+FEW = 200
+
+
+class Pings:
+    """Pings, and how long it ever took until one more was answered."""
+
+    def __init__(self, machine, daemon):
+        self.daemon, self.peer, self.numbers = daemon, machine.socket(), itertools.count(1)
+        self.peer.setblocking(False)
+        self.answered, self.longest = time.monotonic(), 0.0
+
+    def go_on(self, seconds):
+        end = time.monotonic() + seconds
+        self.answered = time.monotonic()
+        while time.monotonic() < end:
+            self.peer.sendto(datagram(PING, 9, 9, self.daemon.id, next(self.numbers)), self.daemon.address)
+            time.sleep(0.002)
+            try:
+                while self.peer.recv(100):
+                    now = time.monotonic()
+                    self.longest, self.answered = max(self.longest, now - self.answered), now
+            except BlockingIOError:
+                self.longest = max(self.longest, time.monotonic() - self.answered)
+
+
+def a_disk_that_hangs_holds_up_nobody(machine):
+    """Pings, ticks and operators are answered, nobody is judged, lives change, and `stop` ends them. Four files wait, and
+    the lives behind them have none. Once the disk goes on each file is whole whose life isn't told as cut."""
+    with disk(machine) as folder:
+        if folder is None:
+            return
+        daemon = machine.daemon(1, **TIMES, fence=0, journal=JOURNAL, journal_dir=folder, journal_keep=0)
+        daemon.may_be_cut = True
+        # The datagram that meets a full journal is lost, so there is a relay.
+        others = [machine.daemon(id, **TIMES) for id in (2, 3)]
+        introduced([it.start() for it in (daemon, *others)])
+        pings = Pings(machine, daemon)
+        pings.go_on(0.5)
+        with hanging(folder):
+            before, began, lives = daemon.lives_so_far(), time.monotonic(), 0
+            while time.monotonic() < began + HANGS or (lives <= MOST_FILES and time.monotonic() < began + SECONDS):
+                pings.go_on(0.2)
+                must(soon(daemon).endswith(b".\n") and soon(daemon, b"stats\n").endswith(b".\n"), "it isn't answered")
+                must(set(daemon.states().values()) == {"up"}, f"it lists {daemon.states()}")
+                for it in others:
+                    must(it.states()[1] == "up", f"member {it.id} has judged it")
+                lives = daemon.lives_so_far() - before
+            must(lives > MOST_FILES, f"there are {lives} lives")
+            must(pings.longest < MOST_SECONDS / 2, f"a ping is answered after {pings.longest:.2f} seconds")
+            must(daemon.ask(b"stop\n") == b"stopping\n", "it doesn't stop")
+            until(lambda: daemon.lives_so_far() and b"ended stopped" in daemon.read, "it ends", 2 * MOST_SECONDS)
+            must(daemon.child.poll() is None, "the disk doesn't hang")
+        closing = daemon.ended()
+        must(closing.status == 0, f"it ended {closing}")
+        for it in others:
+            must(it.stop().status == 0, f"member {it.id} ended otherwise")
+        must_have_waited(machine, daemon, closing, journals(folder))
+        print(f"  in {lives} lives no ping was answered later than {pings.longest:.2f} seconds after the one before")
+
+
+def must_have_waited(machine, daemon, closing, files):
+    """The lives without a file are told, counted, and told as cut; each other one has its file, which is whole."""
+    without = [(int(life), int(count)) for life, count in TOO_MANY.findall(daemon.told)]
+    lives = [it[0] for it in without]
+    must(lives and [it[1] for it in without] == list(range(1, len(lives) + 1)), f"lives without a file: {without}")
+    must(daemon.cut == lives, f"told as cut are {daemon.cut}, and without a file {lives}")
+    must(not set(lives) & {it.life for it in files}, f"of the lives {lives} there are files")
+    must_be_told(daemon, closing, files)
+    for it in files:
+        must_play(machine.simulator, it.text, it.path)
+
+
+def a_disk_that_hangs_for_a_moment(machine):
+    """What waited is written when it goes on, in its order, and no life is told as cut."""
+    with disk(machine) as folder:
+        if folder is None:
+            return
+        daemon = machine.started(**TIMES, fence=0, journal=JOURNAL, journal_dir=folder, journal_keep=0)
+        pings = Pings(machine, daemon)
+        for _ in range(3):
+            with hanging(folder):
+                pings.go_on(0.5)
+            pings.go_on(0.5)
+        closing, files = daemon.stop(), journals(folder)
+        must(closing.status == 0 and len(daemon.lives) > 3, f"it ended {closing}")
+        must_be_told(daemon, closing, files)
+        for it in files:
+            must_play(machine.simulator, it.text, it.path)
+
+
+def a_fault_that_comes_late(machine):
+    """Where a disk that hung turns out to be full behind the end of a life, that is told then."""
+    with disk(machine) as folder:
+        if folder is None:
+            return
+        daemon = machine.started(tick_ms=MINUTE, fence=0, journal=FEW, journal_dir=folder, journal_keep=0)
+        daemon.may_be_cut, peer = True, machine.socket()
+        until(lambda: journals(folder) and journals(folder)[0].text, "its file is begun")
+        fill(f"{folder}/ballast")
+        with hanging(folder):
+            filled(daemon, peer, 1)
+            path = journals(folder)[0].path
+        until(lambda: b"no space is left" in daemon.told_so_far(), "it is told", MOST_SECONDS)
+        os.remove(f"{folder}/ballast")
+        closing = daemon.stop()
+        must(closing.status == 0 and 0 not in daemon.cut, f"it ended {closing}, with {daemon.cut} cut")
+        must((path, "no space is left") in told_faults(daemon), f"it tells {told_faults(daemon)}")
+        must_play(machine.simulator, front(journals(folder)[0].text), path)
+
+
+DISKS = [a_disk_that_hangs_holds_up_nobody, a_disk_that_hangs_for_a_moment, a_fault_that_comes_late]
