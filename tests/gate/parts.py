@@ -41,7 +41,7 @@ ALL_PROGRAMS = (
     "swim_detector_tests",
     "swim_node_tests",
     "swim_desk_tests",
-    "swim_life_tests",
+    "swim_crew_tests",
     "swim_config_tests",
     "swimsim",
     "swimd",
