@@ -42,6 +42,7 @@ ALL_PROGRAMS = (
     "swim_node_tests",
     "swim_desk_tests",
     "swim_crew_tests",
+    "swim_lives_tests",
     "swim_config_tests",
     "swimsim",
     "swimd",

@@ -1,0 +1,138 @@
+//! A datagram is handed over after the node's lock was given back.
+
+ghost use Rattle.std.specs.Prelude.{None};
+
+use super::lives::assert_ended;
+use super::*;
+use arrayvec::ArrayVec;
+use swim_desk::Knock;
+use swim_doubles::Text;
+use swim_text::Sink;
+
+// A post that tells that it was handed a datagram, and is done with it when the operator was answered.
+#[derive(Drop)]
+struct SlowPost<'s, 'a, 'w, K: Clock + Copy + Drop> {
+    clock: K,
+    is_sending: &'s AtomicBool,
+    is_answered: &'a AtomicBool,
+    was_answered: &'w AtomicBool,
+}
+
+impl<'s, 'a, 'w, K: Clock + Copy + Drop> Post for SlowPost<'s, 'a, 'w, K> {
+    ghost posted = { λ post. None };
+
+    fn fresh(&self) -> SlowPost<'s, 'a, 'w, K> {
+        SlowPost {
+            clock: self.clock,
+            is_sending: self.is_sending,
+            is_answered: self.is_answered,
+            was_answered: self.was_answered,
+        }
+    }
+
+    fn send<R: Wait>(&mut self, _rt: &R, _bytes: &[u8], _to: Peer) -> bool {
+        set(self.is_sending);
+        for _turn in 0..TURNS {
+            if is_set(self.is_answered) {
+                set(self.was_answered);
+                break;
+            }
+            pause(&self.clock);
+        }
+        true
+    }
+}
+
+// Where the answer goes. It tells at each flush whether it is the one that is expected, and no more.
+#[derive(Drop)]
+struct Expecting<'s> {
+    is_answered: &'s AtomicBool,
+    text: ArrayVec<u8, 128>,
+}
+
+impl<'s> Sink for Expecting<'s> {
+    ghost written = { λ answers. None };
+
+    ghost failures = { λ answers. 0 };
+
+    ghost held = { λ answers. 0 };
+
+    fn put(&mut self, text: &[u8]) -> bool {
+        for byte in text {
+            let _ = self.text.try_push(*byte);
+        }
+        true
+    }
+
+    fn flush(&mut self) -> bool {
+        let is_expected = *self.text.as_slice() == *b"gap none\n";
+        self.is_answered.store(is_expected, Ordering::SeqCst);
+        true
+    }
+}
+
+// A door to which one operator comes when the post was handed a datagram, and asks what takes the lock.
+#[derive(Drop)]
+struct AskingDoor<'s, 'a, K: Clock + Drop> {
+    clock: K,
+    is_sending: &'s AtomicBool,
+    is_answered: &'a AtomicBool,
+    was_open: bool,
+}
+
+impl<'s, 'a, K: Clock + Drop> Door for AskingDoor<'s, 'a, K> {
+    ghost faults = { λ door. None };
+
+    type Reader = Text<'static>;
+
+    type Writer = Expecting<'a>;
+
+    fn next<R: Wait>(&mut self, _rt: &R) -> Knock<Text<'static>, Expecting<'a>> {
+        if self.was_open || !is_set(self.is_sending) {
+            return Knock::Idle;
+        }
+        self.was_open = true;
+        let answers = Expecting {
+            is_answered: self.is_answered,
+            text: ArrayVec::new(),
+        };
+        Knock::Conn(Text::new(b"gap 2\n"), answers)
+    }
+
+    fn wait<R: Wait>(&mut self, _rt: &R) {
+        pause(&self.clock);
+    }
+
+    fn now(&mut self) -> u64 {
+        0
+    }
+}
+
+// The ack of a ping is handed over, which lasts until the operator was answered. Then the life is stopped.
+#[test]
+fn sends_without_the_lock(rt: HostRuntime) -> Result<(), Fail> {
+    let signals = Signals::new(true);
+    let is_sending = AtomicBool::new(false);
+    let is_answered = AtomicBool::new(false);
+    let was_answered = AtomicBool::new(false);
+    let gates = Gates {
+        line: line(rt, &signals, 0),
+        post: SlowPost {
+            clock: rt,
+            is_sending: &is_sending,
+            is_answered: &is_answered,
+            was_answered: &was_answered,
+        },
+        pace: pace(rt, &was_answered, 0),
+        door: AskingDoor {
+            clock: rt,
+            is_sending: &is_sending,
+            is_answered: &is_answered,
+            was_open: false,
+        },
+    };
+    let past = live_over(&rt, rt.alloc(), opening()?, 1000, gates)?;
+    assert_ended(&rt, past, Why::Stopped, 1, 0);
+    assert!(rt; is_set(&was_answered));
+    Ok(())
+}
