@@ -91,7 +91,7 @@ impl Shelf<File> for Player {
 }
 
 // Two lives of two entries each, with files that take so many bytes: what was told of them, and what was played.
-fn live_twice<R: Threads + Wait + Clock + Sync + Copy + Drop>(
+fn live_twice<R: Threads + Wait + Clock + Send + Sync + Copy + Drop>(
     rt: R,
     alloc: Global,
     room: usize,

@@ -27,7 +27,7 @@ fn workers_at_once(rt: HostRuntime) -> Result<(), Fail> {
 
 // A life over a line that gives so many faults and then a ping, and a post whose sends succeed or fail. It ends once
 // the signal is set.
-fn live_with_faults<R: Threads + Wait + Clock + Sync + Copy + Drop>(
+fn live_with_faults<R: Threads + Wait + Clock + Send + Sync + Copy + Drop>(
     rt: &R,
     alloc: Global,
     signals: &Signals,

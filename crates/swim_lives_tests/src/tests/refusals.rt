@@ -44,7 +44,7 @@ impl<'s, K: Clock + Drop> Line for InsistentLine<'s, K> {
 
 // An operator lists the members, then a ping comes until its ack was sent, and then the operator stops the life. Each
 // wait ends by itself. `None`: there was no memory for the crew, or for a node.
-fn insist<R: Threads + Wait + Clock + Sync + Copy + Drop>(
+fn insist<R: Threads + Wait + Clock + Send + Sync + Copy + Drop>(
     rt: &R,
     alloc: Global,
     opening: Opening,

@@ -65,7 +65,7 @@ impl<'s> Sink for Expecting<'s> {
     }
 
     fn flush(&mut self) -> bool {
-        let is_expected = *self.text.as_slice() == *b"gap none\n";
+        let is_expected = self.text.as_slice() == b"gap none\n".as_slice();
         self.is_answered.store(is_expected, Ordering::SeqCst);
         true
     }

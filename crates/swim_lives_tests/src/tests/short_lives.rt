@@ -27,7 +27,7 @@ pub struct Lived<
 /// Lives of member 1, which knows member 2 and asks no relay. Nobody comes to its door, its line is idle, and its pace
 /// gives five ticks and then a stop.
 pub fn live_shortly<
-    R: Threads + Wait + Clock + Sync + Copy + Drop,
+    R: Threads + Wait + Clock + Send + Sync + Copy + Drop,
     V: Sink + Drop + Send,
     S: Shelf<V> + Drop,
     Q: Pace + Drop + Send,

@@ -151,7 +151,7 @@ fn peer_at(port: u16) -> Option<Peer> {
 }
 
 // The life of the first, which ticks.
-fn ticking<R: Threads + Wait + Clock + Sync + Copy + Drop>(
+fn ticking<R: Threads + Wait + Clock + Send + Sync + Copy + Drop>(
     rt: &R,
     alloc: Global,
     opening: Opening,
@@ -176,7 +176,7 @@ fn ticking<R: Threads + Wait + Clock + Sync + Copy + Drop>(
 }
 
 // The life of the second, which ends after the first's.
-fn answering<R: Threads + Wait + Clock + Sync + Copy + Drop>(
+fn answering<R: Threads + Wait + Clock + Send + Sync + Copy + Drop>(
     rt: &R,
     alloc: Global,
     opening: Opening,

@@ -105,7 +105,7 @@ fn watchers<'s>(
 }
 
 // A life with number 7 that is watched, and how many watch when it is over. They are told of the end then.
-fn live_watched<'s, R: Threads + Wait + Clock + Sync + Copy + Drop>(
+fn live_watched<'s, R: Threads + Wait + Clock + Send + Sync + Copy + Drop>(
     rt: R,
     alloc: Global,
     seen: &'s Seen,
@@ -136,14 +136,14 @@ fn live_watched<'s, R: Threads + Wait + Clock + Sync + Copy + Drop>(
     if past.is_err() {
         return Err(Fail::new("a node"));
     }
-    let mut gallery = crew.recorder.gallery;
-    gallery.tell(&Event::Ended);
-    gallery.send(0);
-    Ok(gallery.len())
+    let mut crew = crew;
+    crew.recorder.gallery.tell(&Event::Ended);
+    crew.recorder.gallery.send(0);
+    Ok(crew.recorder.gallery.len())
 }
 
 // Its recorder, which writes nothing.
-fn watched<'s, R: Clock + Copy + Drop>(
+fn watched<'s, R: Clock + Send + Copy + Drop>(
     rt: R,
     alloc: Global,
     seen: &'s Seen,
@@ -207,9 +207,9 @@ fn who_watches_stays_from_life_to_life(rt: HostRuntime) -> Result<(), Fail> {
     );
     let lived = live_shortly(&rt, rt.alloc(), NoShelf {}, recorder)?;
     assert_same(&rt, &lived.end, &LivesEnd::Stopped);
-    let mut gallery = lived.recorder.gallery;
-    gallery.tell(&Event::Ended);
-    gallery.send(0);
+    let mut recorder = lived.recorder;
+    recorder.gallery.tell(&Event::Ended);
+    recorder.gallery.send(0);
     assert!(rt; seen.is_all(Who::Early, text.len()));
     Ok(())
 }
