@@ -2,22 +2,31 @@
 
 use super::*;
 
+// A life in which an operator lists the members, and stops it once a ping was acked.
+fn live_listed<'s, R: Threads + Wait + Clock + Send + Sync + Copy + Drop>(
+    rt: R,
+    alloc: Global,
+    signals: &'s Signals,
+) -> Result<Option<Past>, Fail> {
+    let gates = Gates {
+        line: line(rt, signals, 0),
+        post: post(signals),
+        pace: pace(rt, &signals.is_stopping, 0),
+        door: OneDoor {
+            clock: rt,
+            signals,
+            was_open: false,
+        },
+    };
+    Ok(live_over(&rt, alloc, opening()?, 1000, gates)?)
+}
+
 // An operator lists the members while the line is idle; then a ping comes, and is acked; then the operator stops the
 // life. None of the three could go on without the other two, so the workers are at work at the same time.
 #[test]
 fn workers_at_once(rt: HostRuntime) -> Result<(), Fail> {
     let signals = Signals::new(false);
-    let gates = Gates {
-        line: line(rt, &signals, 0),
-        post: post(&signals),
-        pace: pace(rt, &signals.is_stopping, 0),
-        door: OneDoor {
-            clock: rt,
-            signals: &signals,
-            was_open: false,
-        },
-    };
-    let past = live_over(&rt, rt.alloc(), opening()?, 1000, gates)?;
+    let past = live_listed(rt, rt.alloc(), &signals)?;
     assert_ended(&rt, past, Why::Stopped, 1, 0);
     assert!(rt; is_set(&signals.is_listed));
     assert!(rt; is_set(&signals.is_acked));
@@ -27,31 +36,31 @@ fn workers_at_once(rt: HostRuntime) -> Result<(), Fail> {
 
 // A life over a line that gives so many faults and then a ping, and a post whose sends succeed or fail. It ends once
 // the signal is set.
-fn live_with_faults<R: Threads + Wait + Clock + Send + Sync + Copy + Drop>(
-    rt: &R,
+fn live_with_faults<'s, R: Threads + Wait + Clock + Send + Sync + Copy + Drop>(
+    rt: R,
     alloc: Global,
-    signals: &Signals,
+    signals: &'s Signals,
     faults: u32,
     is_sending: bool,
-    signal: &AtomicBool,
+    signal: &'s AtomicBool,
 ) -> Result<Option<Past>, Fail> {
     let gates = Gates {
-        line: line(*rt, signals, faults),
+        line: line(rt, signals, faults),
         post: AckPost {
             signals,
             is_sending,
         },
-        pace: pace(*rt, signal, 0),
-        door: NoDoor { clock: *rt },
+        pace: pace(rt, signal, 0),
+        door: NoDoor { clock: rt },
     };
-    Ok(live_over(rt, alloc, opening()?, 1000, gates)?)
+    Ok(live_over(&rt, alloc, opening()?, 1000, gates)?)
 }
 
 // Fifteen faults in a row, a ping, and a stop after its ack was sent.
 #[test]
 fn fifteen_faults(rt: HostRuntime) -> Result<(), Fail> {
     let signals = Signals::new(true);
-    let past = live_with_faults(&rt, rt.alloc(), &signals, 15, true, &signals.is_acked)?;
+    let past = live_with_faults(rt, rt.alloc(), &signals, 15, true, &signals.is_acked)?;
     assert_ended(&rt, past, Why::Stopped, 1, 0);
     assert!(rt; is_set(&signals.is_acked));
     Ok(())
@@ -61,7 +70,7 @@ fn fifteen_faults(rt: HostRuntime) -> Result<(), Fail> {
 #[test]
 fn a_failed_send(rt: HostRuntime) -> Result<(), Fail> {
     let signals = Signals::new(true);
-    let past = live_with_faults(&rt, rt.alloc(), &signals, 15, false, &signals.is_acked)?;
+    let past = live_with_faults(rt, rt.alloc(), &signals, 15, false, &signals.is_acked)?;
     assert_ended(&rt, past, Why::Stopped, 1, 1);
     Ok(())
 }
@@ -70,23 +79,32 @@ fn a_failed_send(rt: HostRuntime) -> Result<(), Fail> {
 #[test]
 fn sixteen_faults(rt: HostRuntime) -> Result<(), Fail> {
     let signals = Signals::new(true);
-    let past = live_with_faults(&rt, rt.alloc(), &signals, 16, true, &signals.is_failing)?;
+    let past = live_with_faults(rt, rt.alloc(), &signals, 16, true, &signals.is_failing)?;
     assert_ended(&rt, past, Why::Socket, 0, 0);
     assert_same(&rt, &signals.receives.load(Ordering::SeqCst), &16);
     Ok(())
 }
 
-// A journal of two entries: the third tick ends the life, and is not in it.
-#[test]
-fn a_full_journal(rt: HostRuntime) -> Result<(), Fail> {
-    let signals = Signals::new(false);
+// A life of five ticks, with a journal of two entries.
+fn live_briefly<'s, R: Threads + Wait + Clock + Send + Sync + Copy + Drop>(
+    rt: R,
+    alloc: Global,
+    signals: &'s Signals,
+) -> Result<Option<Past>, Fail> {
     let gates = Gates {
-        line: line(rt, &signals, 0),
-        post: post(&signals),
+        line: line(rt, signals, 0),
+        post: post(signals),
         pace: pace(rt, &signals.is_stopping, 5),
         door: NoDoor { clock: rt },
     };
-    let past = live_over(&rt, rt.alloc(), opening()?, 2, gates)?;
+    Ok(live_over(&rt, alloc, opening()?, 2, gates)?)
+}
+
+// The third tick ends the life, and is not in its journal.
+#[test]
+fn a_full_journal(rt: HostRuntime) -> Result<(), Fail> {
+    let signals = Signals::new(false);
+    let past = live_briefly(rt, rt.alloc(), &signals)?;
     assert_ended(&rt, past, Why::JournalFull, 2, 0);
     Ok(())
 }

@@ -95,25 +95,34 @@ impl<'s, K: Clock + Drop> Line for OnePing<'s, K> {
 fn each_datagram_is_handed_over(rt: HostRuntime) -> Result<(), Fail> {
     let is_asked_again = AtomicBool::new(false);
     let board = TidingsBoard::new(0);
+    assert_handed(rt, rt.alloc(), &board, &is_asked_again)
+}
+
+fn assert_handed<'s, R: Threads + Wait + Clock + Abort + Send + Sync + Copy + Drop>(
+    rt: R,
+    alloc: Global,
+    board: &'s TidingsBoard,
+    is_asked_again: &'s AtomicBool,
+) -> Result<(), Fail> {
     let gates = Gates {
         line: OnePing {
             clock: rt,
             was_given: false,
-            is_asked_again: &is_asked_again,
+            is_asked_again,
         },
         post: KeepingPost {
-            alloc: rt.alloc(),
+            alloc,
             refused: at(3),
-            sheets: Vec::new(rt.alloc()),
+            sheets: Vec::new(alloc),
         },
-        pace: pace(rt, &is_asked_again, 2),
+        pace: pace(rt, is_asked_again, 2),
         door: NoDoor { clock: rt },
     };
     let opening = opening()?;
-    let crew = crew(rt.alloc(), &opening, 0, &board, gates)?;
-    let (past, crew) = live(&rt, rt.alloc(), opening, chooser(), 1000, crew);
+    let crew = crew(alloc, &opening, 0, board, gates)?;
+    let (past, crew) = live(&rt, alloc, opening, chooser(), 1000, crew);
     let Ok(past) = past else {
-        panic!(rt; "a node");
+        return Err(Fail::new("a node"));
     };
     assert_same(&rt, &past.unsent(), &1);
     assert_acked(&rt, crew.first.post.sheets.as_slice());

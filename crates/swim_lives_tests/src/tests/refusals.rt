@@ -44,28 +44,25 @@ impl<'s, K: Clock + Drop> Line for InsistentLine<'s, K> {
 
 // An operator lists the members, then a ping comes until its ack was sent, and then the operator stops the life. Each
 // wait ends by itself. `None`: there was no memory for the crew, or for a node.
-fn insist<R: Threads + Wait + Clock + Send + Sync + Copy + Drop>(
-    rt: &R,
+fn insist<'s, R: Threads + Wait + Clock + Send + Sync + Copy + Drop>(
+    rt: R,
     alloc: Global,
     opening: Opening,
-    signals: &Signals,
+    signals: &'s Signals,
 ) -> Option<Past> {
-    let mut pace = pace(*rt, &signals.is_stopping, 0);
+    let mut pace = pace(rt, &signals.is_stopping, 0);
     pace.turns = TURNS - PATIENCE;
     let gates = Gates {
-        line: InsistentLine {
-            clock: *rt,
-            signals,
-        },
+        line: InsistentLine { clock: rt, signals },
         post: post(signals),
         pace,
         door: OneDoor {
-            clock: *rt,
+            clock: rt,
             signals,
             was_open: false,
         },
     };
-    live_over(rt, alloc, opening, 1000, gates).ok().flatten()
+    live_over(&rt, alloc, opening, 1000, gates).ok().flatten()
 }
 
 // A refused call is counted, and the life goes on: the ping is heard when it comes again. Where a worker couldn't be
@@ -73,9 +70,9 @@ fn insist<R: Threads + Wait + Clock + Send + Sync + Copy + Drop>(
 #[test]
 fn a_life_goes_on(rt: HostRuntime) -> Result<(), Fail> {
     let signals = Signals::new(false);
-    let Some(past) = insist(&rt, rt.alloc(), opening()?, &signals) else {
+    let Some(past) = insist(rt, rt.alloc(), opening()?, &signals) else {
         let again = Signals::new(false);
-        let past = insist(&rt, rt.alloc(), opening()?, &again);
+        let past = insist(rt, rt.alloc(), opening()?, &again);
         assert_ended(&rt, past, Why::Stopped, 1, 0);
         return Ok(());
     };

@@ -116,27 +116,36 @@ impl<'s, K: Clock + Drop> Pace for KnockPace<'s, K> {
 fn who_answers_a_knock_is_joined_again(rt: HostRuntime) -> Result<(), Fail> {
     let visit = Visit::new();
     let board = TidingsBoard::new(0);
+    assert_joined_again(rt, rt.alloc(), &board, &visit)
+}
+
+// A life of member 1, which knows member 2, in which it knocks at each start of a period.
+fn assert_joined_again<'s, R: Threads + Wait + Clock + Abort + Send + Sync + Copy + Drop>(
+    rt: R,
+    alloc: Global,
+    board: &'s TidingsBoard,
+    visit: &'s Visit,
+) -> Result<(), Fail> {
     let gates = Gates {
         line: AckLine {
             clock: rt,
-            visit: &visit,
+            visit,
             was_given: false,
         },
-        post: CountingPost { visit: &visit },
+        post: CountingPost { visit },
         pace: KnockPace {
             clock: rt,
-            visit: &visit,
+            visit,
             ticks: 4,
             turns: 0,
         },
         door: NoDoor { clock: rt },
     };
-    // Member 1, which knows member 2.
     let opening = pair()?;
-    let crew = crew(rt.alloc(), &opening, 1, &board, gates)?;
-    let (past, crew) = live(&rt, rt.alloc(), opening, chooser(), 1000, crew);
+    let crew = crew(alloc, &opening, 1, board, gates)?;
+    let (past, crew) = live(&rt, alloc, opening, chooser(), 1000, crew);
     let Ok(past) = past else {
-        panic!(rt; "a life");
+        return Err(Fail::new("a life"));
     };
     assert_same(&rt, &past.journal.judged_count(), &1);
     match past.journal.row(id(2)) {

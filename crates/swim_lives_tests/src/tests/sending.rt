@@ -9,32 +9,47 @@ use swim_desk::Knock;
 use swim_doubles::Text;
 use swim_text::Sink;
 
-// A post that tells that it was handed a datagram, and is done with it when the operator was answered.
+// What the post, the door and the answers tell each other: that a datagram was handed over, that the operator was
+// answered, and that this was while the datagram was handed over.
 #[derive(Drop)]
-struct SlowPost<'s, 'a, 'w, K: Clock + Copy + Drop> {
-    clock: K,
-    is_sending: &'s AtomicBool,
-    is_answered: &'a AtomicBool,
-    was_answered: &'w AtomicBool,
+struct Marks {
+    is_sending: AtomicBool,
+    is_answered: AtomicBool,
+    was_answered: AtomicBool,
 }
 
-impl<'s, 'a, 'w, K: Clock + Copy + Drop> Post for SlowPost<'s, 'a, 'w, K> {
+impl Marks {
+    fn new() -> Marks {
+        Marks {
+            is_sending: AtomicBool::new(false),
+            is_answered: AtomicBool::new(false),
+            was_answered: AtomicBool::new(false),
+        }
+    }
+}
+
+// A post that tells that it was handed a datagram, and is done with it when the operator was answered.
+#[derive(Drop)]
+struct SlowPost<'s, K: Clock + Copy + Drop> {
+    clock: K,
+    marks: &'s Marks,
+}
+
+impl<'s, K: Clock + Copy + Drop> Post for SlowPost<'s, K> {
     ghost posted = { λ post. None };
 
-    fn fresh(&self) -> SlowPost<'s, 'a, 'w, K> {
+    fn fresh(&self) -> SlowPost<'s, K> {
         SlowPost {
             clock: self.clock,
-            is_sending: self.is_sending,
-            is_answered: self.is_answered,
-            was_answered: self.was_answered,
+            marks: self.marks,
         }
     }
 
     fn send<R: Wait>(&mut self, _rt: &R, _bytes: &[u8], _to: Peer) -> bool {
-        set(self.is_sending);
+        set(&self.marks.is_sending);
         for _turn in 0..TURNS {
-            if is_set(self.is_answered) {
-                set(self.was_answered);
+            if is_set(&self.marks.is_answered) {
+                set(&self.marks.was_answered);
                 break;
             }
             pause(&self.clock);
@@ -73,27 +88,26 @@ impl<'s> Sink for Expecting<'s> {
 
 // A door to which one operator comes when the post was handed a datagram, and asks what takes the lock.
 #[derive(Drop)]
-struct AskingDoor<'s, 'a, K: Clock + Drop> {
+struct AskingDoor<'s, K: Clock + Drop> {
     clock: K,
-    is_sending: &'s AtomicBool,
-    is_answered: &'a AtomicBool,
+    marks: &'s Marks,
     was_open: bool,
 }
 
-impl<'s, 'a, K: Clock + Drop> Door for AskingDoor<'s, 'a, K> {
+impl<'s, K: Clock + Drop> Door for AskingDoor<'s, K> {
     ghost faults = { λ door. None };
 
     type Reader = Text<'static>;
 
-    type Writer = Expecting<'a>;
+    type Writer = Expecting<'s>;
 
-    fn next<R: Wait>(&mut self, _rt: &R) -> Knock<Text<'static>, Expecting<'a>> {
-        if self.was_open || !is_set(self.is_sending) {
+    fn next<R: Wait>(&mut self, _rt: &R) -> Knock<Text<'static>, Expecting<'s>> {
+        if self.was_open || !is_set(&self.marks.is_sending) {
             return Knock::Idle;
         }
         self.was_open = true;
         let answers = Expecting {
-            is_answered: self.is_answered,
+            is_answered: &self.marks.is_answered,
             text: ArrayVec::new(),
         };
         Knock::Conn(Text::new(b"gap 2\n"), answers)
@@ -112,27 +126,28 @@ impl<'s, 'a, K: Clock + Drop> Door for AskingDoor<'s, 'a, K> {
 #[test]
 fn sends_without_the_lock(rt: HostRuntime) -> Result<(), Fail> {
     let signals = Signals::new(true);
-    let is_sending = AtomicBool::new(false);
-    let is_answered = AtomicBool::new(false);
-    let was_answered = AtomicBool::new(false);
+    let marks = Marks::new();
+    let past = live_slowly(rt, rt.alloc(), &signals, &marks)?;
+    assert_ended(&rt, past, Why::Stopped, 1, 0);
+    assert!(rt; is_set(&marks.was_answered));
+    Ok(())
+}
+
+fn live_slowly<'s, R: Threads + Wait + Clock + Send + Sync + Copy + Drop>(
+    rt: R,
+    alloc: Global,
+    signals: &'s Signals,
+    marks: &'s Marks,
+) -> Result<Option<Past>, Fail> {
     let gates = Gates {
-        line: line(rt, &signals, 0),
-        post: SlowPost {
-            clock: rt,
-            is_sending: &is_sending,
-            is_answered: &is_answered,
-            was_answered: &was_answered,
-        },
-        pace: pace(rt, &was_answered, 0),
+        line: line(rt, signals, 0),
+        post: SlowPost { clock: rt, marks },
+        pace: pace(rt, &marks.was_answered, 0),
         door: AskingDoor {
             clock: rt,
-            is_sending: &is_sending,
-            is_answered: &is_answered,
+            marks,
             was_open: false,
         },
     };
-    let past = live_over(&rt, rt.alloc(), opening()?, 1000, gates)?;
-    assert_ended(&rt, past, Why::Stopped, 1, 0);
-    assert!(rt; is_set(&was_answered));
-    Ok(())
+    Ok(live_over(&rt, alloc, opening()?, 1000, gates)?)
 }

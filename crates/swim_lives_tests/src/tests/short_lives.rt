@@ -1,7 +1,9 @@
 //! Lives of two entries each.
 
+use super::crews::GatedCrew;
 use super::shelves::Counter;
 use super::*;
+use std::alloc::AllocError;
 use swim_events::{Entrance, Outlet};
 use swim_keeper::{LifeKeeper, Shelf};
 use swim_recorder::Reporter;
@@ -44,18 +46,12 @@ pub fn live_shortly<
     let signals = Signals::new(false);
     let is_told = AtomicBool::new(true);
     let board = TidingsBoard::new(0);
-    let gates = Gates {
-        line: line(*rt, &signals, 0),
-        post: TakingPost {},
-        pace: pace(*rt, &is_told, 5),
-        door: NoDoor { clock: *rt },
-    };
     let Crew {
         first,
         second,
         third,
         recorder: _,
-    } = crew(alloc, &opening, 0, &board, gates)?;
+    } = ticking_crew(*rt, alloc, &opening, &board, &signals, &is_told)?;
     let crew = Crew {
         first,
         second,
@@ -86,4 +82,22 @@ pub fn live_shortly<
         shelf,
         recorder: crew.recorder,
     })
+}
+
+// A crew whose line is idle, and whose pace gives five ticks and then a stop.
+fn ticking_crew<'s, R: Clock + Copy + Drop>(
+    rt: R,
+    alloc: Global,
+    opening: &Opening,
+    board: &'s TidingsBoard,
+    signals: &'s Signals,
+    is_told: &'s AtomicBool,
+) -> Result<GatedCrew<'s, PingLine<'s, R>, TakingPost, StopPace<'s, R>, NoDoor<R>>, AllocError> {
+    let gates = Gates {
+        line: line(rt, signals, 0),
+        post: TakingPost {},
+        pace: pace(rt, is_told, 5),
+        door: NoDoor { clock: rt },
+    };
+    crew(alloc, opening, 0, board, gates)
 }

@@ -179,30 +179,39 @@ impl<'s> Sink for Told<'s> {
     }
 }
 
-// Who is in the opening is shown before the first receive, and who joins after a tick.
-#[test]
-fn members_are_shown(rt: HostRuntime) -> Result<(), Fail> {
-    let shown = Shown::new();
+// A life in which member 4 joins and is shown.
+fn live_on<'s, R: Threads + Wait + Clock + Send + Sync + Copy + Drop>(
+    rt: R,
+    alloc: Global,
+    shown: &'s Shown,
+) -> Result<Option<Past>, Fail> {
     let gates = Gates {
         line: NotedLine {
             clock: rt,
-            shown: &shown,
+            shown,
             was_asked: false,
         },
         post: TakingPost {},
         pace: JoinPace {
             clock: rt,
-            shown: &shown,
+            shown,
             has_ticked: false,
             turns: 0,
         },
         door: JoinDoor {
             clock: rt,
-            shown: &shown,
+            shown,
             was_open: false,
         },
     };
-    let past = live_over(&rt, rt.alloc(), opening()?, 1000, gates)?;
+    Ok(live_over(&rt, alloc, opening()?, 1000, gates)?)
+}
+
+// Who is in the opening is shown before the first receive, and who joins after a tick.
+#[test]
+fn members_are_shown(rt: HostRuntime) -> Result<(), Fail> {
+    let shown = Shown::new();
+    let past = live_on(rt, rt.alloc(), &shown)?;
     assert!(rt; past.is_some());
     assert_same(&rt, &read(&shown.at_first_receive), &0b1100);
     assert_same(&rt, &read(&shown.before_the_tick), &0b1100);

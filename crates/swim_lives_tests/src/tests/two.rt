@@ -26,12 +26,12 @@ impl Watch {
 
 // A line that tells its watch.
 #[derive(Drop)]
-struct WatchedLine<'s, 'w> {
+struct WatchedLine<'s> {
     line: UdpLine<'s>,
-    watch: &'w Watch,
+    watch: &'s Watch,
 }
 
-impl<'s, 'w> Line for WatchedLine<'s, 'w> {
+impl<'s> Line for WatchedLine<'s> {
     ghost received = { λ line. None };
 
     ghost listed = { λ line. None };
@@ -91,14 +91,15 @@ fn two_daemons(rt: HostRuntime) -> Result<(), Fail> {
         |_| "an opening",
     )?;
     let has_ended = AtomicBool::new(false);
+    let watch = Watch::new();
     let (past, other) = join(
         &rt,
         || {
-            let past = ticking(&rt, rt.alloc(), first_opening, &first);
+            let past = ticking(rt, rt.alloc(), first_opening, &first, &watch);
             set(&has_ended);
             past
         },
-        || answering(&rt, rt.alloc(), second_opening, &second, &has_ended),
+        || answering(rt, rt.alloc(), second_opening, &second, &has_ended),
     );
     assert!(rt; other.is_some());
     match past {
@@ -151,43 +152,43 @@ fn peer_at(port: u16) -> Option<Peer> {
 }
 
 // The life of the first, which ticks.
-fn ticking<R: Threads + Wait + Clock + Send + Sync + Copy + Drop>(
-    rt: &R,
+fn ticking<'s, R: Threads + Wait + Clock + Send + Sync + Copy + Drop>(
+    rt: R,
     alloc: Global,
     opening: Opening,
-    endpoint: &UdpEndpoint,
+    endpoint: &'s UdpEndpoint,
+    watch: &'s Watch,
 ) -> Option<Past> {
-    let watch = Watch::new();
     let gates = Gates {
         line: WatchedLine {
             line: endpoint.line(),
-            watch: &watch,
+            watch,
         },
         post: endpoint.post(),
         pace: FourTicks {
-            clock: *rt,
+            clock: rt,
             signal: &watch.has_asked_again,
             ticks: 0,
             turns: 0,
         },
-        door: NoDoor { clock: *rt },
+        door: NoDoor { clock: rt },
     };
-    live_over(rt, alloc, opening, 1000, gates).ok().flatten()
+    live_over(&rt, alloc, opening, 1000, gates).ok().flatten()
 }
 
 // The life of the second, which ends after the first's.
-fn answering<R: Threads + Wait + Clock + Send + Sync + Copy + Drop>(
-    rt: &R,
+fn answering<'s, R: Threads + Wait + Clock + Send + Sync + Copy + Drop>(
+    rt: R,
     alloc: Global,
     opening: Opening,
-    endpoint: &UdpEndpoint,
-    has_ended: &AtomicBool,
+    endpoint: &'s UdpEndpoint,
+    has_ended: &'s AtomicBool,
 ) -> Option<Past> {
     let gates = Gates {
         line: endpoint.line(),
         post: endpoint.post(),
-        pace: pace(*rt, has_ended, 0),
-        door: NoDoor { clock: *rt },
+        pace: pace(rt, has_ended, 0),
+        door: NoDoor { clock: rt },
     };
-    live_over(rt, alloc, opening, 1000, gates).ok().flatten()
+    live_over(&rt, alloc, opening, 1000, gates).ok().flatten()
 }
