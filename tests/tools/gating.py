@@ -31,7 +31,7 @@ for it in swimd node_bench; do
     made crates/$it/out/$it
     echo "rt: $it proved"
 done
-for it in swim_detector swim_node swim_desk swim_life swim_config; do
+for it in swim_detector swim_node swim_desk swim_crew swim_lives swim_config; do
     made crates/${it}_tests/out/${it}_tests_tests
     echo "rt: ${it}_tests proved"
     echo "rt: ${it}_tests: its tests are proved"

@@ -1,8 +1,8 @@
 //! Calls of a node, again and again. Each function says how many were answered.
 
+use crate::fours::Four;
 use crate::jobs::{Job, all_four, both};
 use crate::nodes::{SOMEWHERE, passer, ping};
-use crate::working::Four;
 use std::sync::Wait;
 use std::sync::atomic::{AtomicBool, Ordering};
 use std::thread::Threads;

@@ -1,7 +1,7 @@
 //! Jobs in threads. A function that gives a thread a closure with a seat or a node in it is proved slowly, so those
 //! here do so for jobs of any type, and for them alone.
 
-use crate::working::Four;
+use crate::fours::Four;
 use std::sync::atomic::{AtomicBool, Ordering};
 use std::thread::{Threads, join};
 

@@ -1,8 +1,8 @@
 //! Looks at a node's member table, again and again.
 
+use crate::fours::Four;
 use crate::jobs::Job;
 use crate::nodes::other;
-use crate::working::Four;
 use std::sync::atomic::{AtomicBool, Ordering};
 use swim_node::{Naming, Viewer};
 

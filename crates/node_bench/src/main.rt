@@ -3,6 +3,7 @@
 #![tactic(auto)]
 
 mod calling;
+mod fours;
 mod jobs;
 mod looking;
 mod nodes;

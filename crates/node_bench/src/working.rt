@@ -4,6 +4,7 @@ ghost use Rattle.std.specs.Prelude.{◌≡◌, List};
 ghost use Rattle.swim_history.specs.declared.entries.Entry.{Entry};
 
 use crate::calling::{Changing, change, hear, hear_by_four, hear_by_two, tick};
+use crate::fours::{Four, first_of, pair_of, two_by_two};
 use crate::jobs::{Ending, both, one_and_four};
 use crate::looking::{Listing, four_listing, list};
 use crate::nodes::no_script;
@@ -106,26 +107,6 @@ fn list_beside<N: Naming + Send + Sync, H: Wait + Drop + Send, R: Threads + Wait
     } else {
         list_while_changed(rt, node, hands, task, &over)
     }
-}
-
-/// Four values, two by two, as they are given to threads.
-pub(crate) type Four<T> = ((T, T), (T, T));
-
-fn two_by_two<T>(all: [T; 4]) -> Four<T> {
-    let [first, second, third, fourth] = all;
-    ((first, second), (third, fourth))
-}
-
-fn pair_of<T: Drop>(all: Four<T>) -> (T, T) {
-    let (pair, others) = all;
-    drop(others);
-    pair
-}
-
-fn first_of<T: Drop>(all: Four<T>) -> T {
-    let (first, second) = pair_of(all);
-    drop(second);
-    first
 }
 
 fn seats_of<N: Naming>(hands: Hands<N>) -> Four<Seat<N>> {

@@ -70,3 +70,15 @@ fn who_is_turned_away_is_told(rt: HostRuntime) -> Result<(), Fail> {
     assert_same(&rt, &controller.speaker.turns, &5);
     Ok(())
 }
+
+// However many are turned away with nobody at the door, the life goes on until it is over.
+#[test]
+fn refusals_of_an_empty_door(rt: HostRuntime) -> Result<(), Fail> {
+    let room = Room::of_one(b"");
+    let mut door = Row::new(rt.alloc(), &room, 0);
+    door.refusals(40)?;
+    let controller = lived(rt, rt.alloc(), &room, door, None)?;
+    assert_same(&rt, &controller.hall.door.left(), &0);
+    assert_same(&rt, &controller.hall.turned_away, &40);
+    Ok(())
+}

@@ -1,7 +1,0 @@
-use Rattle.swim_life.proofs.Learning.{more_learnt}
-use Rattle.swim_life.proofs.lookouts.Lookout.show.Goals as goal
-
-pub returns-then-take_due-clause-learns : goal.returns-then-take_due-clause-learns
-returns-then-take_due-clause-learns g c =
-    more_learnt g.N.Naming.opening c.args.returning.now c.look.new.returning c.take_over.new.self c.look.ensures.learns
-    (c.take_over.ensures.learns g.N.Naming.opening)

@@ -1,9 +1,0 @@
-use Rattle.swim_life.proofs.Learning.{looked_learnt}
-use Rattle.swim_life.proofs.rejoining.Returning.looked_at.Goals as goal
-
-pub returns-then-not-are_same-clause-learns : goal.returns-then-not-are_same-clause-learns
-returns-then-not-are_same-clause-learns c = λ o log table.
-    looked_learnt o c.args.self.now
-    (record c.args.self.now { rejoiner = c.looked_at.new.self; rows = c.copy_table-self.result }) c.args.rows.now
-    log table
-    (λ h is. (c.looked_at.ensures.follows h is.0, c.copy_table-self.ensures))

@@ -1,8 +1,0 @@
-use Rattle.std.proofs.Common.{◌≡◌, take}
-use Rattle.swim_life.proofs.Learning.{TellsOf}
-use Rattle.swim_life.proofs.rejoining.knocked.Given as goal
-
-abbrev pub invariant-loop-note : goal.invariant-loop-note
-invariant-loop-note l =
-    (l.rejoiner.rejoin ≡ l.initial.rejoiner.rejoin) × (l.rejoiner.me ≡ l.initial.rejoiner.me) ×
-    TellsOf l.initial.rejoiner l.rejoiner (take l.note-index l.notes)

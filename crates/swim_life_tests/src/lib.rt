@@ -1,6 +1,0 @@
-//! Tests of `swim_life`: what no contract of it says, and each public call once. They stand in a crate of their
-//! own, since a crate with tests is proved twice, with them and without.
-#![tactic(auto)]
-
-#[cfg(test)]
-mod tests;

@@ -1,0 +1,122 @@
+//! The crew of a daemon, over gates in memory.
+
+use super::*;
+use std::alloc::AllocError;
+use swim_control::StatsText;
+use swim_desk::Speaker;
+
+/// What a crew asks, and what it sends by.
+#[derive(Drop)]
+pub struct Gates<L: Line + Drop, O: Post + Drop, P: Pace + Drop, D: Door + Drop> {
+    /// Where datagrams come in.
+    pub line: L,
+    /// Where they go out. The ticker has two posts of the same line.
+    pub post: O,
+    /// Gives the ticks.
+    pub pace: P,
+    /// Where operators come in.
+    pub door: D,
+}
+
+/// A speaker that tells nothing.
+#[derive(Drop)]
+pub struct Mute {}
+
+impl Speaker for Mute {
+    fn stats<R: Wait>(&self, _rt: &R) -> StatsText {
+        StatsText::new()
+    }
+
+    fn tell<R: Wait>(&mut self, _rt: &R, _turned_away: u64) {}
+}
+
+/// A recorder that reads a journal once its life is over, and writes it nowhere. Nobody watches.
+pub type Quiet = JournalRecorder<Page, Never, NoOutlet, NoEntrance, NoReporter>;
+
+/// That recorder.
+pub fn quiet(alloc: Global, opening: &Opening) -> Quiet {
+    JournalRecorder::new(
+        alloc,
+        opening,
+        Never {},
+        Gallery::new(alloc),
+        NoEntrance {},
+        NoReporter {},
+    )
+}
+
+/// A crew over these gates, with a quiet recorder.
+pub type GatedCrew<'b, L, O, P, D> = Crew<
+    Receiver<'b, L, O>,
+    Ticker<'b, P, O>,
+    Controller<D, Mute>,
+    Quiet,
+>;
+
+/// That crew. At every `rejoin`-th start of a period it knocks.
+pub fn crew<'b, L: Line + Drop, O: Post + Drop, P: Pace + Drop, D: Door + Drop>(
+    alloc: Global,
+    opening: &Opening,
+    rejoin: u16,
+    board: &'b TidingsBoard,
+    gates: Gates<L, O, P, D>,
+) -> Result<GatedCrew<'b, L, O, P, D>, AllocError> {
+    let Gates {
+        line,
+        post,
+        pace,
+        door,
+    } = gates;
+    let (for_ticks, for_knocks) = (post.fresh(), post.fresh());
+    Ok(Crew {
+        first: Box::new(
+            alloc,
+            Receiver {
+                line,
+                post,
+                returning: Returning::new(rejoin, opening.me()),
+                board,
+            },
+        )?,
+        second: Box::new(
+            alloc,
+            Ticker {
+                pace,
+                post: for_ticks,
+                knock_post: for_knocks,
+                rejoin,
+                knocks: 0,
+                board,
+            },
+        )?,
+        third: Box::new(
+            alloc,
+            Controller {
+                alloc,
+                hall: Hall::new(alloc, door),
+                speaker: Mute {},
+            },
+        )?,
+        recorder: Box::new(alloc, quiet(alloc, opening))?,
+    })
+}
+
+/// A life over these gates, with a journal of so many entries. It knocks at nobody. `None`: it got no node.
+pub fn live_over<
+    R: Threads + Wait + Sync,
+    L: Line + Drop + Send,
+    O: Post + Drop + Send,
+    P: Pace + Drop + Send,
+    D: Door + Drop,
+>(
+    rt: &R,
+    alloc: Global,
+    opening: Opening,
+    limit: u32,
+    gates: Gates<L, O, P, D>,
+) -> Result<Option<Past>, AllocError> {
+    let board = TidingsBoard::new(opening.last());
+    let crew = crew(alloc, &opening, 0, &board, gates)?;
+    let (past, _crew) = live(rt, alloc, opening, chooser(), limit, crew);
+    Ok(past.ok())
+}

@@ -1,0 +1,13 @@
+//! Gates of a life in memory, which tell each other how far they are.
+
+mod doors;
+mod lines;
+mod paces;
+mod posts;
+mod signals;
+
+pub use self::doors::{NoDoor, OneDoor};
+pub use self::lines::{PING, PingLine, line};
+pub use self::paces::{Never, StopPace, pace};
+pub use self::posts::{ACK, AckPost, TakingPost, post};
+pub use self::signals::{Signals, TURNS, is_set, pause, set};
