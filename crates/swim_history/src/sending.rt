@@ -4,8 +4,8 @@ ghost use Rattle.std.specs.Prelude.{◌≡◌, ◌+◌, ◌<◌, ◌≤◌, ◌�
 ghost use Rattle.std.specs.Option.{SomeIff};
 ghost use Rattle.swim_history.specs.Sends.{sends_of, own, to_each};
 
-use crate::openings::{MOST_RELAYS, Opening};
-use crate::replies::{Probe, Relay, Reply};
+use crate::openings::Opening;
+use crate::replies::{MOST_RELAYS, Probe, Relay, Reply};
 use arrayvec::ArrayVec;
 use swim_wire::{Kind, Message, Peer, PeriodNumber};
 
