@@ -1,2 +1,3 @@
 pub mod Backlogs
+pub mod Files
 pub mod OldFiles

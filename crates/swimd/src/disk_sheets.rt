@@ -1,10 +1,9 @@
 //! What lies on the desk of the disk.
 
-use crate::file_faults::FileFault;
-use crate::file_sheets::{FileSheet, LostFile};
 use std::rt::Clock;
 use std::time::{Duration, Instant};
-use swim_disk::{FileTask, NewFile};
+use swim_disk::{FileEnd, FileFault, FileSheet, FileTask, LostFile, NewFile};
+use swim_metrics::FileFigures;
 
 /// A disk hangs that isn't done with one thing after so many milliseconds.
 const HANGS_MS: u64 = 500;
@@ -72,7 +71,7 @@ impl Sheet {
         }
     }
 
-    /// Whether the disk has yet to finish the newest file.
+    /// Whether the disk may yet write all that is left of the newest file.
     pub fn is_finishing(&self) -> bool {
         match &self.files {
             Some(files) => files.is_finishing(),
@@ -112,32 +111,39 @@ impl Sheet {
         }
     }
 
-    /// The newest file, where it is known not to be whole.
-    pub fn known_lost(&self) -> Option<LostFile> {
+    /// Whether the newest file is known not to be whole.
+    pub fn is_lost(&self) -> bool {
+        match &self.files {
+            Some(files) => files.fault().is_some(),
+            None => false,
+        }
+    }
+
+    /// Ends the newest file.
+    pub fn end(&mut self) {
+        if let Some(files) = &mut self.files {
+            files.end();
+        }
+    }
+
+    /// How the newest file ended, as far as is known.
+    pub fn take_end(&mut self) -> FileEnd {
+        match &mut self.files {
+            Some(files) => files.take_end(),
+            None => FileEnd::Whole,
+        }
+    }
+
+    /// How files stand.
+    pub fn figures(&self) -> Option<FileFigures> {
         let files = self.files.as_ref()?;
-        files.lost_for(files.fault())
+        Some(FileFigures {
+            is_ok: files.is_ok(),
+            cut: files.cut,
+        })
     }
 
-    /// Ends the newest file, which isn't whole for a reason that is known, if for one.
-    pub fn end(&mut self, known: Option<FileFault>) -> Option<LostFile> {
-        let Some(files) = &mut self.files else {
-            return None;
-        };
-        let lost = files.lost_for(known);
-        files.end(lost.is_some());
-        lost
-    }
-
-    /// The newest file, which is over, if it is known by now not to be whole. Otherwise people are told later.
-    pub fn take_ended(&mut self) -> Option<LostFile> {
-        let Some(files) = &mut self.files else {
-            return None;
-        };
-        let fault = files.take_fault();
-        files.lost_for(fault)
-    }
-
-    /// Takes a file that isn't whole, which nobody was told yet.
+    /// Takes a file of which people are to be told.
     pub fn take_lost(&mut self) -> Option<LostFile> {
         match &mut self.files {
             Some(files) => files.take_lost(),
