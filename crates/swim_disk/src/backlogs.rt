@@ -1,6 +1,6 @@
 //! Files that wait for a disk.
 
-ghost use Rattle.std.specs.Prelude.{◌≡◌, ◌+◌, ◌++◌, ◌∷◌, ◌<◌, ◌≤◌, ◌↔◌, [], Some, None, false, true, length, min, take};
+ghost use Rattle.std.specs.Prelude.{◌≡◌, ◌+◌, ◌++◌, ◌∷◌, ◌<◌, ◌≤◌, ◌↔◌, [], Some, None, false, true, drop, length, min, take};
 ghost use Rattle.std.specs.Prelude.{IfNone, IfOk, IsTrue, MatchBool, MatchOption, if◌then◌else◌};
 ghost use Rattle.std.specs.Option.{option_to_list};
 ghost use Rattle.swim_disk.specs.Files.{is_current, is_kept};
@@ -64,7 +64,8 @@ impl Draft {
 impl Backlog {
     /// No files.
     pub fn new(alloc: Global) -> Result<Backlog, AllocError>
-        ensures { IfOk result (λ backlog. (backlog.over.items ≡ []) × (backlog.current ≡ None)) }
+        ensures { IfOk result (λ backlog. (backlog.over.items ≡ []) × (backlog.current ≡ None)
+            × (length backlog.spare.items ≡ 4) × (backlog.spare.capacity ≡ 4) × (backlog.over.capacity ≡ 4)) }
     {
         let mut spare = HeapCircularBuffer::with_capacity(alloc, MOST_FILES)?;
         for _file in 0..MOST_FILES {
@@ -85,6 +86,7 @@ impl Backlog {
             × (self.new.current ≡ Some (record { number = number; unmade = Some new; pending = []; is_told = false })))
             (self.new.current ≡ self.old.current) }
         ensures room { self.old.current ≡ None → 0 < length self.old.spare.items → result ≡ true }
+        ensures spare { self.new.spare.items ≡ (if result then drop 1 self.old.spare.items else self.old.spare.items) }
     {
         if self.current.is_some() {
             return false;
@@ -206,6 +208,8 @@ impl Backlog {
 
     /// Has room for a file more, where this was the room of one.
     pub fn give_back(&mut self, pending: Pending)
+        ensures spare { length self.old.spare.items < self.old.spare.capacity → self.new.spare.items
+            ≡ self.old.spare.items ++ pending ∷ [] }
         ensures over { self.new.over.items ≡ self.old.over.items }
         ensures current { self.new.current ≡ self.old.current }
     {

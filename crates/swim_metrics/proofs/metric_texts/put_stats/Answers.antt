@@ -13,5 +13,6 @@ returns-then-not-put_lines-clause-bytes g c =
 pub returns-clause-bytes : goal.returns-clause-bytes
 returns-clause-bytes g c =
     puts_then (g.W.Sink.written c.args.writer.now) (g.W.Sink.written c.put_lines.new.writer)
-    (g.W.Sink.written c.put.new.self) (families_lines c.args.measures.now c.args.outside.now (told c.args.outside.now.files)) (codes ".\n")
+    (g.W.Sink.written c.put.new.self)
+    (families_lines c.args.measures.now c.args.outside.now (told c.args.outside.now.files)) (codes ".\n")
     c.put.result c.if-not-put_lines.ensures.bytes c.put.ensures.bytes
