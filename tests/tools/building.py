@@ -13,9 +13,9 @@ from concurrent.futures import ThreadPoolExecutor
 from tests.support.parts import TOP
 from tests.tools.copies import SECONDS, Copy, unlike
 
-# What stands on swim_life.
-ABOVE_LIFE = ["swim_life_tests", "swimd"]
-WITH_LIFE = 1 + len(ABOVE_LIFE)
+# What stands on swim_keeper.
+ABOVE_KEEPER = ["swim_keeper_tests", "swimd"]
+WITH_KEEPER = 1 + len(ABOVE_KEEPER)
 # As rustc does, it writes what it links beside the program, under a name that is the same each time, and takes it away.
 LINKER = """\
 #!/bin/sh
@@ -117,24 +117,24 @@ def a_change_is_checked_with_all_above_it(_programs, folder):
     said = unlike("the first end", (0, f"{count} passed, 0 failed"), (status, last)) + too_early(copy.crates, order)
     said += unlike("what is checked first", sorted(copy.crates.below), sorted(order))
     said += unlike("the second check", (0, "0 passed, 0 failed", []), copy.check())
-    os.utime(f"{copy.top}/crates/swim_life/src/lib.rt")
+    os.utime(f"{copy.top}/crates/swim_keeper/src/lib.rt")
     status, last, order = copy.check()
-    said += unlike("the third end", (0, f"{WITH_LIFE} passed, 0 failed"), (status, last))
-    said += unlike("what is checked then", ("swim_life", ABOVE_LIFE), (order[0], sorted(order[1:])))
+    said += unlike("the third end", (0, f"{WITH_KEEPER} passed, 0 failed"), (status, last))
+    said += unlike("what is checked then", ("swim_keeper", ABOVE_KEEPER), (order[0], sorted(order[1:])))
     return said + unlike("the last check", (0, "0 passed, 0 failed", []), copy.check())
 
 
 def a_failed_check_fails_all_above_it(_programs, folder):
     """Those aren't tried. What failed is tried again the next time."""
-    copy, above = Copy(folder), set(ABOVE_LIFE)
-    refused = f"{copy.crates.folder('swim_life')}/refused"
+    copy, above = Copy(folder), set(ABOVE_KEEPER)
+    refused = f"{copy.crates.folder('swim_keeper')}/refused"
     open(refused, "w").close()
     count, (status, last, order) = len(copy.crates.below), copy.check()
-    said = unlike("the end", (1, f"{count - WITH_LIFE} passed, {WITH_LIFE} failed"), (status, last))
+    said = unlike("the end", (1, f"{count - WITH_KEEPER} passed, {WITH_KEEPER} failed"), (status, last))
     said += unlike("what is checked", set(copy.crates.below) - above, set(order))
     os.remove(refused)
     status, last, order = copy.check()
-    wanted = 0, f"{WITH_LIFE} passed, 0 failed", {"swim_life", *above}
+    wanted = 0, f"{WITH_KEEPER} passed, 0 failed", {"swim_keeper", *above}
     return said + unlike("the next end", wanted, (status, last, set(order)))
 
 

@@ -34,7 +34,7 @@ def sources_play_where_no_program_is_fresh(_programs, folder):
 def sources_are_compiled_once(_programs, folder):
     """Until one of them changes; of older ones nothing is kept."""
     copy, said = Copy(folder), []
-    for change, wanted in ((None, ["swimd"]), (None, []), ("crates/swim_life/src/lib.rt", ["swimd"]), (None, [])):
+    for change, wanted in ((None, ["swimd"]), (None, []), ("crates/swim_keeper/src/lib.rt", ["swimd"]), (None, [])):
         if change:
             copy.append(change, "// changed\n")
         ran = copy.run(*TRY)

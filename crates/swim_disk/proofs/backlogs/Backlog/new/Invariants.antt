@@ -3,4 +3,4 @@ use Rattle.swim_disk.proofs.backlogs.Backlog.new.Given as goal
 
 -- as many files as were gone over have room
 abbrev pub invariant-loop-file : goal.invariant-loop-file
-invariant-loop-file l = (length l.spare.items ≡ l.file) × (l.spare.capacity ≡ 4)
+invariant-loop-file l = (length l.spare.items ≡ l._file) × (l.spare.capacity ≡ 4)
