@@ -4,7 +4,7 @@ import os
 import subprocess
 import time
 
-from tests.support.daemons import SECONDS, memory_of, must, until
+from tests.support.daemons import ONE_ARENA, SECONDS, memory_of, must, until
 from tests.support.datagrams import PING, datagram
 from tests.support.disks import disk, fill, hanging
 from tests.support.journals import front, journals, must_play, told
@@ -180,7 +180,7 @@ def memory_of_files(machine):
     held = []
     for id, folder in ((1, None), (2, machine.journals)):
         values["events"] = f"{machine.folder}/{id}.events"
-        daemon = machine.started(id, journal_dir=folder, **values)
+        daemon = machine.started(id, {"env": {**os.environ, **ONE_ARENA}}, journal_dir=folder, **values)
         held.append(memory_of(daemon, "VmData"))
         must(daemon.stop().status == 0, "it ended otherwise")
     more = held[1] - held[0]

@@ -14,9 +14,6 @@ const LAST_MS: u64 = 1_000;
 /// How long a life waits for its file to be made, or to be kept, in milliseconds.
 const KEEP_MS: u64 = 100;
 
-/// How long a text waits for room, in milliseconds.
-const ROOM_MS: u64 = 500;
-
 /// How a file began.
 #[derive(Clone, Copy)]
 pub enum Begun {
@@ -70,15 +67,19 @@ impl DiskDesk {
         }
     }
 
-    /// Hands over what is to be written into the newest file next. Where there is no room for it, it waits half a second
-    /// for some, and not at all where the disk hangs.
+    /// Hands over what is to be written into the newest file next. Where there is no room for it, it waits for some: half a
+    /// second altogether for one file, and not at all where the disk hangs.
     pub fn add<R: Wait + Clock>(&self, rt: &R, text: &[u8]) -> Result<(), FileFault> {
-        let sheet = self.sheet.lock(rt);
-        let most = patience(rt, &*sheet, ROOM_MS);
         let count = text.len();
+        let sheet = self.sheet.lock(rt);
+        let most = sheet.patience_for(rt, count);
+        let since = Instant::now(rt).ok();
         let (mut sheet, _is_over) = self
             .changed
             .wait_timeout_while(rt, sheet, most, |sheet| sheet.is_full_for(count));
+        if most != Duration::ZERO {
+            sheet.has_waited(rt, since);
+        }
         self.changed.notify_all();
         sheet.add(text)
     }

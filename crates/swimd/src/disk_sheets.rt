@@ -8,6 +8,10 @@ use swim_metrics::FileFigures;
 /// A disk hangs that isn't done with one thing after so many milliseconds.
 const HANGS_MS: u64 = 500;
 
+/// How long a file waits for room altogether, in milliseconds. Without a limit to all its waits together, a disk that is
+/// slow and doesn't hang would hold up the end of a life by one wait after the other.
+const ROOM_MS: u64 = 500;
+
 /// What the disk has to do next.
 #[derive(Drop)]
 pub enum Task {
@@ -26,6 +30,8 @@ pub struct Sheet {
     pub is_closed: bool,
     /// Since when the disk is at something, if it is.
     pub busy_since: Option<Instant>,
+    // How long the newest file may still wait for room.
+    room_left: Duration,
 }
 
 impl Sheet {
@@ -35,6 +41,7 @@ impl Sheet {
             files: None,
             is_closed: false,
             busy_since: None,
+            room_left: Duration::ZERO,
         }
     }
 
@@ -61,6 +68,25 @@ impl Sheet {
             },
             None => false,
         }
+    }
+
+    /// How long the newest file may wait for room for so many bytes: not at all where there is some, or where the disk
+    /// hangs.
+    pub fn patience_for<K: Clock>(&self, clock: &K, count: usize) -> Duration {
+        if self.is_full_for(count) && !self.is_hanging(clock) {
+            self.room_left
+        } else {
+            Duration::ZERO
+        }
+    }
+
+    /// Notes that the newest file waited for room since then, as far as is known.
+    pub fn has_waited<K: Clock>(&mut self, clock: &K, since: Option<Instant>) {
+        let time = match since {
+            Some(since) => since.elapsed(clock).unwrap_or(self.room_left),
+            None => self.room_left,
+        };
+        self.room_left = self.room_left.saturating_sub(time);
     }
 
     /// Whether the disk has yet to make the newest file.
@@ -97,6 +123,7 @@ impl Sheet {
 
     /// Begins a file. `false` where too many wait, or there are none.
     pub fn begin(&mut self, new: NewFile) -> bool {
+        self.room_left = Duration::from_millis(ROOM_MS);
         match &mut self.files {
             Some(files) => files.begin(new),
             None => false,
