@@ -139,7 +139,7 @@ impl<'s, 'r, R: Files<File = File> + Net + Clock, G: Sink + Clerk + Drop> LogSpe
         self.tell_metrics(rt);
         self.log.settle(rt);
         self.tell_unwritten(rt);
-        for _file in 0..MOST_FILES {
+        for _file in 0..=MOST_FILES {
             self.tell_lost(rt);
         }
     }
