@@ -4,9 +4,8 @@ ghost use Rattle.std.specs.Prelude.{◌≡◌, None};
 ghost use Rattle.swim_keeper.specs.Notices.{Notices};
 
 use crate::clerks::Clerk;
-use crate::disk_desks::DiskDesk;
-use crate::file_faults::FileFault;
-use crate::file_sheets::{Begun, LostFile};
+use crate::disk_desks::{Begun, DiskDesk};
+use crate::file_faults::words_for;
 use crate::journal_files::JournalFile;
 use crate::notices::Notice;
 use std::alloc::{AllocError, Global};
@@ -15,7 +14,7 @@ use std::net::Net;
 use std::rt::{Clock, Files};
 use std::sync::{Arc, Wait};
 use swim_config::JournalFiles;
-use swim_disk::{DirPath, NewFile, Stamp};
+use swim_disk::{DirPath, FileEnd, LostFile, NewFile, Stamp};
 use swim_keeper::Shelf;
 use swim_text::Sink;
 use swim_wire::Id;
@@ -75,21 +74,13 @@ impl<'r, R: Net + Clock + Wait> Folder<'r, R> {
         })
     }
 
-    /// A file that the desk takes; one that takes nothing, where there is no memory for it.
-    fn opened(&self) -> JournalFile<'r, R> {
-        match Arc::try_clone(&self.desk) {
-            Ok(desk) => JournalFile::new(self.rt, Some(desk)),
-            Err(_) => JournalFile::new(self.rt, None),
-        }
-    }
-
     /// Tells of a file that isn't whole.
     #[tactic(auto, using(swim_keeper::specs::Notices::no_notices))]
     fn tell_lost<F: Sink>(&self, lost: &LostFile, notices: &mut F)
         ensures { Notices (F.written notices.old, F.failures notices.old)
             (F.written notices.new, F.failures notices.new) }
     {
-        let notice = Notice::unwritten(self.rt, lost.path.as_str(), lost.fault.words());
+        let notice = Notice::unwritten(self.rt, lost.path.as_str(), words_for(lost.fault));
         notice.tell_notice(self.rt, self.alloc, notices);
     }
 
@@ -99,11 +90,13 @@ impl<'r, R: Net + Clock + Wait> Folder<'r, R> {
         ensures { Notices (F.written notices.old, F.failures notices.old)
             (F.written notices.new, F.failures notices.new) }
     {
-        match self.desk.begin(self.rt, new) {
-            Begun::Going => self.opened(),
-            Begun::Refused(lost) => {
-                let _lost = self.desk.end(self.rt, Some(lost.fault));
-                self.tell_lost(&lost, notices);
+        let Ok(desk) = Arc::try_clone(&self.desk) else {
+            return JournalFile::new(self.rt, None);
+        };
+        match desk.begin(self.rt, new) {
+            Begun::Going => JournalFile::new(self.rt, Some(desk)),
+            Begun::Refused => {
+                self.end(notices);
                 JournalFile::new(self.rt, None)
             }
             Begun::TooMany => {
@@ -112,6 +105,22 @@ impl<'r, R: Net + Clock + Wait> Folder<'r, R> {
                 notice.tell_notice(self.rt, self.alloc, notices);
                 JournalFile::new(self.rt, None)
             }
+        }
+    }
+
+    /// Ends the newest file, and answers whether it is whole. Where it isn't, and nobody was told yet, it is told.
+    #[tactic(auto, using(swim_keeper::specs::Notices::no_notices))]
+    fn end<F: Sink>(&self, notices: &mut F) -> bool
+        ensures { Notices (F.written notices.old, F.failures notices.old)
+            (F.written notices.new, F.failures notices.new) }
+    {
+        match self.desk.end(self.rt) {
+            FileEnd::Whole => true,
+            FileEnd::Lost(lost) => {
+                self.tell_lost(&lost, notices);
+                false
+            }
+            FileEnd::Told => false,
         }
     }
 }
@@ -131,17 +140,11 @@ impl<'r, R: Files<File = File> + Net + Clock + Wait> Shelf<JournalFile<'r, R>> f
 
     #[tactic(auto, using(swim_keeper::specs::Notices::no_notices))]
     fn close<F: Sink>(&mut self, _number: u64, sink: JournalFile<'r, R>, notices: &mut F) -> bool {
-        if !sink.is_going() {
+        if !sink.is_begun() {
             return false;
         }
         let mut sink = sink;
-        let known = sink.finish();
-        match self.desk.end(self.rt, known) {
-            Some(lost) => {
-                self.tell_lost(&lost, notices);
-                false
-            }
-            None => true,
-        }
+        sink.finish();
+        self.end(notices)
     }
 }

@@ -1,11 +1,10 @@
 //! Journal files as they are written.
 
-ghost use Rattle.std.specs.Prelude.{◌≡◌, true, false, length, None, Some};
+ghost use Rattle.std.specs.Prelude.{◌≡◌, true, false, length, None};
 ghost use Rattle.swim_text.specs.Streams.{failures_if};
 
 use crate::comments::comment_behind;
 use crate::disk_desks::DiskDesk;
-use crate::file_faults::FileFault;
 use arrayvec::ArrayVec;
 use std::alloc::Global;
 use std::rt::Clock;
@@ -19,8 +18,7 @@ const HELD_BYTES: usize = 16_384;
 const FRONT_BYTES: usize = 32;
 
 /// A journal file, as long as its desk takes what is to be written, from where another thread writes it. It holds back
-/// what it is given until it is flushed. Once something was refused it takes nothing more, and knows why. It adds
-/// comments for people: behind its first line the program with its version and the time, and behind each line of a
+/// what it is given until it is flushed. Once something was refused it takes nothing more. It adds comments for people: behind its first line the program with its version and the time, and behind each line of a
 /// started period the seconds since 1970. No contract knows its bytes.
 #[derive(Drop)]
 pub struct JournalFile<'r, R> {
@@ -31,60 +29,49 @@ pub struct JournalFile<'r, R> {
     // As much as is looked at of the line that isn't at its end yet.
     front: ArrayVec<u8, FRONT_BYTES>,
     failures: u64,
-    fault: Option<FileFault>,
+    is_begun: bool,
 }
 
 impl<'r, R: Clock + Wait> JournalFile<'r, R> {
     /// The file that the desk has begun; without a desk, it takes nothing.
     pub fn new(rt: &'r R, desk: Option<Arc<DiskDesk, Global>>) -> JournalFile<'r, R> {
+        let is_begun = desk.is_some();
         JournalFile {
             rt,
             desk,
             held: ArrayVec::new(),
             front: ArrayVec::new(),
             failures: 0,
-            fault: None,
+            is_begun,
         }
     }
 
     /// Whether there was a file from the beginning on.
-    pub fn is_going(&self) -> bool {
-        self.desk.is_some() || self.fault.is_some()
+    pub fn is_begun(&self) -> bool {
+        self.is_begun
     }
 
-    /// Hands over what is held back, as the last of it: why not all was taken, if it wasn't.
-    pub fn finish(&mut self) -> Option<FileFault> {
+    /// Hands over what is held back, as the last of it.
+    pub fn finish(&mut self) {
         let _is_sent = self.hand_on();
-        self.fault
     }
 
-    /// Hands over what is held back, and answers whether the desk took it.
+    /// Hands over what is held back, and answers whether the desk took it. Where it didn't, the file is let go.
     fn hand_on(&mut self) -> bool
         ensures failures { self.new.failures ≡ self.old.failures }
         ensures sent { result ≡ true → length self.new.held.items ≡ 0 }
-        ensures gone { self.old.desk ≡ None → (result ≡ false) × (self.new.desk ≡ None) }
+        ensures gone { result ≡ false → self.new.desk ≡ None }
+        ensures none { self.old.desk ≡ None → result ≡ false }
     {
         let Some(desk) = &self.desk else {
             return false;
         };
-        match desk.add(self.rt, self.held.as_slice()) {
-            Ok(()) => {
-                self.held.clear();
-                true
-            }
-            Err(fault) => self.give_up(fault),
+        if desk.add(self.rt, self.held.as_slice()).is_err() {
+            self.desk = None;
+            return false;
         }
-    }
-
-    /// Lets go of the file for this reason.
-    fn give_up(&mut self, fault: FileFault) -> bool
-        ensures failures { self.new.failures ≡ self.old.failures }
-        ensures fault { self.new.fault ≡ Some fault }
-        ensures gone { (result ≡ false) × (self.new.desk ≡ None) }
-    {
-        self.fault = Some(fault);
-        self.desk = None;
-        false
+        self.held.clear();
+        true
     }
 
     /// Counts a failure, where it is one.

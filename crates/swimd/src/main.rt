@@ -27,7 +27,6 @@ mod doors;
 mod entrances;
 mod event_sockets;
 mod file_faults;
-mod file_sheets;
 mod folders;
 mod happenings;
 mod hints;
