@@ -41,7 +41,7 @@ both_none None later e = (refl, e)
 both_none (Some fault) later e = absurd cc
 
 -- lines without a fault are such
-after_all : (lines before : List (List ℕ)) → fault_from before lines ≡ None → AreFaultless before →
+pub after_all : (lines before : List (List ℕ)) → fault_from before lines ≡ None → AreFaultless before →
     AreFaultless (reverse_aux lines before) × (fault_at_end (head_of (reverse_aux lines before)) ≡ None)
 after_all [] before e all = (all, e)
 after_all (line ∷ lines) before e all =
@@ -68,7 +68,7 @@ bytes_after [] before = omega arith
 bytes_after (line ∷ lines) before =
     bytes_after lines (line ∷ before) ∙ omega (arith, length-append line (flat_map (λ (piece : List ℕ). piece) lines))
 
-bytes_in : (text : List ℕ) → bytes_of (lines_in text) ≡ length text
+pub bytes_in : (text : List ℕ) → bytes_of (lines_in text) ≡ length text
 bytes_in text = bytes_after (pieces text) [] ∙ omega (arith, ap length (lines_join text))
 
 -- ---- one line
@@ -103,7 +103,7 @@ call_opens told false (Remove id) e = e
 
 -- ---- the lines of a file
 
-onto_faultless : (before : List (List ℕ)) (told : Told) (start : ChaCha) (h : List Entry) → IsFile before told start h →
+pub onto_faultless : (before : List (List ℕ)) (told : Told) (start : ChaCha) (h : List Entry) → IsFile before told start h →
     fault_of_opening told ≡ None → AreFaultless before → bytes_of (lines_onto h before) ≤ 1073741824 →
     AreFaultless (lines_onto h before)
 onto_faultless before told start [] f opens all fits = all
@@ -138,30 +138,11 @@ onto_faultless before told start (x ∷ h) f opens all fits =
       ),
     )
 
-opening_none : (opened : Option Opened) (fault : Option ScriptFault) → fault_with opened fault ≡ None → fault ≡ None
+pub opening_none : (opened : Option Opened) (fault : Option ScriptFault) → fault_with opened fault ≡ None → fault ≡ None
 opening_none None fault e = absurd cc
 opening_none (Some opened) fault e = e
 
-end_none : (told : Told) (begun : Bool) → fault_of_header told ≡ None →
+pub end_none : (told : Told) (begun : Bool) → fault_of_header told ≡ None →
     fault_at_end (record { told = told; begun = begun }) ≡ None
 end_none told true e = refl
 end_none told false e = e
-
-pub file_faultless : (header : List ℕ) (h : List Entry) → IsJournalFile header h → fault_of header ≡ None →
-    length (file_text header h) ≤ 1073741824 → fault_of (file_text header h) ≡ None
-file_faultless header h j e fits =
-    let f = file_of header h j in
-    let told = told_by header in
-    let lines : lines_in (file_text header h) ≡ lines_onto h (lines_in header) =
-    file_lines header h j.head.lines f.back in
-    let first = after_all (pieces header) [] e tt in
-    let head_none : fault_of_header told ≡ None = rw j.head.begun at first.1 in
-    let opens : fault_of_opening told ≡ None = opening_none told.opened (fault_of_opening told) head_none in
-    let bytes : bytes_of (lines_onto h (lines_in header)) ≤ 1073741824 =
-    omega (arith, fits, bytes_in (file_text header h), ap bytes_of lines) in
-    let all = onto_faultless (lines_in header) told j.start h f opens first.0 bytes in
-    let last : IsAt (lines_onto h (lines_in header)) told (is_some h) =
-    onto_at (lines_in header) told h f.seeded f.at f.back in
-    none_from (pieces (file_text header h)) [] (subst AreFaultless (sym lines) all)
-    (ap (λ (l : List (List ℕ)). fault_at_end (head_of l)) lines ∙ ap fault_at_end last.head ∙
-    end_none told (is_some h) head_none)
