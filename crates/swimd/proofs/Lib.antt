@@ -5,6 +5,7 @@ pub mod ControlLines
 pub mod Done
 pub mod Explained
 pub mod Given
+pub mod HeldTexts
 pub mod Indented
 pub mod Keys
 pub mod Kept

@@ -5,6 +5,8 @@ pub mod Checking
 pub mod Commands
 pub mod Daemon
 pub mod Details
+pub mod Folders
+pub mod HeldTexts
 pub mod Outcomes
 pub mod Screens
 pub mod Totals

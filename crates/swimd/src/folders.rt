@@ -1,12 +1,14 @@
 //! The folder of the journal files, one for each life of a daemon.
 
-ghost use Rattle.std.specs.Prelude.{◌≡◌, None};
+ghost use Rattle.std.specs.Prelude.{◌≡◌, Some, [], true};
+ghost use Rattle.swim_journal.specs.Comments.{without_comments};
 ghost use Rattle.swim_keeper.specs.Notices.{Notices};
 
 use crate::clerks::Clerk;
 use crate::disk_desks::DiskDesk;
 use crate::file_faults::FileFault;
 use crate::file_sheets::{Begun, LostFile};
+use crate::held_texts::HeldText;
 use crate::journal_files::JournalFile;
 use crate::notices::Notice;
 use std::alloc::{AllocError, Global};
@@ -18,10 +20,12 @@ use swim_config::JournalFiles;
 use swim_disk::{DirPath, NewFile, Stamp};
 use swim_keeper::Shelf;
 use swim_text::Sink;
+use swim_trail::Trail;
 use swim_wire::Id;
 
 /// The folder in which a daemon has a file made for each of its lives, if it does: by whoever serves its desk, so that no
-/// life waits for a disk longer than a moment. What fails is told among the notices.
+/// life waits for a disk longer than a moment. What fails is told among the notices. A contract sees the lives for which
+/// it was asked for files, and those that it took back: what each of them took, and what its desk took of that.
 #[derive(Drop)]
 pub struct Folder<'r, R> {
     rt: &'r R,
@@ -32,6 +36,10 @@ pub struct Folder<'r, R> {
     desk: Arc<DiskDesk, Global>,
     // How many lives had no file, as too many waited.
     unfiled: u64,
+    // The numbers of the lives for which it was asked for files.
+    opened: Trail<u64>,
+    // The files that it took back, and whether they are kept.
+    filed: Trail<(u64, bool, HeldText)>,
 }
 
 impl<'r, R: Net + Clock + Wait> Folder<'r, R> {
@@ -57,6 +65,8 @@ impl<'r, R: Net + Clock + Wait> Folder<'r, R> {
             began,
             desk,
             unfiled: 0,
+            opened: Trail::new(),
+            filed: Trail::new(),
         })
     }
 
@@ -76,7 +86,9 @@ impl<'r, R: Net + Clock + Wait> Folder<'r, R> {
     }
 
     /// A file that the desk takes; one that takes nothing, where there is no memory for it.
-    fn opened(&self) -> JournalFile<'r, R> {
+    fn opened(&self) -> JournalFile<'r, R>
+        ensures { result.text.taken ≡ [] }
+    {
         match Arc::try_clone(&self.desk) {
             Ok(desk) => JournalFile::new(self.rt, Some(desk)),
             Err(_) => JournalFile::new(self.rt, None),
@@ -96,7 +108,10 @@ impl<'r, R: Net + Clock + Wait> Folder<'r, R> {
     /// Begins the file of a life, and tells where there is none.
     #[tactic(auto, using(swim_keeper::specs::Notices::no_notices))]
     fn begin<F: Sink>(&mut self, new: NewFile, notices: &mut F) -> JournalFile<'r, R>
-        ensures { Notices (F.written notices.old, F.failures notices.old)
+        ensures new { result.text.taken ≡ [] }
+        ensures opened { self.new.opened ≡ self.old.opened }
+        ensures filed { self.new.filed ≡ self.old.filed }
+        ensures notices { Notices (F.written notices.old, F.failures notices.old)
             (F.written notices.new, F.failures notices.new) }
     {
         match self.desk.begin(self.rt, new) {
@@ -114,34 +129,53 @@ impl<'r, R: Net + Clock + Wait> Folder<'r, R> {
             }
         }
     }
-}
 
-impl<'r, R: Files<File = File> + Net + Clock + Wait> Shelf<JournalFile<'r, R>> for Folder<'r, R> {
-    ghost fresh = { None };
-
-    ghost opened = { λ s. None };
-
-    ghost filed = { λ s. None };
-
+    /// Ends a file. Whether its disk was handed all of it, and nobody knows yet that it isn't kept.
     #[tactic(auto, using(swim_keeper::specs::Notices::no_notices))]
-    fn open<F: Sink>(&mut self, number: u64, notices: &mut F) -> Option<JournalFile<'r, R>> {
-        let new = self.file_of(number)?;
-        Some(self.begin(new, notices))
-    }
-
-    #[tactic(auto, using(swim_keeper::specs::Notices::no_notices))]
-    fn close<F: Sink>(&mut self, _number: u64, sink: JournalFile<'r, R>, notices: &mut F) -> bool {
-        if !sink.is_going() {
+    fn end<F: Sink>(&self, file: &mut JournalFile<'r, R>, notices: &mut F) -> bool
+        ensures taken { file.new.text.taken ≡ file.old.text.taken }
+        ensures same { result ≡ true →
+            without_comments file.new.text.handed ≡ without_comments file.new.text.taken }
+        ensures notices { Notices (F.written notices.old, F.failures notices.old)
+            (F.written notices.new, F.failures notices.new) }
+    {
+        if !file.is_going() {
             return false;
         }
-        let mut sink = sink;
-        let known = sink.finish();
-        match self.desk.end(self.rt, known) {
+        let is_taken = file.finish();
+        match self.desk.end(self.rt, file.fault()) {
             Some(lost) => {
                 self.tell_lost(&lost, notices);
                 false
             }
-            None => true,
+            None => is_taken,
         }
+    }
+}
+
+impl<'r, R: Files<File = File> + Net + Clock + Wait> Shelf<JournalFile<'r, R>> for Folder<'r, R> {
+    ghost use Rattle.std.specs.Prelude.{map};
+    ghost use Rattle.swim_trail.specs.Noted.{value_in};
+    ghost use Rattle.swimd.specs.Folders.{filed_in};
+
+    ghost fresh = { Some [] };
+
+    ghost opened = { λ s. Some (map value_in s.opened.items) };
+
+    ghost filed = { λ s. Some (map filed_in s.filed.items) };
+
+    #[tactic(auto, using(swim_keeper::specs::Notices::no_notices, swim_trail::specs::Noted::map_more))]
+    fn open<F: Sink>(&mut self, number: u64, notices: &mut F) -> Option<JournalFile<'r, R>> {
+        self.opened.note(&number, b"");
+        let new = self.file_of(number)?;
+        Some(self.begin(new, notices))
+    }
+
+    #[tactic(auto, using(crate::specs::Folders::back_more))]
+    fn close<F: Sink>(&mut self, number: u64, sink: JournalFile<'r, R>, notices: &mut F) -> bool {
+        let mut file = sink;
+        let is_kept = self.end(&mut file, notices);
+        self.filed.note(&(number, is_kept, file.into_text()), b"");
+        is_kept
     }
 }

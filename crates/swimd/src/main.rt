@@ -30,6 +30,7 @@ mod file_faults;
 mod file_sheets;
 mod folders;
 mod happenings;
+mod held_texts;
 mod hints;
 mod journal_files;
 mod key_making;
