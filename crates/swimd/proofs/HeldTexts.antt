@@ -64,9 +64,12 @@ handed_same held taken old new a is new-is =
 
 -- ---- texts that were taken
 
-pub ends_still : (all new text front : List ℕ) → new ≡ all ++ text → text ≡ front ++ 10 ∷ [] → EndsLine new
-ends_still all new text front is ends =
-    (all ++ front, is ∙ ap (λ (t : List ℕ). all ++ t) ends ∙ sym (append_assoc all front (10 ∷ [])))
+pub ends_taken : (old mid : AtText) (text front : List ℕ) → Takes old mid text true → text ≡ front ++ 10 ∷ [] →
+    EndsLine (all_of mid)
+ends_taken old mid text front takes ends = (
+  all_of old ++ front,
+  takes.1 ∙ ap (λ (t : List ℕ). all_of old ++ t) ends ∙ sym (append_assoc (all_of old) front (10 ∷ [])),
+)
 
 pub ends_same : (old new : List ℕ) → EndsLine old → new ≡ old → EndsLine new
 ends_same old new ends is = (ends.0, is ∙ ends.1)

@@ -127,7 +127,7 @@ impl<'r, R: Clock + Wait> JournalFile<'r, R> {
     }
 
     /// Holds a text back, and a comment behind it, where it ends a line that is to have one.
-    #[tactic(auto, using(crate::proofs::HeldTexts::puts_none, crate::proofs::HeldTexts::puts_all))]
+    #[tactic(auto, using(crate::proofs::HeldTexts::puts_none, crate::proofs::HeldTexts::puts_all, crate::proofs::HeldTexts::ends_taken))]
     fn take_told(&mut self, text: &[u8]) -> bool
         ensures failures { self.new.failures ≡ self.old.failures }
         ensures taken { Puts (Some self.old.text.taken) (Some self.new.text.taken) text.now result }
