@@ -9,13 +9,14 @@ use Rattle.swim_script.specs.declared.arguments.Opened.{Opened}
 use Rattle.swim_script.specs.declared.commands.Command.{Command}
 use Rattle.swim_script.specs.declared.commands.LineFault.{LineFault}
 use Rattle.swim_script.specs.declared.faults.FaultKind.{FaultKind}
+use Rattle.swim_script.specs.declared.faults.FaultKind.TheVariants.{Size, Long}
 use Rattle.swim_script.specs.declared.faults.ScriptFault.{ScriptFault}
 use Rattle.swim_script.specs.declared.forms.Form.{Form}
 use Rattle.swim_script.specs.declared.forms.Form.TheVariants.{Journal}
 use Rattle.swim_script.specs.Forms.{form_of, most_bytes}
 use Rattle.swim_script.specs.Headers.{Told, Head, is_event, setting_in, head_of, read_after}
 use Rattle.swim_script.specs.Script.{opening_at, kind_of_setting, fault_of_setting, fault_of_opening, fault_of_command}
-use Rattle.swim_script.specs.Script.{fault_of_read, fault_at, fault_with, fault_of_header, fault_at_end, bytes_of}
+use Rattle.swim_script.specs.Script.{at_line, fault_of_read, fault_at, fault_with, fault_of_header, fault_at_end, bytes_of}
 use Rattle.swim_journal.specs.Comments.{is_comment, uncommented, AreShort}
 use Rattle.swim_journal.proofs.Faultless.{AreFaultless}
 use Rattle.swim_journal.proofs.Uncommented.{IsToldAlike, setting_alike, AreAlike, read_alike, comment_read}
@@ -96,7 +97,9 @@ has_none before line e =
   where
     by : (large long : Bool) → ltb (most_bytes (form_of before)) (length line + bytes_of before) ≡ large →
         ltb 2048 (length (bare line)) ≡ long →
-        cond large _ (cond long _ (fault_of_read (length before + 1) (head_of before) (read_after before line))) ≡ None →
+        cond large (Some (at_line (length before + 1) Size))
+        (cond long (Some (at_line (length before + 1) Long))
+        (fault_of_read (length before + 1) (head_of before) (read_after before line))) ≡ None →
         HasNone before line
     by true long fits short e = absurd (cc e)
     by false true fits short e = absurd (cc e)
@@ -196,7 +199,7 @@ pub all_faultless : (lines : List (List ℕ)) → form_of lines ≡ Journal → 
 all_faultless [] journal fits short all = tt
 all_faultless (line ∷ []) journal fits short all = (all.0, tt)
 all_faultless (line ∷ last ∷ before) journal fits short all =
-    by (is_comment older line) refl (all_faultless older journal_yet (omega (arith, fits)) short.1) all
+    by (is_comment older line) refl (all_faultless (last ∷ before) journal_yet (omega (arith, fits)) short.1) all
   where
     older : List (List ℕ)
     older = last ∷ before
