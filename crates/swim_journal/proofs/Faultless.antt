@@ -73,7 +73,7 @@ bytes_in text = bytes_after (pieces text) [] ∙ omega (arith, ap length (lines_
 
 -- ---- one line
 
-neither : {A : Type 0} (one two : Bool) (x y z : A) → one ≡ false → two ≡ false → cond one x (cond two y z) ≡ z
+pub neither : {A : Type 0} (one two : Bool) (x y z : A) → one ≡ false → two ≡ false → cond one x (cond two y z) ≡ z
 neither true two x y z p q = absurd cc
 neither false true x y z p q = absurd cc
 neither false false x y z p q = refl

@@ -18,7 +18,7 @@ use Rattle.swim_script.specs.Headers.{Told, Head, is_event, setting_in, head_of,
 use Rattle.swim_script.specs.Script.{opening_at, kind_of_setting, fault_of_setting, fault_of_opening, fault_of_command}
 use Rattle.swim_script.specs.Script.{at_line, fault_of_read, fault_at, fault_with, fault_of_header, fault_at_end, bytes_of}
 use Rattle.swim_journal.specs.Comments.{is_comment, uncommented, AreShort}
-use Rattle.swim_journal.proofs.Faultless.{AreFaultless}
+use Rattle.swim_journal.proofs.Faultless.{AreFaultless, neither}
 use Rattle.swim_journal.proofs.Uncommented.{IsToldAlike, setting_alike, AreAlike, read_alike, comment_read}
 use Rattle.swim_journal.proofs.Uncommented.{uncommented_alike, arguments_of, told_back}
 
@@ -106,7 +106,10 @@ has_none before line e =
     by false false fits short e = record { fits = fits; short = short; read = e }
 
 none_at : (before : List (List ℕ)) (line : List ℕ) → HasNone before line → fault_at before line ≡ None
-none_at before line has = rw (has.fits, has.short) has.read
+none_at before line has =
+    neither (ltb (most_bytes (form_of before)) (length line + bytes_of before)) (ltb 2048 (length (bare line))) _ _ _
+    has.fits has.short
+    ∙ has.read
 
 comment_none : (before : List (List ℕ)) (line : List ℕ) → is_comment before line ≡ true → form_of before ≡ Journal →
     length line + bytes_of before ≤ 1073741824 → length (bare line) ≤ 2048 → fault_at before line ≡ None
@@ -114,7 +117,7 @@ comment_none before line is journal fits short =
     none_at before line (record {
       fits = rw journal (le-ltb 1073741824 (length line + bytes_of before) fits);
       short = le-ltb 2048 (length (bare line)) short;
-      read = rw (comment_read before line is) refl;
+      read = ap (fault_of_read (length before + 1) (head_of before)) (comment_read before line is);
     })
 
 -- without comments there are no more bytes
