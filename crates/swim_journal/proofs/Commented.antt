@@ -1,6 +1,6 @@
 -- A journal file is one without its comments.
 use Rattle.std.specs.Prelude.{is_some as is_told}
-use Rattle.std.proofs.Common.{◌≡◌, ℕ, Bool, true, false, cond, List, [], ◌∷◌, ◌++◌, length, refl, sym, ap, subst, ◌∙◌}
+use Rattle.std.proofs.Common.{◌≡◌, ℕ, Bool, false, cond, List, [], ◌∷◌, length, refl, sym, ap, subst, ◌∙◌}
 use Rattle.std.proofs.Common.{arith}
 use Rattle.rand_chacha.specs.ChaCha.{ChaCha}
 use Rattle.swim_history.specs.declared.calls.Call.{Call}
@@ -13,10 +13,10 @@ use Rattle.swim_script.specs.declared.commands.Stage.TheVariants.{Header}
 use Rattle.swim_script.specs.Headers.{Told, Head, head_of}
 use Rattle.swim_journal.specs.Comments.{is_comment, uncommented}
 use Rattle.swim_journal.specs.Lines.{call_line, answer_line}
-use Rattle.swim_journal.specs.Replays.{lines_in, told_by, file_text, IsDrawnRun, IsFileText, IsJournalFile}
+use Rattle.swim_journal.specs.Replays.{lines_in, file_text, IsDrawnRun, IsFileText, IsJournalFile}
 use Rattle.swim_journal.proofs.Differing.{IsFile, file_of}
 use Rattle.swim_journal.proofs.FileText.{file_lines}
-use Rattle.swim_journal.proofs.Tellings.{lines_onto, CallsReadBack}
+use Rattle.swim_journal.proofs.Tellings.{lines_onto}
 use Rattle.swim_journal.proofs.TextLines.{same_lines}
 use Rattle.swim_journal.proofs.Uncommented.{setting_alike, limit_alike, chooser_alike, stage_alike, uncommented_alike}
 

@@ -1,6 +1,6 @@
 -- A journal file has no fault that the format of scripts names.
 use Rattle.std.proofs.Common.{◌≡◌, ℕ, ◌+◌, ◌≤◌, Bool, true, false, cond, ltb, List, [], ◌∷◌, length, Option, Some, None}
-use Rattle.std.proofs.Common.{Result, Ok, Err, refl, sym, ap, subst, ◌∙◌, arith, length-append}
+use Rattle.std.proofs.Common.{Result, Ok, Err, refl, ap, ◌∙◌, arith, length-append}
 use mathlib.Core.List.{reverse_aux}
 use Rattle.std.specs.List.{flat_map}
 use Rattle.std.proofs.lemmas.Bool.{le-ltb}
@@ -19,13 +19,12 @@ use Rattle.swim_script.specs.declared.forms.Form.TheVariants.{Journal}
 use Rattle.swim_script.specs.Forms.{form_of, most_bytes}
 use Rattle.swim_script.specs.Headers.{Told, Head, head_of, command_in, read_after, said, setting_in}
 use Rattle.swim_script.specs.Texts.{placed_text}
-use Rattle.swim_script.specs.Script.{fault_at, fault_at_end, fault_from, fault_of, fault_of_command, fault_of_header}
+use Rattle.swim_script.specs.Script.{fault_at, fault_at_end, fault_from, fault_of_command, fault_of_header}
 use Rattle.swim_script.specs.Script.{fault_of_opening, fault_of_read, fault_with, first_of, bytes_of}
 use Rattle.swim_journal.specs.Lines.{call_line, answer_line, command_of}
-use Rattle.swim_journal.specs.Replays.{lines_in, told_by, IsJournalFile, file_text}
-use Rattle.swim_journal.proofs.Differing.{IsFile, file_older, file_of}
+use Rattle.swim_journal.specs.Replays.{lines_in}
+use Rattle.swim_journal.proofs.Differing.{IsFile, file_older}
 use Rattle.swim_journal.proofs.FileLines.{IsAt, call_says, call_at, answer_says, answer_bare}
-use Rattle.swim_journal.proofs.FileText.{file_lines}
 use Rattle.swim_journal.proofs.Short.{answer_short}
 use Rattle.swim_journal.proofs.Tellings.{lines_onto, is_some, onto_at}
 

@@ -6,7 +6,7 @@ use Rattle.std.specs.List.{onto_first}
 use Rattle.std.proofs.lemmas.List.{reverse-reverse}
 use Rattle.swim_text.specs.Lines.{pieces}
 use Rattle.swim_journal.specs.Comments.{is_comment, uncommented, without_comments}
-use Rattle.swim_journal.specs.Replays.{lines_in, file_text, IsFileText}
+use Rattle.swim_journal.specs.Replays.{lines_in}
 
 -- a line with its line feed
 abbrev pub IsWhole : List ℕ → Type 0

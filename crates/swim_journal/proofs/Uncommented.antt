@@ -1,7 +1,7 @@
 -- What lines say is the same without the comments among them.
 use Rattle.std.specs.Prelude.{is_some as is_told}
 use Rattle.std.proofs.Common.{◌≡◌, ℕ, suc, ◌+◌, Bool, true, false, cond, List, [], ◌∷◌, ◌++◌, length, Option, Some, None}
-use Rattle.std.proofs.Common.{Result, Ok, Err, refl, sym, ap, subst, ◌∙◌, arith}
+use Rattle.std.proofs.Common.{Ok, refl, sym, ap, subst, ◌∙◌, arith}
 use Rattle.std.specs.Prelude.{◌==◌, ◌||◌}
 use Rattle.swim_text.specs.Lines.{bare}
 use Rattle.swim_wire.specs.declared.messages.Version.{Version}
@@ -11,11 +11,9 @@ use Rattle.swim_script.specs.declared.arguments.Opened.{Opened}
 use Rattle.swim_script.specs.declared.commands.Command.{Command}
 use Rattle.swim_script.specs.declared.commands.Command.TheVariants as commands
 use Rattle.swim_script.specs.declared.commands.Draws.{Draws}
-use Rattle.swim_script.specs.declared.commands.LineFault.{LineFault}
 use Rattle.swim_script.specs.declared.commands.Stage.TheVariants.{Events}
 use Rattle.swim_script.specs.declared.forms.Form.{Form}
-use Rattle.swim_script.specs.Commands.{line_read}
-use Rattle.swim_script.specs.Forms.{is_mark, form_of, form_after}
+use Rattle.swim_script.specs.Forms.{is_mark, form_of}
 use Rattle.swim_script.specs.Headers.{Told, Head, is_event, stage_with, stage_told, stage_of, draws_with, command_in}
 use Rattle.swim_script.specs.Headers.{read_with, read_after, said, head_then, head_of, setting_with, setting_in}
 use Rattle.swim_script.specs.Headers.{version_with, limit_with, limit_in, chooser_in}

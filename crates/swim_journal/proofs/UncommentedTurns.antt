@@ -9,12 +9,12 @@ use Rattle.swim_history.specs.Drawn.{IsDrawn}
 use Rattle.swim_script.specs.Choosers.{ChoosesOrder, ChoosesPlace}
 use Rattle.swim_script.specs.declared.choosers.Drawer.{Drawer}
 use Rattle.swim_script.specs.declared.commands.Command.{Command}
-use Rattle.swim_script.specs.Headers.{Told, head_of, said, setting_in, limit_in, chooser_in}
+use Rattle.swim_script.specs.Headers.{Told, head_of, setting_in, limit_in, chooser_in}
 use Rattle.swim_script.specs.Script.{Turn, lines_of, Asked, asked_by, asked_in, is_full, calls_then, calls_in, run_before}
 use Rattle.swim_script.specs.Script.{IsConfirmed, AreConfirmed, IsRunOf}
-use Rattle.swim_script.specs.Script.Asked.{Nothing, Calls}
+use Rattle.swim_script.specs.Script.Asked.{Nothing}
 use Rattle.swim_journal.specs.Comments.{is_comment, uncommented}
-use Rattle.swim_journal.specs.Replays.{IsRefusal, IsBehindRefusal}
+use Rattle.swim_journal.specs.Replays.{IsBehindRefusal}
 use Rattle.swim_journal.proofs.Uncommented.{IsToldAlike, setting_alike, limit_alike, chooser_alike, AreAlike, said_alike}
 use Rattle.swim_journal.proofs.Uncommented.{comment_said, uncommented_alike, is_comment_alike}
 

@@ -1,5 +1,5 @@
 -- The files that a folder took back.
-use Rattle.std.specs.Prelude.{◌≡◌, ℕ, Bool, true, List, [], ◌∷◌, ◌++◌, map, Option, Some}
+use Rattle.std.specs.Prelude.{◌≡◌, ℕ, Bool, true, List, [], ◌∷◌, ◌++◌, map, Some}
 use Rattle.swim_journal.specs.Comments.{without_comments}
 use Rattle.swim_keeper.specs.Filing.{Filed, IsTakenBack}
 use Rattle.swim_trail.specs.Noted.{map_more}

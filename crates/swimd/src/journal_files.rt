@@ -1,6 +1,6 @@
 //! Journal files as they are written.
 
-ghost use Rattle.std.specs.Prelude.{◌≡◌, ◌++◌, true, false, [], length, None, Some};
+ghost use Rattle.std.specs.Prelude.{◌≡◌, true, false, [], length, None, Some};
 ghost use Rattle.swim_text.specs.Streams.{Puts, failures_if};
 ghost use Rattle.swim_journal.specs.Comments.{EndsLine, MayComment, without_comments};
 ghost use Rattle.swimd.specs.HeldTexts.{Takes, all_of};
