@@ -60,11 +60,13 @@ impl HeldText {
     pub fn put(&mut self, text: &[u8]) -> bool
         ensures { Takes self.old self.new text.now result }
     {
-        if self.held.try_extend_from_slice(text).is_err() {
-            return false;
+        match self.held.try_extend_from_slice(text) {
+            Ok(()) => {
+                self.taken.note(&(), text);
+                true
+            }
+            Err(_) => false,
         }
-        self.taken.note(&(), text);
-        true
     }
 
     /// Puts a comment behind a line, if there is room for it.
@@ -74,7 +76,10 @@ impl HeldText {
         requires behind { EndsLine (all_of self.old) }
         ensures { self.new.taken ≡ self.old.taken }
     {
-        self.held.try_extend_from_slice(comment).is_ok()
+        match self.held.try_extend_from_slice(comment) {
+            Ok(()) => true,
+            Err(_) => false,
+        }
     }
 
     /// Has the desk take what is held back, and notes it. Nothing else hands anything on or notes it.

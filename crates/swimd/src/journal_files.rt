@@ -73,12 +73,12 @@ impl<'r, R: Clock + Wait> JournalFile<'r, R> {
         ensures { result ≡ self.text }
     {
         let JournalFile {
-            rt: _,
-            desk: _,
+            rt: _rt,
+            desk: _desk,
             text,
-            front: _,
-            failures: _,
-            fault: _,
+            front: _front,
+            failures: _failures,
+            fault: _fault,
         } = self;
         text
     }
@@ -96,7 +96,7 @@ impl<'r, R: Clock + Wait> JournalFile<'r, R> {
         let Some(desk) = &self.desk else {
             return false;
         };
-        match self.text.hand_on(self.rt, desk) {
+        match self.text.hand_on(self.rt, &**desk) {
             Ok(()) => true,
             Err(fault) => self.give_up(fault),
         }
