@@ -126,7 +126,8 @@ comment_grows text plain comment is ends (inl none) =
     ∙ ap (λ (t : List ℕ). without_comments (t ++ rest)) (append-nil text) ∙ is rest
 comment_grows text plain comment is ends (inr c) =
     let cut : IsCut text = subst IsCut (sym ends.1) (cut_at_end ends.0) in
-    λ rest. ap without_comments (append_assoc text comment rest) ∙ skipped text comment rest (behind text cut) c ∙ is rest
+    λ rest. ap without_comments (append_assoc text comment rest) ∙ skipped text comment rest (behind text cut) c ∙
+    is rest
 
 -- where nothing follows
 pub same_without : (text plain : List ℕ) → IsCommented text plain → without_comments text ≡ without_comments plain

@@ -102,9 +102,9 @@ call_opens told false (Remove id) e = e
 
 -- ---- the lines of a file
 
-pub onto_faultless : (before : List (List ℕ)) (told : Told) (start : ChaCha) (h : List Entry) → IsFile before told start h →
-    fault_of_opening told ≡ None → AreFaultless before → bytes_of (lines_onto h before) ≤ 1073741824 →
-    AreFaultless (lines_onto h before)
+pub onto_faultless : (before : List (List ℕ)) (told : Told) (start : ChaCha) (h : List Entry) →
+    IsFile before told start h → fault_of_opening told ≡ None → AreFaultless before →
+    bytes_of (lines_onto h before) ≤ 1073741824 → AreFaultless (lines_onto h before)
 onto_faultless before told start [] f opens all fits = all
 onto_faultless before told start (x ∷ h) f opens all fits =
     let older = lines_onto h before in

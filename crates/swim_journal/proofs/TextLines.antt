@@ -90,7 +90,8 @@ again (last ∷ before) all = joined before (last ∷ []) all.1 (ap pieces (appe
 
 pub lines_without : (text : List ℕ) → lines_in (without_comments text) ≡ uncommented (lines_in text)
 lines_without text =
-    ap reverse (again (uncommented (lines_in text)) (are_still (lines_in text) (onto (pieces text) [] (in_text text) tt)))
+    ap reverse
+    (again (uncommented (lines_in text)) (are_still (lines_in text) (onto (pieces text) [] (in_text text) tt)))
     ∙ reverse-reverse (uncommented (lines_in text))
 
 -- texts that are the same but for comments have the same lines but for comments

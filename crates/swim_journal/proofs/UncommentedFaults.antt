@@ -15,7 +15,8 @@ use Rattle.swim_script.specs.declared.forms.Form.TheVariants.{Journal}
 use Rattle.swim_script.specs.Forms.{form_of, most_bytes}
 use Rattle.swim_script.specs.Headers.{Told, is_event, setting_in, head_of, read_after}
 use Rattle.swim_script.specs.Script.{opening_at, kind_of_setting, fault_of_setting, fault_of_opening, fault_of_command}
-use Rattle.swim_script.specs.Script.{at_line, fault_of_read, fault_at, fault_with, fault_of_header, fault_at_end, bytes_of}
+use Rattle.swim_script.specs.Script.{at_line, fault_of_read, fault_at, fault_with, fault_of_header, fault_at_end}
+use Rattle.swim_script.specs.Script.{bytes_of}
 use Rattle.swim_journal.specs.Comments.{is_comment, uncommented, AreShort}
 use Rattle.swim_journal.proofs.Faultless.{AreFaultless, neither}
 use Rattle.swim_journal.proofs.Uncommented.{IsToldAlike, setting_alike, AreAlike, read_alike, comment_read}

@@ -10,12 +10,14 @@ use Rattle.swim_script.specs.Choosers.{ChoosesOrder, ChoosesPlace}
 use Rattle.swim_script.specs.declared.choosers.Drawer.{Drawer}
 use Rattle.swim_script.specs.declared.commands.Command.{Command}
 use Rattle.swim_script.specs.Headers.{Told, head_of, setting_in, limit_in, chooser_in}
-use Rattle.swim_script.specs.Script.{Turn, lines_of, Asked, asked_by, asked_in, is_full, calls_then, calls_in, run_before}
+use Rattle.swim_script.specs.Script.{Turn, lines_of, Asked, asked_by, asked_in, is_full, calls_then, calls_in}
+use Rattle.swim_script.specs.Script.{run_before}
 use Rattle.swim_script.specs.Script.{IsConfirmed, AreConfirmed, IsRunOf}
 use Rattle.swim_script.specs.Script.Asked.{Nothing}
 use Rattle.swim_journal.specs.Comments.{is_comment, uncommented}
 use Rattle.swim_journal.specs.Replays.{IsBehindRefusal}
-use Rattle.swim_journal.proofs.Uncommented.{IsToldAlike, setting_alike, limit_alike, chooser_alike, AreAlike, said_alike}
+use Rattle.swim_journal.proofs.Uncommented.{IsToldAlike, setting_alike, limit_alike, chooser_alike, AreAlike}
+use Rattle.swim_journal.proofs.Uncommented.{said_alike}
 use Rattle.swim_journal.proofs.Uncommented.{comment_said, uncommented_alike, is_comment_alike}
 
 -- turns without those of comments
@@ -45,7 +47,8 @@ limits_alike turns =
 
 asked_alike : (before : List Turn) (line : List ℕ) →
     asked_in (lines_of before) line ≡ asked_in (lines_of (spoken before)) line
-asked_alike before line = ap asked_by (said_alike (lines_of before) (lines_of (spoken before)) line (spoken_alike before))
+asked_alike before line =
+    ap asked_by (said_alike (lines_of before) (lines_of (spoken before)) line (spoken_alike before))
 
 pub spoken_calls : (turns : List Turn) → calls_in turns ≡ calls_in (spoken turns)
 spoken_calls [] = refl
@@ -133,7 +136,8 @@ behind_spoken (turn ∷ before) refused =
         IsBehindRefusal (cond c (spoken before) (turn ∷ spoken before)) → IsBehindRefusal (turn ∷ before)
     by true is again refused = inl (is, again refused)
     by false is again (inl comment) =
-        let same = is_comment_alike (lines_of before) (lines_of (spoken before)) turn.line (spoken_alike before).first in
+        let first = (spoken_alike before).first in
+        let same = is_comment_alike (lines_of before) (lines_of (spoken before)) turn.line first in
         let bad : true ≡ false = sym comment.0 ∙ sym same ∙ is in
         absurd (cc bad)
     by false is again (inr refusal) = inr (refusal.0, refusal.1, asked_alike before turn.line ∙ refusal.2)

@@ -39,6 +39,7 @@ MayComment text = (text ≡ []) ⊎ IsCommentLine text
 abbrev pub EndsLine : List ℕ → Type 0
 EndsLine text = (front : List ℕ) × (text ≡ front ++ 10 ∷ [])
 
--- a text is this other one with comments between its lines: whatever follows on both, without comments they are the same
+-- a text is this other one with comments between its lines: whatever follows on both, without comments they are the
+-- same
 abbrev pub IsCommented : List ℕ → List ℕ → Type 0
 IsCommented text plain = (rest : List ℕ) → without_comments (text ++ rest) ≡ without_comments (plain ++ rest)

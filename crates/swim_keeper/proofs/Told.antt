@@ -1,8 +1,8 @@
 -- What becomes of a life that a keeper opened and closed.
 use Rattle.std.specs.Prelude.{◌&&◌, not}
 use Rattle.std.specs.Io.KnownBytes.{Appends}
-use Rattle.std.proofs.Common.{◌≡◌, ◌≤◌, ℕ, Bool, true, false, List, [], ◌∷◌, ◌++◌, length, Option, Some, None, refl, sym}
-use Rattle.std.proofs.Common.{ap, subst, ◌∙◌, inl, inr}
+use Rattle.std.proofs.Common.{◌≡◌, ◌≤◌, ℕ, Bool, true, false, List, [], ◌∷◌, ◌++◌, length, Option, Some, None, refl}
+use Rattle.std.proofs.Common.{sym, ap, subst, ◌∙◌, inl, inr}
 use Rattle.swim_text.specs.Streams.{Puts}
 use Rattle.swim_history.specs.declared.entries.Entry.{Entry}
 use Rattle.swim_history.specs.Setting.{Setting}
@@ -37,7 +37,8 @@ TellsFiles =
     Puts fresh page (header_text opening limit seed number) was → HasWritten page now was (filings_of past) whole →
     IsLifeFile fresh now opening limit seed number past whole
 
-pub not_cut : (whole kept is_cut : Bool) → is_cut ≡ not (whole && kept) → is_cut ≡ false → (whole ≡ true) × (kept ≡ true)
+pub not_cut : (whole kept is_cut : Bool) → is_cut ≡ not (whole && kept) → is_cut ≡ false →
+    (whole ≡ true) × (kept ≡ true)
 not_cut true true is_cut is not = (refl, refl)
 not_cut true false is_cut is not = let bad : false ≡ true = sym not ∙ is in absurd (cc bad)
 not_cut false kept is_cut is not = let bad : false ≡ true = sym not ∙ is in absurd (cc bad)

@@ -31,8 +31,8 @@ pub trait Shelf<V: Sink> {
         ensures notices { Notices (F.written notices.old, F.failures notices.old)
             (F.written notices.new, F.failures notices.new) };
 
-    /// Takes back the file of the life of this number, which is over. Returns whether the file is kept for good. If it is,
-    /// the bytes that were handed on for it are what its sink was given, but for comments.
+    /// Takes back the file of the life of this number, which is over. Returns whether the file is kept for good. If it
+    /// is, the bytes that were handed on for it are what its sink was given, but for comments.
     fn close<F: Sink>(&mut self, number: u64, sink: V, notices: &mut F) -> bool
         ensures opened { opened self.new ≡ opened self.old }
         ensures filed { IsTakenBack number (V.written sink) result (filed self.old) (filed self.new) }

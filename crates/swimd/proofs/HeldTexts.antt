@@ -74,8 +74,8 @@ ends_taken old mid text front takes ends = (
 pub ends_same : (old new : List ℕ) → EndsLine old → new ≡ old → EndsLine new
 ends_same old new ends is = (ends.0, is ∙ ends.1)
 
-pub then_takes : (old mid new : AtText) (text : List ℕ) (done : Bool) → mid.taken ≡ old.taken → all_of mid ≡ all_of old →
-    Takes mid new text done → Takes old new text done
+pub then_takes : (old mid new : AtText) (text : List ℕ) (done : Bool) → mid.taken ≡ old.taken →
+    all_of mid ≡ all_of old → Takes mid new text done → Takes old new text done
 then_takes old mid new text true taken all takes =
     (takes.0 ∙ ap (λ (t : List ℕ). t ++ text) taken, takes.1 ∙ ap (λ (t : List ℕ). t ++ text) all)
 then_takes old mid new text false taken all takes = (takes.0 ∙ taken, takes.1 ∙ all)

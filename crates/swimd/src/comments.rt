@@ -12,7 +12,8 @@ use std::rt::Clock;
 /// Room for a comment.
 const COMMENT_BYTES: usize = 80;
 
-/// The comment behind the line that begins so: one whole line that begins with `#`. It is empty where the line has none.
+/// The comment behind the line that begins so: one whole line that begins with `#`. It is empty where the line has
+/// none.
 pub fn comment_behind<K: Clock>(clock: &K, line: &[u8]) -> ArrayString<COMMENT_BYTES>
     ensures { MayComment result.bytes }
 {

@@ -24,8 +24,8 @@ use swim_trail::Trail;
 use swim_wire::Id;
 
 /// The folder in which a daemon has a file made for each of its lives, if it does: by whoever serves its desk, so that no
-/// life waits for a disk longer than a moment. What fails is told among the notices. A contract sees the lives for which
-/// it was asked for files, and those that it took back: what each of them took, and what its desk took of that.
+/// life waits for a disk longer than a moment. What fails is told among the notices. A contract sees for which lives it
+/// was asked for files, and those that it took back: what each of them took, and what its desk took of that.
 #[derive(Drop)]
 pub struct Folder<'r, R> {
     rt: &'r R,
