@@ -7,75 +7,76 @@ use swim_doubles::Text;
 use swim_script::{FaultKind, LineFault, ScriptFault, Session, run};
 use swim_text::{Page, Sink};
 
-const OPENING: &[u8] = b"open 1 1 1 3 9 2000\nrow 2 10.0.0.2:7000\n";
+const PLAIN: &[u8] = b"journal 1\nopen 1 1 1 3 9 2000\nrow 2 10.0.0.2:7000\n\
+    seed 0707070707070707070707070707070707070707070707070707070707070707 5\n\
+    hear 10.0.0.2:7000 535701010000000200000002000000010000000000000001\n= 0 sent\n\
+    tick\n= 1 started judged - probe 2 10\n\
+    remove 2\n= 2 removed\n";
 
-const SEED: &[u8] = b"seed 0707070707070707070707070707070707070707070707070707070707070707 5\n";
+// Behind the first line, in the header, behind answers, between a call and its answer, and at the end without a line
+// feed.
+const COMMENTED: &[u8] =
+    b"journal 1\n# swimd 1.0 2026-11-29T09:00:00.000Z\nopen 1 1 1 3 9 2000\n#\nrow 2 10.0.0.2:7000\n\
+    seed 0707070707070707070707070707070707070707070707070707070707070707 5\n\
+    hear 10.0.0.2:7000 535701010000000200000002000000010000000000000001\n= 0 sent\n\
+    tick\n= 1 started judged - probe 2 10\n# 1795942800\n\
+    remove 2\n# by an operator\n= 2 removed\n# 17959";
 
-const PING: &[u8] =
-    b"hear 10.0.0.2:7000 535701010000000200000002000000010000000000000001\n= 0 sent\n";
+const IN_FRONT: &[u8] = b"# in front\njournal 1\nopen 1 1 1 3 9 2000\nrow 2 10.0.0.2:7000\n";
 
-const START: &[u8] = b"tick\n= 1 started judged - probe 2 10\n";
+const DIFFERENT: &[u8] = b"journal 1\nopen 1 1 1 3 9 2000\nrow 2 10.0.0.2:7000\n\
+    seed 0707070707070707070707070707070707070707070707070707070707070707 5\n\
+    hear 10.0.0.2:7000 535701010000000200000002000000010000000000000001\n= 0 sent\n\
+    tick\n# a start\n= 1 quiet\n";
 
-// What is found wrong with these parts of a file, how many entries were made, and what was written.
-fn play(alloc: Global, parts: &[&[u8]]) -> Result<(Option<ScriptFault>, Option<u32>, Page), Fail> {
-    let mut file = Page::new(alloc);
-    for part in parts {
-        if !file.put(part) {
-            return Err(Fail::new("a file"));
-        }
-    }
+const BEHIND_FIRST: &[u8] = b"\nopen 1 1 1 3 9 2000\nrow 2 10.0.0.2:7000\n\
+    seed 0707070707070707070707070707070707070707070707070707070707070707 5\n\
+    tick\n= 0 started judged - probe 2 10\n";
+
+// What is found wrong with a file, how many entries were made, and what was written.
+fn play(alloc: Global, text: &[u8]) -> (Option<ScriptFault>, Option<u32>, Page) {
     let mut session = Session::new(alloc);
     let mut output = Page::new(alloc);
-    let fault = run(&mut session, &mut Text::new(file.text()), &mut output).err();
-    let journal = session.into_journal();
-    Ok((fault, journal.map(|journal| journal.len()), output))
+    let fault = run(&mut session, &mut Text::new(text), &mut output).err();
+    let entries = session.into_journal().map(|journal| journal.len());
+    (fault, entries, output)
+}
+
+// The same of a file whose second line is a comment with so many letters behind its sign.
+fn play_behind(alloc: Global, letters: &[u8]) -> Result<Option<ScriptFault>, Fail> {
+    let mut file = Page::new(alloc);
+    if !(file.put(b"journal 1\n#") && file.put(letters) && file.put(BEHIND_FIRST)) {
+        return Err(Fail::new("a file"));
+    }
+    let (fault, _entries, output) = play(alloc, file.text());
+    drop(output);
+    Ok(fault)
 }
 
 fn assert_fault<R: Abort>(rt: &R, fault: Option<ScriptFault>, line: u32, kind: FaultKind) {
     assert_eq!(rt; fault, Some(ScriptFault { line, kind }));
 }
 
-// Behind the first line, in the header, behind answers, between a call and its answer, and at the end without a line
-// feed: a file is played as if they weren't there.
+// A file is played as if its comments weren't there.
 #[test]
 fn comments_are_skipped(rt: HostRuntime) -> Result<(), Fail> {
     let alloc = rt.alloc();
-    let plain = play(
-        alloc,
-        &[
-            b"journal 1\n",
-            OPENING,
-            SEED,
-            PING,
-            START,
-            b"remove 2\n= 2 removed\n",
-        ],
-    )?;
-    let commented = play(
-        alloc,
-        &[
-            b"journal 1\n# swimd 1.0 2026-11-29T09:00:00.000Z\n",
-            OPENING,
-            b"#\n",
-            SEED,
-            PING,
-            START,
-            b"# 1795942800\nremove 2\n# by an operator\n= 2 removed\n# 17959",
-        ],
-    )?;
-    assert_eq!(rt; plain.0, None);
-    assert_eq!(rt; commented.0, None);
-    assert_eq!(rt; plain.1, Some(3));
-    assert_eq!(rt; commented.1, Some(3));
-    assert!(rt; commented.2.text() == plain.2.text());
+    let (fault, entries, output) = play(alloc, PLAIN);
+    let (commented_fault, commented_entries, commented_output) = play(alloc, COMMENTED);
+    assert_eq!(rt; fault, None);
+    assert_eq!(rt; entries, Some(3));
+    assert_eq!(rt; commented_fault, None);
+    assert_eq!(rt; commented_entries, Some(3));
+    assert!(rt; commented_output.text() == output.text());
     Ok(())
 }
 
 // The first line of a journal file is `journal 1`.
 #[test]
 fn a_comment_in_front_makes_another_script(rt: HostRuntime) -> Result<(), Fail> {
-    let played = play(rt.alloc(), &[b"# in front\njournal 1\n", OPENING, SEED])?;
-    assert_fault(&rt, played.0, 2, FaultKind::Words(LineFault::Word));
+    let (fault, _entries, output) = play(rt.alloc(), IN_FRONT);
+    drop(output);
+    assert_fault(&rt, fault, 2, FaultKind::Words(LineFault::Word));
     Ok(())
 }
 
@@ -83,33 +84,18 @@ fn a_comment_in_front_makes_another_script(rt: HostRuntime) -> Result<(), Fail> 
 #[test]
 fn a_comment_may_be_too_long(rt: HostRuntime) -> Result<(), Fail> {
     let alloc = rt.alloc();
-    let longest = play(
-        alloc,
-        &[b"journal 1\n#", &[b'x'; 2047], b"\n", OPENING, SEED, PING],
-    )?;
-    assert_eq!(rt; longest.0, None);
-    assert_eq!(rt; longest.1, Some(1));
-    let too_long = play(
-        alloc,
-        &[b"journal 1\n#", &[b'x'; 2048], b"\n", OPENING, SEED, PING],
-    )?;
-    assert_fault(&rt, too_long.0, 2, FaultKind::Long);
+    let longest = play_behind(alloc, &[b'x'; 2047])?;
+    assert_eq!(rt; longest, None);
+    let too_long = play_behind(alloc, &[b'x'; 2048])?;
+    assert_fault(&rt, too_long, 2, FaultKind::Long);
     Ok(())
 }
 
 // A comment hides no difference.
 #[test]
 fn a_difference_is_found_behind_a_comment(rt: HostRuntime) -> Result<(), Fail> {
-    let played = play(
-        rt.alloc(),
-        &[
-            b"journal 1\n",
-            OPENING,
-            SEED,
-            PING,
-            b"tick\n# a start\n= 1 quiet\n",
-        ],
-    )?;
-    assert_fault(&rt, played.0, 8, FaultKind::Differs);
+    let (fault, _entries, output) = play(rt.alloc(), DIFFERENT);
+    drop(output);
+    assert_fault(&rt, fault, 9, FaultKind::Differs);
     Ok(())
 }
