@@ -1,6 +1,6 @@
 //! The folder of the journal files, one for each life of a daemon.
 
-ghost use Rattle.std.specs.Prelude.{◌≡◌, Some, [], true};
+ghost use Rattle.std.specs.Prelude.{◌≡◌, Some, [], true, IfOk};
 ghost use Rattle.swim_journal.specs.Comments.{without_comments};
 ghost use Rattle.swim_keeper.specs.Notices.{Notices};
 
@@ -44,7 +44,7 @@ pub struct Folder<'r, R> {
 
 impl<'r, R: Net + Clock + Wait> Folder<'r, R> {
     /// The folder of this member's files, whose daemon began so many seconds after 1970, with the clerk's desk. Where
-    /// files are made, their memory is taken here.
+    /// files are made, their memory is taken here. It was asked for no file yet, and took none back.
     pub fn open<G: Clerk>(
         rt: &'r R,
         alloc: Global,
@@ -52,7 +52,10 @@ impl<'r, R: Net + Clock + Wait> Folder<'r, R> {
         me: Id,
         began: u64,
         clerk: &G,
-    ) -> Result<Folder<'r, R>, AllocError> {
+    ) -> Result<Folder<'r, R>, AllocError>
+        ensures opened { IfOk result (λ folder. folder.opened.items ≡ []) }
+        ensures filed { IfOk result (λ folder. folder.filed.items ≡ []) }
+    {
         let desk = clerk.desk()?;
         if files.dir.is_some() {
             desk.open_files(rt, alloc)?;
