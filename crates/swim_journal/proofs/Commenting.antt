@@ -112,24 +112,28 @@ skipped text comment rest b c =
 -- ---- a text that grows
 
 pub none_yet : IsCommented [] []
-none_yet = λ rest. refl
+none_yet = record { same = λ rest. refl }
 
 pub both_grow : (text plain more : List ℕ) → IsCommented text plain → IsCommented (text ++ more) (plain ++ more)
-both_grow text plain more is =
-    λ rest. ap without_comments (append_assoc text more rest) ∙ is (more ++ rest) ∙
-    ap without_comments (sym (append_assoc plain more rest))
+both_grow text plain more is = record {
+  same = λ rest. ap without_comments (append_assoc text more rest) ∙ is.same (more ++ rest) ∙
+      ap without_comments (sym (append_assoc plain more rest));
+}
 
 pub comment_grows : (text plain comment : List ℕ) → IsCommented text plain → EndsLine text → MayComment comment →
     IsCommented (text ++ comment) plain
-comment_grows text plain comment is ends (inl none) =
-    λ rest. ap (λ (t : List ℕ). without_comments ((text ++ t) ++ rest)) none
-    ∙ ap (λ (t : List ℕ). without_comments (t ++ rest)) (append-nil text) ∙ is rest
+comment_grows text plain comment is ends (inl none) = record {
+  same = λ rest. ap (λ (t : List ℕ). without_comments ((text ++ t) ++ rest)) none
+      ∙ ap (λ (t : List ℕ). without_comments (t ++ rest)) (append-nil text) ∙ is.same rest;
+}
 comment_grows text plain comment is ends (inr c) =
-    let cut : IsCut text = subst IsCut (sym ends.1) (cut_at_end ends.0) in
-    λ rest. ap without_comments (append_assoc text comment rest) ∙ skipped text comment rest (behind text cut) c ∙
-    is rest
+    let cut : IsCut text = subst IsCut (sym ends.is) (cut_at_end ends.front) in
+    record {
+      same = λ rest. ap without_comments (append_assoc text comment rest)
+          ∙ skipped text comment rest (behind text cut) c ∙ is.same rest;
+    }
 
 -- where nothing follows
 pub same_without : (text plain : List ℕ) → IsCommented text plain → without_comments text ≡ without_comments plain
 same_without text plain is =
-    ap without_comments (sym (append-nil text)) ∙ is [] ∙ ap without_comments (append-nil plain)
+    ap without_comments (sym (append-nil text)) ∙ is.same [] ∙ ap without_comments (append-nil plain)

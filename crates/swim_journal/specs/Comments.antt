@@ -36,10 +36,11 @@ abbrev pub MayComment : List ℕ → Type 0
 MayComment text = (text ≡ []) ⊎ IsCommentLine text
 
 -- a text ends with a line feed
-abbrev pub EndsLine : List ℕ → Type 0
-EndsLine text = (front : List ℕ) × (text ≡ front ++ 10 ∷ [])
+pub record EndsLine (text : List ℕ) : Type 0 where
+  pub front : List ℕ
+  pub is : text ≡ front ++ 10 ∷ []
 
 -- a text is this other one with comments between its lines: whatever follows on both, without comments they are the
 -- same
-abbrev pub IsCommented : List ℕ → List ℕ → Type 0
-IsCommented text plain = (rest : List ℕ) → without_comments (text ++ rest) ≡ without_comments (plain ++ rest)
+pub record IsCommented (text plain : List ℕ) : Type 0 where
+  pub same : (rest : List ℕ) → without_comments (text ++ rest) ≡ without_comments (plain ++ rest)

@@ -66,13 +66,13 @@ handed_same held taken old new a is new-is =
 
 pub ends_taken : (old mid : AtText) (text front : List ℕ) → Takes old mid text true → text ≡ front ++ 10 ∷ [] →
     EndsLine (all_of mid)
-ends_taken old mid text front takes ends = (
-  all_of old ++ front,
-  takes.1 ∙ ap (λ (t : List ℕ). all_of old ++ t) ends ∙ sym (append_assoc (all_of old) front (10 ∷ [])),
-)
+ends_taken old mid text front takes ends = record {
+  front = all_of old ++ front;
+  is = takes.1 ∙ ap (λ (t : List ℕ). all_of old ++ t) ends ∙ sym (append_assoc (all_of old) front (10 ∷ []));
+}
 
 pub ends_same : (old new : List ℕ) → EndsLine old → new ≡ old → EndsLine new
-ends_same old new ends is = (ends.0, is ∙ ends.1)
+ends_same old new ends is = record { front = ends.front; is = is ∙ ends.is }
 
 pub then_takes : (old mid new : AtText) (text : List ℕ) (done : Bool) → mid.taken ≡ old.taken →
     all_of mid ≡ all_of old → Takes mid new text done → Takes old new text done
