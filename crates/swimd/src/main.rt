@@ -29,6 +29,7 @@ mod event_sockets;
 mod file_faults;
 mod folders;
 mod happenings;
+mod held_texts;
 mod hints;
 mod journal_files;
 mod key_making;
