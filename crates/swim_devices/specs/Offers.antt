@@ -2,11 +2,12 @@
 use Rattle.std.specs.Prelude.{ℕ, ◌≤◌, List, [], take}
 use Rattle.swim_events.specs.declared.outlets.Offer.{Offer}
 use Rattle.swim_events.specs.declared.outlets.Offer.TheVariants.{Took, Full, Gone}
+use Rattle.swim_events.specs.Guests.{Offering}
 
--- what a contract sees of an outlet: the bytes that it took so far, and its answers, oldest first
+-- what a contract sees of an outlet: the bytes that it took so far, and all that was offered to it, oldest first
 pub record AtOutlet : Type 0 where
   pub taken : List ℕ
-  pub offers : List Offer
+  pub offers : List Offering
 
 -- the bytes that were taken of those that were offered
 abbrev pub taken_of : Offer → List ℕ → List ℕ
@@ -15,7 +16,7 @@ taken_of Full bytes = []
 taken_of Gone bytes = []
 
 -- the same of an offer that was noted
-abbrev pub taken_in : Offer × List ℕ → List ℕ
+abbrev pub taken_in : Offering → List ℕ
 taken_in i = taken_of i.0 i.1
 
 -- no more were taken than so many

@@ -16,7 +16,7 @@ use swim_trail::Trail;
 const THROWN_BYTES: usize = 512;
 
 /// Where the bytes of one go who watches. The stream is one that doesn't wait. What comes from it is thrown away. A
-/// contract sees what the system took, and the answer to each offer.
+/// contract sees what the system took, and each offer with its answer.
 #[derive(Drop)]
 pub struct StreamOutlet {
     stream: UnixStream,
@@ -26,13 +26,12 @@ pub struct StreamOutlet {
 }
 
 impl Model for StreamOutlet {
-    ghost use Rattle.std.specs.Prelude.{flat_map, map};
-    ghost use Rattle.swim_trail.specs.Noted.{value_in};
+    ghost use Rattle.std.specs.Prelude.{flat_map};
     ghost use Rattle.swim_devices.specs.Offers.{AtOutlet, taken_in};
 
     ghost Value = { AtOutlet };
 
-    ghost view = { λ o. record { taken = flat_map taken_in o.offers.items; offers = map value_in o.offers.items } };
+    ghost view = { λ o. record { taken = flat_map taken_in o.offers.items; offers = o.offers.items } };
 }
 
 impl StreamOutlet {
@@ -48,10 +47,10 @@ impl StreamOutlet {
     }
 
     /// Offers the stream these bytes once, and notes what became of it. Nothing else does either.
-    #[tactic(auto, using(crate::proofs::Offered::takes_more, swim_trail::specs::Noted::map_more))]
+    #[tactic(auto, using(crate::proofs::Offered::takes_more))]
     fn offer_once(&mut self, bytes: &[u8]) -> Offer
         ensures takes { Takes result bytes.now (Some self.old.taken) (Some self.new.taken) }
-        ensures offered { self.new.offers ≡ self.old.offers ++ result ∷ [] }
+        ensures offered { self.new.offers ≡ self.old.offers ++ (result, bytes.now) ∷ [] }
     {
         let mut thrown = [0u8; THROWN_BYTES];
         let _read = self.stream.read(&mut thrown);
@@ -68,7 +67,7 @@ impl Outlet for StreamOutlet {
 
     fn offer(&mut self, bytes: &[u8]) -> Offer
         ensures takes { Takes result bytes.now (Some self.old.taken) (Some self.new.taken) }
-        ensures offered { self.new.offers ≡ self.old.offers ++ result ∷ [] }
+        ensures offered { self.new.offers ≡ self.old.offers ++ (result, bytes.now) ∷ [] }
     {
         self.offer_once(bytes)
     }

@@ -15,7 +15,8 @@ use Rattle.swim_events.specs.declared.outlets.Offer.TheVariants.{Took, Full, Gon
 use Rattle.swim_events.specs.declared.watchers.WatcherStanding.TheVariants.{Following}
 use Rattle.swim_events.specs.Texts.{change_text, life_text, table_text}
 use Rattle.swim_events.specs.Watchers.{AtWatcher, IsStream, after_sent, after_text}
-use Rattle.swim_events.specs.Guests.{AreSent, AtGuest, Grows, IsTurn, IsUntaken, kept_if, newcomer, put_text, told_of}
+use Rattle.swim_events.specs.Guests.{AreSent, AtGuest, Grows, IsTurn, IsUntaken, Offering, kept_if, newcomer}
+use Rattle.swim_events.specs.Guests.{put_text, told_of}
 use Rattle.swim_events.specs.Watched.{IsWatchedOver, Lived, lived_on}
 use Rattle.swim_events.specs.Telling.{AreTexts, AreTextsOver, AreTold, IsGuestTold, IsTaken, IsTelling, IsTellingOver}
 use Rattle.swim_events.specs.Telling.{life_texts}
@@ -144,7 +145,7 @@ untaken None none = tt
 untaken (Some taken) none = sym none
 
 pub told_newcomer : (life : Lived) (older : List Lived) (rows : List Row) (taken : Option (List ℕ))
-    (offers : Option (List Offer)) →
+    (offers : Option (List Offering)) →
     rows ≡ table life.opening life.past → IsUntaken taken → IsGuestTold (life ∷ older) (newcomer rows taken offers)
 told_newcomer life older rows taken offers are none = (
   [],

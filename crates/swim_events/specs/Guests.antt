@@ -10,13 +10,17 @@ use Rattle.swim_events.specs.declared.watchers.WatcherStanding.TheVariants.{Foll
 use Rattle.swim_events.specs.Texts.{change_text, table_text}
 use Rattle.swim_events.specs.Watchers.{AtWatcher, after_sent, after_text, is_behind}
 
+-- what became of an offer, and the bytes that were offered
+abbrev pub Offering : Type 0
+Offering = Offer × List ℕ
+
 -- a watcher, and since when nothing of what waits could be sent to it, if that is so; the bytes that its outlet took,
--- and what became of the offers to it, where these are known
+-- and all that was offered to it, oldest first, where these are known
 pub record AtGuest : Type 0 where
   pub watcher : AtWatcher
   pub stuck : Option ℕ
   pub taken : Option (List ℕ)
-  pub offers : Option (List Offer)
+  pub offers : Option (List Offering)
 
 -- a list grew by these, where it is known; what isn't known stays so
 abbrev pub Grows : {A : Type 0} → Option (List A) → Option (List A) → List A → Type 0
@@ -37,7 +41,7 @@ IsUntaken None = Unit {0}
 IsUntaken (Some taken) = taken ≡ []
 
 -- who comes is told these rows first
-abbrev pub newcomer : List Row → Option (List ℕ) → Option (List Offer) → AtGuest
+abbrev pub newcomer : List Row → Option (List ℕ) → Option (List Offering) → AtGuest
 newcomer rows taken offers =
     record {
       watcher = record { pending = table_text rows; standing = Following };
@@ -80,12 +84,12 @@ abbrev pub IsGivenUp : ℕ → Option ℕ → Type 0
 IsGivenUp time None = ⊥
 IsGivenUp time (Some since) = since + 10000 ≤ time
 
--- a turn at this time, in milliseconds: all that was to be sent was offered, and what was taken of it is to be sent no
--- more. There is no other turn where nobody takes it any more, where the watcher was told of its loss, and where
+-- a turn at this time, in milliseconds: all that was to be sent was offered, once, and what was taken of it is to be sent
+-- no more. There is no other turn where nobody takes it any more, where the watcher was told of its loss, and where
 -- nothing could be sent to it for ten seconds
 pub record IsTurn (time : ℕ) (old : AtGuest) (offer : Offer) (new : AtGuest) (goes_on : Bool) : Type 0 where
   pub takes : Takes offer old.watcher.pending old.taken new.taken
-  pub offered : Grows old.offers new.offers (offer ∷ [])
+  pub offered : Grows old.offers new.offers ((offer, old.watcher.pending) ∷ [])
   pub watcher : new.watcher ≡ after_offer offer old.watcher
   pub stuck : new.stuck ≡ stuck_then time old.watcher.pending offer old.stuck
   pub leaves : (goes_on ≡ false)

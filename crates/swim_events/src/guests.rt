@@ -13,8 +13,7 @@ use std::marker::Model;
 const PATIENCE_MS: u64 = 10_000;
 
 /// One who watches: what is to be sent, and where it goes. The outlet stands in a box, since nothing is known of its
-/// size. A contract sees the watcher, since when it is stuck, what its outlet took, and what became of each offer to
-/// it.
+/// size. A contract sees the watcher, since when it is stuck, what its outlet took, and each offer to it.
 #[derive(Drop)]
 pub(crate) struct Guest<E: Outlet + Drop> {
     watcher: Watcher,

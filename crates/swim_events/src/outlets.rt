@@ -17,19 +17,19 @@ pub enum Offer {
 /// Where the bytes of one go who watches.
 pub trait Outlet {
     ghost use Rattle.std.specs.Prelude.{ℕ, List, Option};
-    ghost use Rattle.swim_events.specs.declared.outlets.Offer.{Offer as Offered};
+    ghost use Rattle.swim_events.specs.Guests.{Offering};
 
     // the bytes that it took so far, where they are known
     ghost taken: { Self → Option (List ℕ) };
 
-    // what became of each of the offers so far, oldest first, where that is known
-    ghost offers: { Self → Option (List Offered) };
+    // what became of each of the offers so far, and the bytes that were offered, oldest first, where that is known
+    ghost offers: { Self → Option (List Offering) };
 
     /// Takes as many of these bytes as it can at once. It is asked where there are none, too, so that it may find that
     /// nobody takes them any more.
     fn offer(&mut self, bytes: &[u8]) -> Offer
         ensures takes { Takes result bytes.now (taken self.old) (taken self.new) }
-        ensures offered { Grows (offers self.old) (offers self.new) (result ∷ []) };
+        ensures offered { Grows (offers self.old) (offers self.new) ((result, bytes.now) ∷ []) };
 }
 
 /// Where those come in who watch, and the clock by which they are given up.

@@ -1,5 +1,5 @@
 -- Journal files of a daemon, one after the other. A list of them is newest first.
-use Rattle.std.specs.Prelude.{◌≡◌, ◌≢◌, ◌↔◌, ◌==◌, Bool, true, false, List, [], ◌∷◌, Option, Some, None}
+use Rattle.std.specs.Prelude.{◌≡◌, ◌↔◌, ◌==◌, Bool, true, false, List, [], ◌∷◌, Option, Some, None}
 use Rattle.swim_evidence.specs.declared.verdicts.Standing.{Standing}
 use Rattle.swim_evidence.specs.declared.verdicts.Standing.TheVariants.{Sound, Starved, Accused}
 use Rattle.swim_evidence.specs.declared.following.Draw.{Draw}
@@ -71,10 +71,16 @@ abbrev pub StandsBehind : Option Seen → Seen → Type 0
 StandsBehind None now = Unit {0}
 StandsBehind (Some before) now = StandsIf (begins_anew now.header) now.header before.left
 
--- where memory was refused for a file, and so it isn't known what it left, nothing is said against the next one's place
-abbrev pub IsSpared : Option Seen → Link → Type 0
-IsSpared None link = Unit {0}
-IsSpared (Some before) link = before.standing ≡ Starved → before.left ≡ None → standing_of link ≢ Accused
+-- it isn't known whether a file stands behind another, as memory was refused for that one
+abbrev pub IsUntold : Option Seen → Seen → Type 0
+IsUntold None now = ⊥
+IsUntold (Some before) now =
+    (before.standing ≡ Starved) × (before.left ≡ None) × ¬ StandsBehind (Some before) now
+
+-- what is found of a file's place behind another, if there is one
+pub record IsPlace (before : Option Seen) (now : Seen) (place : Standing) : Type 0 where
+  pub sound : (place ≡ Sound) ↔ StandsBehind before now
+  pub untold : (place ≡ Starved) ↔ IsUntold before now
 
 abbrev pub newest : List Seen → Option Seen
 newest [] = None
@@ -85,7 +91,15 @@ abbrev pub AreGood : List Seen → Type 0
 AreGood [] = Unit {0}
 AreGood (now ∷ before) = (now.standing ≡ Sound) × StandsBehind (newest before) now × AreGood before
 
+-- the worst of what is found of these files and of their places
+abbrev pub IsWorst : List Seen → Standing → Type 0
+IsWorst [] worst = worst ≡ Sound
+IsWorst (now ∷ before) worst =
+    (earlier : Standing) × (place : Standing) × IsWorst before earlier × IsPlace (newest before) now place
+    × (worst ≡ worse (worse earlier now.standing) place)
+
 -- what is known once these files were seen
 pub record IsSequence (seen : List Seen) (s : Sequence) : Type 0 where
   pub before : s.before ≡ newest seen
   pub good : (s.standing ≡ Sound) ↔ AreGood seen
+  pub worst : IsWorst seen s.standing

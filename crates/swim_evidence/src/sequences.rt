@@ -1,8 +1,8 @@
 //! Journal files of a daemon, one after the other: whether each stands behind the one before.
 
-ghost use Rattle.std.specs.Prelude.{◌≡◌, ◌≢◌, ◌↔◌, ◌∷◌, [], List, None, false};
-ghost use Rattle.swim_evidence.specs.Sequences.{AreGood, FollowsIf, IsSequence, IsSpared, StandsBehind, begins_anew};
-ghost use Rattle.swim_evidence.specs.Sequences.{is_comparable, is_told, standing_of, worse};
+ghost use Rattle.std.specs.Prelude.{◌≡◌, ◌≢◌, ◌↔◌, ◌∷◌, [], List, None, false, true};
+ghost use Rattle.swim_evidence.specs.Sequences.{AreGood, FollowsIf, IsSequence, IsUntold, IsWorst, StandsBehind};
+ghost use Rattle.swim_evidence.specs.Sequences.{begins_anew, is_comparable, is_told, standing_of, worse};
 
 use crate::following::{Break, Draw, Heading, first_break};
 use crate::verdicts::Standing;
@@ -112,12 +112,11 @@ impl Sequence {
     }
 
     /// This is the next file. It is answered how it stands to the one before it.
-    #[tactic(auto, using(crate::proofs::OneMore::one_more_seen))]
     pub fn add(&mut self, now: Seen) -> Link
         ensures link { (standing_of result ≡ Standing.Sound) ↔ StandsBehind self.old.before now }
 
-        // Where memory was refused for that one, nothing is said against this one's place.
-        ensures spared { IsSpared self.old.before result }
+        // Only where memory was refused for that one, nothing is said against this one's place, though it is unknown.
+        ensures untold { (standing_of result ≡ Standing.Starved) ↔ IsUntold self.old.before now }
         ensures standing { self.new.standing ≡ worse (worse self.old.standing now.standing) (standing_of result) }
         ensures seen { (seen : List Seen) → IsSequence seen self.old → IsSequence (now ∷ seen) self.new }
     {
@@ -127,10 +126,11 @@ impl Sequence {
         link
     }
 
-    /// Whether something speaks against one of them.
+    /// Whether something speaks against one of them: the worst of what is found of them and of their places.
     pub fn standing(&self) -> Standing
         ensures value { result ≡ self.now.standing }
         ensures good { (seen : List Seen) → IsSequence seen self.now → (result ≡ Standing.Sound) ↔ AreGood seen }
+        ensures worst { (seen : List Seen) → IsSequence seen self.now → IsWorst seen result }
     {
         self.standing
     }
@@ -152,7 +152,7 @@ impl Standing {
 /// How a file stands to the one before it, if there is one.
 fn link_of(before: &Option<Seen>, now: &Seen) -> Link
     ensures stands { (standing_of result ≡ Standing.Sound) ↔ StandsBehind before.now now.now }
-    ensures spared { IsSpared before.now result }
+    ensures untold { (standing_of result ≡ Standing.Starved) ↔ IsUntold before.now now.now }
 {
     let Some(before) = before else {
         return Link::First;
@@ -182,8 +182,9 @@ fn begins_anew(header: &Option<Header>) -> bool
 
 /// How a file with this header stands to one that left this.
 fn link_to(left: &Left, header: &Header) -> Link
-    ensures { (standing_of result ≡ Standing.Sound)
+    ensures stands { (standing_of result ≡ Standing.Sound)
         ↔ FollowsIf (is_comparable header.now.end left.now.heading.draw) left.now header.now }
+    ensures told { standing_of result ≢ Standing.Starved }
 {
     if !is_comparable(header.end, &left.heading.draw) {
         return Link::Follows;
@@ -213,7 +214,7 @@ fn is_comparable(end: HeaderEnd, before: &Option<Draw>) -> bool
 /// How a file whose header ends so stands to one that is found to be so, and of which it isn't known what it left.
 fn link_to_unknown(before: Standing, end: HeaderEnd) -> Link
     ensures stands { (standing_of result ≡ Standing.Sound) ↔ (is_told end ≡ false) }
-    ensures spared { before ≡ Standing.Starved → standing_of result ≢ Standing.Accused }
+    ensures untold { (standing_of result ≡ Standing.Starved) ↔ ((is_told end ≡ true) × (before ≡ Standing.Starved)) }
 {
     match (end, before) {
         (HeaderEnd::Open | HeaderEnd::Cut, _) => Link::Follows,

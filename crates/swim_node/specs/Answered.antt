@@ -10,7 +10,7 @@ use Rattle.swim_history.specs.declared.seats.Kept.{Kept}
 use Rattle.swim_history.specs.declared.gaps.Gap.{Gap}
 use Rattle.swim_history.specs.Setting.{Setting}
 use Rattle.swim_history.specs.Changes.{changes}
-use Rattle.swim_history.specs.Run.{calls_of, IsRun}
+use Rattle.swim_history.specs.Run.{IsRun}
 use Rattle.swim_history.specs.Seats.{kept_of}
 use Rattle.swim_history.specs.Gap.{IsWidest, HasNoGap}
 use Rattle.swim_node.specs.declared.receipts.CallFault.{CallFault}
@@ -46,10 +46,10 @@ pub record IsAnswered (o : Setting) (old new : Seated) (call : Call) (k : Kept) 
   pub room : old.full ≡ 0
   pub full : new.full ≡ 0
 
--- a history that the node may have had when the seat had made these calls
+-- a history that the node may have had when the seat had made these calls: its entries of the seat are these very ones
 pub record IsMoment (o : Setting) (seat : Seated) (past : List Entry) : Type 0 where
   pub run : IsRun o past
-  pub calls : calls_of seat.number past ≡ length seat.calls
+  pub calls : seat.calls ≡ kept_of seat.number past
 
 -- why a call may be refused under the lock: at such a moment the journal had as many entries as it may have; or it had
 -- fewer, as none of the seat's calls had met a full journal, and memory was refused. That the journal of such a moment
@@ -77,6 +77,6 @@ refused fault seat = record seat { full = full_after fault seat.full }
 -- what is told of a member's widest gap is true of a history with these calls of the seat
 abbrev pub IsGapAtMoment : Setting → Seated → ℕ → Option Gap → Type 0
 IsGapAtMoment o seat member gap =
-    (past : List Entry) × IsRun o past × (seat.calls ≡ kept_of seat.number past)
+    (past : List Entry) × IsMoment o seat past
     × IfSome gap (λ g. IsWidest o past member g.a g.b g.n)
     × ((gap ≡ None) ↔ HasNoGap o past member)

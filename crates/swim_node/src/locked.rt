@@ -1,6 +1,6 @@
 //! What lies under a node's lock.
 
-ghost use Rattle.std.specs.Prelude.{◌≡◌, ◌<◌, ◌≤◌, ◌+◌, length, true, IfOk, IfErr, IfSome};
+ghost use Rattle.std.specs.Prelude.{◌≡◌, ◌<◌, ◌≤◌, ◌+◌, length, true, IfOk, IfSome, IfNone};
 ghost use Rattle.std.specs.Vec.{vec_capacity, vec_len};
 ghost use mathlib.Core.List.{IsPrefix};
 ghost use Rattle.swim_detector.specs.Recording.{IsKept};
@@ -8,9 +8,9 @@ ghost use Rattle.swim_node.specs.Following.{filings_of, note_in};
 ghost use Rattle.swim_node.specs.Draws.{DrawsAll};
 ghost use Rattle.swim_history.specs.Seats.{kept_of};
 ghost use Rattle.swim_node.specs.News.{SawNothing, EndsWithChange};
-ghost use Rattle.swim_node.specs.Seats.{Seated, AreNew, AreTheSeats};
+ghost use Rattle.swim_node.specs.Seats.{AreNew, AreTheSeats};
 ghost use Rattle.swim_node.specs.Cells.{noted};
-ghost use Rattle.swim_node.specs.Answered.{EndsARun, MayRefuse, full_after, IsGapAtMoment};
+ghost use Rattle.swim_node.specs.Answered.{EndsARun, MayRefuse, refused, IsGapAtMoment};
 ghost use Rattle.swim_node.specs.OneHistory.{AreFullWhereMet, HoldsCalls, IsOneHistory};
 
 use crate::board::Board;
@@ -110,7 +110,7 @@ impl<N: Naming, C: Chooser, H: Wait + Drop> Locked<N, C, H> {
 
     /// Answers a call of a seat that made so many before. In this order: the journal's limit; every growth of memory
     /// under the lock; and from then on nothing is refused: the detector's answer and entry, the count, the publication
-    /// of the change, the cell.
+    /// of the change, the cell. `None` where the journal is full or there is no memory; then nothing was changed.
     pub(crate) fn call<R: Wait>(
         &mut self,
         rt: &R,
@@ -119,22 +119,20 @@ impl<N: Naming, C: Chooser, H: Wait + Drop> Locked<N, C, H> {
         number: usize,
         call: &Call,
         filed: Box<Filed>,
-    ) -> Result<Answered<N>, CallFault>
+    ) -> Option<Answered<N>>
         requires { number ≡ tally.old.calls }
-        ensures ok { IfOk result (λ a. (a.kept.call ≡ call.now) × (a.kept.number ≡ number)
+        ensures some { IfSome result (λ a. (a.kept.call ≡ call.now) × (a.kept.number ≡ number)
             × (tally.new ≡ record tally.old { calls = number + 1 }) × (tally.old.full ≡ 0)
             × EndsARun N.opening tally.old.seat a.kept a.news
             × (a.note ≡ noted N.cells tally.old.seat a.kept)) }
-        ensures change { IfOk result (λ a. EndsWithChange a.kept.call a.kept.reply a.news) }
-        ensures err { IfErr result (λ fault. tally.new ≡ record tally.old { full = full_after fault tally.old.full }) }
-        ensures refuses { IfErr result (λ fault. (seat : Seated) → seat.number ≡ tally.old.seat →
-            length seat.calls ≡ number → seat.full ≡ tally.old.full → MayRefuse N.opening N.limit seat fault) }
+        ensures change { IfSome result (λ a. EndsWithChange a.kept.call a.kept.reply a.news) }
+        ensures none { IfNone result (tally.new ≡ tally.old) }
     {
         // These two take no time, and show what the seat's counts and the journal are.
         self.books.audit(tally);
         let position = self.recorder.journal().len();
         if !make_room(&mut self.recorder, &mut self.notes) {
-            return Err(self.refusal(tally));
+            return None;
         }
         let change = self.recorder.change(call);
         let seat = tally.seat();
@@ -149,23 +147,22 @@ impl<N: Naming, C: Chooser, H: Wait + Drop> Locked<N, C, H> {
         };
         let mut note = cells.file(rt, seat, &kept, filed);
         self.notes.push_reserved(note.again());
-        Ok(Answered {
+        Some(Answered {
             kept,
             news: self.board.news(),
             note,
         })
     }
 
-    /// Why a call of a seat is refused that finds no memory: where the journal is full, that is told.
-    pub(crate) fn refusal(&mut self, tally: &mut Tally<N>) -> CallFault
-        ensures tally { tally.new ≡ record tally.old { full = full_after result tally.old.full } }
-        ensures may { (seat : Seated) → seat.number ≡ tally.old.seat → length seat.calls ≡ tally.old.calls →
-            seat.full ≡ tally.old.full → MayRefuse N.opening N.limit seat result }
+    /// Why a call of a seat is refused to which there was no room: where the journal is full, that is told.
+    pub(crate) fn refusal<R: Wait>(&mut self, rt: &R, caller: &mut Seat<N>) -> CallFault
+        ensures seat { caller.new ≡ refused result caller.old }
+        ensures may { MayRefuse N.opening N.limit caller.old result }
     {
-        self.books.audit(tally);
+        self.compare(rt, caller);
         let _run = self.recorder.journal().len();
         match self.recorder.ready() {
-            Err(ApplyFault::JournalFull) => self.full(tally),
+            Err(ApplyFault::JournalFull) => self.full(&mut caller.tally),
             Ok(()) | Err(ApplyFault::NoMemory) => CallFault::NoMemory,
         }
     }

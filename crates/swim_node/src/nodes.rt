@@ -264,9 +264,8 @@ impl<N: Naming, C: Chooser, H: Wait + Drop> Node<N, C, H> {
             .lock(rt)
             .call(rt, &self.cells, &mut seat.tally, number, call, filed);
         // The lock is free again: what is left to do touches the seat alone.
-        let (kept, news, note) = match answered {
-            Ok(Answered { kept, news, note }) => (kept, news, note),
-            Err(fault) => return Err(fault),
+        let Some(Answered { kept, news, note }) = answered else {
+            return Err(self.refusal(rt, seat));
         };
         let receipt = Receipt {
             position: kept.position,
@@ -280,12 +279,13 @@ impl<N: Naming, C: Chooser, H: Wait + Drop> Node<N, C, H> {
         Ok(receipt)
     }
 
-    // Why a call is refused to which the seat has no room: where the journal is full, that is told.
+    // Why a call is refused to which there was no room: where the journal is full, that is told. The lock is taken anew,
+    // and so what is told is so at that moment.
     fn refusal<R: Wait>(&self, rt: &R, seat: &mut Seat<N>) -> CallFault
         ensures seat { seat.new ≡ refused result seat.old }
         ensures may { MayRefuse N.opening N.limit seat.old result }
     {
-        self.locked.lock(rt).refusal(&mut seat.tally)
+        self.locked.lock(rt).refusal(rt, seat)
     }
 }
 

@@ -13,8 +13,7 @@ use Rattle.swim_history.specs.Run.{IsRun}
 use Rattle.swim_history.specs.Setting.{Setting, IsSetting}
 use Rattle.swim_node.specs.Cells.{Filing}
 use Rattle.swim_node.specs.Following.{filing_of, filings_of}
-use Rattle.swim_events.specs.declared.outlets.Offer.{Offer}
-use Rattle.swim_events.specs.Guests.{AreSent, AtGuest, newcomer, put_text, told_of}
+use Rattle.swim_events.specs.Guests.{AreSent, AtGuest, Offering, newcomer, put_text, told_of}
 use Rattle.swim_events.specs.Telling.{AreTold, life_texts}
 use Rattle.swim_events.specs.Texts.{change_text, life_text}
 use Rattle.swim_events.specs.Watched.{Lived, lived_on}
@@ -55,7 +54,7 @@ course_on life e guests were now (Some change) made is was = record {
 }
 
 course_comes : (life : Lived) (guests were now : List AtGuest) (rows : List Row) (taken : Option (List ℕ))
-    (offers : Option (List Offer)) (is_in : Bool) →
+    (offers : Option (List Offering)) (is_in : Bool) →
     MatchBool is_in (now ≡ were ++ newcomer rows taken offers ∷ []) (now ≡ were) → IsCourse life guests were →
     IsCourse life guests now
 course_comes life guests were now rows taken offers true is was =
@@ -124,7 +123,7 @@ next_told number o guests heard hears more read f k change old w were now kept k
 -- one has come, who is told what is known
 pub newcomer_told : (number : ℕ) (o : Setting) (guests : List AtGuest) (heard hears : Option (List Report))
     (read : List Filing) (w : Known) (were now : List AtGuest) (rows : List Row) (taken : Option (List ℕ))
-    (offers : Option (List Offer)) (is_in : Bool) → rows ≡ w.rows →
+    (offers : Option (List Offering)) (is_in : Bool) → rows ≡ w.rows →
     MatchBool is_in (now ≡ were ++ newcomer rows taken offers ∷ []) (now ≡ were) →
     ((life : Lived) (older : List Lived) → rows ≡ table life.opening life.past → AreTold (life ∷ older) were →
     AreTold (life ∷ older) now) →

@@ -3,8 +3,7 @@ use Rattle.std.specs.Prelude.{◌≡◌, ℕ, List, [], ◌∷◌, ◌++◌, map
 use Rattle.swim_history.specs.declared.entries.Entry.{Entry}
 use Rattle.swim_history.specs.declared.rows.Row.{Row}
 use Rattle.swim_history.specs.Setting.{Setting}
-use Rattle.swim_events.specs.declared.outlets.Offer.{Offer}
-use Rattle.swim_events.specs.Guests.{AreSent, AtGuest, newcomer, put_text}
+use Rattle.swim_events.specs.Guests.{AreSent, AtGuest, Offering, newcomer, put_text}
 use Rattle.swim_events.specs.Telling.{AreTold, life_texts}
 use Rattle.swim_events.specs.Watched.{Lived}
 
@@ -22,7 +21,7 @@ AreToldLife number o before h after =
 -- a turn at this time
 pub data Happening : Type 0 where
   Put : List ℕ → Happening
-  Comes : List Row → Option (List ℕ) → Option (List Offer) → Happening
+  Comes : List Row → Option (List ℕ) → Option (List Offering) → Happening
   Turn : ℕ → Happening
 
 abbrev pub Happens : Happening → List AtGuest → List AtGuest → Type 0

@@ -18,7 +18,7 @@ use Rattle.swim_history.specs.Rows.{row_at}
 use Rattle.swim_history.specs.declared.rows.Row.{Row}
 use Rattle.swim_rejoin.specs.Failed.{is_failed, verdict_of}
 use Rattle.swim_rejoin.specs.Knocking.{is_after, is_due, knocked_by, last_knocked, whose_turn}
-use Rattle.swim_rejoin.specs.Turns.{StaysFailed, is_of, was_knocked_at}
+use Rattle.swim_rejoin.specs.Turns.{IsNext, StaysFailed, is_of, was_knocked_at}
 use Rattle.swim_rejoin.proofs.Finding.{found_passes, not_below, row_id, same_number, some_is}
 use Rattle.swim_rejoin.proofs.Starting.{due_is, mod_more, round_more}
 
@@ -83,11 +83,6 @@ found_among p q (r ∷ rows) row all found =
       by_both false e b rest-is both c h rest = cc
 
 -- ---- whose turn it is
-
--- the next id behind the last, on the way round to that member's
-abbrev IsNext : ℕ → Option ℕ → ℕ → Type 0
-IsNext id None next = next ≤ id
-IsNext id (Some last) next = ((last < next) × (last < id → next ≤ id)) ⊎ ((id ≤ last) × (next ≤ id))
 
 -- the id is ahead, behind the last and on the way round up to that member's
 abbrev ahead : ℕ → Option ℕ → ℕ → Bool
@@ -155,6 +150,18 @@ turn_is_next rows id row last q ascends there is failed all = by_last last where
       (q next ≡ true) × IsNext id l next.id
   by_last None = lowest (find is_failed rows) refl
   by_last (Some l) = behind l (find (is_after l) rows) refl
+
+all_pass : (rows : List Row) → list_all (λ (row : Row). true) rows ≡ true
+all_pass [] = refl
+all_pass (row ∷ rows) = all_pass rows
+
+-- and nobody who is failed is passed over on the way round
+pub turn_passes_nobody : (rows : List Row) (id : ℕ) (row next : Row) (last : Option ℕ) → IsAscending rows →
+    row_at rows id ≡ Some row → is_failed row ≡ true → whose_turn last rows ≡ Some next → IsNext id last next.id
+turn_passes_nobody rows id row next last ascends there failed turn =
+    let found = turn_is_next rows id row last (λ r. true) ascends there (row_id rows id row there) failed
+    (all_pass rows) in
+    subst (λ (r : Row). IsNext id last r.id) (some_is found.0 next (sym found.1 ∙ turn)) found.4
 
 -- ---- who is ahead
 

@@ -1,5 +1,5 @@
 -- That each failed member has its turn.
-use Rattle.std.specs.Prelude.{◌≡◌, ℕ, Bool, true, false, not, ◌==◌, ◌||◌, List, [], ◌∷◌, ◌++◌}
+use Rattle.std.specs.Prelude.{◌≡◌, ◌<◌, ◌≤◌, ◌⊎◌, ℕ, Bool, true, false, not, ◌==◌, ◌||◌, List, [], ◌∷◌, ◌++◌}
 use Rattle.std.specs.Prelude.{Option, Some, None, is_some}
 use Rattle.std.specs.List.{list_all}
 use Rattle.swim_wire.specs.Ids.{has}
@@ -11,6 +11,12 @@ use Rattle.swim_rejoin.specs.Knocking.{knocked_by}
 -- each failed member of a table is one of these
 abbrev pub are_among : List ℕ → List Row → Bool
 are_among ids rows = list_all (λ row. not (is_failed row) || has ids row.id) rows
+
+-- behind the last one that was knocked at, or from the lowest on if there is none, that id is the next on the way round
+-- to a member's
+abbrev pub IsNext : ℕ → Option ℕ → ℕ → Type 0
+IsNext id None next = next ≤ id
+IsNext id (Some last) next = ((last < next) × (last < id → next ≤ id)) ⊎ ((id ≤ last) × (next ≤ id))
 
 -- that member is failed by each of these tables, and all who are failed are among those. The rows ascend by id
 abbrev pub StaysFailed : ℕ → List ℕ → List (List Row) → Type 0

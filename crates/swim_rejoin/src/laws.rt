@@ -1,16 +1,17 @@
 //! Laws of knocks and of joins. Each is the contract of a function that does nothing, so that it stays proved.
 
-ghost use Rattle.std.specs.Prelude.{◌≡◌, ◌≢◌, ◌+◌, ◌*◌, ◌<◌, ◌≤◌, ◌∷◌, ℕ, List, length, min, nat_lt, true};
-ghost use Rattle.std.specs.Prelude.{count_by};
+ghost use Rattle.std.specs.Prelude.{◌≡◌, ◌≢◌, ◌+◌, ◌*◌, ◌<◌, ◌≤◌, ◌∷◌, ℕ, List, Option, length, min, nat_lt};
+ghost use Rattle.std.specs.Prelude.{count_by, true};
 ghost use Rattle.swim_history.specs.declared.rows.Row.{Row};
 ghost use Rattle.swim_history.specs.declared.rows.RowState.TheVariants.{Failed};
+ghost use Rattle.swim_history.specs.Changes.{IsAscending};
 ghost use Rattle.swim_history.specs.Rows.{row_at};
 ghost use Rattle.swim_rejoin.specs.Believing.{believed, tells};
 ghost use Rattle.swim_rejoin.specs.Failed.{is_failed, verdict_in};
 ghost use Rattle.swim_rejoin.specs.Histories.{Event, is_known, last_joined, last_knocks, last_verdict, table_in, times};
 ghost use Rattle.swim_rejoin.specs.Histories.Event.{Looked};
-ghost use Rattle.swim_rejoin.specs.Knocking.{knocked_by};
-ghost use Rattle.swim_rejoin.specs.Turns.{StaysFailed, was_knocked_at};
+ghost use Rattle.swim_rejoin.specs.Knocking.{knocked_by, whose_turn};
+ghost use Rattle.swim_rejoin.specs.Turns.{IsNext, StaysFailed, was_knocked_at};
 ghost use Rattle.swim_wire.specs.Address.{Address};
 ghost use Rattle.swim_wire.specs.Ids.{has};
 ghost use Rattle.swim_wire.specs.Messages.{Message};
@@ -85,6 +86,14 @@ pub fn waits_double_up_to_64()
 pub fn with_0_nothing_happens()
     ensures knock { (h : List (List Row)) (rows : List Row) → knocked_by 0 h rows ≡ None }
     ensures join { (me : ℕ) (h : List Event) (m : Message) (from : Address) → believed 0 me h m from ≡ None }
+{}
+
+/// Of rows that ascend by id, whose turn it is is the next failed member by id behind the one that was knocked at last,
+/// and behind the highest again the lowest: on the way round to it no failed member is passed over.
+pub fn the_next_by_id_has_its_turn()
+    ensures { (last : Option ℕ) (rows : List Row) (id : ℕ) (row next : Row) → IsAscending rows
+        → row_at rows id ≡ Some row → is_failed row ≡ true → whose_turn last rows ≡ Some next
+        → IsNext id last next.id }
 {}
 
 /// Each failed member has its turn: who is failed at so many starts in a row as there are failed members, times N, was

@@ -23,7 +23,7 @@ use Rattle.swim_script.specs.Script.{Turn, lines_of, asked_by, asked_in, is_full
 use Rattle.swim_script.specs.Script.{AreConfirmed, IsRunOf, fault_of_opening, fault_of_command, fault_with}
 use Rattle.swim_script.specs.Script.{fault_of_header}
 use Rattle.swim_script.specs.Script.Asked.{Calls}
-use Rattle.swim_script.specs.Holds.{Played, IsRecorded, Plays, Holds, Starts, IsPlayed, IsShown, TurnDone}
+use Rattle.swim_script.specs.Holds.{Played, IsRecorded, Plays, Holds, Starts, IsPlayed, IsShown, IsTurn}
 use Rattle.swim_script.proofs.KeptRows.{all_kept}
 use Rattle.swim_script.proofs.Turns.{head_after, asked_after}
 
@@ -208,12 +208,12 @@ calm_call (commands.Answer text) call run asks = absurd cc
 
 -- a line that makes a call
 pub played : (turns : List Turn) (run : List Entry) (text piece : List ℕ) (s new : Played) (command : Command)
-    (call : Call) (before after : Option (List ℕ)) →
+    (call : Call) (before after : Option (List ℕ)) (whole : Bool) →
     read_after (lines_of turns) piece ≡ Ok (Some command) → asked_by (Some command) ≡ Calls call →
     head_then (length (lines_of turns) + 1) (Some command) (head_of (lines_of turns)) ≡
     after_event (head_of (lines_of turns)) →
-    Holds turns run text s → IsPlayed s new call before after true → TurnDone turns text piece new before after
-played turns run text piece s new command call before after read asks heads h done =
+    Holds turns run text s → IsPlayed s new call before after whole → IsTurn turns text piece new before after whole
+played turns run text piece s new command call before after whole read asks heads h done =
     let a = done.0 in
     let b = done.2 in
     let is_ready = ready_by turns run text s.header s.recorded a h.plays done.1 in
@@ -271,7 +271,7 @@ played turns run text piece s new command call before after read asks heads h do
 
 -- a line that is answered by what was recorded so far, and makes no call
 pub shown : (turns : List Turn) (run : List Entry) (text piece : List ℕ) (s new : Played) (command : Command)
-    (shows : Recording Drawer → List ℕ) (before after : Option (List ℕ)) →
+    (shows : Recording Drawer → List ℕ) (before after : Option (List ℕ)) (whole : Bool) →
     read_after (lines_of turns) piece ≡ Ok (Some command) →
     head_then (length (lines_of turns) + 1) (Some command) (head_of (lines_of turns)) ≡
     after_event (head_of (lines_of turns)) →
@@ -282,8 +282,8 @@ pub shown : (turns : List Turn) (run : List Entry) (text piece : List ℕ) (s ne
     output_of o (turn ∷ turns) run ≡ output_of o turns run ++ shows a) →
     ((turn : Turn) → said (lines_of turns) turn.line ≡ Some command → AreConfirmed turns run →
     AreConfirmed (turn ∷ turns) run) →
-    Holds turns run text s → IsShown s new shows before after true → TurnDone turns text piece new before after
-shown turns run text piece s new command shows before after read heads calls output confirms h done =
+    Holds turns run text s → IsShown s new shows before after whole → IsTurn turns text piece new before after whole
+shown turns run text piece s new command shows before after whole read heads calls output confirms h done =
     let a = done.0 in
     let turn : Turn = record { line = piece; refused = false } in
     let is_ready = ready_by turns run text s.header s.recorded a h.plays done.1 in

@@ -4,7 +4,7 @@ use Rattle.std.proofs.Common.{Some, None, Result, Ok, Err, refl, sym, ap, subst,
 use Rattle.std.specs.Io.KnownBytes.{Keeps, Appends}
 use Rattle.std.proofs.lemmas.List.{length-map, reverse-reverse}
 use Rattle.swim_text.specs.Lines.{pieces, IsLine, IsLong, IsOversize, IsCutShort}
-use Rattle.swim_text.specs.Streams.{appends_both, kept_appends, appends_kept}
+use Rattle.swim_text.specs.Streams.{PutsFront, appends_both, appends_kept}
 use Rattle.swim_history.specs.declared.entries.Entry.{Entry}
 use Rattle.std.proofs.lemmas.Option.{same_Some}
 use Rattle.swim_history.specs.declared.openings.OpeningFault.{OpeningFault}
@@ -139,11 +139,12 @@ wants_memory script before piece more cut takes =
       takes = ap (λ (lines : List (List ℕ)). takes_memory (said lines piece)) same ∙ takes;
     }
 
--- a line whose answer was not written
-answering : (script left : List ℕ) (before : List (List ℕ)) (piece : List ℕ) →
-    pieces script ≡ reverse before ++ piece ∷ pieces left → is_answered (said before piece) ≡ true →
-    IsAnswering script left (length before + 1)
-answering script left before piece cut event =
+-- a line of which a front of the answer was written
+answering : (script left : List ℕ) (before : List (List ℕ)) (piece text answer : List ℕ) (old mid new : Option (List ℕ))
+    → pieces script ≡ reverse before ++ piece ∷ pieces left → is_answered (said before piece) ≡ true →
+    IsTold before text → IsTold (piece ∷ before) (text ++ answer) → Appends old mid text → PutsFront mid new answer →
+    IsAnswering script left (length before + 1) old new
+answering script left before piece text answer old mid new cut event told answered wrote puts =
     let same : lines_before (length before + 1) script ≡ before =
     before_next (length before + 1) script before (piece ∷ pieces left) (omega arith) cut in
     record {
@@ -151,6 +152,14 @@ answering script left before piece cut event =
       piece = piece;
       cut = cut ∙ ap (λ (lines : List (List ℕ)). reverse lines ++ piece ∷ pieces left) (sym same);
       event = ap (λ (lines : List (List ℕ)). is_answered (said lines piece)) same ∙ event;
+      text = text;
+      told = subst (λ (lines : List (List ℕ)). IsTold lines text) (sym same) told;
+      front = puts.front;
+      unput = puts.unput;
+      answered = subst (λ (lines : List (List ℕ)). IsTold (piece ∷ lines) (text ++ (puts.front ++ puts.unput)))
+          (sym same)
+          (subst (λ (all : List ℕ). IsTold (piece ∷ before) (text ++ all)) puts.cut answered);
+      written = appends_both old mid new text puts.front wrote puts.grows;
     }
 
 -- a line that was not taken to its end
@@ -191,7 +200,7 @@ differs_at script turns run text piece more header (Some a) p begun cut contrary
 pub ends_in_line : (script rest left line : List ℕ) (old mid mid' new : Option (List ℕ)) (form : Form)
     (budget after : ℕ) (s : Played) (fault : ScriptFault) (c : Course script rest old mid form budget s)
     (i : IsLine rest left line 2048 budget after) →
-    Keeps mid mid' → TurnFails c.turns c.run i.piece fault mid' new → RunsTo script left old new fault fault.kind
+    Keeps mid mid' → TurnFails c.turns c.run c.text i.piece fault mid' new → RunsTo script left old new fault fault.kind
 ends_in_line script rest left line old mid mid' new form budget after s fault c i kept fails =
     let before = lines_of c.turns in
     elim fails [
@@ -223,12 +232,10 @@ ends_in_line script rest left line old mid mid' new form budget after s fault c 
           )
       | inr (inr (inl failed)) ↦
           subst (λ (f : ScriptFault). RunsTo script left old new f f.kind) (sym failed.0) (
-            inr (answering script left before i.piece
-                (c.cut ∙ ap (λ (lines : List (List ℕ)). reverse before ++ lines) i.first) failed.1),
-            c.text,
-            failed.2,
-            told_so_far (length before + 1) script c.turns c.run c.text (pieces rest) s refl c.cut c.holds,
-            appends_both old mid new c.text failed.2 c.written (kept_appends mid mid' new failed.2 kept failed.3),
+          inr (answering script left before i.piece c.text failed.2 old mid' new
+          (c.cut ∙ ap (λ (lines : List (List ℕ)). reverse before ++ lines) i.first) failed.1
+          (told_by c.turns c.run c.text s.header s.recorded c.holds.plays) failed.3
+          (appends_kept old mid mid' c.text c.written kept) failed.4)
           )
     ]
 
@@ -278,11 +285,12 @@ pub ends_unsent : (script rest left : List ℕ) (old mid new : Option (List ℕ)
     RunsTo script left old new (at_line (s.lines + 1) Write) Write
 ends_unsent script rest left old mid new form budget after s c i kept =
     let count : s.lines + 1 ≡ length (lines_of c.turns) + 1 = ap (λ n. n + 1) c.holds.count in (
-      inl (waits_for (s.lines + 1) script rest left (lines_of c.turns) budget after count c.cut i),
+    inl (
+      waits_for (s.lines + 1) script rest left (lines_of c.turns) budget after count c.cut i,
       c.text,
-      [],
       told_so_far (s.lines + 1) script c.turns c.run c.text (pieces rest) s count c.cut c.holds,
-      rw append-nil (appends_kept old mid new c.text c.written kept),
+      appends_kept old mid new c.text c.written kept,
+    )
     )
 
 -- ---- the end of a script

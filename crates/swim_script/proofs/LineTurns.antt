@@ -1,9 +1,9 @@
 -- What a line does to a session, whatever it says.
 use Rattle.std.specs.Prelude.{is_some}
-use Rattle.std.proofs.Common.{◌≡◌, ℕ, ◌+◌, ◌≤◌, cond, Bool, true, false, List, [], ◌∷◌, length, Option, Some, None}
-use Rattle.std.proofs.Common.{Result, Ok, Err, refl, sym, ap, subst, ◌∙◌, inl, inr, arith, append-nil}
+use Rattle.std.proofs.Common.{◌≡◌, ℕ, ◌+◌, ◌≤◌, cond, Bool, true, false, List, [], ◌∷◌, ◌++◌, length, Option, Some}
+use Rattle.std.proofs.Common.{None, Result, Ok, Err, refl, sym, ap, subst, ◌∙◌, inl, inr, arith, append-nil}
 use Rattle.std.specs.Io.KnownBytes.{Keeps}
-use Rattle.swim_text.specs.Streams.{appends_none}
+use Rattle.swim_text.specs.Streams.{PutsFront, appends_none}
 use Rattle.swim_wire.specs.Address.{Address}
 use Rattle.swim_wire.specs.declared.codec.WireFault.{WireFault}
 use Rattle.swim_history.specs.declared.calls.Call.{Call}
@@ -28,11 +28,14 @@ use Rattle.swim_script.specs.Headers.{read_after, head_then, head_of}
 use Rattle.swim_script.specs.Texts.{wire_text, newest_text}
 use Rattle.swim_script.specs.Script.{Turn, lines_of, asked_by, IsConfirmed, IsContrary, takes_memory, at_line}
 use Rattle.swim_script.specs.Script.{fault_of_opening, fault_of_command, fault_with, fault_of_header, fault_of_read}
+use Rattle.swim_script.specs.Script.{IsTold}
 use Rattle.swim_script.specs.Script.Asked.{Nothing, Calls}
-use Rattle.swim_script.specs.Holds.{Played, stage_in, kept, line_of, Plays, Holds, IsStopped, IsNoted, PlaysLine}
+use Rattle.swim_script.specs.Holds.{Played, stage_in, kept, line_of, Plays, Holds, IsPlayed, IsShown, IsStopped}
+use Rattle.swim_script.specs.Holds.{IsNoted, PlaysLine, IsTurn}
 use Rattle.swim_script.specs.Holds.{ShowsLine, table_of, gap_of, Tells, TellsOther, Confirms, Done, TurnDone, TurnFails}
 use Rattle.swim_script.specs.Holds.{Turned}
 use Rattle.swim_script.proofs.KeptRows.{fault_of_kept, kept_more}
+use Rattle.swim_script.proofs.Courses.{told_by}
 use Rattle.swim_script.proofs.Turns.{taken, stage_is, noted, head_after, asked_after, records_on}
 use Rattle.swim_script.proofs.Answered.{after_event, played, shown}
 
@@ -67,14 +70,26 @@ refused_at_event turns run text header None command fault event early stands p n
     (word_for command) (fault_of_opening told) early (rw (← before) stands)
     ∙ sym (fault_of_kept told) ∙ ap fault_of_header (sym p.told) ∙ found
 
+-- a line of which a front of the answer was written
+unfinished : (turns : List Turn) (text piece : List ℕ) (new : Played) (before after : Option (List ℕ)) →
+    IsTurn turns text piece new before after false →
+    (answer : List ℕ) × IsTold (piece ∷ lines_of turns) (text ++ answer) × PutsFront before after answer
+unfinished turns text piece new before after turn = (
+  turn.more,
+  told_by (record { line = piece; refused = turn.refused } ∷ turns) turn.run (text ++ turn.more) new.header new.recorded
+      turn.holds.plays,
+  turn.written,
+)
+
 -- the session stopped at an event line
-stopped : (turns : List Turn) (run : List Entry) (text piece : List ℕ) (s : Played) (command : Command)
-    (fault : ScriptFault) (before after : Option (List ℕ)) →
+stopped : (turns : List Turn) (run : List Entry) (text piece : List ℕ) (s new : Played) (command : Command)
+    (fault : ScriptFault) (before after : Option (List ℕ)) (Answering : Type 0) →
     read_after (lines_of turns) piece ≡ Ok (Some command) → is_event command ≡ true →
     fault_of_word Blank (word_for command) ≡ Some faults.Word →
     fault_of_word (stage_in s.header s.recorded) (word_for command) ≡ None → Holds turns run text s →
-    IsStopped s fault before after → TurnFails turns run piece fault before after
-stopped turns run text piece s command fault before after read event early stands h done =
+    IsStopped Answering s fault before after → (Answering → IsTurn turns text piece new before after false) →
+    TurnFails turns run text piece fault before after
+stopped turns run text piece s new command fault before after Answering read event early stands h done turn =
     elim done [
       | inl refused ↦
           let stage = stage_is turns run text s h in
@@ -83,8 +98,15 @@ stopped turns run text piece s command fault before after read event early stand
                 h.plays refused.0 refused.1),
             refused.2,
           )
-      | inr failed ↦ inr (inr
-          (inl (failed.0 ∙ ap (λ n. record { line = n + 1; kind = Write }) h.count, rw read event, failed.1, failed.2)))
+      | inr failed ↦
+          let rest = unfinished turns text piece new before after (turn failed.1) in
+          inr (inr (inl (
+            failed.0 ∙ ap (λ n. record { line = n + 1; kind = Write }) h.count,
+            rw read event,
+            rest.0,
+            rest.1,
+            rest.2,
+          )))
     ]
 
 -- a line with no answer
@@ -132,7 +154,7 @@ memory_turn : (turns : List Turn) (run : List Entry) (text piece : List ℕ) (s 
     (fault : ScriptFault) (before after : Option (List ℕ)) →
     read_after (lines_of turns) piece ≡ Ok (Some command) → takes_memory (Some command) ≡ true →
     Holds turns run text s →
-    (fault ≡ at_line (s.lines + 1) Memory) × Keeps before after → TurnFails turns run piece fault before after
+    (fault ≡ at_line (s.lines + 1) Memory) × Keeps before after → TurnFails turns run text piece fault before after
 memory_turn turns run text piece s command fault before after read takes h d =
     inr (inl (d.0 ∙ ap (λ n. at_line (n + 1) Memory) h.count, rw read takes, d.1))
 
@@ -148,9 +170,19 @@ calls_turn : (turns : List Turn) (run : List Entry) (text piece : List ℕ) (s n
     fault_of_word (stage_in s.header s.recorded) (word_for command) ≡ None → Holds turns run text s →
     PlaysLine s new call before after result → Turned turns run text piece new before after result
 calls_turn turns run text piece s new command call before after (Ok done) read asks event heads early stands h d =
-    played turns run text piece s new command call before after read asks heads h d
+    played turns run text piece s new command call before after true read asks heads h d
 calls_turn turns run text piece s new command call before after (Err fault) read asks event heads early stands h d =
-    stopped turns run text piece s command fault before after read event early stands h d
+    stopped turns run text piece s new command fault before after (IsPlayed s new call before after false) read event
+    early stands h d (played turns run text piece s new command call before after false read asks heads h)
+
+unread_shown : (turns : List Turn) (run : List Entry) (text piece : List ℕ) (s new : Played) (source : Address)
+    (wire : WireFault) (before after : Option (List ℕ)) (whole : Bool) →
+    read_after (lines_of turns) piece ≡ Ok (Some (Hear source (Err wire))) → Holds turns run text s →
+    IsShown s new (λ a. wire_text wire) before after whole → IsTurn turns text piece new before after whole
+unread_shown turns run text piece s new source wire before after whole read h d =
+    shown turns run text piece s new (Hear source (Err wire)) (λ a. wire_text wire) before after whole read refl
+    (λ turn asked. rw asked refl) (λ turn o a asked opening past. rw asked refl)
+    (λ turn is confirmed. rw is (tt, confirmed)) h d
 
 unread_turn : (turns : List Turn) (run : List Entry) (text piece : List ℕ) (s new : Played) (source : Address)
     (wire : WireFault) (before after : Option (List ℕ)) (result : Result (Unit {0}) ScriptFault) →
@@ -158,11 +190,19 @@ unread_turn : (turns : List Turn) (run : List Entry) (text piece : List ℕ) (s 
     fault_of_word (stage_in s.header s.recorded) words.Hear ≡ None → Holds turns run text s →
     ShowsLine s new (λ a. wire_text wire) before after result → Turned turns run text piece new before after result
 unread_turn turns run text piece s new source wire before after (Ok done) read stands h d =
-    shown turns run text piece s new (Hear source (Err wire)) (λ a. wire_text wire) before after read refl
-    (λ turn asked. rw asked refl) (λ turn o a asked opening past. rw asked refl)
-    (λ turn is confirmed. rw is (tt, confirmed)) h d
+    unread_shown turns run text piece s new source wire before after true read h d
 unread_turn turns run text piece s new source wire before after (Err fault) read stands h d =
-    stopped turns run text piece s (Hear source (Err wire)) fault before after read refl refl stands h d
+    stopped turns run text piece s new (Hear source (Err wire)) fault before after
+    (IsShown s new (λ a. wire_text wire) before after false) read refl refl stands h d
+    (unread_shown turns run text piece s new source wire before after false read h)
+
+table_shown : (turns : List Turn) (run : List Entry) (text piece : List ℕ) (s new : Played)
+    (before after : Option (List ℕ)) (whole : Bool) → read_after (lines_of turns) piece ≡ Ok (Some Table) →
+    Holds turns run text s → IsShown s new table_of before after whole → IsTurn turns text piece new before after whole
+table_shown turns run text piece s new before after whole read h d =
+    shown turns run text piece s new Table table_of before after whole read refl
+    (λ turn asked. rw asked refl) (λ turn o a asked opening past. rw (asked, opening, past) refl)
+    (λ turn is confirmed. rw is (tt, confirmed)) h d
 
 table_turn : (turns : List Turn) (run : List Entry) (text piece : List ℕ) (s new : Played)
     (before after : Option (List ℕ)) (result : Result (Unit {0}) ScriptFault) →
@@ -170,11 +210,19 @@ table_turn : (turns : List Turn) (run : List Entry) (text piece : List ℕ) (s n
     fault_of_word (stage_in s.header s.recorded) words.Table ≡ None → Holds turns run text s →
     ShowsLine s new table_of before after result → Turned turns run text piece new before after result
 table_turn turns run text piece s new before after (Ok done) read stands h d =
-    shown turns run text piece s new Table table_of before after read refl
+    table_shown turns run text piece s new before after true read h d
+table_turn turns run text piece s new before after (Err fault) read stands h d =
+    stopped turns run text piece s new Table fault before after (IsShown s new table_of before after false) read refl
+    refl stands h d (table_shown turns run text piece s new before after false read h)
+
+gap_shown : (turns : List Turn) (run : List Entry) (text piece : List ℕ) (s new : Played) (id : ℕ)
+    (before after : Option (List ℕ)) (whole : Bool) → read_after (lines_of turns) piece ≡ Ok (Some (Gap id)) →
+    Holds turns run text s → IsShown s new (gap_of id) before after whole →
+    IsTurn turns text piece new before after whole
+gap_shown turns run text piece s new id before after whole read h d =
+    shown turns run text piece s new (Gap id) (gap_of id) before after whole read refl
     (λ turn asked. rw asked refl) (λ turn o a asked opening past. rw (asked, opening, past) refl)
     (λ turn is confirmed. rw is (tt, confirmed)) h d
-table_turn turns run text piece s new before after (Err fault) read stands h d =
-    stopped turns run text piece s Table fault before after read refl refl stands h d
 
 gap_turn : (turns : List Turn) (run : List Entry) (text piece : List ℕ) (s new : Played) (id : ℕ)
     (before after : Option (List ℕ)) (result : Result (Unit {0}) ScriptFault) →
@@ -182,11 +230,10 @@ gap_turn : (turns : List Turn) (run : List Entry) (text piece : List ℕ) (s new
     fault_of_word (stage_in s.header s.recorded) words.Gap ≡ None → Holds turns run text s →
     ShowsLine s new (gap_of id) before after result → Turned turns run text piece new before after result
 gap_turn turns run text piece s new id before after (Ok done) read stands h d =
-    shown turns run text piece s new (Gap id) (gap_of id) before after read refl
-    (λ turn asked. rw asked refl) (λ turn o a asked opening past. rw (asked, opening, past) refl)
-    (λ turn is confirmed. rw is (tt, confirmed)) h d
+    gap_shown turns run text piece s new id before after true read h d
 gap_turn turns run text piece s new id before after (Err fault) read stands h d =
-    stopped turns run text piece s (Gap id) fault before after read refl refl stands h d
+    stopped turns run text piece s new (Gap id) fault before after (IsShown s new (gap_of id) before after false) read
+    refl refl stands h d (gap_shown turns run text piece s new id before after false read h)
 
 -- ---- lines that tell of answers
 

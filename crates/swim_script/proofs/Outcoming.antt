@@ -16,7 +16,7 @@ use Rattle.swim_script.specs.Choosers.{ChoosesOrder, ChoosesPlace}
 use Rattle.swim_script.specs.Headers.{Told}
 use Rattle.swim_script.specs.Texts.{answer_text}
 use Rattle.swim_script.specs.Script.{at_line}
-use Rattle.swim_script.specs.Holds.{Played, Answers, Starts, Called, PlaysLine, ShowsLine}
+use Rattle.swim_script.specs.Holds.{Played, Answers, Starts, Called, IsPlayed, IsShown, PlaysLine, ShowsLine}
 use Rattle.swim_script.specs.Outcomes.{latest, text_with, outcome_text}
 
 -- the newest reply is what is written
@@ -48,6 +48,19 @@ called_some : (a : Recording Drawer) (new : Option (Recording Drawer)) (call : C
 called_some a None call before after done c = absurd c
 called_some a (Some b) call before after done c = (b, refl, c)
 
+-- a call was made, and its answer was written, or a front of it
+made_so : (old new : Played) (mid : Option (Recording Drawer)) (call : Call) (outcome : LineOutcome)
+    (before after : Option (List ℕ)) (done : Bool) → Starts old.header old.recorded mid →
+    ((front back : Option (List ℕ)) (all : Bool) → Puts front back (outcome_text new.recorded outcome) all →
+    Called mid new.recorded call front back all) → new.lines ≡ old.lines + 1 →
+    Puts before after (outcome_text new.recorded outcome) done → IsPlayed old new call before after done
+made_so old new mid call outcome before after done started called count wrote =
+    let s = starts_some old.header old.recorded mid started in
+    let c = called_some s.0 new.recorded call before after done
+    (subst (λ (m : Option (Recording Drawer)). Called m new.recorded call before after done) s.1
+    (called before after done wrote)) in
+    (s.0, s.2, c.0, c.1, c.2, count)
+
 -- a call was made, and its answer was written, or the writer failed at it
 pub played_by : (old new : Played) (mid : Option (Recording Drawer)) (call : Call) (outcome : LineOutcome)
     (before after : Option (List ℕ)) (done : Bool) (result : Result (Unit {0}) ScriptFault) →
@@ -58,14 +71,24 @@ pub played_by : (old new : Played) (mid : Option (Recording Drawer)) (call : Cal
     result ≡ (if done then Ok tt else Err (record { line = new.lines; kind = Write })) →
     PlaysLine old new call before after result
 played_by old new mid call outcome before after true result started called count wrote is =
-    let s = starts_some old.header old.recorded mid started in
-    let c = called_some s.0 new.recorded call before after true
-    (subst (λ (m : Option (Recording Drawer)). Called m new.recorded call before after true) s.1
-    (called before after true wrote)) in
-    subst (PlaysLine old new call before after) (sym is) (s.0, s.2, c.0, c.1, c.2, count)
+    subst (PlaysLine old new call before after) (sym is)
+    (made_so old new mid call outcome before after true started called count wrote)
 played_by old new mid call outcome before after false result started called count wrote is =
     subst (PlaysLine old new call before after) (sym is)
-    (inr (ap (λ n. at_line n Write) count, wrote.front, wrote.grows))
+    (inr (
+      ap (λ n. at_line n Write) count,
+      made_so old new mid call outcome before after false started called count wrote,
+    ))
+
+-- what was recorded so far answers, and that was written, or a front of it
+shown_so : (old new : Played) (outcome : LineOutcome) (before after : Option (List ℕ)) (done : Bool) →
+    Starts old.header old.recorded new.recorded → new.lines ≡ old.lines + 1 →
+    Puts before after (outcome_text new.recorded outcome) done →
+    IsShown old new (λ a. text_with a outcome) before after done
+shown_so old new outcome before after done started count wrote =
+    let s = starts_some old.header old.recorded new.recorded started in
+    let shown = subst (λ (r : Option (Recording Drawer)). Puts before after (outcome_text r outcome) done) s.1 wrote in
+    (s.0, s.2, s.1, shown, count)
 
 -- what was recorded so far answers, and that was written, or the writer failed at it
 pub shown_by : (old new : Played) (outcome : LineOutcome) (before after : Option (List ℕ)) (done : Bool)
@@ -74,9 +97,8 @@ pub shown_by : (old new : Played) (outcome : LineOutcome) (before after : Option
     result ≡ (if done then Ok tt else Err (record { line = new.lines; kind = Write })) →
     ShowsLine old new (λ a. text_with a outcome) before after result
 shown_by old new outcome before after true result started count wrote is =
-    let s = starts_some old.header old.recorded new.recorded started in
-    let shown = subst (λ (r : Option (Recording Drawer)). Puts before after (outcome_text r outcome) true) s.1 wrote in
-    subst (ShowsLine old new (λ a. text_with a outcome) before after) (sym is) (s.0, s.2, s.1, shown, count)
+    subst (ShowsLine old new (λ a. text_with a outcome) before after) (sym is)
+    (shown_so old new outcome before after true started count wrote)
 shown_by old new outcome before after false result started count wrote is =
     subst (ShowsLine old new (λ a. text_with a outcome) before after) (sym is)
-    (inr (ap (λ n. at_line n Write) count, wrote.front, wrote.grows))
+    (inr (ap (λ n. at_line n Write) count, shown_so old new outcome before after false started count wrote))

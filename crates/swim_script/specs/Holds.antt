@@ -4,7 +4,7 @@ use Rattle.std.specs.Prelude.{reverse, Option, Some, None, Result, Ok, Err}
 use Rattle.std.specs.Io.KnownBytes.{Keeps, Appends}
 use Rattle.swim_wire.specs.Address.{Address}
 use Rattle.swim_text.specs.Lines.{pieces}
-use Rattle.swim_text.specs.Streams.{Puts}
+use Rattle.swim_text.specs.Streams.{Puts, PutsFront}
 use Rattle.swim_wire.specs.declared.codec.WireFault.{WireFault}
 use Rattle.swim_wire.specs.Messages.{Message}
 use Rattle.swim_history.specs.declared.calls.Call.{Call}
@@ -35,7 +35,7 @@ use Rattle.swim_script.specs.Texts.{newest_text, answer_text, wire_text, full_te
 use Rattle.swim_script.specs.Script.{Turn, lines_of, calls_in, output_of, AreConfirmed, IsContrary, IsRunOf}
 use Rattle.swim_script.specs.Script.{takes_memory}
 use Rattle.swim_script.specs.Script.{is_answered, fault_of, fault_from, fault_of_read, fault_of_header, at_line}
-use Rattle.swim_script.specs.Script.{bytes_of}
+use Rattle.swim_script.specs.Script.{bytes_of, IsTold}
 
 -- what contracts see of a session: how many lines it was given, what those of the header told, and the recorder,
 -- once an event line was met
@@ -150,21 +150,23 @@ IsShown old new text before after done =
     (a : Recording Drawer) × Starts old.header old.recorded (Some a) × (new.recorded ≡ Some a) × Puts before after
     (text a) done × (new.lines ≡ old.lines + 1)
 
--- the session stopped at the line: the opening is refused, or the writer failed
-abbrev pub IsStopped : Played → ScriptFault → Option (List ℕ) → Option (List ℕ) → Type 0
-IsStopped old fault before after =
+-- the session stopped at the line: the opening is refused, or the writer failed in the midst of that answer
+abbrev pub IsStopped : Type 0 → Played → ScriptFault → Option (List ℕ) → Option (List ℕ) → Type 0
+IsStopped Answering old fault before after =
     ((old.recorded ≡ None) × (fault_of_header old.header ≡ Some fault) × Keeps before after)
-    ⊎ ((fault ≡ at_line (old.lines + 1) Write) × (part : List ℕ) × Appends before after part)
+    ⊎ ((fault ≡ at_line (old.lines + 1) Write) × Answering)
 
 abbrev pub PlaysLine : Played → Played → Call → Option (List ℕ) → Option (List ℕ) → Result (Unit {0}) ScriptFault →
     Type 0
 PlaysLine old new call before after (Ok done) = IsPlayed old new call before after true
-PlaysLine old new call before after (Err fault) = IsStopped old fault before after
+PlaysLine old new call before after (Err fault) =
+    IsStopped (IsPlayed old new call before after false) old fault before after
 
 abbrev pub ShowsLine : Played → Played → (Recording Drawer → List ℕ) → Option (List ℕ) → Option (List ℕ) →
     Result (Unit {0}) ScriptFault → Type 0
 ShowsLine old new text before after (Ok done) = IsShown old new text before after true
-ShowsLine old new text before after (Err fault) = IsStopped old fault before after
+ShowsLine old new text before after (Err fault) =
+    IsStopped (IsShown old new text before after false) old fault before after
 
 abbrev pub HearsLine : Played → Played → Address → Result Message WireFault → Option (List ℕ) → Option (List ℕ) →
     Result (Unit {0}) ScriptFault → Type 0
@@ -227,16 +229,19 @@ Done old new Table before after result = ShowsLine old new table_of before after
 Done old new (Gap id) before after result = ShowsLine old new (gap_of id) before after result
 Done old new (Answer text) before after result = Confirms old new text before after result
 
--- what one line did: it has no fault, and its answer was written
-pub record TurnDone (turns : List Turn) (text piece : List ℕ) (new : Played)
-    (before after : Option (List ℕ)) : Type 0 where
+-- what one line did: it has no fault, and its answer was written, or a front of it
+pub record IsTurn (turns : List Turn) (text piece : List ℕ) (new : Played) (before after : Option (List ℕ))
+    (whole : Bool) : Type 0 where
   pub none :
       fault_of_read (length (lines_of turns) + 1) (head_of (lines_of turns)) (read_after (lines_of turns) piece) ≡ None
   pub refused : Bool
   pub run : List Entry
   pub more : List ℕ
   pub holds : Holds (record { line = piece; refused = refused } ∷ turns) run (text ++ more) new
-  pub written : Appends before after more
+  pub written : Puts before after more whole
+
+abbrev pub TurnDone : List Turn → List ℕ → List ℕ → Played → Option (List ℕ) → Option (List ℕ) → Type 0
+TurnDone turns text piece new before after = IsTurn turns text piece new before after true
 
 -- there was no memory to keep what it tells, and nothing was written
 abbrev pub FindsNoMemory : List Turn → List ℕ → ScriptFault → Option (List ℕ) → Option (List ℕ) → Type 0
@@ -244,11 +249,11 @@ FindsNoMemory turns piece fault before after =
     (fault ≡ at_line (length (lines_of turns) + 1) Memory)
     × (takes_memory (said (lines_of turns) piece) ≡ true) × Keeps before after
 
--- the writer failed at its answer
-abbrev pub FailsToAnswer : List Turn → List ℕ → ScriptFault → Option (List ℕ) → Option (List ℕ) → Type 0
-FailsToAnswer turns piece fault before after =
+-- the writer failed at its answer, which stands behind that text, and a front of it was written
+abbrev pub FailsToAnswer : List Turn → List ℕ → List ℕ → ScriptFault → Option (List ℕ) → Option (List ℕ) → Type 0
+FailsToAnswer turns text piece fault before after =
     (fault ≡ at_line (length (lines_of turns) + 1) Write) × (is_answered (said (lines_of turns) piece) ≡ true)
-    × (part : List ℕ) × Appends before after part
+    × (answer : List ℕ) × IsTold (piece ∷ lines_of turns) (text ++ answer) × PutsFront before after answer
 
 -- it tells an answer otherwise than it was, and nothing was written
 abbrev pub FindsDifference : List Turn → List Entry → List ℕ → ScriptFault → Option (List ℕ) → Option (List ℕ) → Type 0
@@ -258,18 +263,19 @@ FindsDifference turns run piece fault before after =
     × IsContrary (said (lines_of turns) piece) run × Keeps before after
 
 -- it has a fault and nothing was written, or there was no memory, or it differs, or the writer failed
-abbrev pub TurnFails : List Turn → List Entry → List ℕ → ScriptFault → Option (List ℕ) → Option (List ℕ) → Type 0
-TurnFails turns run piece fault before after =
+abbrev pub TurnFails : List Turn → List Entry → List ℕ → List ℕ → ScriptFault → Option (List ℕ) → Option (List ℕ) →
+    Type 0
+TurnFails turns run text piece fault before after =
     ((fault_of_read (length (lines_of turns) + 1) (head_of (lines_of turns)) (read_after (lines_of turns) piece) ≡
     Some fault)
     × Keeps before after)
     ⊎ (FindsNoMemory turns piece fault before after
-    ⊎ (FailsToAnswer turns piece fault before after ⊎ FindsDifference turns run piece fault before after))
+    ⊎ (FailsToAnswer turns text piece fault before after ⊎ FindsDifference turns run piece fault before after))
 
 abbrev pub Turned : List Turn → List Entry → List ℕ → List ℕ → Played → Option (List ℕ) → Option (List ℕ) →
     Result (Unit {0}) ScriptFault → Type 0
 Turned turns run text piece new before after (Ok done) = TurnDone turns text piece new before after
-Turned turns run text piece new before after (Err fault) = TurnFails turns run piece fault before after
+Turned turns run text piece new before after (Err fault) = TurnFails turns run text piece fault before after
 
 -- where the lines lead that were read of a script, of that form so far
 pub record Course (script rest : List ℕ) (old new : Option (List ℕ)) (form : Form) (budget : ℕ) (s : Played) : Type

@@ -285,12 +285,19 @@ abbrev pub is_answered : Option Command → Bool
 is_answered (Some command) = is_event command
 is_answered None = false
 
--- line n of a script is being answered: it was taken, and the lines behind it are left
-pub record IsAnswering (script left : List ℕ) (n : ℕ) : Type 0 where
+-- line n of a script is being answered: it was taken, and the lines behind it are left. Behind the answers to the lines
+-- before it a front of its own was written
+pub record IsAnswering (script left : List ℕ) (n : ℕ) (old new : Option (List ℕ)) : Type 0 where
   pub number : n ≡ length (lines_before n script) + 1
   pub piece : List ℕ
   pub cut : pieces script ≡ reverse (lines_before n script) ++ piece ∷ pieces left
   pub event : is_answered (said (lines_before n script) piece) ≡ true
+  pub text : List ℕ
+  pub told : IsTold (lines_before n script) text
+  pub front : List ℕ
+  pub unput : List ℕ
+  pub answered : IsTold (piece ∷ lines_before n script) (text ++ (front ++ unput))
+  pub written : Appends old new (text ++ front)
 
 -- where in a script a fault stopped, of which this is left, and what was written before it: the reader failed at the
 -- line that was waited for, and the lines before it were answered
@@ -298,10 +305,11 @@ abbrev pub RunsTo : List ℕ → List ℕ → Option (List ℕ) → Option (List
 RunsTo script left old new fault Read =
     WaitsFor script left fault.line
     × (text : List ℕ) × IsTold (lines_before fault.line script) text × Appends old new text
--- the writer failed at the line that was waited for, or was being answered; nothing is said of the last answer's part
+-- the writer failed between answers, at the line that was waited for, or in the midst of one
 RunsTo script left old new fault Write =
-    (WaitsFor script left fault.line ⊎ IsAnswering script left fault.line)
-    × (text : List ℕ) × (part : List ℕ) × IsTold (lines_before fault.line script) text × Appends old new (text ++ part)
+    (WaitsFor script left fault.line
+    × (text : List ℕ) × IsTold (lines_before fault.line script) text × Appends old new text)
+    ⊎ IsAnswering script left fault.line old new
 -- memory is wanted for a line that takes it, and the lines before it were answered
 RunsTo script left old new fault Memory =
     WantsMemory script fault.line

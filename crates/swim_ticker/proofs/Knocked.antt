@@ -3,12 +3,12 @@ use Rattle.std.proofs.Common.{◌≡◌, ℕ, suc, ◌+◌, ◌-◌, ◌^◌, �
 use Rattle.std.proofs.Common.{Bool, not, map, refl, sym, subst, ap, ◌∙◌, arith}
 use Rattle.std.specs.Int.{from_bool}
 use Rattle.std.specs.Option.{option_map}
-use Rattle.std.specs.Prelude.{All}
-use Rattle.std.proofs.lemmas.List.Elements.{All-nil, All-cons}
+use mathlib.Core.List.{IsPrefix}
 use Rattle.std.proofs.lemmas.List.{length-append, length-map}
 use Rattle.swim_wire.specs.Address.{Address}
 use Rattle.swim_wire.specs.Messages.{Message}
 use Rattle.swim_wire.specs.Layout.{text_of}
+use Rattle.swim_history.specs.declared.rows.Change.{Change}
 use Rattle.swim_history.specs.declared.rows.Row.{Row}
 use Rattle.swim_history.specs.Setting.{Setting}
 use Rattle.swim_rejoin.specs.declared.knockers.KnockPing.{KnockPing}
@@ -19,17 +19,20 @@ use Rattle.swim_work.specs.Noting.{Begins}
 use Rattle.swim_work.specs.Posts.{ArePosted, Grows, Posted, datagram, handed}
 use Rattle.swim_work.proofs.Posting.{none_posted, one_more_posted}
 use Rattle.swim_work.proofs.Sent.{are_both}
-use Rattle.swim_ticker.specs.Knocking.{AreKnocks, AtKnocking, HasKnocked, IsKnocking, IsLook, KnocksOn, at_knocking}
+use Rattle.swim_ticker.specs.Knocking.{AreKnocks, AreLooks, AtKnocking, HasKnocked, IsKnocking, IsLook, KnocksOn}
+use Rattle.swim_ticker.specs.Knocking.{at_knocking}
 use Rattle.swim_ticker.specs.Knocking.{knock_of, knocks_of, number_after, sent_as}
+use Rattle.swim_ticker.proofs.Looked.{begins_itself, still_looks}
 
 -- no period started yet
-pub none_knocked : (o : Setting) (rejoin : ℕ) (k : Kept) (now : Option (List Posted)) → k.rejoin ≡ rejoin →
+pub none_knocked : (o : Setting) (rejoin : ℕ) (k : Kept) (seen : List Change) (now : Option (List Posted)) →
+    k.rejoin ≡ rejoin →
     k.me ≡ o.me → k.version ≡ o.version → Follows k [] → o.last ≡ min (o.last + 0) (2 ^ 64 - 1) →
-    IsKnocking o rejoin 0 now (at_knocking k o.last now 0)
-none_knocked o rejoin k now rejoin_is me version follows within = record {
+    IsKnocking o rejoin 0 now (at_knocking k seen o.last now 0)
+none_knocked o rejoin k seen now rejoin_is me version follows within = record {
   has = record {
     looks = [];
-    each = All-nil (IsLook o);
+    each = tt;
     at_starts = refl;
     unsent = 0;
     posted = none_posted now;
@@ -55,12 +58,14 @@ sent_is o k number None me version = refl
 sent_is o k number (Some row) me version = rw (me, version) refl
 
 -- a period more started
-pub one_more_knocked : (o : Setting) (old new : Kept) (rows : List Row) (number next : ℕ) (knock : Option KnockPing)
-    (posted now : Option (List Posted)) (knocks count more : ℕ) → IsLook o rows →
+pub one_more_knocked : (o : Setting) (old new : Kept) (saw seen : List Change) (rows : List Row) (number next : ℕ)
+    (knock : Option KnockPing) (posted now : Option (List Posted)) (knocks count more : ℕ) → IsPrefix saw seen →
+    IsLook o seen rows →
     next ≡ min (number + 1) (2 ^ 64 - 1) → Begins old rows next knock new →
     AreKnocks (sent_as knock) posted now count → more ≡ min (knocks + count) (2 ^ 64 - 1) →
-    KnocksOn o 1 (at_knocking old number posted knocks) (at_knocking new next now more)
-one_more_knocked o old new rows number next knock posted now knocks count more look next_is begins sent more_is =
+    KnocksOn o 1 (at_knocking old saw number posted knocks) (at_knocking new seen next now more)
+one_more_knocked o old new saw seen rows number next knock posted now knocks count more later look next_is begins sent
+    more_is =
     λ rejoin starts then before is_then is.
     let has = is.has in
     let looks = has.looks in
@@ -76,7 +81,7 @@ one_more_knocked o old new rows number next knock posted now knocks count more l
     record {
       has = record {
         looks = rows ∷ looks;
-        each = All-cons (IsLook o) rows looks look has.each;
+        each = (seen, begins_itself seen, look, still_looks o saw seen looks later has.each);
         at_starts = (let e : suc (length looks) ≡ then = omega (arith, so_many, is_then) in e);
         unsent = has.unsent + sent.0;
         posted = are_both fewer one before posted now has.unsent sent.0 has.posted
@@ -122,16 +127,17 @@ so_many_posted : (ms : List (Address × Message)) (posted : List Posted) → map
 so_many_posted ms posted each =
     sym (length-map posted handed) ∙ (ap (λ (l : List (Address × List ℕ)). length l) each ∙ length-map ms datagram)
 
-pub all_knocked : (o : Setting) (rejoin starts : ℕ) (before now : Option (List Posted)) (old knocks new : ℕ) →
-    HasKnocked o rejoin starts before now knocks → new ≡ both old knocks →
-    (looks : List (List Row)) × All (IsLook o) looks × (length looks ≡ starts)
+pub all_knocked : (o : Setting) (rejoin starts : ℕ) (seen : List Change) (before now : Option (List Posted))
+    (old knocks new : ℕ) → HasKnocked o rejoin starts seen before now knocks → new ≡ both old knocks →
+    (seen : List Change) × (looks : List (List Row)) × AreLooks o seen looks × (length looks ≡ starts)
     × (posted : List Posted) × Grows before now posted
     × (map handed posted ≡ map datagram (knocks_of o rejoin looks))
     × (new ≡ min (old + length posted) (2 ^ 64 - 1))
-all_knocked o rejoin starts before now old knocks new has counted =
+all_knocked o rejoin starts seen before now old knocks new has counted =
     let all = knocks_of o rejoin has.looks in
     let so_many : length has.posted.posted ≡ length all = so_many_posted all has.posted.posted has.posted.each in
     let are : knocks ≡ min (length all) (2 ^ 64 - 1) = has.counted in (
+      seen,
       has.looks,
       has.each,
       has.at_starts,
@@ -150,10 +156,10 @@ map_to_none [] is = refl
 map_to_none (p ∷ posted) is = absurd (cc is)
 
 -- with a rejoin of 0 there are none
-pub none_knocked_with_0 : (o : Setting) (starts : ℕ) (before now : Option (List Posted)) (old knocks new : ℕ) →
-    HasKnocked o 0 starts before now knocks → new ≡ both old knocks → old ≤ 2 ^ 64 - 1 →
+pub none_knocked_with_0 : (o : Setting) (starts : ℕ) (seen : List Change) (before now : Option (List Posted))
+    (old knocks new : ℕ) → HasKnocked o 0 starts seen before now knocks → new ≡ both old knocks → old ≤ 2 ^ 64 - 1 →
     Grows before now [] × (new ≡ old)
-none_knocked_with_0 o starts before now old knocks new has counted within =
+none_knocked_with_0 o starts seen before now old knocks new has counted within =
     let none = no_knocks o has.looks in
     let each : map handed has.posted.posted ≡ [] =
     has.posted.each ∙ ap (λ (ms : List (Address × Message)). map datagram ms) none in

@@ -1,3 +1,4 @@
 pub mod Knocked
 pub mod Living
+pub mod Looked
 pub mod Ticked

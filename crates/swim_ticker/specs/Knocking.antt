@@ -1,6 +1,7 @@
 -- What the ticker of a life knocks.
-use Rattle.std.specs.Prelude.{◌≡◌, ◌⊎◌, ℕ, ◌+◌, ◌-◌, ◌^◌, min, All, List, [], ◌∷◌, ◌++◌, length}
+use Rattle.std.specs.Prelude.{◌≡◌, ◌⊎◌, ℕ, ◌+◌, ◌-◌, ◌^◌, min, List, [], ◌∷◌, ◌++◌, length}
 use Rattle.std.specs.Prelude.{Option, Some, None}
+use mathlib.Core.List.{IsPrefix}
 use Rattle.swim_wire.specs.Address.{Address}
 use Rattle.swim_wire.specs.Messages.{Message}
 use Rattle.swim_history.specs.declared.rows.Change.{Change}
@@ -13,10 +14,17 @@ use Rattle.swim_rejoin.specs.Knockers.{Kept, Follows}
 use Rattle.swim_rejoin.specs.Knocking.{knocked_by, ping_of}
 use Rattle.swim_work.specs.Posts.{ArePosted, Posted, starts_in}
 
--- what a look at the member table shows: a table that some changes make of the opening, of which isn't said that they
--- are the journal's; or nothing, where nobody looks or the node is closed
-abbrev pub IsLook : Setting → List Row → Type 0
-IsLook o rows = (rows ≡ []) ⊎ ((log : List Change) × (rows ≡ table_after o log))
+-- what a look at the member table shows a viewer that has then seen these changes: the table after them, all of it; or
+-- nothing, where nobody looks or the node is closed
+abbrev pub IsLook : Setting → List Change → List Row → Type 0
+IsLook o seen rows = (rows ≡ []) ⊎ (rows ≡ table_after o seen)
+
+-- what the looks of a viewer showed, newest first, that has seen these changes by now: at each it had seen a beginning
+-- of what it had seen at the next
+abbrev pub AreLooks : Setting → List Change → List (List Row) → Type 0
+AreLooks o seen [] = Unit {0}
+AreLooks o seen (rows ∷ before) =
+    (then : List Change) × IsPrefix then seen × IsLook o then rows × AreLooks o then before
 
 -- the number of the period that runs after so many starts; it stops at 2^64-1
 abbrev pub number_after : Setting → ℕ → ℕ
@@ -33,32 +41,34 @@ knocks_of o rejoin [] = []
 knocks_of o rejoin (rows ∷ before) =
     knocks_of o rejoin before ++ knock_of o (number_after o (length before + 1)) (knocked_by rejoin before rows)
 
--- at each of so many starts of periods was looked, and all that was handed over since are the knocks at these starts,
--- each once, in order: as many as were counted, and the count stops at 2^64-1
-pub record HasKnocked (o : Setting) (rejoin starts : ℕ) (before now : Option (List Posted)) (knocks : ℕ) : Type 0 where
+-- at each of so many starts of periods looked a viewer that has seen these changes by now, and all that was handed over
+-- since are the knocks at these starts, each once, in order: as many as were counted, and the count stops at 2^64-1
+pub record HasKnocked (o : Setting) (rejoin starts : ℕ) (seen : List Change) (before now : Option (List Posted))
+    (knocks : ℕ) : Type 0 where
   pub looks : List (List Row)
-  pub each : All (IsLook o) looks
+  pub each : AreLooks o seen looks
   pub at_starts : length looks ≡ starts
   pub unsent : ℕ
   pub posted : ArePosted (knocks_of o rejoin looks) before now unsent
   pub counted : knocks ≡ min (length (knocks_of o rejoin looks)) (2 ^ 64 - 1)
 
--- what a contract sees of who knocks: what the knocker keeps, the number of the period that runs, what the post was
--- handed so far, and how many knocks there were
+-- what a contract sees of who knocks: what the knocker keeps, what its viewer has seen, the number of the period that
+-- runs, what the post was handed so far, and how many knocks there were
 pub record AtKnocking : Type 0 where
   pub knocker : Kept
+  pub seen : List Change
   pub number : ℕ
   pub posted : Option (List Posted)
   pub knocks : ℕ
 
-abbrev pub at_knocking : Kept → ℕ → Option (List Posted) → ℕ → AtKnocking
-at_knocking knocker number posted knocks =
-    record { knocker = knocker; number = number; posted = posted; knocks = knocks }
+abbrev pub at_knocking : Kept → List Change → ℕ → Option (List Posted) → ℕ → AtKnocking
+at_knocking knocker seen number posted knocks =
+    record { knocker = knocker; seen = seen; number = number; posted = posted; knocks = knocks }
 
 -- that was handed over at so many starts, by a knocker of this node, and what it keeps is what these starts come to
 pub record IsKnocking (o : Setting) (rejoin starts : ℕ) (before : Option (List Posted)) (now : AtKnocking) : Type
     0 where
-  pub has : HasKnocked o rejoin starts before now.posted now.knocks
+  pub has : HasKnocked o rejoin starts now.seen before now.posted now.knocks
   pub number : now.number ≡ number_after o starts
   pub rejoin_is : now.knocker.rejoin ≡ rejoin
   pub me : now.knocker.me ≡ o.me

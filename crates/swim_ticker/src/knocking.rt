@@ -2,6 +2,7 @@
 
 ghost use Rattle.std.specs.Prelude.{◌≡◌, ℕ, ◌<◌, List, Option};
 ghost use Rattle.std.specs.Int.{from_bool};
+ghost use mathlib.Core.List.{IsPrefix};
 ghost use Rattle.swim_ticker.specs.Knocking.{AreKnocks, IsKnocking, IsLook, KnocksOn, at_knocking, sent_as};
 ghost use Rattle.swim_work.specs.Posts.{Posted};
 
@@ -16,7 +17,7 @@ use swim_work::{Post, TidingsBoard};
 /// were.
 #[derive(Drop)]
 pub(crate) struct Knocking<N: Naming> {
-    viewer: Viewer<N>,
+    pub(crate) viewer: Viewer<N>,
     pub(crate) knocker: Knocker,
     // Whether it knocks at all.
     is_open: bool,
@@ -30,7 +31,7 @@ impl<N: Naming> Knocking<N> {
     pub(crate) fn new(rejoin: u16, opening: &Opening, viewer: Viewer<N>) -> Knocking<N>
         requires { opening.now ≡ N.opening }
         ensures knocking { (posted : Option (List Posted)) → IsKnocking N.opening rejoin 0 posted
-            (at_knocking result.knocker result.number posted result.knocks) }
+            (at_knocking result.knocker result.viewer result.number posted result.knocks) }
     {
         Knocking {
             viewer,
@@ -50,8 +51,8 @@ impl<N: Naming> Knocking<N> {
         is_started: bool,
     )
         ensures { KnocksOn N.opening (from_bool is_started)
-            (at_knocking self.old.knocker self.old.number (O.posted post.old) self.old.knocks)
-            (at_knocking self.new.knocker self.new.number (O.posted post.new) self.new.knocks) }
+            (at_knocking self.old.knocker self.old.viewer self.old.number (O.posted post.old) self.old.knocks)
+            (at_knocking self.new.knocker self.new.viewer self.new.number (O.posted post.new) self.new.knocks) }
     {
         if is_started {
             self.start(rt, board, post);
@@ -63,8 +64,8 @@ impl<N: Naming> Knocking<N> {
     /// A period starts: the receiver is told of it, and of the knock that is due, if one is, before that is sent.
     fn start<O: Post, R: Wait>(&mut self, rt: &R, board: &TidingsBoard, post: &mut O)
         ensures { KnocksOn N.opening 1
-            (at_knocking self.old.knocker self.old.number (O.posted post.old) self.old.knocks)
-            (at_knocking self.new.knocker self.new.number (O.posted post.new) self.new.knocks) }
+            (at_knocking self.old.knocker self.old.viewer self.old.number (O.posted post.old) self.old.knocks)
+            (at_knocking self.new.knocker self.new.viewer self.new.number (O.posted post.new) self.new.knocks) }
     {
         let rows = look(&mut self.viewer, self.is_open);
         let number = self.number.saturating_add(1);
@@ -78,9 +79,11 @@ impl<N: Naming> Knocking<N> {
     }
 }
 
-/// The rows of the member table, where somebody is to look at it.
+/// The rows of the member table, all of them, where somebody is to look at it.
+#[tactic(auto, using(crate::proofs::Looked::begins_itself))]
 fn look<N: Naming>(viewer: &mut Viewer<N>, is_open: bool) -> Table
-    ensures look { IsLook N.opening result.items }
+    ensures later { IsPrefix viewer.old viewer.new }
+    ensures look { IsLook N.opening viewer.new result.items }
 {
     if !is_open {
         return Table::new();

@@ -1,13 +1,15 @@
 //! Laws of what the ticker does. Each is the contract of a function that does nothing, so that it stays proved.
 
 ghost use Rattle.std.specs.Prelude.{◌≡◌, ℕ, ◌-◌, ◌^◌, ◌≤◌, ◌+◌, [], All, List, count_by, length, map, min, not};
+ghost use Rattle.swim_history.specs.declared.rows.Change.{Change};
 ghost use Rattle.swim_history.specs.declared.rows.Row.{Row};
+ghost use Rattle.swim_history.specs.Changes.{IsAscending};
 ghost use Rattle.swim_history.specs.Setting.{Setting};
 ghost use Rattle.swim_node.specs.Seats.{Seated};
 ghost use Rattle.swim_work.specs.declared.paces.Beat.{Beat};
 ghost use Rattle.swim_work.specs.declared.workers.End.{End};
 ghost use Rattle.swim_work.specs.Posts.{Grows, Posted, datagram, handed, messages_of, starts_in};
-ghost use Rattle.swim_ticker.specs.Knocking.{IsLook, knocks_of};
+ghost use Rattle.swim_ticker.specs.Knocking.{AreLooks, knocks_of};
 ghost use Rattle.swim_ticker.specs.Ticking.{Owned, TicksLife};
 ghost use Rattle.swim_ticker.specs.Ticks.{AreTicked, ticks_in};
 
@@ -33,14 +35,21 @@ pub fn each_reply_is_posted<O: Post>()
 {}
 
 /// What the post of the knocks was handed in a life are the knocks that are due at the starts of periods that the
-/// seat's calls began, each once, in order, by the tables that were looked at at these starts; and they are counted.
+/// seat's calls began, each once, in order, by the tables that a viewer saw at these starts; and they are counted.
 pub fn knocks_are_at_starts<O: Post>()
     ensures { (o : Setting) (limit : ℕ) (old new : Owned O) (seat : Seated) (end : End)
         → TicksLife O.posted o limit old seat end new
-        → (looks : List (List Row)) × All (IsLook o) looks × (length looks ≡ starts_in seat.calls)
+        → (seen : List Change) × (looks : List (List Row)) × AreLooks o seen looks
+        × (length looks ≡ starts_in seat.calls)
         × (posted : List Posted) × Grows old.knocked new.knocked posted
         × (map handed posted ≡ map datagram (knocks_of o old.rejoin looks))
         × (new.knocks ≡ min (old.knocks + length posted) (2 ^ 64 - 1)) }
+{}
+
+/// The rows of each look ascend by id, so that whose turn it is is the next failed member by id.
+pub fn looks_ascend_by_id()
+    ensures { (o : Setting) (seen : List Change) (looks : List (List Row)) → AreLooks o seen looks
+        → All IsAscending looks }
 {}
 
 /// With a rejoin of 0 nobody is knocked at in a life: the post of the knocks was handed nothing.

@@ -3,7 +3,7 @@
 ghost use Rattle.std.specs.Prelude.{◌≡◌, ◌↔◌, ℕ, List, Option, IfOk, IfSome, map};
 ghost use Rattle.swim_evidence.specs.declared.sequences.Seen.{Seen as SeenFile};
 ghost use Rattle.swim_evidence.specs.Sequences.{AreGood};
-ghost use Rattle.swimsim.specs.Sequences.{seen_of, status_of};
+ghost use Rattle.swimsim.specs.Sequences.{IsStatusOf, seen_of, status_of};
 
 use crate::examining::{Played, play};
 use crate::reports::Report;
@@ -35,9 +35,13 @@ pub trait Examiner {
 /// program ends: 0 where nothing speaks against any of them; 4 where that isn't known, as memory was refused; else 1.
 #[tactic(auto)]
 pub fn verify_each<E: Examiner>(examiner: &mut E, paths: &[&str]) -> Result<u8>
-    // It is 0 exactly where each file is whole or cut, and begins a new start or goes on from what the one before left.
-    ensures { IfOk result (λ status. IfSome (E.seen examiner.old) (λ files.
+    // It is 0 exactly where each file is whole or cut, and begins a new start or goes on from what the one before left,
+    ensures good { IfOk result (λ status. IfSome (E.seen examiner.old) (λ files.
         (status ≡ 0) ↔ AreGood (seen_of files (map (λ path. path.now) paths.now)))) }
+
+    // and in any case that of the worst of what is found of the files and of their places.
+    ensures worst { IfOk result (λ status. IfSome (E.seen examiner.old) (λ files.
+        IsStatusOf (seen_of files (map (λ path. path.now) paths.now)) status)) }
 {
     let mut sequence = Sequence::new();
     let mut before = "";

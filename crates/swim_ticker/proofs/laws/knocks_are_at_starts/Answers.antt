@@ -4,5 +4,5 @@ use Rattle.swim_ticker.proofs.laws.knocks_are_at_starts.Goals as goal
 
 pub returns : goal.returns
 returns g c = λ o limit old new seat end life.
-    all_knocked o old.rejoin (starts_in seat.calls) old.knocked new.knocked old.knocks life.knocks new.knocks
+    all_knocked o old.rejoin (starts_in seat.calls) life.seen old.knocked new.knocked old.knocks life.knocks new.knocks
     life.knocked life.counted

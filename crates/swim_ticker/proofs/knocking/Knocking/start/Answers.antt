@@ -7,10 +7,11 @@ pub returns : goal.returns
 returns g c =
     let old = c.args.self.now in
     let rows = c.as_slice.result.now in
-    one_more_knocked g.N.Naming.opening old.knocker c.begin-knock.new.knocker rows old.number
+    one_more_knocked g.N.Naming.opening old.knocker c.begin-knock.new.knocker old.viewer c.look-rows.new.viewer rows
+    old.number
     c.saturating_add-number.result c.begin-knock.result (g.O.Post.posted c.args.post.now)
     (g.O.Post.posted c.send-count.new.post) old.knocks c.send-count.result c.saturating_add-knocks.result
-    (search rules) (search rules)
+    (search rules) (search rules) (search rules)
     (subst (λ n. Begins old.knocker rows n c.begin-knock.result c.begin-knock.new.knocker)
     c.period_of-period.ensures c.begin-knock.ensures)
     c.send-count.ensures (search rules)
