@@ -6,7 +6,7 @@ ghost use Rattle.swim_evidence.specs.Sequences.{AreGood};
 ghost use Rattle.swimsim.specs.Sequences.{seen_of, status_of};
 
 use crate::examining::{Played, play};
-use crate::reports::Report;
+use crate::reports::{Extent, Report};
 use crate::verdict_lines::{Closing, Objection};
 use crate::witness::FileEnd;
 use anyhow::Result;
@@ -51,7 +51,7 @@ pub fn verify_each<E: Examiner>(examiner: &mut E, paths: &[&str]) -> Result<u8>
 }
 
 /// The status with which the program ends.
-fn status_of(standing: Standing) -> u8
+pub fn status_of(standing: Standing) -> u8
     ensures { result ≡ status_of standing }
 {
     match standing {
@@ -96,7 +96,7 @@ impl<'r> Examiner for FileExaminer<'r> {
             println!(self.rt; "{path}: a new start")?;
         }
         match self.played.take() {
-            Some(Ok(played)) => tell_played(self.rt, path, &played)?,
+            Some(Ok(played)) => tell_played(self.rt, path, &played, Extent::Evidence)?,
             Some(Err(error)) => tell_unread(self.rt, path, &error),
             None => {}
         }
@@ -106,7 +106,7 @@ impl<'r> Examiner for FileExaminer<'r> {
 }
 
 /// Tells what a file comes to that was played.
-fn tell_played(rt: &HostRuntime, path: &str, played: &Played) -> Result<()> {
+pub fn tell_played(rt: &HostRuntime, path: &str, played: &Played, extent: Extent) -> Result<()> {
     if played.witness.end == FileEnd::Foreign {
         object(
             rt,
@@ -117,7 +117,7 @@ fn tell_played(rt: &HostRuntime, path: &str, played: &Played) -> Result<()> {
     }
     let verdict = played.verdict();
     let confirmed = played.witness.confirmations.confirmed;
-    if let Some(report) = Report::of(path, played) {
+    if let Some(report) = Report::of(path, played, extent) {
         let closing = Closing { verdict, confirmed };
         print!(rt; "{report}{closing}")?;
     }
@@ -131,7 +131,7 @@ fn tell_played(rt: &HostRuntime, path: &str, played: &Played) -> Result<()> {
 }
 
 /// Tells why a file can't be read.
-fn tell_unread(rt: &HostRuntime, path: &str, error: &io::Error) {
+pub fn tell_unread(rt: &HostRuntime, path: &str, error: &io::Error) {
     if error.kind() == ErrorKind::OutOfMemory {
         object(rt, path, "no memory before entry 0");
     } else {
@@ -156,6 +156,6 @@ fn tell_link(rt: &HostRuntime, path: &str, before: &str, link: Link) {
 }
 
 /// Tells what is to be said of a file.
-fn object<T: fmt::Display + Drop>(rt: &HostRuntime, path: &str, what: T) {
+pub fn object<T: fmt::Display + Drop>(rt: &HostRuntime, path: &str, what: T) {
     let _ = eprintln!(rt; "swimsim: {path}: {what}");
 }
