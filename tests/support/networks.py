@@ -3,6 +3,7 @@ that is told its calls one by one: nothing here waits for a clock, and the same 
 and answered is the journal file of that member, and the network keeps what became of each datagram."""
 
 import itertools
+import re
 import subprocess
 from typing import NamedTuple, Optional
 
@@ -181,8 +182,8 @@ def plural(count, word):
 
 
 class Known:
-    """What the network did with the datagrams of a probe after which somebody was judged, and what `--trace` has to tell
-    of it where the files of all members are given."""
+    """What the network did with the datagrams of a probe after which somebody was judged, and what `--trace` has to
+    tell of it where the files of all members are given."""
 
     def __init__(self, group, judgement):
         self.group, self.judgement, self.probe = group, judgement, judgement.probe
@@ -208,33 +209,34 @@ class Known:
         """What has to be told of a datagram, and what of it in the last line, if anything."""
         sent = [it for it in self.group.sent if (it.probe, it.leg) == (self.probe, leg)]
         if not sent:
-            return ("not sent" if self.have_met(leg.sender) else f"no journal of {leg.sender} is there"), None
+            return ("not sent" if self.have_met(leg.sender) else f"no journal of {leg.sender} was given"), None
         heard = sorted(hearing for it in sent for hearing in it.heard)
         entries = sorted({it.entry for it in sent})
         text = "sent at " + " and at ".join(f"entry {it} of {leg.sender}" for it in entries)
         if not heard and not self.have_met(leg.to):
-            return f"{text}; no journal of {leg.to} is there", None
+            return f"{text}; no journal of {leg.to} was given", None
         if not heard:
-            return f"{text}; lost: no entry of {leg.to} heard it", "lost"
+            return f"{text}; lost: {leg.to} never heard it", "lost"
         text += "; heard at " + ", and at ".join(
             f"entry {entry} of {leg.to}, {self.answered(leg, entry, answer)}" for entry, answer in heard
         )
         is_dropped = all(answer.startswith("dropped") for _, answer in heard)
-        return text, ("too late" if leg.to == self.probe.initiator else "dropped") if is_dropped else None
+        return text, ("late" if leg.to == self.probe.initiator else "dropped") if is_dropped else None
 
     def answered(self, leg, entry, answer):
         if answer == "sent":
-            return "answered" if leg.kind == PING else "passed on"
+            return "answered" if leg.kind == PING else "forwarded"
         if answer == "heard":
             return "counted"
         text = f"{answer} {DROPPED[answer.split(' ')[1]]}"
         is_late = leg.to == self.probe.initiator and entry > self.judgement.judged
-        return f"{text}: behind the end of the period at entry {self.judgement.judged}" if is_late else text
+        return f"{text}, as the period ended at entry {self.judgement.judged}" if is_late else text
 
     def clock(self):
         """How the clock of the target went: the line of that, and one of `ran`, `stood still` and `ended`."""
         initiator, target, number = self.probe
-        pings = [it for it in self.group.sent if it.leg == (PING, initiator, target) and it.probe.initiator == initiator]
+        leg = Leg(PING, initiator, target)
+        pings = [it for it in self.group.sent if it.leg == leg and it.probe.initiator == initiator]
         beats = sorted((entry, it.probe.number) for it in pings for entry, _ in it.heard)
         earlier = list(itertools.takewhile(lambda it: it[1] < number, beats))
         if not earlier:
@@ -249,30 +251,66 @@ class Known:
             how = "ran" if later else None
         else:
             how = "stood still" if later else "ended"
-        told = {"ran": "it went on", "stood still": "it stood still", "ended": "its entries end"}
+        told = {"ran": "it kept running", "stood still": "it stood still", "ended": "its journal ends"}
         text = f"  clock of {target}: {had} ticks from entry {entry} of {target} on, where {initiator} had {due}: "
         return (f"{text}{told[how]}\n", how) if how else ("", None)
 
     def broken(self):
         """Where its ways broke, as the last line tells it."""
         lines = [(leg, self.line(leg)[1]) for leg in self.legs()]
-        return "".join(f"; {shown(leg)} {what}" for leg, what in lines if what)
+        return "".join(f"; {what} {shown(leg)}" for leg, what in lines if what)
 
     def conclusion(self, how):
         initiator, target, _ = self.probe
         if not self.have_met(target):
-            return f"no journal of {target} is there: whether a ping came to it isn't known"
+            return f"no journal of {target} was given: it is unknown whether a ping reached it"
         pings = [it for it in self.group.sent if it.probe == self.probe and it.leg.kind == PING and it.leg.to == target]
         answers = sum(answer == "sent" for it in pings for _, answer in it.heard)
         if answers:
-            still = "stood still, and " if how == "stood still" else ""
-            return f"{target} {still}answered {plural(answers, 'ping')} of this probe: it lived{self.broken()}"
+            still = " but stood still" if how == "stood still" else ""
+            return f"{target} was alive{still}: it answered {plural(answers, 'ping')} of this probe{self.broken()}"
         words = {None: "was not reached", "ran": "was cut off", "stood still": "stood still", "ended": "had ended"}
         paths = plural(1 + len(self.judgement.relays), "path")
-        return f"{target} {words[how]}: no ping came to it on {paths}{self.broken()}"
+        return f"{target} {words[how]}: no ping reached it on {paths}{self.broken()}"
 
     def text(self):
         initiator, target, number = self.probe
         clock, how = self.clock()
         lines = "".join(f"  {shown(leg)}: {self.line(leg)[0]}\n" for leg in self.legs())
         return f"{initiator} judged {target} in period {number}\n{lines}{clock}  so {self.conclusion(how)}\n"
+
+    def as_json(self, names):
+        """The same as an object, where the files have these names by member."""
+        initiator, target, number = self.probe
+        entry = lambda id, place, **more: {"file": names[id], "entry": place, **more}
+        datagrams = [self.datagram(leg, entry) for leg in self.legs()]
+        judged = entry(initiator, self.judgement.judged)
+        found = {"initiator": initiator, "target": target, "period": number, "judged": judged}
+        line, how = self.clock()
+        if how:
+            numbers = re.match(r"  clock of \d+: (\d+) ticks from entry (\d+) .* had (\d+): ", line)
+            had, place, due = map(int, numbers.groups())
+            words = {"ran": "running", "stood still": "still", "ended": "ended"}
+            found["clock"] = {"is": words[how], "ticks": had, "due": due, "since": entry(target, place)}
+        count = int(re.search(r"(\d+) (?:pings?|paths?)\b", self.conclusion(how) + " 0 pings")[1])
+        so = {"so": "not reached", "paths": count}
+        if "was alive" in self.conclusion(how):
+            so = {"so": "alive", "answers": count}
+        elif self.conclusion(how).startswith("no journal"):
+            so = {"so": "no journal"}
+        return {**found, "datagrams": datagrams, **so}
+
+    def datagram(self, leg, entry):
+        """The object of a datagram."""
+        text, what = self.line(leg)
+        sent = [it for it in self.group.sent if (it.probe, it.leg) == (self.probe, leg)]
+        heard = sorted(hearing for it in sent for hearing in it.heard)
+        fate = {None: "passed", "lost": "lost", "late": "dropped", "dropped": "dropped"}[what]
+        if "no journal of" in text:
+            fate = "unknown"
+        return {
+            "kind": KINDS[leg.kind], "from": leg.sender, "to": leg.to,
+            "fate": "unsent" if text == "not sent" else fate,
+            "sent": [entry(leg.sender, it) for it in sorted({it.entry for it in sent})],
+            "heard": [entry(leg.to, place, answer=answer) for place, answer in heard],
+        }

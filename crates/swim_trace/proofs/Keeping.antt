@@ -31,7 +31,8 @@ pub wanted_kept : (act : Option Act) (old new : ActIndex) →
     ((n : ℕ) → option_map (λ kept. kept.items) (get nat_eq new.acts n)
     ≡ with_more (if_numbered n act) (option_map (λ kept. kept.items) (get nat_eq old.acts n))) →
     KeepsWanted old new
-wanted_kept act old new same n wanted =
+wanted_kept act old new same =
+    λ n wanted.
     some_with (λ kept. kept.items) (get nat_eq old.acts n) (get nat_eq new.acts n) (if_numbered n act) (same n) wanted
 
 -- where an entry's act is added behind what is kept of those before it, what is kept is that of the entry, too

@@ -1,13 +1,15 @@
 -- The pings that came to a member from those that began the probes, and how its clock went on between them. It rests on
 -- ticks alone: comments of files, which tell times, decide nothing.
-use Rattle.std.specs.Prelude.{◌≡◌, ℕ, ◌==◌, ◌&&◌, Bool, List, [], ◌∷◌, ◌++◌, Option, Some, None, length}
+use Rattle.std.specs.Prelude.{◌≡◌, ℕ, ◌+◌, ◌-◌, ◌^◌, ◌==◌, ◌&&◌, min, Bool, List, [], ◌∷◌, ◌++◌, Option, Some, None, length}
 use Rattle.std.specs.Prelude.{nat_le, nat_lt, if◌then◌else◌}
 use Rattle.std.specs.Option.{option_to_list}
 use Rattle.swim_wire.specs.Messages.{Message}
 use Rattle.swim_wire.specs.declared.messages.Kind.TheVariants.{Ping}
 use Rattle.swim_history.specs.declared.calls.Call.{Call}
 use Rattle.swim_history.specs.declared.calls.Call.TheVariants.{Hear}
+use Rattle.swim_history.specs.declared.replies.Reply.{Reply}
 use Rattle.swim_history.specs.declared.entries.Entry.{Entry}
+use Rattle.swim_history.specs.Events.{is_ticking}
 use Rattle.swim_history.specs.Clock.{ticks}
 use Rattle.swim_trace.specs.declared.beats.Beat.{Beat}
 use Rattle.swim_trace.specs.declared.beats.Rhythm.{Rhythm}
@@ -28,6 +30,10 @@ beat_in me place ticks call = None
 abbrev pub beats : ℕ → List Entry → List Beat
 beats me [] = []
 beats me (e ∷ before) = beats me before ++ option_to_list (beat_in me (length before) (ticks before) e.call)
+
+-- how many ticks there are with one entry more; there are less than 2^64
+abbrev pub ticks_with : ℕ → Call → Reply → ℕ
+ticks_with count call reply = if is_ticking call reply then min (count + 1) (2 ^ 64 - 1) else count
 
 -- what is known of the entries that were gone through
 pub record Follows (me : ℕ) (h : List Entry) (r : Rhythm) : Type 0 where

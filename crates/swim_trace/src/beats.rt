@@ -1,9 +1,9 @@
 //! The pings by which a member was known to hear others, and how its clock went on between them.
 
-ghost use Rattle.std.specs.Prelude.{◌≡◌, ◌∷◌, List, IfOk, OnOk, filter, length, reverse, take};
-ghost use Rattle.swim_history.specs.declared.entries.Entry.{Entry};
+ghost use Rattle.std.specs.Prelude.{◌≡◌, ◌++◌, IfOk, OnOk, filter, length, reverse, take};
+ghost use Rattle.std.specs.Option.{option_to_list};
 ghost use Rattle.swim_history.specs.Events.{is_ticking};
-ghost use Rattle.swim_trace.specs.Beats.{Follows, beat_in, is_from, is_own_ping};
+ghost use Rattle.swim_trace.specs.Beats.{Follows, beat_in, is_from, is_own_ping, ticks_with};
 
 use std::alloc::{AllocError, Global};
 use swim_history::{Call, Entry, Journal, Reply};
@@ -53,28 +53,32 @@ impl Rhythm {
     pub fn count_from(&self, initiator: Id, last: u64, latest: u64) -> usize
         ensures { result ≡ length (filter (is_from initiator last latest) self.now.beats.items) }
     {
-        let mut count = 0;
-        for beat in self.beats.as_slice() {
-            if is_from(initiator, last, latest, beat) {
-                count += 1;
-            }
-        }
-        count
+        count_beats(self.beats.as_slice(), initiator, last, latest)
     }
 
     /// Goes one entry on, which stands at that place.
-    #[tactic(auto, using(crate::proofs::Rhythms::ticks_within))]
     fn note(&mut self, me: Id, place: u32, entry: &Entry) -> Result<(), AllocError>
-        ensures { (h : List Entry) → Follows me h self.old → place ≡ length h →
-            OnOk result (Follows me (entry.now ∷ h) self.new) }
+        ensures { OnOk result ((self.new.beats.items
+            ≡ self.old.beats.items ++ option_to_list (beat_in me place self.old.ticks entry.now.call))
+            × (self.new.ticks ≡ ticks_with self.old.ticks entry.now.call entry.now.reply)) }
     {
-        if let Some(beat) = beat_in(me, place, self.ticks, &entry.call) {
+        let ticks = self.ticks;
+        if let Some(beat) = beat_in(me, place, ticks, &entry.call) {
             self.beats.push(beat)?;
         }
-        if is_ticking(&entry.call, &entry.reply) {
-            self.ticks = self.ticks.saturating_add(1);
-        }
+        self.ticks = ticks_with(ticks, &entry.call, &entry.reply);
         Ok(())
+    }
+}
+
+/// How many ticks there are with one entry more.
+fn ticks_with(ticks: u64, call: &Call, reply: &Reply) -> u64
+    ensures { result ≡ ticks_with ticks call.now reply.now }
+{
+    if is_ticking(call, reply) {
+        ticks.saturating_add(1)
+    } else {
+        ticks
     }
 }
 
@@ -109,6 +113,19 @@ fn is_ticking(call: &Call, reply: &Reply) -> bool
         (Call::Tick, _) => true,
         _ => false,
     }
+}
+
+/// How many of these pings are of that initiator, in these periods.
+fn count_beats(beats: &[Beat], initiator: Id, last: u64, latest: u64) -> usize
+    ensures { result ≡ length (filter (is_from initiator last latest) beats.now) }
+{
+    let mut count = 0;
+    for beat in beats {
+        if is_from(initiator, last, latest, beat) {
+            count += 1;
+        }
+    }
+    count
 }
 
 /// Whether a ping is of that initiator, in one of these periods.

@@ -7,7 +7,7 @@ mod conclusions;
 mod fates;
 mod index;
 mod legs;
-mod presence;
+mod presences;
 
 pub use acts::{Act, Answer, Deed, Hearing, ProbeName, Spot};
 pub use beats::{Beat, Rhythm};
@@ -15,4 +15,4 @@ pub use conclusions::{Conclusion, conclusion_on};
 pub use fates::{Case, Fate, Way, is_heard_on, is_passed_on, ways_of};
 pub use index::ActIndex;
 pub use legs::Leg;
-pub use presence::{Pace, Presence};
+pub use presences::{Pace, Presence};

@@ -56,9 +56,10 @@ file_line =
     (number_rule (codes "judged") (2 ^ 32 - 1)))
     (number_rule (codes "period") (2 ^ 64 - 1))
 
--- these, beside what clap gives each program that has a version, `--help` and `--version`
+-- these, and whether the last is written as JSON, beside what clap gives each program that has a version, `--help` and
+-- `--version`
 abbrev pub command_line : App
-command_line = file_line
+command_line = with_rule file_line (flag_rule (codes "json"))
 
 -- the path of the script that the words name, if any
 abbrev pub script_in : List Text → Option Text
@@ -113,4 +114,5 @@ IsMixed options =
 
 -- judgements are named that are to be traced, and no files
 abbrev pub IsUntraced : Options → Type 0
-IsUntraced options = (IsSome options.judged ⊎ IsSome options.period) × (length options.trace.items ≡ 0)
+IsUntraced options =
+    (IsSome options.judged ⊎ IsSome options.period ⊎ (options.json ≡ true)) × (length options.trace.items ≡ 0)

@@ -72,7 +72,9 @@ impl<'a> Account<'a> {
 /// Whether one of two journals is a front of the other.
 fn are_fronts(journal: &Journal, other: &Journal) -> bool {
     for place in 0..journal.len().min(other.len()) {
-        if journal.entry(place) != other.entry(place) {
+        let entry = journal.entry(place);
+        let others = other.entry(place);
+        if entry != others {
             return false;
         }
     }
@@ -156,12 +158,7 @@ impl<'f, 'a> fmt::Display for EntryName<'f, 'a> {
         let Some(account) = self.accounts.get(self.spot.file as usize) else {
             return write!(f, "entry {place}");
         };
-        let files = self
-            .accounts
-            .iter()
-            .filter(|other| other.member == account.member)
-            .count();
-        if files == 1 {
+        if files_of(self.accounts, account.member) == 1 {
             let id = account.member.get();
             write!(f, "entry {place} of {id}")
         } else {
@@ -169,4 +166,15 @@ impl<'f, 'a> fmt::Display for EntryName<'f, 'a> {
             write!(f, "entry {place} of {path}")
         }
     }
+}
+
+/// How many of these files are that member's.
+fn files_of(accounts: &[Account<'_>], member: Id) -> usize {
+    let mut count = 0usize;
+    for account in accounts {
+        if account.member == member {
+            count = count.saturating_add(1);
+        }
+    }
+    count
 }

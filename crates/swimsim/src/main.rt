@@ -28,6 +28,7 @@ mod spelling;
 mod summaries;
 mod tallies;
 mod telling;
+mod trace_json;
 mod trace_lines;
 mod tracing;
 mod unheard;
@@ -59,7 +60,7 @@ use swim_history::Journal;
 use swim_script::{FaultKind, ScriptFault, Session};
 use swim_text::{ReadSource, Sink, WriteSink};
 use telling::WordTeller;
-use tracing::trace;
+use tracing::trace_files;
 use verifying::verify;
 
 /// The status where memory is refused before anything is played.
@@ -117,7 +118,7 @@ fn obey(rt: &HostRuntime, options: &Options<'_>) -> Result<ExitCode> {
         return print_answer(rt, &refuse_untraced(rt.alloc())?);
     }
     if !options.trace.is_empty() {
-        return trace(rt, options);
+        return trace_files(rt, options);
     }
     if !options.verify.is_empty() {
         return verify(rt, options.verify.as_slice());

@@ -42,6 +42,8 @@ pub struct Options<'a> {
     pub judged: Option<Id>,
     /// In which period they were made; `None` for all periods.
     pub period: Option<u64>,
+    /// Whether what is traced is written as JSON.
+    pub json: bool,
 }
 
 impl<'a> Options<'a> {
@@ -70,7 +72,7 @@ impl<'a> Options<'a> {
     pub fn is_untraced(&self) -> bool
         ensures { IsTrue result ↔ IsUntraced self.now }
     {
-        (self.judged.is_some() || self.period.is_some()) && self.trace.is_empty()
+        (self.judged.is_some() || self.period.is_some() || self.json) && self.trace.is_empty()
     }
 
     /// Whether a part of a picture is asked for, and no picture.
@@ -124,6 +126,8 @@ pub fn read_options<'a, S: AsStr>(alloc: Global, words: &'a [S]) -> Result<Optio
         (flag_in (codes "judged") (map S.text words.entry.now))) }
     ensures period { IfOk result (λ options. TellsNumber (2 ^ 64) options.period
         (flag_in (codes "period") (map S.text words.entry.now))) }
+    ensures json { IfOk result (λ options. TellsFlag options.json
+        (flag_in (codes "json") (map S.text words.entry.now))) }
     ensures refused { FailsBy (fault_of command_line (map S.text words.entry.now)) result }
 {
     let command = command_line(alloc)?;
@@ -142,6 +146,7 @@ pub fn read_options<'a, S: AsStr>(alloc: Global, words: &'a [S]) -> Result<Optio
         trace,
         judged: id_of(matches.get_one("judged")),
         period: matches.get_one("period"),
+        json: matches.get_flag("json"),
     })
 }
 
@@ -188,7 +193,7 @@ pub fn refuse_untraced(alloc: Global) -> Result<Error, AllocError>
     refuse(
         alloc,
         ErrorKind::MissingRequiredArgument,
-        "--judged and --period stand beside --trace FILE",
+        "--judged, --period and --json stand beside --trace FILE",
     )
 }
 
@@ -251,7 +256,12 @@ fn command_line<'a>(alloc: Global) -> Result<Command<'a>, AllocError>
         .arg(verify(alloc))?
         .arg(trace(alloc))?
         .arg(judged(alloc))?
-        .arg(period(alloc))
+        .arg(period(alloc))?
+        .arg(flag(
+            alloc,
+            "json",
+            "Writes what is traced as JSON, an object a line",
+        ))
 }
 
 /// The one word that is no option.

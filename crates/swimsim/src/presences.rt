@@ -105,14 +105,21 @@ fn later(
     account: &Account<'_>,
     presence: Presence,
 ) -> Option<Clock> {
-    match (found, presence) {
-        (Some(clock), Presence::Unknown) if account.is_first_life() => Some(clock),
-        (Some(clock), Presence::Unknown) => match clock.presence {
-            Presence::Ended(_) => None,
-            _ => Some(clock),
-        },
-        (None, Presence::Unknown) => None,
-        (_, presence) => Some(Clock { file, presence }),
+    if presence != Presence::Unknown {
+        return Some(Clock { file, presence });
+    }
+    let clock = found?;
+    if has_ended(&clock) && !account.is_first_life() {
+        return None;
+    }
+    Some(clock)
+}
+
+/// Whether it was told by the end of a file.
+fn has_ended(clock: &Clock) -> bool {
+    match &clock.presence {
+        Presence::Ended(_) => true,
+        Presence::Unknown | Presence::Ran(_) | Presence::StoodStill(_) => false,
     }
 }
 

@@ -13,8 +13,8 @@ use swim_wire::Kind;
 
 /// What is known of a probe after which its target was judged failed.
 #[derive(Clone, Copy)]
-pub struct Trace<'t> {
-    pub accounts: &'t [Account<'t>],
+pub struct TraceReport<'t, 'p> {
+    pub accounts: &'t [Account<'p>],
     /// The place of the initiator's file among these.
     pub file: u32,
     /// What the judgement rests on.
@@ -27,7 +27,7 @@ pub struct Trace<'t> {
     pub clock: Option<Clock>,
 }
 
-impl<'t> fmt::Display for Trace<'t> {
+impl<'t, 'p> fmt::Display for TraceReport<'t, 'p> {
     fn fmt<W: fmt::Write>(&self, f: &mut fmt::Formatter<W>) -> fmt::Result {
         let initiator = self.case.probe.initiator.get();
         let target = self.case.probe.target.get();
@@ -45,7 +45,7 @@ impl<'t> fmt::Display for Trace<'t> {
     }
 }
 
-impl<'t> Trace<'t> {
+impl<'t, 'p> TraceReport<'t, 'p> {
     /// The line of a datagram.
     fn show_way<W: fmt::Write>(&self, way: &Way, f: &mut fmt::Formatter<W>) -> fmt::Result {
         let leg = &way.leg;
@@ -60,14 +60,14 @@ impl<'t> Trace<'t> {
         if self.case.is_sent(leg) {
             self.show_sent(leg, f)?;
         } else if way.fate == Fate::Contradicted {
-            write!(f, "no entry of {from} sent it")?;
+            write!(f, "never sent by {from}")?;
         } else {
-            write!(f, "no journal of {from} is there")?;
+            write!(f, "no journal of {from} was given")?;
         }
         match way.fate {
-            Fate::Lost => write!(f, "; lost: no entry of {to} heard it")?,
+            Fate::Lost => write!(f, "; lost: {to} never heard it")?,
             Fate::Untold if self.case.is_sent(leg) => {
-                write!(f, "; no journal of {to} is there")?;
+                write!(f, "; no journal of {to} was given")?;
             }
             Fate::Untold | Fate::Unsent => {}
             Fate::Passed | Fate::Dropped | Fate::Contradicted => self.show_heard(leg, f)?,
@@ -93,18 +93,24 @@ impl<'t> Trace<'t> {
 
     /// Where the initiator sent a datagram by itself.
     fn show_begun<W: fmt::Write>(&self, leg: &Leg, f: &mut fmt::Formatter<W>) -> fmt::Result {
+        let spot = self.begun(leg);
+        let entry = self.entry(spot);
+        write!(f, "sent at {entry}")?;
+        let account = self.accounts.get(spot.file as usize);
+        match account.and_then(|account| account.time(spot.place)) {
+            Some(seconds) => write!(f, " ({seconds})"),
+            None => Ok(()),
+        }
+    }
+
+    /// The entry by which the initiator sent a datagram by itself: the start of the period, or the one that asked.
+    pub fn begun(&self, leg: &Leg) -> Spot {
         let place = match (leg.kind, &self.evidence.ask) {
             (Kind::PingReq, Some(ask)) => ask.place,
             _ => self.evidence.probed,
         };
         let file = self.file;
-        let entry = self.entry(Spot { file, place });
-        write!(f, "sent at {entry}")?;
-        let account = self.accounts.get(file as usize);
-        match account.and_then(|account| account.time(place)) {
-            Some(seconds) => write!(f, " ({seconds})"),
-            None => Ok(()),
-        }
+        Spot { file, place }
     }
 
     /// Where a datagram came, and what it was answered.
@@ -128,14 +134,14 @@ impl<'t> Trace<'t> {
         };
         match hearing.answer {
             Answer::Sent if hearing.kind == Kind::Ping => f.write_str(", answered"),
-            Answer::Sent => f.write_str(", passed on"),
+            Answer::Sent => f.write_str(", forwarded"),
             Answer::Counted => f.write_str(", counted"),
             Answer::Dropped(why) if self.is_late(act) => {
                 let judged = self.evidence.judged;
                 let number = why.number();
                 write!(
                     f,
-                    ", dropped {number} {why}: behind the end of the period at entry {judged}"
+                    ", dropped {number} {why}, as the period ended at entry {judged}"
                 )
             }
             Answer::Dropped(why) => {
@@ -155,34 +161,34 @@ impl<'t> Trace<'t> {
         let initiator = self.case.probe.initiator.get();
         let target = self.case.probe.target.get();
         let number = self.case.probe.number;
-        match self.conclusion {
+        match &self.conclusion {
             Conclusion::Twofold => write!(
                 f,
-                "more than one start of {initiator} probed {target} in a period {number}: which datagrams are of this one isn't known"
+                "{initiator} probed {target} more than once in a period {number}: it is unknown which datagram belongs to which probe"
             ),
             Conclusion::Contradicted(leg) => {
                 let from = leg.from.get();
-                f.write_str("the journals contradict one another: ")?;
-                show_leg(&leg, f)?;
-                write!(f, " came, and no entry of {from} sent it")
+                f.write_str("the journals contradict each other: ")?;
+                show_leg(leg, f)?;
+                write!(f, " arrived, but {from} never sent it")
             }
             Conclusion::Missing => write!(
                 f,
-                "no journal of {target} is there: whether a ping came to it isn't known"
+                "no journal of {target} was given: it is unknown whether a ping reached it"
             ),
             Conclusion::Answered(count) => {
-                let pings = plural(count, "ping", "pings");
-                let how = self.how_it_answered();
+                let pings = plural(*count, "ping", "pings");
+                let how = self.how_it_lived();
                 write!(
                     f,
-                    "{target} {how}answered {count} {pings} of this probe: it lived"
+                    "{target} was alive{how}: it answered {count} {pings} of this probe"
                 )?;
                 self.show_broken(f)
             }
             Conclusion::Unreached(count) => {
-                let paths = plural(count, "path", "paths");
+                let paths = plural(*count, "path", "paths");
                 let how = self.how_it_was_missed();
-                write!(f, "{target} {how}: no ping came to it on {count} {paths}")?;
+                write!(f, "{target} {how}: no ping reached it on {count} {paths}")?;
                 self.show_broken(f)
             }
         }
@@ -190,11 +196,11 @@ impl<'t> Trace<'t> {
 
     /// How the target's clock went, beside the initiator's.
     fn show_clock<W: fmt::Write>(&self, clock: &Clock, f: &mut fmt::Formatter<W>) -> fmt::Result {
-        match clock.presence {
+        match &clock.presence {
             Presence::Unknown => Ok(()),
-            Presence::Ran(pace) => self.show_pace(clock.file, &pace, "it went on", f),
-            Presence::StoodStill(pace) => self.show_pace(clock.file, &pace, "it stood still", f),
-            Presence::Ended(pace) => self.show_pace(clock.file, &pace, "its entries end", f),
+            Presence::Ran(pace) => self.show_pace(clock.file, pace, "it kept running", f),
+            Presence::StoodStill(pace) => self.show_pace(clock.file, pace, "it stood still", f),
+            Presence::Ended(pace) => self.show_pace(clock.file, pace, "its journal ends", f),
         }
     }
 
@@ -218,47 +224,52 @@ impl<'t> Trace<'t> {
     }
 
     /// What is said of the time in which the target answered.
-    fn how_it_answered(&self) -> &'static str {
+    fn how_it_lived(&self) -> &'static str {
         match self.presence() {
-            Presence::StoodStill(_) => "stood still, and ",
-            Presence::Unknown | Presence::Ran(_) | Presence::Ended(_) => "",
+            Some(Presence::StoodStill(_)) => " but stood still",
+            _ => "",
         }
     }
 
     /// What is said of the time in which nothing came to the target.
     fn how_it_was_missed(&self) -> &'static str {
         match self.presence() {
-            Presence::Unknown => "was not reached",
-            Presence::Ran(_) => "was cut off",
-            Presence::StoodStill(_) => "stood still",
-            Presence::Ended(_) => "had ended",
+            Some(Presence::Ran(_)) => "was cut off",
+            Some(Presence::StoodStill(_)) => "stood still",
+            Some(Presence::Ended(_)) => "had ended",
+            Some(Presence::Unknown) | None => "was not reached",
         }
     }
 
-    fn presence(&self) -> Presence {
+    fn presence(&self) -> Option<&Presence> {
         match &self.clock {
-            Some(clock) => clock.presence,
-            None => Presence::Unknown,
+            Some(clock) => Some(&clock.presence),
+            None => None,
         }
     }
 
     /// Where the ways broke.
     fn show_broken<W: fmt::Write>(&self, f: &mut fmt::Formatter<W>) -> fmt::Result {
         for way in self.ways {
-            let what = match way.fate {
-                Fate::Lost => "lost",
-                Fate::Dropped if way.leg.to == self.case.probe.initiator => "too late",
-                Fate::Dropped => "dropped",
-                _ => continue,
-            };
-            f.write_str("; ")?;
-            show_leg(&way.leg, f)?;
-            write!(f, " {what}")?;
+            if let Some(what) = self.break_name(way) {
+                write!(f, "; {what} ")?;
+                show_leg(&way.leg, f)?;
+            }
         }
         Ok(())
     }
 
-    fn entry(&self, spot: Spot) -> EntryName<'t, 't> {
+    /// How a way broke, if it did.
+    fn break_name(&self, way: &Way) -> Option<&'static str> {
+        match way.fate {
+            Fate::Lost => Some("lost"),
+            Fate::Dropped if way.leg.to == self.case.probe.initiator => Some("late"),
+            Fate::Dropped => Some("dropped"),
+            Fate::Passed | Fate::Unsent | Fate::Contradicted | Fate::Untold => None,
+        }
+    }
+
+    fn entry(&self, spot: Spot) -> EntryName<'t, 'p> {
         EntryName {
             spot,
             accounts: self.accounts,

@@ -1,14 +1,14 @@
 //! Journal files of several members, in which the datagrams of judged probes are looked for.
 
 use crate::accounts::{Account, Choice, index_of};
-use crate::examining::play;
+use crate::examining::{Played, play};
 use crate::options::Options;
 use crate::presences::{Clock, Rhythms};
 use crate::reports::Extent;
-use crate::trace_lines::Trace;
-use crate::verifying::{object, status_of, tell_played, tell_unread};
+use crate::trace_json::{JsonFile, JsonTrace};
+use crate::trace_lines::TraceReport;
+use crate::verifying::{object, status_of, tell_objection, tell_report, tell_unread};
 use anyhow::Result;
-use std::alloc::AllocError;
 use std::io::ErrorKind;
 use std::mem::replace;
 use std::process::ExitCode;
@@ -19,7 +19,7 @@ use swim_wire::Id;
 /// Plays the files that the options name, tells what each comes to, and what became of the datagrams of each probe after
 /// which somebody was judged. The status is 0 where nothing speaks against any file; 4 where that isn't known, or what
 /// became of them, as memory was refused; else 1.
-pub fn trace(rt: &HostRuntime, options: &Options<'_>) -> Result<ExitCode> {
+pub fn trace_files(rt: &HostRuntime, options: &Options<'_>) -> Result<ExitCode> {
     let choice = Choice {
         judged: options.judged,
         period: options.period,
@@ -27,23 +27,24 @@ pub fn trace(rt: &HostRuntime, options: &Options<'_>) -> Result<ExitCode> {
     let mut standing = Standing::Sound;
     let mut accounts = Vec::new(rt.alloc());
     for path in options.trace.as_slice() {
-        let (seen, account) = account_of(rt, path)?;
+        let (seen, account) = account_of(rt, *path, options.json)?;
         standing = standing.worse(seen);
         if let Some(account) = account {
-            add(rt, &mut accounts, account)?;
+            standing = standing.worse(add(rt, &mut accounts, account));
         }
     }
-    standing = standing.worse(tell_all(rt, accounts.as_slice(), &choice)?);
+    standing = standing.worse(tell_all(rt, accounts.as_slice(), &choice, options.json)?);
     Ok(ExitCode::from(status_of(standing)))
 }
 
 /// Plays a file, and tells what it comes to.
-fn account_of<'p>(rt: &HostRuntime, path: &'p str) -> Result<(Standing, Option<Account<'p>>)> {
+fn account_of<'p>(
+    rt: &HostRuntime,
+    path: &'p str,
+    is_json: bool,
+) -> Result<(Standing, Option<Account<'p>>)> {
     match play(rt, path) {
-        Ok(played) => {
-            tell_played(rt, path, &played, Extent::Counts)?;
-            Ok((played.verdict().standing(), Account::of(path, played)))
-        }
+        Ok(played) => tell_account(rt, path, played, is_json),
         Err(error) => {
             tell_unread(rt, path, &error);
             if error.kind() == ErrorKind::OutOfMemory {
@@ -55,43 +56,85 @@ fn account_of<'p>(rt: &HostRuntime, path: &'p str) -> Result<(Standing, Option<A
     }
 }
 
-/// Adds a file to those that are traced. Of two files of which one is a front of the other, the longer stays.
-fn add<'p>(
+/// Tells what a file comes to that was played.
+fn tell_account<'p>(
     rt: &HostRuntime,
-    accounts: &mut Vec<Account<'p>>,
-    account: Account<'p>,
-) -> Result<(), AllocError> {
-    for other in accounts.as_mut_slice() {
-        if account.is_same_life(other) {
-            let (left_out, path) = keep_longer(other, account);
-            object(
-                rt,
-                left_out.path,
-                format_args!("left out, as {path} tells the same life"),
-            );
-            return Ok(());
-        }
+    path: &'p str,
+    played: Played,
+    is_json: bool,
+) -> Result<(Standing, Option<Account<'p>>)> {
+    let standing = played.verdict().standing();
+    if !is_json {
+        tell_report(rt, path, &played, Extent::Counts)?;
     }
-    accounts.push(account)?;
-    Ok(())
+    tell_objection(rt, path, &played);
+    let account = Account::of(path, played);
+    if let (true, Some(account)) = (is_json, &account) {
+        let file = JsonFile { account, standing };
+        print!(rt; "{file}")?;
+    }
+    Ok((standing, account))
 }
 
-/// Keeps the longer of two files, and answers the other, with the path of the one that is kept.
-fn keep_longer<'p>(kept: &mut Account<'p>, account: Account<'p>) -> (Account<'p>, &'p str) {
-    if account.confirmed() > kept.confirmed() {
-        let path = account.path;
-        (replace(kept, account), path)
-    } else {
-        (account, kept.path)
+/// Adds a file to those that are traced. Of two files of one life the longer stays.
+fn add<'p>(rt: &HostRuntime, accounts: &mut Vec<Account<'p>>, account: Account<'p>) -> Standing {
+    let place = place_of_same_life(accounts.as_slice(), &account);
+    if place < accounts.len() {
+        keep_longer(rt, accounts.as_mut_slice(), place, account);
+        return Standing::Sound;
     }
+    match accounts.push(account) {
+        Ok(()) => Standing::Sound,
+        Err(_) => starved(rt),
+    }
+}
+
+/// Where a file of the same life stands among these; behind all of them where there is none.
+fn place_of_same_life(accounts: &[Account<'_>], account: &Account<'_>) -> usize {
+    let mut place = 0usize;
+    for other in accounts {
+        if account.is_same_life(other) {
+            return place;
+        }
+        place = place.saturating_add(1);
+    }
+    place
+}
+
+/// Keeps the longer of two files, of which one stands at that place, and tells that the other is left out.
+fn keep_longer<'p>(
+    rt: &HostRuntime,
+    accounts: &mut [Account<'p>],
+    place: usize,
+    account: Account<'p>,
+) {
+    let Some(kept) = accounts.get_mut(place) else {
+        return;
+    };
+    let left_out = if account.confirmed() > kept.confirmed() {
+        replace(kept, account)
+    } else {
+        account
+    };
+    let path = kept.path;
+    object(
+        rt,
+        left_out.path,
+        format_args!("left out, as {path} has the same life"),
+    );
 }
 
 /// Tells of each of these judgements what became of its probe.
-fn tell_all(rt: &HostRuntime, accounts: &[Account<'_>], choice: &Choice) -> Result<Standing> {
-    let (Ok(index), Ok(rhythms)) = (
-        index_of(rt.alloc(), accounts, choice),
-        Rhythms::of(rt.alloc(), accounts),
-    ) else {
+fn tell_all(
+    rt: &HostRuntime,
+    accounts: &[Account<'_>],
+    choice: &Choice,
+    is_json: bool,
+) -> Result<Standing> {
+    let Ok(index) = index_of(rt.alloc(), accounts, choice) else {
+        return Ok(starved(rt));
+    };
+    let Ok(rhythms) = Rhythms::of(rt.alloc(), accounts) else {
         return Ok(starved(rt));
     };
     let teller = Teller {
@@ -99,6 +142,7 @@ fn tell_all(rt: &HostRuntime, accounts: &[Account<'_>], choice: &Choice) -> Resu
         accounts,
         index: &index,
         rhythms: &rhythms,
+        is_json,
     };
     let mut standing = Standing::Sound;
     let mut file = 0u32;
@@ -116,15 +160,16 @@ fn starved(rt: &HostRuntime) -> Standing {
 }
 
 /// Who tells of judgements what became of their probes.
-#[derive(Drop)]
-struct Teller<'r> {
+#[derive(Clone, Copy)]
+struct Teller<'r, 'p> {
     rt: &'r HostRuntime,
-    accounts: &'r [Account<'r>],
+    accounts: &'r [Account<'p>],
     index: &'r ActIndex,
     rhythms: &'r Rhythms,
+    is_json: bool,
 }
 
-impl<'r> Teller<'r> {
+impl<'r, 'p> Teller<'r, 'p> {
     /// Tells of the judgements of a file.
     fn tell_file(&self, account: &Account<'_>, file: u32, choice: &Choice) -> Result<Standing> {
         let Ok(told) = self
@@ -182,16 +227,23 @@ impl<'r> Teller<'r> {
         let Ok(ways) = ways_of(self.rt.alloc(), &case) else {
             return Ok(starved(self.rt));
         };
-        let trace = Trace {
+        let conclusion = conclusion_on(&case, ways.as_slice());
+        let clock = self.clock(account, &case.probe);
+        let trace = TraceReport {
             accounts: self.accounts,
             file,
             evidence,
             case,
             ways: ways.as_slice(),
-            conclusion: conclusion_on(&case, ways.as_slice()),
-            clock: self.clock(account, &case.probe),
+            conclusion,
+            clock,
         };
-        print!(self.rt; "{trace}")?;
+        if self.is_json {
+            let object = JsonTrace(&trace);
+            print!(self.rt; "{object}")?;
+        } else {
+            print!(self.rt; "{trace}")?;
+        }
         Ok(Standing::Sound)
     }
 

@@ -96,7 +96,7 @@ impl<'r> Examiner for FileExaminer<'r> {
             println!(self.rt; "{path}: a new start")?;
         }
         match self.played.take() {
-            Some(Ok(played)) => tell_played(self.rt, path, &played, Extent::Evidence)?,
+            Some(Ok(played)) => tell_played(self.rt, path, &played)?,
             Some(Err(error)) => tell_unread(self.rt, path, &error),
             None => {}
         }
@@ -105,29 +105,42 @@ impl<'r> Examiner for FileExaminer<'r> {
     }
 }
 
-/// Tells what a file comes to that was played.
-pub fn tell_played(rt: &HostRuntime, path: &str, played: &Played, extent: Extent) -> Result<()> {
+/// Tells what a file comes to that was played, and what speaks against it.
+fn tell_played(rt: &HostRuntime, path: &str, played: &Played) -> Result<()> {
+    tell_report(rt, path, played, Extent::Evidence)?;
+    tell_objection(rt, path, played);
+    Ok(())
+}
+
+/// Tells what a file comes to that was played, as far as it is a journal file.
+pub fn tell_report(rt: &HostRuntime, path: &str, played: &Played, extent: Extent) -> Result<()> {
     if played.witness.end == FileEnd::Foreign {
-        object(
-            rt,
-            path,
-            "it is no journal file: its first line isn't `journal 1`",
-        );
         return Ok(());
     }
-    let verdict = played.verdict();
-    let confirmed = played.witness.confirmations.confirmed;
     if let Some(report) = Report::of(path, played, extent) {
+        let verdict = played.verdict();
+        let confirmed = played.witness.confirmations.confirmed;
         let closing = Closing { verdict, confirmed };
         print!(rt; "{report}{closing}")?;
     }
+    Ok(())
+}
+
+/// Tells what speaks against a file that was played, if anything does.
+pub fn tell_objection(rt: &HostRuntime, path: &str, played: &Played) {
+    if played.witness.end == FileEnd::Foreign {
+        let what = "it is no journal file: its first line isn't `journal 1`";
+        object(rt, path, what);
+        return;
+    }
+    let verdict = played.verdict();
+    let confirmed = played.witness.confirmations.confirmed;
     match verdict {
         Verdict::Whole | Verdict::Cut => {}
         Verdict::Missed(_) | Verdict::Faulty(_) | Verdict::Starved => {
             object(rt, path, Objection { verdict, confirmed });
         }
     }
-    Ok(())
 }
 
 /// Tells why a file can't be read.

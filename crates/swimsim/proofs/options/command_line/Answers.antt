@@ -31,6 +31,8 @@ returns c =
     ap₂ with_rule verifying_is c.trace.ensures.rule in
     let naming_is = c.in_ok-arg-10.ensures.shape c.judged.ensures.local ∙
     ap₂ with_rule tracing_is c.judged.ensures.rule in
-    IfOk-weaker c.arg-11.result _ _
-    (λ command added. added.shape c.period.ensures.local ∙ ap₂ with_rule naming_is c.period.ensures.rule)
-    c.arg-11.ensures
+    let numbering_is = c.in_ok-arg-11.ensures.shape c.period.ensures.local ∙
+    ap₂ with_rule naming_is c.period.ensures.rule in
+    IfOk-weaker c.arg-12.result _ _
+    (λ command added. added.shape c.flag-4.ensures.local ∙ ap₂ with_rule numbering_is c.flag-4.ensures.rule)
+    c.arg-12.ensures

@@ -164,6 +164,19 @@ returns-clause-period g c =
           (λ t r g. g.0) (c.get_one-4.ensures.value text (written ∙ e)) numeral fits,
     )
 
+pub returns-clause-json : goal.returns-clause-json
+returns-clause-json g c =
+    let words = map g.S.AsStr.text c.args.words.now in
+    let rows = (c.in_ok-matches.ensures.matches (ap is_simple c.in_ok-command.ensures ∙ is_simple_line)).0 in
+    let written : one_text (found_of c.in_ok-matches.matches) (codes "json") ≡
+    one_of (codes "json") (matches_of command_line words)
+    = one_text-rows (found_of c.in_ok-matches.matches) (codes "json")
+    ∙ ap (one_of (codes "json")) (rows ∙ ap (λ (a : App). matches_of a words) c.in_ok-command.ensures) in (
+      λ e. c.get_flag-4.ensures.none (written ∙ e),
+      λ e. c.get_flag-4.ensures.value (written ∙ e),
+      λ e. c.get_flag-4.ensures.other (written ∙ e),
+    )
+
 pub returns-clause-refused : goal.returns-clause-refused
 returns-clause-refused g c =
     let words = map g.S.AsStr.text c.args.words.now in

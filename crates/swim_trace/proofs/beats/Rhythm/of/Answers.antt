@@ -1,8 +1,9 @@
-use Rattle.std.proofs.Common.{List, ◌≡◌, ◌+◌, ◌<◌, ◌∷◌, length, reverse, take, min, arith, sym, ap, ◌∙◌, inl, inr}
+use Rattle.std.proofs.Common.{◌≡◌, ◌+◌, ◌^◌, ◌<◌, ◌∷◌, length, reverse, take, min, arith, sym, ap, ◌∙◌, inl, inr}
 use Rattle.std.proofs.lemmas.Grind.{common_steps}
 use Rattle.std.proofs.lemmas.List.{length-reverse, length-take}
 use Rattle.std.proofs.lemmas.Option.{get_or_from_slice_get, slice_get_cases}
 use Rattle.swim_history.specs.Laws.InOrder.{past_more}
+use Rattle.swim_trace.proofs.Rhythms.{one_more_follows}
 use Rattle.swim_trace.proofs.beats.Rhythm.of.Goals as goal
 use Rattle.swim_trace.proofs.beats.Rhythm.of.Goals.{in-Some+in_ok-note, in_default}
 
@@ -21,7 +22,10 @@ loop-place-preserved c =
           let e = w.in-Some.entry in
           let more : reverse (take (place + 1) entries) ≡ e ∷ h = past_more entries place e there ∙
           ap (λ x. x ∷ h) (get_or_from_slice_get entries place e e (sym w.in-Some.ensures)) in
-          rw (more, w.found-is) (w.in_ok-note.ensures h c.loop-place.invariant counted)
+          let few : place < 2 ^ 32 = omega (arith, c.loop-place-test.true, c.min-place-end.ensures, c.len.type_inv) in
+          rw (more, w.found-is)
+          (one_more_follows c.me-me.result place h e c.loop-place.found w.note.new.self c.loop-place.invariant counted few
+          w.in_ok-note.ensures.0 w.in_ok-note.ensures.1)
       | in_default w ↦
           elim (slice_get_cases entries place).1 [
             | inl found ↦ absurd (cc (w.in_default.ensures, found.2))

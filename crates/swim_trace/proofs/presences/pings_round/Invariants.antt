@@ -1,6 +1,6 @@
 use Rattle.std.proofs.Common.{◌≡◌, None, drop}
 use Rattle.swim_trace.specs.Presence.{bracket}
-use Rattle.swim_trace.proofs.presence.bracket.Given as goal
+use Rattle.swim_trace.proofs.presences.pings_round.Given as goal
 
 -- what is found is what will be found from here on
 abbrev pub invariant-loop-beat : goal.invariant-loop-beat

@@ -1,7 +1,7 @@
 //! Whether a member's clock went on while it was probed.
 
-ghost use Rattle.std.specs.Prelude.{◌≡◌, ◌<◌, ◌^◌, None};
-ghost use Rattle.swim_trace.specs.Presence.{bracket, due_from, presence, until_end, until_ping};
+ghost use Rattle.std.specs.Prelude.{◌≡◌, None};
+ghost use Rattle.swim_trace.specs.Presence.{bracket, due_from, pace_of, presence, until_end, until_ping};
 
 use crate::acts::ProbeName;
 use crate::beats::{Beat, Rhythm};
@@ -23,7 +23,7 @@ pub struct Pace {
     /// How many ticks the target had from there to the next ping, or to the end of its entries.
     pub had: u64,
     /// How many the initiator had meanwhile: from the one start to the other.
-    pub due: u128,
+    pub due: u64,
 }
 
 /// Whether a target's clock went on while it was probed. It did where it had no fewer ticks than the initiator, but for
@@ -45,21 +45,21 @@ impl Rhythm {
     pub fn presence(&self, opening: &Opening, probe: &ProbeName) -> Presence
         ensures { result ≡ presence opening.now.period opening.now.rtt probe.now self.now.beats.items self.now.ticks }
     {
-        let Bracket { before, after } = bracket(self.beats.as_slice(), probe);
+        let Bracket { before, after } = pings_round(self.beats.as_slice(), probe);
         let Some(before) = before else {
             return Presence::Unknown;
         };
-        let period = u128::from(opening.period());
-        let timeout = u128::from(opening.rtt());
+        let period = u64::from(opening.period());
+        let timeout = u64::from(opening.rtt());
         match after {
-            Some(after) => until_ping(period, timeout, before, after),
-            None => until_end(period, timeout, before, probe.number, self.ticks),
+            Some(after) => until_ping(period, timeout, &before, &after),
+            None => until_end(period, timeout, &before, probe.number, self.ticks),
         }
     }
 }
 
 /// The pings round a probe.
-fn bracket(beats: &[Beat], probe: &ProbeName) -> Bracket
+fn pings_round(beats: &[Beat], probe: &ProbeName) -> Bracket
     ensures { result ≡ bracket probe.now None beats.now }
 {
     let mut before = None;
@@ -81,46 +81,49 @@ fn bracket(beats: &[Beat], probe: &ProbeName) -> Bracket
 }
 
 /// Whether the clock went on from one ping to the next.
-fn until_ping(period: u128, timeout: u128, before: Beat, after: Beat) -> Presence
-    requires { (period < 2 ^ 32) × (timeout < 2 ^ 32) }
-    ensures { result ≡ until_ping period timeout before after }
+fn until_ping(period: u64, timeout: u64, before: &Beat, after: &Beat) -> Presence
+    ensures { result ≡ until_ping period timeout before.now after.now }
 {
     let had = after.ticks.saturating_sub(before.ticks);
     let due = due_from(period, before, after.number);
-    let pace = Pace { before, had, due };
-    if due <= u128::from(had) + timeout {
+    let pace = pace_of(before, had, due);
+    if due <= had.saturating_add(timeout) {
         Presence::Ran(pace)
     } else {
         Presence::StoodStill(pace)
     }
 }
 
-/// Whether it went on from a ping to the end of the entries, which have so many ticks.
-fn until_end(period: u128, timeout: u128, before: Beat, number: u64, ticks: u64) -> Presence
-    requires { (period < 2 ^ 32) × (timeout < 2 ^ 32) }
-    ensures { result ≡ until_end period timeout before number ticks }
+/// Whether it went on from a ping to the end of the entries, which have that many ticks.
+fn until_end(period: u64, timeout: u64, before: &Beat, number: u64, ticks: u64) -> Presence
+    ensures { result ≡ until_end period timeout before.now number ticks }
 {
     let had = ticks.saturating_sub(before.ticks);
     let begun = due_from(period, before, number);
-    let due = begun + period;
-    if due <= u128::from(had) + timeout {
-        return Presence::Ran(Pace { before, had, due });
+    let due = begun.saturating_add(period);
+    if due <= had.saturating_add(timeout) {
+        return Presence::Ran(pace_of(before, had, due));
     }
-    if begun <= u128::from(had) + timeout {
+    if begun <= had.saturating_add(timeout) {
         return Presence::Unknown;
     }
-    Presence::Ended(Pace {
-        before,
+    Presence::Ended(pace_of(before, had, begun))
+}
+
+/// How the clocks went from that ping on.
+fn pace_of(before: &Beat, had: u64, due: u64) -> Pace
+    ensures { result ≡ pace_of before.now had due }
+{
+    Pace {
+        before: *before,
         had,
-        due: begun,
-    })
+        due,
+    }
 }
 
 /// How many ticks the initiator had from the start that sent a ping to that of the period of this number.
-fn due_from(period: u128, before: Beat, number: u64) -> u128
-    requires { period < 2 ^ 32 }
-    ensures value { result ≡ due_from period before number }
-    ensures few { result < 2 ^ 96 }
+fn due_from(period: u64, before: &Beat, number: u64) -> u64
+    ensures { result ≡ due_from period before.now number }
 {
-    u128::from(number.saturating_sub(before.number)) * period
+    number.saturating_sub(before.number).saturating_mul(period)
 }
