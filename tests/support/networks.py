@@ -276,7 +276,8 @@ class Known:
     def text(self):
         initiator, target, number = self.probe
         clock, how = self.clock()
-        lines = "".join(f"  {shown(leg)}: {self.line(leg)[0]}\n" for leg in self.legs())
+        told = [(leg, self.line(leg)[0]) for leg in self.legs()]
+        lines = "".join(f"  {shown(leg)}: {text}\n" for leg, text in told if text != "not sent")
         return f"{initiator} judged {target} in period {number}\n{lines}{clock}  so {self.conclusion(how)}\n"
 
     def as_json(self, names):

@@ -272,8 +272,7 @@ def traced_unusual_files(program):
     untold = f"{target} was alive: it answered 1 ping of this probe; lost ack {target} -> 1"
     said += [f"no relays: {it}" for it in ends_with(program, alone, untold)]
     with Group(program, MEMBERS, at_once, seed=2) as others:
-        others.run(0)
-        others.call(target, "tick")
+        pass
     foreign = [*missing, ("foreign", others.members[target].file())]
     stderr = f"swimsim: foreign: left out of 1: no ping went between 1 and {target} there\n"
     said += [f"another group: {it}" for it in ends_with(program, foreign, nothing, stderr=stderr)]
@@ -335,8 +334,22 @@ def traced_as_json(program):
     return said + ([] if len(objects) == len(heads) + len(wanted) else [f"{len(objects)} objects"])
 
 
+def traced_beside_other_words(program):
+    """Words that don't go together, and numbers that can't be one, are refused before anything is read."""
+    tries = [["--judged", "3"], ["--period", "3"], ["--json"], ["--trace"], ["--trace", "a", "--verify", "a"],
+             ["--decode", "--trace", "a"], ["--trace", "a", "--explain"], ["--trace", "a", "--timeline", "b"],
+             ["--verify", "a", "--judged", "3"], ["--judged", "0", "--trace", "a"], ["--period", "0", "--trace", "a"],
+             ["--judged", "4294967296", "--trace", "a"], ["--period", "18446744073709551616", "--trace", "a"]]
+    said = []
+    for words in tries:
+        ran = subprocess.run([program, *words], input=b"", capture_output=True, timeout=SECONDS)
+        if ran.returncode != 2 or ran.stdout or not ran.stderr.startswith(b"error: "):
+            said.append(f"{words}: status {ran.returncode}, {ran.stdout[:100]!r}, {ran.stderr[:200]!r}")
+    return said
+
+
 TRACED = [
     traced_by_random_losses, traced_by_chosen_losses, traced_one_that_stopped, traced_one_that_was_killed,
     traced_one_that_is_cut_off, traced_by_a_relay_that_is_down, traced_a_forged_ack, traced_unusual_files,
-    traced_two_with_one_id, traced_as_json
+    traced_two_with_one_id, traced_as_json, traced_beside_other_words
 ]

@@ -1,13 +1,12 @@
 -- The pings and the ticks of one entry more.
-use Rattle.std.proofs.Common.{◌≡◌, ℕ, ◌+◌, ◌-◌, ◌^◌, ◌<◌, ◌≤◌, Bool, true, false, cond, List, ◌∷◌, ◌++◌, length, min}
-use Rattle.std.proofs.Common.{Option, ap₂, ◌∙◌, arith}
+use Rattle.std.proofs.Common.{◌≡◌, ℕ, ◌+◌, ◌-◌, ◌^◌, ◌<◌, Bool, true, false, cond, List, ◌∷◌, ◌++◌, length, min}
+use Rattle.std.proofs.Common.{ap₂, ◌∙◌, arith}
 use Rattle.std.specs.Prelude.{filter}
 use Rattle.std.specs.Option.{option_to_list}
 use Rattle.swim_history.specs.declared.entries.Entry.{Entry}
 use Rattle.swim_history.specs.Clock.{ticks}
 use Rattle.swim_history.specs.Events.{is_tick, is_ticking}
 use Rattle.swim_history.specs.Laws.UntilProbed.{length-filter-le}
-use Rattle.swim_trace.specs.declared.beats.Beat.{Beat}
 use Rattle.swim_trace.specs.declared.beats.Rhythm.{Rhythm}
 use Rattle.swim_trace.specs.Beats.{Follows, beat_in, ticks_with}
 

@@ -1,6 +1,6 @@
 -- What is concluded of a probe after which its target was judged failed.
 use Rattle.std.specs.Prelude.{ℕ, ◌==◌, ◌+◌, ◌&&◌, Bool, true, false, List, [], ◌∷◌, Option, Some, None, length, filter}
-use Rattle.std.specs.Prelude.{nat_lt, not, if◌then◌else◌}
+use Rattle.std.specs.Prelude.{nat_lt, if◌then◌else◌}
 use Rattle.swim_wire.specs.declared.messages.Kind.TheVariants.{Ping}
 use Rattle.swim_history.specs.declared.replies.Relay.{Relay}
 use Rattle.swim_trace.specs.declared.acts.Act.{Act}

@@ -1,6 +1,6 @@
 -- What became of the datagrams of a probe, by entries of several members. Nothing rests on a clock.
 use Rattle.std.specs.Prelude.{ℕ, ◌==◌, ◌&&◌, Bool, true, false, List, [], ◌∷◌, ◌++◌, Option, Some, None, length, map}
-use Rattle.std.specs.Prelude.{filter, nat_lt, if◌then◌else◌}
+use Rattle.std.specs.Prelude.{filter, nat_lt}
 use Rattle.std.specs.List.{list_any}
 use Rattle.swim_wire.specs.declared.messages.Kind.{Kind}
 use Rattle.swim_wire.specs.declared.messages.Kind.TheVariants.{Ping, PingReq, Ack}

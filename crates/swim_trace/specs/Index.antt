@@ -1,6 +1,6 @@
 -- What is kept of files that were gone through.
-use Rattle.std.specs.Prelude.{◌≡◌, ℕ, ◌==◌, Bool, List, [], ◌∷◌, ◌++◌, Option, Some, None, IfSome, is_some, length}
-use Rattle.std.specs.Prelude.{nat_eq, reverse, take, true, if◌then◌else◌}
+use Rattle.std.specs.Prelude.{◌≡◌, ℕ, List, ◌++◌, Option, IfSome, is_some}
+use Rattle.std.specs.Prelude.{nat_eq, reverse, take, true}
 use Rattle.std.specs.HashMap.{get}
 use Rattle.std.specs.Option.{option_map}
 use Rattle.swim_history.specs.Storing.Written.{Written}

@@ -52,7 +52,8 @@ picture_line =
 -- of journal files: those to be verified, those in which datagrams are looked for, and for which judgements
 abbrev pub file_line : App
 file_line =
-    with_rule (with_rule (with_rule (with_rule picture_line (values_rule (codes "verify"))) (values_rule (codes "trace")))
+    with_rule
+    (with_rule (with_rule (with_rule picture_line (values_rule (codes "verify"))) (values_rule (codes "trace")))
     (number_rule (codes "judged") (2 ^ 32 - 1)))
     (number_rule (codes "period") (2 ^ 64 - 1))
 

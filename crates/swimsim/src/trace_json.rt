@@ -59,55 +59,56 @@ pub struct JsonTrace<'r, 't, 'p>(pub &'r TraceReport<'t, 'p>);
 
 impl<'r, 't, 'p> fmt::Display for JsonTrace<'r, 't, 'p> {
     fn fmt<W: fmt::Write>(&self, f: &mut fmt::Formatter<W>) -> fmt::Result {
-        let trace = self.0;
-        let initiator = trace.case.probe.initiator.get();
-        let target = trace.case.probe.target.get();
-        let number = trace.case.probe.number;
+        self.0.show_object(f)
+    }
+}
+
+impl<'t, 'p> TraceReport<'t, 'p> {
+    /// The object of a judgement.
+    fn show_object<W: fmt::Write>(&self, f: &mut fmt::Formatter<W>) -> fmt::Result {
+        let initiator = self.case.probe.initiator.get();
+        let target = self.case.probe.target.get();
+        let number = self.case.probe.number;
         write!(
             f,
             "{{\"initiator\":{initiator},\"target\":{target},\"period\":{number},\"judged\":"
         )?;
         self.show_spot(
             Spot {
-                file: trace.file,
-                place: trace.evidence.judged,
+                file: self.file,
+                place: self.evidence.judged,
             },
             f,
         )?;
         f.write_str("}")?;
         let mut before = ",\"datagrams\":[";
-        for way in trace.ways {
+        for way in self.ways {
             f.write_str(before)?;
-            self.show_way(way, f)?;
+            self.show_way_object(way, f)?;
             before = ",";
         }
         f.write_str("]")?;
-        if let Some(clock) = &trace.clock {
-            self.show_clock(clock, f)?;
+        if let Some(clock) = &self.clock {
+            self.show_clock_object(clock, f)?;
         }
-        show_conclusion(&trace.conclusion, f)?;
+        show_conclusion(&self.conclusion, f)?;
         f.write_str("}\n")
     }
-}
 
-impl<'r, 't, 'p> JsonTrace<'r, 't, 'p> {
     /// The object of a datagram.
-    fn show_way<W: fmt::Write>(&self, way: &Way, f: &mut fmt::Formatter<W>) -> fmt::Result {
-        let kind = kind_name(way.leg.kind);
-        let from = way.leg.from.get();
-        let to = way.leg.to.get();
-        let fate = fate_name(way.fate);
-        write!(
-            f,
-            "{{\"kind\":\"{kind}\",\"from\":{from},\"to\":{to},\"fate\":\"{fate}\",\"sent\":["
-        )?;
-        self.show_sent(&way.leg, f)?;
+    fn show_way_object<W: fmt::Write>(&self, way: &Way, f: &mut fmt::Formatter<W>) -> fmt::Result {
+        f.write_str("{")?;
+        show_leg_keys(&way.leg, f)?;
+        f.write_str(",\"fate\":\"")?;
+        f.write_str(fate_name(way.fate))?;
+        f.write_str("\",\"sent\":[")?;
+        self.show_senders(&way.leg, f)?;
         f.write_str("],\"heard\":[")?;
         let mut before = "";
-        for act in self.0.case.acts {
-            if is_heard_on(&self.0.case.probe, &way.leg, act) {
+        for act in self.case.acts {
+            if is_heard_on(&self.case.probe, &way.leg, act) {
                 f.write_str(before)?;
-                self.show_heard(act, f)?;
+                self.show_hearer(act, f)?;
                 before = ",";
             }
         }
@@ -115,14 +116,14 @@ impl<'r, 't, 'p> JsonTrace<'r, 't, 'p> {
     }
 
     /// The entries that sent a datagram.
-    fn show_sent<W: fmt::Write>(&self, leg: &Leg, f: &mut fmt::Formatter<W>) -> fmt::Result {
-        let Some(cause) = leg.cause(&self.0.case.probe) else {
-            self.show_spot(self.0.begun(leg), f)?;
+    fn show_senders<W: fmt::Write>(&self, leg: &Leg, f: &mut fmt::Formatter<W>) -> fmt::Result {
+        let Some(cause) = leg.cause(&self.case.probe) else {
+            self.show_spot(self.begun(leg), f)?;
             return f.write_str("}");
         };
         let mut before = "";
-        for act in self.0.case.acts {
-            if is_passed_on(&self.0.case.probe, &cause, act) {
+        for act in self.case.acts {
+            if is_passed_on(&self.case.probe, &cause, act) {
                 f.write_str(before)?;
                 self.show_spot(act.spot, f)?;
                 f.write_str("}")?;
@@ -133,7 +134,7 @@ impl<'r, 't, 'p> JsonTrace<'r, 't, 'p> {
     }
 
     /// An entry that heard a datagram, with its answer.
-    fn show_heard<W: fmt::Write>(&self, act: &Act, f: &mut fmt::Formatter<W>) -> fmt::Result {
+    fn show_hearer<W: fmt::Write>(&self, act: &Act, f: &mut fmt::Formatter<W>) -> fmt::Result {
         self.show_spot(act.spot, f)?;
         match &act.deed {
             Deed::Heard(hearing) => match hearing.answer {
@@ -150,7 +151,7 @@ impl<'r, 't, 'p> JsonTrace<'r, 't, 'p> {
 
     /// The object of an entry, without its end.
     fn show_spot<W: fmt::Write>(&self, spot: Spot, f: &mut fmt::Formatter<W>) -> fmt::Result {
-        let path = match self.0.accounts.get(spot.file as usize) {
+        let path = match self.accounts.get(spot.file as usize) {
             Some(account) => JsonText(account.path),
             None => JsonText(""),
         };
@@ -159,16 +160,20 @@ impl<'r, 't, 'p> JsonTrace<'r, 't, 'p> {
     }
 
     /// How the target's clock went.
-    fn show_clock<W: fmt::Write>(&self, clock: &Clock, f: &mut fmt::Formatter<W>) -> fmt::Result {
+    fn show_clock_object<W: fmt::Write>(
+        &self,
+        clock: &Clock,
+        f: &mut fmt::Formatter<W>,
+    ) -> fmt::Result {
         match &clock.presence {
             Presence::Unknown => Ok(()),
-            Presence::Ran(pace) => self.show_pace(clock.file, pace, "running", f),
-            Presence::StoodStill(pace) => self.show_pace(clock.file, pace, "still", f),
-            Presence::Ended(pace) => self.show_pace(clock.file, pace, "ended", f),
+            Presence::Ran(pace) => self.show_pace_object(clock.file, pace, "running", f),
+            Presence::StoodStill(pace) => self.show_pace_object(clock.file, pace, "still", f),
+            Presence::Ended(pace) => self.show_pace_object(clock.file, pace, "ended", f),
         }
     }
 
-    fn show_pace<W: fmt::Write>(
+    fn show_pace_object<W: fmt::Write>(
         &self,
         file: u32,
         pace: &Pace,
@@ -206,16 +211,19 @@ fn show_conclusion<W: fmt::Write>(
     match conclusion {
         Conclusion::Twofold => f.write_str(",\"so\":\"ambiguous\""),
         Conclusion::Contradicted(leg) => {
-            let kind = kind_name(leg.kind);
-            let from = leg.from.get();
-            let to = leg.to.get();
-            write!(
-                f,
-                ",\"so\":\"contradiction\",\"kind\":\"{kind}\",\"from\":{from},\"to\":{to}"
-            )
+            f.write_str(",\"so\":\"contradiction\",")?;
+            show_leg_keys(leg, f)
         }
         Conclusion::Missing => f.write_str(",\"so\":\"no journal\""),
         Conclusion::Answered(count) => write!(f, ",\"so\":\"alive\",\"answers\":{count}"),
         Conclusion::Unreached(count) => write!(f, ",\"so\":\"not reached\",\"paths\":{count}"),
     }
+}
+
+/// The keys of a datagram's kind, and of who sent it to whom.
+fn show_leg_keys<W: fmt::Write>(leg: &Leg, f: &mut fmt::Formatter<W>) -> fmt::Result {
+    let kind = kind_name(leg.kind);
+    let from = leg.from.get();
+    let to = leg.to.get();
+    write!(f, "\"kind\":\"{kind}\",\"from\":{from},\"to\":{to}")
 }

@@ -34,7 +34,9 @@ impl<'t, 'p> fmt::Display for TraceReport<'t, 'p> {
         let number = self.case.probe.number;
         write!(f, "{initiator} judged {target} in period {number}\n")?;
         for way in self.ways {
-            self.show_way(way, f)?;
+            if way.fate != Fate::Unsent {
+                self.show_way(way, f)?;
+            }
         }
         if let Some(clock) = &self.clock {
             self.show_clock(clock, f)?;
@@ -46,7 +48,7 @@ impl<'t, 'p> fmt::Display for TraceReport<'t, 'p> {
 }
 
 impl<'t, 'p> TraceReport<'t, 'p> {
-    /// The line of a datagram.
+    /// The line of a datagram that was sent or heard, or of which neither is known.
     fn show_way<W: fmt::Write>(&self, way: &Way, f: &mut fmt::Formatter<W>) -> fmt::Result {
         let leg = &way.leg;
         let from = leg.from.get();
@@ -54,9 +56,6 @@ impl<'t, 'p> TraceReport<'t, 'p> {
         f.write_str("  ")?;
         show_leg(leg, f)?;
         f.write_str(": ")?;
-        if way.fate == Fate::Unsent {
-            return f.write_str("not sent\n");
-        }
         if self.case.is_sent(leg) {
             self.show_sent(leg, f)?;
         } else if way.fate == Fate::Contradicted {

@@ -216,12 +216,12 @@ impl<'r, 'p> Teller<'r, 'p> {
     }
 
     /// Tells of a judgement that stands in that file, which is the initiator's.
-    fn tell(
-        &self,
+    fn tell<'e>(
+        &'e self,
         account: &Account<'_>,
         file: u32,
-        told: &[Id],
-        evidence: &Evidence,
+        told: &'e [Id],
+        evidence: &'e Evidence,
     ) -> Result<Standing> {
         let case = self.case_of(account.member, told, evidence);
         let Ok(ways) = ways_of(self.rt.alloc(), &case) else {

@@ -5,4 +5,5 @@ use Rattle.swim_trace.proofs.fates.count_heard.Given as goal
 
 -- the entries so far
 abbrev pub invariant-loop-act : goal.invariant-loop-act
-invariant-loop-act l = (l.count ≡ length (filter (is_heard_on l.probe l.leg) (take l.act-index l.acts))) × (l.count ≤ l.act-index)
+invariant-loop-act l =
+    (l.count ≡ length (filter (is_heard_on l.probe l.leg) (take l.act-index l.acts))) × (l.count ≤ l.act-index)

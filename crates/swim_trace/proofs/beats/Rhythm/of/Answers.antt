@@ -22,10 +22,11 @@ loop-place-preserved c =
           let e = w.in-Some.entry in
           let more : reverse (take (place + 1) entries) ≡ e ∷ h = past_more entries place e there ∙
           ap (λ x. x ∷ h) (get_or_from_slice_get entries place e e (sym w.in-Some.ensures)) in
-          let few : place < 2 ^ 32 = omega (arith, c.loop-place-test.true, c.min-place-end.ensures, c.len.type_inv) in
+          let few : place < 2 ^ 32 =
+          omega (arith, c.loop-place-test.true, c.min-place-end.ensures, c.len.type_inv) in
           rw (more, w.found-is)
-          (one_more_follows c.me-me.result place h e c.loop-place.found w.note.new.self c.loop-place.invariant counted few
-          w.in_ok-note.ensures.0 w.in_ok-note.ensures.1)
+          (one_more_follows c.me-me.result place h e c.loop-place.found w.note.new.self c.loop-place.invariant
+          counted few w.in_ok-note.ensures.0 w.in_ok-note.ensures.1)
       | in_default w ↦
           elim (slice_get_cases entries place).1 [
             | inl found ↦ absurd (cc (w.in_default.ensures, found.2))
