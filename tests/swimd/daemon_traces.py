@@ -92,7 +92,7 @@ def traces(machine, *words):
     return parts[1:]
 
 
-def by_losses(machine):
+def lost_acks_are_traced(machine):
     """A probe of the first daemon is lost on each of its paths: each datagram is told as what became of it."""
     lost = {}
 
@@ -130,7 +130,7 @@ def must_end(machine, id, *ends):
         must(any(f"  so {id} {end}" in text for end in ends), f"it is told {text}")
 
 
-def one_way_is_cut(machine):
+def a_cut_is_traced(machine):
     """Nothing comes to a daemon any more, whose clock goes on."""
     cut = []
     daemons, _ = group(machine, lambda fields, sender, to: bool(cut) and to == LAST)
@@ -141,7 +141,7 @@ def one_way_is_cut(machine):
     must_end(machine, LAST, "was cut off: no ping reached it on ")
 
 
-def one_is_killed(machine):
+def a_kill_is_traced(machine):
     """A daemon is killed: its journal has too few ticks."""
     daemons, _ = group(machine, lambda *_: False)
     daemons[-1].kill()
@@ -150,7 +150,7 @@ def one_is_killed(machine):
     must_end(machine, LAST, "had ended: no ping reached it on ", "was not reached: no ping reached it on ")
 
 
-def one_stands_still(machine):
+def a_standstill_is_traced(machine):
     """A daemon is stopped by a signal for some periods, and answers too late when it goes on."""
     daemons, _ = group(machine, lambda *_: False)
     daemons[-1].child.send_signal(signal.SIGSTOP)
@@ -161,4 +161,4 @@ def one_stands_still(machine):
     must_end(machine, LAST, "was alive but stood still: it answered ")
 
 
-TRACES = [by_losses, one_way_is_cut, one_is_killed, one_stands_still]
+TRACES = [lost_acks_are_traced, a_cut_is_traced, a_kill_is_traced, a_standstill_is_traced]

@@ -94,6 +94,7 @@ class Losing:
         return (names[(kind, to)], self.relays.index(relay))
 
 
+# So many steps are a period: one less, and it would be in time.
 LATE = 8
 # What is lost or late of a probe, and what the last line tells of it: T is the target, and A and B are the relays.
 LOSSES = {
