@@ -280,6 +280,11 @@ def traced_unusual_files(program):
     again = [*files.items(), ("again", files["1"])]
     stderr = "swimsim: again: left out, as 1 has the same life\n"
     said += [f"twice: {it}" for it in ends_with(program, again, whole, stderr=stderr)]
+    lines = files[str(target)].splitlines(True)
+    head = "".join(it for it in lines if it.split()[0] in ("journal", "open", "row", "seed")).replace(" 0\n", " 2\n")
+    stderr = f"swimsim: later: life 1 of member {target}, before it, was not given\n"
+    stderr += f"swimsim: later: left out of 1: no ping went between 1 and {target} there\n"
+    said += [f"a missing life: {it}" for it in ends_with(program, [*files.items(), ("later", head)], whole, 0, stderr)]
     cut = [*missing, (str(target), files[str(target)] + "tic")]
     said += [f"cut: {it}" for it in ends_with(program, cut, whole)]
     line = files[str(target)].count("\n") + 2

@@ -3,7 +3,7 @@
 use crate::examining::Played;
 use std::alloc::{AllocError, Global};
 use std::fmt;
-use swim_evidence::{Evidence, Finding};
+use swim_evidence::{Draw, Evidence, Finding};
 use swim_history::Journal;
 use swim_trace::{ActIndex, Spot};
 use swim_wire::Id;
@@ -46,25 +46,65 @@ impl<'a> Account<'a> {
         self.played.witness.times.get(&place).copied()
     }
 
+    /// From what its life draws, as far as its header tells that.
+    pub fn draw(&self) -> Option<&Draw> {
+        match &self.played.witness.heading {
+            Some(heading) => heading.draw.as_ref(),
+            None => None,
+        }
+    }
+
     /// Whether it is the first life of a start of its daemon, as its header tells.
     pub fn is_first_life(&self) -> bool {
-        match &self.played.witness.heading {
-            Some(heading) => match &heading.draw {
-                Some(draw) => draw.life == 0,
-                None => false,
-            },
+        match self.draw() {
+            Some(draw) => draw.life == 0,
             None => false,
         }
     }
 
-    /// Whether both are files of one life: the same member's, and one of them is a front of the other.
+    /// Whether both are files of one life: the same member's, with no other seed or life, and one of them is a front of
+    /// the other.
     pub fn is_same_life(&self, other: &Account<'_>) -> bool {
-        if self.member != other.member {
+        if self.member != other.member || self.draws_otherwise(other) {
             return false;
         }
         match (&self.played.journal, &other.played.journal) {
             (Some(journal), Some(others)) => are_fronts(journal, others),
             _ => false,
+        }
+    }
+
+    /// Whether both tell from what they draw, and not the same.
+    fn draws_otherwise(&self, other: &Account<'_>) -> bool {
+        match (self.draw(), other.draw()) {
+            (Some(draw), Some(that)) => draw.key != that.key || draw.life != that.life,
+            _ => false,
+        }
+    }
+
+    /// The life before this one, where it isn't among these files and an earlier one of the same start is.
+    pub fn missing_life(&self, accounts: &[Account<'_>]) -> Option<u64> {
+        let draw = self.draw()?;
+        let before = draw.life.checked_sub(1)?;
+        let mut has_earlier = false;
+        for other in accounts {
+            if let Some(life) = other.life_with(self.member, draw) {
+                if life == before {
+                    return None;
+                }
+                has_earlier = has_earlier || life < before;
+            }
+        }
+        if has_earlier { Some(before) } else { None }
+    }
+
+    /// The number of its life, where it is that member's and draws from that seed.
+    fn life_with(&self, member: Id, draw: &Draw) -> Option<u64> {
+        let own = self.draw()?;
+        if self.member == member && own.key == draw.key {
+            Some(own.life)
+        } else {
+            None
         }
     }
 }

@@ -33,6 +33,7 @@ pub fn trace_files(rt: &HostRuntime, options: &Options<'_>) -> Result<ExitCode> 
             standing = standing.worse(add(rt, &mut accounts, account));
         }
     }
+    tell_missing_lives(rt, accounts.as_slice());
     standing = standing.worse(tell_all(rt, accounts.as_slice(), &choice, options.json)?);
     Ok(ExitCode::from(status_of(standing)))
 }
@@ -122,6 +123,20 @@ fn keep_longer<'p>(
         left_out.path,
         format_args!("left out, as {path} has the same life"),
     );
+}
+
+/// Tells which lives are missing between others of one start.
+fn tell_missing_lives(rt: &HostRuntime, accounts: &[Account<'_>]) {
+    for account in accounts {
+        if let Some(life) = account.missing_life(accounts) {
+            let id = account.member.get();
+            object(
+                rt,
+                account.path,
+                format_args!("life {life} of member {id}, before it, was not given"),
+            );
+        }
+    }
 }
 
 /// Tells of each of these judgements what became of its probe.
