@@ -31,6 +31,7 @@ WORDS = re.compile(rb"^  .*\n", re.M)
 NAME = re.compile(rb"^((?:dropped|refused|wire) [0-9]+) [a-z].*$", re.M)
 NO_PROGRAM = re.compile(rb"(swimsim|error): out of memory\n")
 UNVERIFIED = re.compile(rb"swimsim: -: no memory (behind entry \d+|before entry 0)\n")
+UNTRACED = re.compile(rb"swimsim: no memory to trace\n")
 
 
 def of_a_test(refuser, words):
@@ -158,6 +159,21 @@ def of_a_verified_file(refuser, program, file):
         else:
             is_good = ran.status == 4 and not ran.stdout and NO_PROGRAM.fullmatch(ran.stderr)
             yield NOT_BEGUN, [] if is_good else [f"request {number}: {str(ran)[-1_000:]}"]
+
+
+def of_a_traced_file(refuser, program, file):
+    """Either it is traced as ever; or want of memory is told, of the file or of all, with a status of its own."""
+    for words in ([program, "--trace", "-"], [program, "--json", "--trace", "-"]):
+        whole = refuser.run(words, file)
+        yield AS_EVER, [] if whole.status == 0 and whole.stdout else [f"without a refusal: {whole}"]
+        for number, ran in refuser.refusals(words, file):
+            if ran == whole:
+                yield AS_EVER, []
+            elif ran.status == 4 and (UNVERIFIED.fullmatch(ran.stderr) or UNTRACED.fullmatch(ran.stderr)):
+                yield NO_MEMORY, []
+            else:
+                is_good = ran.status == 4 and not ran.stdout and NO_PROGRAM.fullmatch(ran.stderr)
+                yield NOT_BEGUN, [] if is_good else [f"request {number}: {str(ran)[-1_000:]}"]
 
 
 def is_met(lines, ran, wanted):

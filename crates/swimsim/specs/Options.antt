@@ -49,10 +49,18 @@ picture_line =
     (number_rule (codes "around") (2 ^ 32 - 1)))
     (flag_rule (codes "force"))
 
--- these and the journal files to be verified, beside what clap gives each program that has a version, `--help` and
+-- of journal files: those to be verified, those in which datagrams are looked for, and for which judgements
+abbrev pub file_line : App
+file_line =
+    with_rule
+    (with_rule (with_rule (with_rule picture_line (values_rule (codes "verify"))) (values_rule (codes "trace")))
+    (number_rule (codes "judged") (2 ^ 32 - 1)))
+    (number_rule (codes "period") (2 ^ 64 - 1))
+
+-- these, and whether the last is written as JSON, beside what clap gives each program that has a version, `--help` and
 -- `--version`
 abbrev pub command_line : App
-command_line = with_rule picture_line (values_rule (codes "verify"))
+command_line = with_rule file_line (flag_rule (codes "json"))
 
 -- the path of the script that the words name, if any
 abbrev pub script_in : List Text → Option Text
@@ -94,8 +102,18 @@ IsUnplaced options = (IsSome options.from ⊎ IsSome options.around) × (options
 abbrev pub IsTwofold : Options → Type 0
 IsTwofold options = IsSome options.from × IsSome options.around
 
--- files are to be verified, and something else is asked beside that
+-- something is asked that has to do with a script and its picture
+abbrev pub AsksForScript : Options → Type 0
+AsksForScript options = IsSome options.script ⊎ (options.decode ≡ true) ⊎ (options.explain ≡ true)
+    ⊎ IsSome options.timeline ⊎ IsSome options.from ⊎ IsSome options.around ⊎ (options.force ≡ true)
+
+-- files are to be verified or traced, and something else is asked beside that
 abbrev pub IsMixed : Options → Type 0
-IsMixed options = (0 < length options.verify.items)
-    × (IsSome options.script ⊎ (options.decode ≡ true) ⊎ (options.explain ≡ true) ⊎ IsSome options.timeline
-    ⊎ IsSome options.from ⊎ IsSome options.around ⊎ (options.force ≡ true))
+IsMixed options =
+    ((0 < length options.verify.items) × ((0 < length options.trace.items) ⊎ AsksForScript options))
+    ⊎ ((0 < length options.trace.items) × AsksForScript options)
+
+-- judgements are named that are to be traced, and no files
+abbrev pub IsUntraced : Options → Type 0
+IsUntraced options =
+    (IsSome options.judged ⊎ IsSome options.period ⊎ (options.json ≡ true)) × (length options.trace.items ≡ 0)

@@ -4,6 +4,7 @@
 ghost use Rattle.std.specs.Prelude.{◌≡◌, if◌then◌else◌};
 ghost use Rattle.swim_script.specs.Ends.{unplayed};
 
+mod accounts;
 mod causes;
 mod differences;
 mod drawing;
@@ -19,6 +20,7 @@ mod meanings;
 mod notes;
 mod options;
 mod overhearing;
+mod presences;
 mod reasons;
 mod reports;
 mod showing;
@@ -26,6 +28,9 @@ mod spelling;
 mod summaries;
 mod tallies;
 mod telling;
+mod trace_json;
+mod trace_lines;
+mod tracing;
 mod unheard;
 mod verdict_lines;
 mod verifying;
@@ -39,7 +44,10 @@ use draws::warnings_of;
 use explanations::Explanation;
 use files::{Input, Script};
 use notes::{NoteTaker, Notes, Told};
-use options::{Options, read_options, refuse_bytes, refuse_mixed, refuse_twofold, refuse_unplaced};
+use options::{
+    Options, read_options, refuse_bytes, refuse_mixed, refuse_twofold, refuse_unplaced,
+    refuse_untraced,
+};
 use overhearing::Overheard;
 use std::alloc::AllocError;
 use std::cell::RefCell;
@@ -52,6 +60,7 @@ use swim_history::Journal;
 use swim_script::{FaultKind, ScriptFault, Session};
 use swim_text::{ReadSource, Sink, WriteSink};
 use telling::WordTeller;
+use tracing::trace_files;
 use verifying::verify;
 
 /// The status where memory is refused before anything is played.
@@ -104,6 +113,12 @@ fn obey(rt: &HostRuntime, options: &Options<'_>) -> Result<ExitCode> {
     }
     if options.is_twofold() {
         return print_answer(rt, &refuse_twofold(rt.alloc())?);
+    }
+    if options.is_untraced() {
+        return print_answer(rt, &refuse_untraced(rt.alloc())?);
+    }
+    if !options.trace.is_empty() {
+        return trace_files(rt, options);
     }
     if !options.verify.is_empty() {
         return verify(rt, options.verify.as_slice());

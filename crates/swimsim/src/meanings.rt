@@ -55,7 +55,7 @@ fn place_words(alloc: Global, at: &Option<Peer>) -> Result<String, AllocError>
 }
 
 /// The name of a kind of message.
-fn kind_name(kind: Kind) -> &'static str
+pub fn kind_name(kind: Kind) -> &'static str
     ensures { result.now ≡ kind_name kind }
 {
     match kind {

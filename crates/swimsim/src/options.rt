@@ -5,7 +5,8 @@ ghost use Rattle.std.specs.Prelude.{option_map};
 ghost use Rattle.std.specs.Option.{unwrap_or};
 ghost use Rattle.clap.specs.Words.{FailsBy, app_of, fault_of, kind_of, rule_of};
 ghost use Rattle.swimsim.specs.Options.{TellsFlag, command_line, flag_in, flag_rule, script_in, script_rule, value_in};
-ghost use Rattle.swimsim.specs.Options.{IsMixed, IsTwofold, IsUnplaced, TellsNumber, number_rule};
+ghost use Rattle.swimsim.specs.Options.{AsksForScript, IsMixed, IsTwofold, IsUnplaced, IsUntraced, TellsNumber};
+ghost use Rattle.swimsim.specs.Options.{number_rule};
 ghost use Rattle.swimsim.specs.Options.{value_rule, values_in, values_rule, view_of};
 
 use clap::builder::ValueParser;
@@ -35,21 +36,43 @@ pub struct Options<'a> {
     pub force: bool,
     /// The paths of journal files that are verified; none where a script is played.
     pub verify: Vec<&'a str>,
+    /// The paths of journal files in which datagrams are looked for; none where a script is played.
+    pub trace: Vec<&'a str>,
+    /// Whose judgements are traced; `None` for those of all members.
+    pub judged: Option<Id>,
+    /// In which period they were made; `None` for all periods.
+    pub period: Option<u64>,
+    /// Whether what is traced is written as JSON.
+    pub json: bool,
 }
 
 impl<'a> Options<'a> {
-    /// Whether files are to be verified, and something else is asked beside that.
+    /// Whether files are to be verified or traced, and something else is asked beside that.
     pub fn is_mixed(&self) -> bool
         ensures { IsTrue result ↔ IsMixed self.now }
     {
-        !self.verify.is_empty()
-            && (self.script.is_some()
-                || self.decode
-                || self.explain
-                || self.timeline.is_some()
-                || self.from.is_some()
-                || self.around.is_some()
-                || self.force)
+        (!self.verify.is_empty() && (!self.trace.is_empty() || self.asks_for_script()))
+            || (!self.trace.is_empty() && self.asks_for_script())
+    }
+
+    /// Whether something is asked that has to do with a script and its picture.
+    fn asks_for_script(&self) -> bool
+        ensures { IsTrue result ↔ AsksForScript self.now }
+    {
+        self.script.is_some()
+            || self.decode
+            || self.explain
+            || self.timeline.is_some()
+            || self.from.is_some()
+            || self.around.is_some()
+            || self.force
+    }
+
+    /// Whether some judgements are named that are to be traced, and no files.
+    pub fn is_untraced(&self) -> bool
+        ensures { IsTrue result ↔ IsUntraced self.now }
+    {
+        (self.judged.is_some() || self.period.is_some() || self.json) && self.trace.is_empty()
     }
 
     /// Whether a part of a picture is asked for, and no picture.
@@ -97,11 +120,20 @@ pub fn read_options<'a, S: AsStr>(alloc: Global, words: &'a [S]) -> Result<Optio
         (flag_in (codes "force") (map S.text words.entry.now))) }
     ensures verify { IfOk result (λ options. map (λ path. path.now) options.verify.items
         ≡ values_in (codes "verify") (map S.text words.entry.now)) }
+    ensures trace { IfOk result (λ options. map (λ path. path.now) options.trace.items
+        ≡ values_in (codes "trace") (map S.text words.entry.now)) }
+    ensures judged { IfOk result (λ options. TellsNumber (2 ^ 32) options.judged
+        (flag_in (codes "judged") (map S.text words.entry.now))) }
+    ensures period { IfOk result (λ options. TellsNumber (2 ^ 64) options.period
+        (flag_in (codes "period") (map S.text words.entry.now))) }
+    ensures json { IfOk result (λ options. TellsFlag options.json
+        (flag_in (codes "json") (map S.text words.entry.now))) }
     ensures refused { FailsBy (fault_of command_line (map S.text words.entry.now)) result }
 {
     let command = command_line(alloc)?;
     let matches = command.try_get_matches_from(words)?;
     let verify = copied(alloc, matches.get_strs("verify"))?;
+    let trace = copied(alloc, matches.get_strs("trace"))?;
     Ok(Options {
         script: matches.get_str("FILE"),
         decode: matches.get_flag("decode"),
@@ -111,6 +143,10 @@ pub fn read_options<'a, S: AsStr>(alloc: Global, words: &'a [S]) -> Result<Optio
         around: id_of(matches.get_one("around")),
         force: matches.get_flag("force"),
         verify,
+        trace,
+        judged: id_of(matches.get_one("judged")),
+        period: matches.get_one("period"),
+        json: matches.get_flag("json"),
     })
 }
 
@@ -139,14 +175,25 @@ pub fn refuse_bytes(alloc: Global) -> Result<Error, AllocError>
     refuse(alloc, ErrorKind::InvalidValue, "a word is not UTF-8")
 }
 
-/// The answer to words that ask to verify files, and for something else beside that.
+/// The answer to words that ask to verify or trace files, and for something else beside that.
 pub fn refuse_mixed(alloc: Global) -> Result<Error, AllocError>
     ensures { IfOk result (λ answer. kind_of answer ≡ ErrorKind.ArgumentConflict) }
 {
     refuse(
         alloc,
         ErrorKind::ArgumentConflict,
-        "--verify stands beside journal files alone",
+        "--verify and --trace each stand beside journal files alone",
+    )
+}
+
+/// The answer to words that name judgements to be traced, and no files.
+pub fn refuse_untraced(alloc: Global) -> Result<Error, AllocError>
+    ensures { IfOk result (λ answer. kind_of answer ≡ ErrorKind.MissingRequiredArgument) }
+{
+    refuse(
+        alloc,
+        ErrorKind::MissingRequiredArgument,
+        "--judged, --period and --json stand beside --trace FILE",
     )
 }
 
@@ -206,7 +253,15 @@ fn command_line<'a>(alloc: Global) -> Result<Command<'a>, AllocError>
             "force",
             "Draws over a file that holds something else than a picture of swimsim",
         ))?
-        .arg(verify(alloc))
+        .arg(verify(alloc))?
+        .arg(trace(alloc))?
+        .arg(judged(alloc))?
+        .arg(period(alloc))?
+        .arg(flag(
+            alloc,
+            "json",
+            "Writes what is traced as JSON, an object a line",
+        ))
 }
 
 /// The one word that is no option.
@@ -239,32 +294,6 @@ fn timeline<'a>(alloc: Global) -> Arg<'a>
         .help("Draws the run into FILE, as SVG")
 }
 
-/// With which period the picture begins.
-fn from<'a>(alloc: Global) -> Arg<'a>
-    ensures rule { rule_of result ≡ number_rule (codes "from") (2 ^ 64 - 1) }
-    ensures local { result.global ≡ false }
-{
-    Arg::new(alloc, "from")
-        .long("from")
-        .value_name("P")
-        .value_parser(ValueParser::Unsigned(1, u64::MAX))
-        .help("Begins the picture with period P")
-}
-
-/// Round whose judgement the picture lies.
-fn around<'a>(alloc: Global) -> Arg<'a>
-    ensures rule { rule_of result ≡ number_rule (codes "around") (2 ^ 32 - 1) }
-    ensures local { result.global ≡ false }
-{
-    Arg::new(alloc, "around")
-        .long("around")
-        .value_name("ID")
-        .value_parser(ValueParser::Unsigned(1, u64::from(u32::MAX)))
-        .help(
-            "Draws the period at whose end member ID was judged last, five before it and five behind it",
-        )
-}
-
 /// The journal files that are verified.
 fn verify<'a>(alloc: Global) -> Arg<'a>
     ensures rule { rule_of result ≡ values_rule (codes "verify") }
@@ -277,4 +306,71 @@ fn verify<'a>(alloc: Global) -> Arg<'a>
         .help(
             "Verifies journal files, lives of a daemon in their order, and tells the evidence of judgements",
         )
+}
+
+/// The journal files in which datagrams are looked for.
+fn trace<'a>(alloc: Global) -> Arg<'a>
+    ensures rule { rule_of result ≡ values_rule (codes "trace") }
+    ensures local { result.global ≡ false }
+{
+    Arg::new(alloc, "trace")
+        .long("trace")
+        .value_name("FILE")
+        .num_args(1..)
+        .help(
+            "Tells what became of the datagrams of judged probes, by journal files of several members",
+        )
+}
+
+/// An option that takes a number from 1 up to that.
+fn number<'a>(alloc: Global, name: &'a str, value: &'a str, most: u64, help: &'a str) -> Arg<'a>
+    ensures rule { rule_of result ≡ number_rule name.entry.now most }
+    ensures local { result.global ≡ false }
+{
+    Arg::new(alloc, name)
+        .long(name)
+        .value_name(value)
+        .value_parser(ValueParser::Unsigned(1, most))
+        .help(help)
+}
+
+/// With which period the picture begins.
+fn from<'a>(alloc: Global) -> Arg<'a>
+    ensures rule { rule_of result ≡ number_rule (codes "from") (2 ^ 64 - 1) }
+    ensures local { result.global ≡ false }
+{
+    let most = u64::MAX;
+    let help = "Begins the picture with period P";
+    number(alloc, "from", "P", most, help)
+}
+
+/// Round whose judgement the picture lies.
+fn around<'a>(alloc: Global) -> Arg<'a>
+    ensures rule { rule_of result ≡ number_rule (codes "around") (2 ^ 32 - 1) }
+    ensures local { result.global ≡ false }
+{
+    let most = u64::from(u32::MAX);
+    let help =
+        "Draws the period at whose end member ID was judged last, five before it and five behind it";
+    number(alloc, "around", "ID", most, help)
+}
+
+/// Whose judgements are traced.
+fn judged<'a>(alloc: Global) -> Arg<'a>
+    ensures rule { rule_of result ≡ number_rule (codes "judged") (2 ^ 32 - 1) }
+    ensures local { result.global ≡ false }
+{
+    let most = u64::from(u32::MAX);
+    let help = "Traces the judgements of member ID alone";
+    number(alloc, "judged", "ID", most, help)
+}
+
+/// In which period they were made.
+fn period<'a>(alloc: Global) -> Arg<'a>
+    ensures rule { rule_of result ≡ number_rule (codes "period") (2 ^ 64 - 1) }
+    ensures local { result.global ≡ false }
+{
+    let most = u64::MAX;
+    let help = "Traces the judgements of period P alone";
+    number(alloc, "period", "P", most, help)
 }

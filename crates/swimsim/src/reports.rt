@@ -5,9 +5,19 @@ use std::collections::BTreeMap;
 use std::fmt;
 use swim_evidence::{Ask, Evidence, Finding, Findings, Stray};
 
+/// How much is told of a journal file.
+#[derive(Clone, Copy, PartialEq, Eq)]
+pub enum Extent {
+    /// How many entries, periods and judgements it has.
+    Counts,
+    /// These, and the evidence of each judgement.
+    Evidence,
+}
+
 /// What a journal file tells, as lines.
 #[derive(Drop)]
 pub struct Report<'a> {
+    extent: Extent,
     path: &'a str,
     /// How many entries were played.
     entries: u32,
@@ -21,9 +31,10 @@ pub struct Report<'a> {
 
 impl<'a> Report<'a> {
     /// What is told of a file that was played; `None` where memory to find it out was refused.
-    pub fn of(path: &'a str, played: &'a Played) -> Option<Report<'a>> {
+    pub fn of(path: &'a str, played: &'a Played, extent: Extent) -> Option<Report<'a>> {
         match &played.found {
             Ok(found) => Some(Report {
+                extent,
                 path,
                 entries: played.journal.as_ref().map_or(0, |journal| journal.len()),
                 confirmed: played.witness.confirmations.confirmed,
@@ -50,6 +61,9 @@ impl<'a> fmt::Display for Report<'a> {
             f,
             "{path}: entries {entries} confirmed {confirmed} periods {periods} judged {judged}\n"
         )?;
+        if self.extent == Extent::Counts {
+            return Ok(());
+        }
         for finding in findings {
             show_finding(finding, self.times, f)?;
         }

@@ -6,7 +6,7 @@ ghost use Rattle.swim_evidence.specs.Sequences.{AreGood};
 ghost use Rattle.swimsim.specs.Sequences.{IsStatusOf, seen_of, status_of};
 
 use crate::examining::{Played, play};
-use crate::reports::Report;
+use crate::reports::{Extent, Report};
 use crate::verdict_lines::{Closing, Objection};
 use crate::witness::FileEnd;
 use anyhow::Result;
@@ -55,7 +55,7 @@ pub fn verify_each<E: Examiner>(examiner: &mut E, paths: &[&str]) -> Result<u8>
 }
 
 /// The status with which the program ends.
-fn status_of(standing: Standing) -> u8
+pub fn status_of(standing: Standing) -> u8
     ensures { result ≡ status_of standing }
 {
     match standing {
@@ -109,33 +109,46 @@ impl<'r> Examiner for FileExaminer<'r> {
     }
 }
 
-/// Tells what a file comes to that was played.
+/// Tells what a file comes to that was played, and what speaks against it.
 fn tell_played(rt: &HostRuntime, path: &str, played: &Played) -> Result<()> {
+    tell_report(rt, path, played, Extent::Evidence)?;
+    tell_objection(rt, path, played);
+    Ok(())
+}
+
+/// Tells what a file comes to that was played, as far as it is a journal file.
+pub fn tell_report(rt: &HostRuntime, path: &str, played: &Played, extent: Extent) -> Result<()> {
     if played.witness.end == FileEnd::Foreign {
-        object(
-            rt,
-            path,
-            "it is no journal file: its first line isn't `journal 1`",
-        );
         return Ok(());
     }
-    let verdict = played.verdict();
-    let confirmed = played.witness.confirmations.confirmed;
-    if let Some(report) = Report::of(path, played) {
+    if let Some(report) = Report::of(path, played, extent) {
+        let verdict = played.verdict();
+        let confirmed = played.witness.confirmations.confirmed;
         let closing = Closing { verdict, confirmed };
         print!(rt; "{report}{closing}")?;
     }
+    Ok(())
+}
+
+/// Tells what speaks against a file that was played, if anything does.
+pub fn tell_objection(rt: &HostRuntime, path: &str, played: &Played) {
+    if played.witness.end == FileEnd::Foreign {
+        let what = "it is no journal file: its first line isn't `journal 1`";
+        object(rt, path, what);
+        return;
+    }
+    let verdict = played.verdict();
+    let confirmed = played.witness.confirmations.confirmed;
     match verdict {
         Verdict::Whole | Verdict::Cut => {}
         Verdict::Missed(_) | Verdict::Faulty(_) | Verdict::Starved => {
             object(rt, path, Objection { verdict, confirmed });
         }
     }
-    Ok(())
 }
 
 /// Tells why a file can't be read.
-fn tell_unread(rt: &HostRuntime, path: &str, error: &io::Error) {
+pub fn tell_unread(rt: &HostRuntime, path: &str, error: &io::Error) {
     if error.kind() == ErrorKind::OutOfMemory {
         object(rt, path, "no memory before entry 0");
     } else {
@@ -160,6 +173,6 @@ fn tell_link(rt: &HostRuntime, path: &str, before: &str, link: Link) {
 }
 
 /// Tells what is to be said of a file.
-fn object<T: fmt::Display + Drop>(rt: &HostRuntime, path: &str, what: T) {
+pub fn object<T: fmt::Display + Drop>(rt: &HostRuntime, path: &str, what: T) {
     let _ = eprintln!(rt; "swimsim: {path}: {what}");
 }

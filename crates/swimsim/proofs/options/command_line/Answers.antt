@@ -25,6 +25,14 @@ returns c =
     ap₂ with_rule beginning_is c.around.ensures.rule in
     let forcing_is = c.in_ok-arg-7.ensures.shape c.flag-3.ensures.local ∙
     ap₂ with_rule judging_is c.flag-3.ensures.rule in
-    IfOk-weaker c.arg-8.result _ _
-    (λ command added. added.shape c.verify.ensures.local ∙ ap₂ with_rule forcing_is c.verify.ensures.rule)
-    c.arg-8.ensures
+    let verifying_is = c.in_ok-arg-8.ensures.shape c.verify.ensures.local ∙
+    ap₂ with_rule forcing_is c.verify.ensures.rule in
+    let tracing_is = c.in_ok-arg-9.ensures.shape c.trace.ensures.local ∙
+    ap₂ with_rule verifying_is c.trace.ensures.rule in
+    let naming_is = c.in_ok-arg-10.ensures.shape c.judged.ensures.local ∙
+    ap₂ with_rule tracing_is c.judged.ensures.rule in
+    let numbering_is = c.in_ok-arg-11.ensures.shape c.period.ensures.local ∙
+    ap₂ with_rule naming_is c.period.ensures.rule in
+    IfOk-weaker c.arg-12.result _ _
+    (λ command added. added.shape c.flag-4.ensures.local ∙ ap₂ with_rule numbering_is c.flag-4.ensures.rule)
+    c.arg-12.ensures

@@ -125,6 +125,58 @@ returns-clause-verify g c =
     (c.get_strs.ensures ∙ (raw_values-rows (found_of c.in_ok-matches.matches) (codes "verify")
     ∙ ap (all_of (codes "verify")) (rows ∙ ap (λ (a : App). matches_of a words) c.in_ok-command.ensures))))
 
+pub returns-clause-trace : goal.returns-clause-trace
+returns-clause-trace g c =
+    let words = map g.S.AsStr.text c.args.words.now in
+    let rows = (c.in_ok-matches.ensures.matches (ap is_simple c.in_ok-command.ensures ∙ is_simple_line)).0 in
+    ap (map (λ v. v.now)) c.in_ok-trace.ensures ∙ (texts_of c.get_strs-2.result
+    ∙ ap (λ (values : Option (List (List ℕ))). unwrap_or values [])
+    (c.get_strs-2.ensures ∙ (raw_values-rows (found_of c.in_ok-matches.matches) (codes "trace")
+    ∙ ap (all_of (codes "trace")) (rows ∙ ap (λ (a : App). matches_of a words) c.in_ok-command.ensures))))
+
+pub returns-clause-judged : goal.returns-clause-judged
+returns-clause-judged g c =
+    let words = map g.S.AsStr.text c.args.words.now in
+    let rows = (c.in_ok-matches.ensures.matches (ap is_simple c.in_ok-command.ensures ∙ is_simple_line)).0 in
+    let written : one_text (found_of c.in_ok-matches.matches) (codes "judged") ≡
+    one_of (codes "judged") (matches_of command_line words)
+    = one_text-rows (found_of c.in_ok-matches.matches) (codes "judged")
+    ∙ ap (one_of (codes "judged")) (rows ∙ ap (λ (a : App). matches_of a words) c.in_ok-command.ensures) in (
+      λ e. c.id_of-2.ensures.none (c.get_one-3.ensures.none (written ∙ e)),
+      λ text e numeral positive fits. c.id_of-2.ensures.some (digits_value 10 (without_leading_plus text))
+          (number_is _ (λ bs r. ParsesUnsigned 32 10 bs r × ExplainsUnsignedError 10 bs r × HasUnsignedDigitsIfOk bs r)
+          32 text c.get_one-3.result
+          (λ t r g. g.0) (c.get_one-3.ensures.value text (written ∙ e)) numeral fits) positive,
+    )
+
+pub returns-clause-period : goal.returns-clause-period
+returns-clause-period g c =
+    let words = map g.S.AsStr.text c.args.words.now in
+    let rows = (c.in_ok-matches.ensures.matches (ap is_simple c.in_ok-command.ensures ∙ is_simple_line)).0 in
+    let written : one_text (found_of c.in_ok-matches.matches) (codes "period") ≡
+    one_of (codes "period") (matches_of command_line words)
+    = one_text-rows (found_of c.in_ok-matches.matches) (codes "period")
+    ∙ ap (one_of (codes "period")) (rows ∙ ap (λ (a : App). matches_of a words) c.in_ok-command.ensures) in (
+      λ e. c.get_one-4.ensures.none (written ∙ e),
+      λ text e numeral positive fits.
+          number_is _ (λ bs r. ParsesUnsigned 64 10 bs r × ExplainsUnsignedError 10 bs r × HasUnsignedDigitsIfOk bs r)
+          64 text c.get_one-4.result
+          (λ t r g. g.0) (c.get_one-4.ensures.value text (written ∙ e)) numeral fits,
+    )
+
+pub returns-clause-json : goal.returns-clause-json
+returns-clause-json g c =
+    let words = map g.S.AsStr.text c.args.words.now in
+    let rows = (c.in_ok-matches.ensures.matches (ap is_simple c.in_ok-command.ensures ∙ is_simple_line)).0 in
+    let written : one_text (found_of c.in_ok-matches.matches) (codes "json") ≡
+    one_of (codes "json") (matches_of command_line words)
+    = one_text-rows (found_of c.in_ok-matches.matches) (codes "json")
+    ∙ ap (one_of (codes "json")) (rows ∙ ap (λ (a : App). matches_of a words) c.in_ok-command.ensures) in (
+      λ e. c.get_flag-4.ensures.none (written ∙ e),
+      λ e. c.get_flag-4.ensures.value (written ∙ e),
+      λ e. c.get_flag-4.ensures.other (written ∙ e),
+    )
+
 pub returns-clause-refused : goal.returns-clause-refused
 returns-clause-refused g c =
     let words = map g.S.AsStr.text c.args.words.now in

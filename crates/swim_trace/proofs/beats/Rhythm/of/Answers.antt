@@ -1,0 +1,51 @@
+use Rattle.std.proofs.Common.{◌≡◌, ◌+◌, ◌^◌, ◌<◌, ◌∷◌, length, reverse, take, min, arith, sym, ap, ◌∙◌, inl, inr}
+use Rattle.std.proofs.lemmas.Grind.{common_steps}
+use Rattle.std.proofs.lemmas.List.{length-reverse, length-take}
+use Rattle.std.proofs.lemmas.Option.{get_or_from_slice_get, slice_get_cases}
+use Rattle.swim_history.specs.Laws.InOrder.{past_more}
+use Rattle.swim_trace.proofs.Rhythms.{one_more_follows}
+use Rattle.swim_trace.proofs.beats.Rhythm.of.Goals as goal
+use Rattle.swim_trace.proofs.beats.Rhythm.of.Goals.{in-Some+in_ok-note, in_default}
+
+pub loop-place-preserved : goal.loop-place-preserved
+loop-place-preserved c =
+    let entries = reverse c.args.journal.now.past in
+    let place = c.loop-place.place in
+    let h = reverse (take place entries) in
+    let there : place < length entries =
+    rw (length-reverse c.args.journal.now.past)
+    (omega (arith, c.loop-place-test.true, c.min-place-end.ensures, c.len.ensures.value)) in
+    let counted : place ≡ length h =
+    sym (length-reverse (take place entries) ∙ (length-take place entries ∙ omega (arith, there))) in
+    elim c.match-entry.branch [
+      | in-Some+in_ok-note w ↦
+          let e = w.in-Some.entry in
+          let more : reverse (take (place + 1) entries) ≡ e ∷ h = past_more entries place e there ∙
+          ap (λ x. x ∷ h) (get_or_from_slice_get entries place e e (sym w.in-Some.ensures)) in
+          let few : place < 2 ^ 32 =
+          omega (arith, c.loop-place-test.true, c.min-place-end.ensures, c.len.type_inv) in
+          rw (more, w.found-is)
+          (one_more_follows c.me-me.result place h e c.loop-place.found w.note.new.self c.loop-place.invariant
+          counted few w.in_ok-note.ensures.0 w.in_ok-note.ensures.1)
+      | in_default w ↦
+          elim (slice_get_cases entries place).1 [
+            | inl found ↦ absurd (cc (w.in_default.ensures, found.2))
+            | inr past ↦ absurd (omega (arith, there, past.0))
+          ]
+    ]
+
+pub returns : goal.returns
+returns c =
+    let entries = reverse c.args.journal.now.past in
+    let place : c.loop-place.place ≡ min c.args.confirmed (length entries) =
+    rw (length-reverse c.args.journal.now.past)
+    (omega (
+      arith,
+      c.loop-place-test.false,
+      c.loop-place.auto.place-end,
+      c.min-place-end.ensures,
+      c.len.ensures.value,
+    )) in
+    let all : take c.loop-place.place entries ≡ take c.args.confirmed entries =
+    ap (λ i. take i entries) place ∙ grind (arith, common_steps) in
+    rw (sym all, sym c.opening.ensures.value, sym c.me-me.ensures) c.loop-place.invariant
