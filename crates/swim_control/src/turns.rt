@@ -96,8 +96,8 @@ fn carry_out<R: Wait, W: Sink, D: Desk>(
     }
 }
 
-/// Lists the members that are known.
-// A function of its own, since a table is large and each command is carried out where this is asked for.
+/// Lists the known members.
+// Kept out of line: a table is large, and `carry_out` runs for every command.
 #[inline(never)]
 fn answer_list<R: Wait, W: Sink, D: Desk>(rt: &R, writer: &mut W, desk: &mut D) -> Option<Served>
     ensures turned { Turned D.asks (Ok (Asks DeskCommand.List)) desk.old desk.new (W.written writer.old)
@@ -108,8 +108,8 @@ fn answer_list<R: Wait, W: Sink, D: Desk>(rt: &R, writer: &mut W, desk: &mut D) 
     close(put_list(writer, &table), None)
 }
 
-/// Tells what was counted.
-// A function of its own, since the text is large.
+/// Writes what was counted.
+// Kept out of line, since the text is large.
 #[inline(never)]
 fn answer_stats<R: Wait, W: Sink, D: Desk>(rt: &R, writer: &mut W, desk: &mut D) -> Option<Served>
     ensures turned { Turned D.asks (Ok (Asks DeskCommand.Stats)) desk.old desk.new (W.written writer.old)

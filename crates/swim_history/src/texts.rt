@@ -48,7 +48,7 @@ fn put_row<W: Sink>(writer: &mut W, row: &Row) -> bool
     put_state(writer, row.state)
 }
 
-/// The state of a row's member, and the end of its line.
+/// Writes the state of a row's member, and the end of its line.
 fn put_state<W: Sink>(writer: &mut W, state: RowState) -> bool
     ensures bytes { Puts (W.written writer.old) (W.written writer.new) (state_text state ++ feed) result }
     ensures failures { W.failures writer.new ≡ failures_if (W.failures writer.old) result }
@@ -59,7 +59,7 @@ fn put_state<W: Sink>(writer: &mut W, state: RowState) -> bool
     }
 }
 
-/// When a row's member failed, and the end of its line.
+/// Writes when a row's member failed, and the end of its line.
 fn put_failed<W: Sink>(writer: &mut W, number: u64) -> bool
     ensures bytes { Puts (W.written writer.old) (W.written writer.new)
         ((codes " failed " ++ decimal number) ++ feed) result }
@@ -82,7 +82,7 @@ pub fn put_gap<W: Sink>(writer: &mut W, gap: Option<Gap>) -> bool
     }
 }
 
-/// The line of a gap.
+/// Writes the line of a gap.
 fn put_found_gap<W: Sink>(writer: &mut W, gap: Gap) -> bool
     ensures bytes { Puts (W.written writer.old) (W.written writer.new) (gap_text (Some gap)) result }
     ensures failures { W.failures writer.new ≡ failures_if (W.failures writer.old) result }

@@ -64,7 +64,7 @@ impl Returning {
     }
 
     /// Takes over what the ticker left.
-    // A function of its own, since the tidings are large and `show` runs at each datagram.
+    // Kept out of line, as `Receiver::look` is: `show` runs twice for every datagram.
     #[inline(never)]
     pub(crate) fn take_over<R: Wait>(&mut self, rt: &R, board: &TidingsBoard)
         ensures same { IsOfSame self.old self.new }

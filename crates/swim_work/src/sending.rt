@@ -41,7 +41,7 @@ pub fn finish<N: Naming, R: Wait, O: Post>(
     }
 }
 
-/// Sends the datagrams of a reply, each once, in order. How many couldn't be sent.
+/// Sends the datagrams of a reply, each once, in order. Returns how many couldn't be sent.
 fn send_all<R: Wait, O: Post>(rt: &R, post: &mut O, opening: &Opening, reply: &Reply) -> u64
     ensures { ArePosted (sends_of reply.now opening.now) (O.posted post.old) (O.posted post.new) result }
 {
@@ -52,7 +52,7 @@ fn send_all<R: Wait, O: Post>(rt: &R, post: &mut O, opening: &Opening, reply: &R
 }
 
 /// Sends them from a list.
-// A function of its own, since a list is large and most datagrams that are heard send one message or none.
+// Kept out of line: the list is large, and most replies send one message or none.
 #[inline(never)]
 fn send_listed<R: Wait, O: Post>(rt: &R, post: &mut O, opening: &Opening, reply: &Reply) -> u64
     ensures { ArePosted (sends_of reply.now opening.now) (O.posted post.old) (O.posted post.new) result }
