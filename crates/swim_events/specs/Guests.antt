@@ -84,9 +84,9 @@ abbrev pub IsGivenUp : ℕ → Option ℕ → Type 0
 IsGivenUp time None = ⊥
 IsGivenUp time (Some since) = since + 10000 ≤ time
 
--- a turn at this time, in milliseconds: all that was to be sent was offered, once, and what was taken of it is to be sent
--- no more. There is no other turn where nobody takes it any more, where the watcher was told of its loss, and where
--- nothing could be sent to it for ten seconds
+-- a turn at this time, in milliseconds: all that was to be sent was offered, once, and what was taken of it is to be
+-- sent no more. There is no other turn where nobody takes it any more, where the watcher was told of its loss, and
+-- where nothing could be sent to it for ten seconds
 pub record IsTurn (time : ℕ) (old : AtGuest) (offer : Offer) (new : AtGuest) (goes_on : Bool) : Type 0 where
   pub takes : Takes offer old.watcher.pending old.taken new.taken
   pub offered : Grows old.offers new.offers ((offer, old.watcher.pending) ∷ [])

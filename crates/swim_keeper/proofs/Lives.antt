@@ -24,8 +24,8 @@ pub same_both : {W F H S : Type 0} (k l m : LifeKeeper W F H S) → IsSame k l �
 same_both k l m first then =
     (then.0 ∙ first.0, then.1 ∙ first.1, then.2 ∙ first.2, then.3 ∙ first.3, then.4 ∙ first.4)
 
-abbrev pub life_drawn : {A B C D : Type 0} (a : Works A) (b : Works B) (c : Works C) (d : Records D) (terms : Terms) (life : ℕ)
-    (o : Setting) (old : CrewAt A B C D) (past : Past) (new : CrewAt A B C D) →
+abbrev pub life_drawn : {A B C D : Type 0} (a : Works A) (b : Works B) (c : Works C) (d : Records D) (terms : Terms)
+    (life : ℕ) (o : Setting) (old : CrewAt A B C D) (past : Past) (new : CrewAt A B C D) →
     IsLife a b c d o terms.limit old past new →
     WasDrawn DrawsOrder DrawsPlace o (record (of_seed terms.seed) { stream = life }) past.journal.past →
     IsDrawnLife terms life o past

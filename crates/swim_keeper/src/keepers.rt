@@ -36,7 +36,17 @@ pub struct LifeKeeper<'w, 'f, 'h, 's, 'b, W: Sink, F: Sink, H: Herald, S> {
     pub terms: Terms,
 }
 
-impl<'w, 'f, 'h, 's, 'b, W: Sink, F: Sink, H: Herald, S> LifeKeeper<'w, 'f, 'h, 's, 'b, W, F, H, S> {
+impl<'w, 'f, 'h, 's, 'b, W: Sink, F: Sink, H: Herald, S> LifeKeeper<
+    'w,
+    'f,
+    'h,
+    's,
+    'b,
+    W,
+    F,
+    H,
+    S,
+> {
     /// Removes what the life before left on the board, so that the receiver of the next one doesn't learn of it. From
     /// now on the period with this number runs.
     fn clear_board<R: Wait>(&self, rt: &R, period: u64) {

@@ -1,5 +1,6 @@
 -- That a crew of a receiver, a ticker and a controller, and a keeper, live the lives of a daemon.
-use Rattle.std.proofs.Common.{◌≡◌, ◌⊎◌, ℕ, Bool, List, [], ◌∷◌, Option, None, Some, refl, sym, ap, subst, ◌∙◌, inl, inr, map}
+use Rattle.std.proofs.Common.{◌≡◌, ◌⊎◌, ℕ, Bool, List, [], ◌∷◌, map, Option, None, Some}
+use Rattle.std.proofs.Common.{refl, sym, ap, subst, ◌∙◌, inl, inr}
 use Rattle.std.specs.Option.{option_map}
 use Rattle.swim_history.specs.declared.rows.Change.{Change}
 use Rattle.swim_history.specs.Setting.{Setting}
@@ -30,7 +31,7 @@ use Rattle.swim_recorder.specs.declared.journal_recorder.JournalRecorder.{Journa
 use Rattle.swim_crew.specs.declared.pasts.LivesEnd.{LivesEnd}
 use Rattle.swim_crew.specs.declared.pasts.Past.{Past}
 use Rattle.swim_crew.specs.declared.pasts.Terms.{Terms}
-use Rattle.swim_crew.specs.Crews.{CrewAt, Stand, Works, rules}
+use Rattle.swim_crew.specs.Crews.{CrewAt, Rules, Stand, Works, rules}
 use Rattle.swim_crew.specs.Lives.{AreEnded, AreEndedByLife, AreLived, AreLives, IsKeptLife, number_after, opening_after}
 use Rattle.swim_keeper.specs.declared.keepers.LifeKeeper.{LifeKeeper}
 use Rattle.swim_keeper.specs.Keeping.{IsSame, Outlets, closes_by, opens_by, records_by}
@@ -112,11 +113,16 @@ module _ {A B C W F H S V Q E I Y O : Type 0} (out : Outlets W F H S V Y) (poste
   abbrev seen : Stand A B C (JournalRecorder V Q E I Y) (LifeKeeper W F H S) → AtDaemon
   seen s = at_daemon (told_by out) (λ x. hearing posted (receiving x)) (λ x. beating posted (ticking x)) talks s
 
+  -- what each of them does
+  abbrev the_rules : Rules A B C (JournalRecorder V Q E I Y) (LifeKeeper W F H S)
+  the_rules =
+      rules (hears posted receiving) (ticks posted ticking) (controls faults talks) (records_by out) (opens_by out)
+      (closes_by out)
+
   life_lived : (terms : Terms) (life : ℕ) (o : Setting) (past : Past)
       (old new : Stand A B C (JournalRecorder V Q E I Y) (LifeKeeper W F H S)) → old.keeper.terms ≡ terms →
       Knows (receiving old.crew.first) →
-      IsKeptLife (rules (hears posted receiving) (ticks posted ticking) (controls faults talks) (records_by out)
-      (opens_by out) (closes_by out)) o terms.limit terms.seed life old past new →
+      IsKeptLife the_rules o terms.limit terms.seed life old past new →
       IsSame old.keeper new.keeper × Knows (receiving new.crew.first)
       × IsDaemonLife out.fresh terms life o past (seen old) (seen new)
   life_lived terms life o past old new is_terms knows is =
@@ -155,15 +161,15 @@ module _ {A B C W F H S V Q E I Y O : Type 0} (out : Outlets W F H S V Y) (poste
       (old : Stand A B C (JournalRecorder V Q E I Y) (LifeKeeper W F H S)) (lives : List Past)
       (new : Stand A B C (JournalRecorder V Q E I Y) (LifeKeeper W F H S)) → old.keeper.terms ≡ terms →
       Knows (receiving old.crew.first) →
-      AreLives (rules (hears posted receiving) (ticks posted ticking) (controls faults talks) (records_by out) (opens_by out) (closes_by out)) from terms.limit terms.seed
+      AreLives the_rules from terms.limit terms.seed
       old lives new →
       IsSame old.keeper new.keeper × Knows (receiving new.crew.first)
       × EachLife (IsDaemonLife out.fresh terms) from (seen old) lives (seen new)
   lives_lived terms from old [] new is_terms knows is = (
     subst (λ (s : Stand A B C (JournalRecorder V Q E I Y) (LifeKeeper W F H S)). IsSame old.keeper s.keeper) (sym is)
         (refl, refl, refl, refl, refl),
-    subst (λ (s : Stand A B C (JournalRecorder V Q E I Y) (LifeKeeper W F H S)). Knows (receiving s.crew.first)) (sym is)
-        knows,
+    subst (λ (s : Stand A B C (JournalRecorder V Q E I Y) (LifeKeeper W F H S)). Knows (receiving s.crew.first))
+        (sym is) knows,
     ap seen is,
   )
   lives_lived terms from old (past ∷ before) new is_terms knows is =
@@ -177,7 +183,7 @@ module _ {A B C W F H S V Q E I Y O : Type 0} (out : Outlets W F H S V Y) (poste
 
   ended : (from : Setting) (lives : List Past)
       (mid new : Stand A B C (JournalRecorder V Q E I Y) (LifeKeeper W F H S)) (end : LivesEnd) →
-      AreEnded (rules (hears posted receiving) (ticks posted ticking) (controls faults talks) (records_by out) (opens_by out) (closes_by out)) from lives mid new end →
+      AreEnded the_rules from lives mid new end →
       IsSame mid.keeper new.keeper
       × (((seen new ≡ seen mid) × AreEndedByLife lives end)
       ⊎ (IsWithout lives end × IsAnnounced (number_after lives) (seen mid).told (seen new).told
@@ -205,7 +211,7 @@ module _ {A B C W F H S V Q E I Y O : Type 0} (out : Outlets W F H S V Y) (poste
   -- the lives of such a crew
   pub all_lived : (opening : Setting) (old new : Stand A B C (JournalRecorder V Q E I Y) (LifeKeeper W F H S))
       (end : LivesEnd) → Knows (receiving old.crew.first) →
-      AreLived (rules (hears posted receiving) (ticks posted ticking) (controls faults talks) (records_by out) (opens_by out) (closes_by out)) opening
+      AreLived the_rules opening
       old.keeper.terms.limit old.keeper.terms.seed old new end →
       IsSame old.keeper new.keeper × AreDaemonLives out.fresh old.keeper.terms opening (seen old) (seen new) end
   all_lived opening old new end knows is =

@@ -1,5 +1,5 @@
 -- That lives which were kept are what a daemon of a configuration does.
-use Rattle.std.proofs.Common.{◌≡◌, List, None, sym, subst, refl}
+use Rattle.std.proofs.Common.{◌≡◌, List, [], Some, sym, subst, refl}
 use Rattle.swim_config.specs.declared.config.Config.{Config}
 use Rattle.swim_crew.specs.declared.pasts.LivesEnd.{LivesEnd}
 use Rattle.swim_crew.specs.declared.pasts.LivesEnd.TheVariants as ends
@@ -20,14 +20,14 @@ starts_by config old new ends.NoPlace is = is
 pub starts_so : (config : Config) (terms : Terms) (before after : AtDaemon) (new : Written) (end : LivesEnd)
     (outcome : Outcome) → terms ≡ record { seed = config.seed; limit = config.journal } → outcome ≡ outcome_of end →
     new ≡ after.told.keeper.lines → IsBeginning before →
-    AreDaemonLives None terms config.opening before after end → Starts config before.told.keeper.lines new outcome
+    AreDaemonLives (Some []) terms config.opening before after end → Starts config before.told.keeper.lines new outcome
 starts_so config terms before after new end outcome is_terms is same beginning lived =
     subst (λ (o : Outcome). Starts config before.told.keeper.lines new o) (sym is)
     (starts_by config before.told.keeper.lines new end (record {
       end = end;
       before = before;
       after = after;
-      lived = subst (λ (t : Terms). AreDaemonLives None t config.opening before after end) is_terms lived;
+      lived = subst (λ (t : Terms). AreDaemonLives (Some []) t config.opening before after end) is_terms lived;
       beginning = beginning;
       began = refl;
       ended = sym same;

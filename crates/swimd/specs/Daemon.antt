@@ -1,5 +1,5 @@
 -- What a daemon does.
-use Rattle.std.specs.Prelude.{◌≡◌, ◌⊎◌, ℕ, List, Ok, Err, None}
+use Rattle.std.specs.Prelude.{◌≡◌, ◌⊎◌, ℕ, List, Ok, Err, [], Some}
 use Rattle.swim_config.specs.declared.config.Config.{Config}
 use Rattle.swim_config.specs.declared.config_fault.ConfigFault.TheVariants as faults
 use Rattle.swim_crew.specs.declared.pasts.LivesEnd.{LivesEnd}
@@ -39,7 +39,8 @@ pub record IsLivedBy (config : Config) (old new : Written) (outcome : Outcome) :
   pub end : LivesEnd
   pub before : AtDaemon
   pub after : AtDaemon
-  pub lived : AreDaemonLives None (record { seed = config.seed; limit = config.journal }) config.opening before after end
+  pub lived : AreDaemonLives (Some []) (record { seed = config.seed; limit = config.journal }) config.opening before
+      after end
   pub beginning : IsBeginning before
   pub began : before.told.keeper.lines ≡ old
   pub ended : after.told.keeper.lines ≡ new

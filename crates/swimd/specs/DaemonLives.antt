@@ -40,8 +40,8 @@ at_receiving received posted = record { received = received; posted = posted }
 abbrev pub at_ticking : Option (List Beat) → Option (List Posted) → AtTicking
 at_ticking beats posted = record { beats = beats; posted = posted }
 
--- what is seen of a daemon between two lives: those who are told of lives, its receiver, its ticker, and the connections
--- of operators
+-- what is seen of a daemon between two lives: those who are told of lives, its receiver, its ticker, and the
+-- connections of operators
 pub record AtDaemon : Type 0 where
   pub told : AtLives
   pub receiving : AtReceiving
@@ -75,24 +75,24 @@ abbrev pub IsBeginning : AtDaemon → Type 0
 IsBeginning d =
     (d.receiving ≡ none_received) × (d.ticking ≡ none_ticked) × (d.connections ≡ none_connected)
 
--- each datagram that the line gave in a life, in order, became one call of this seat, which made no other for a datagram,
--- or was refused and counted; and the post was handed the datagrams of the replies, each once, in order
+-- each datagram that the line gave in a life, in order, became one call of this seat, which made no other for a
+-- datagram, or was refused and counted; and the post was handed the datagrams of the replies, each once, in order
 pub record Receives (o : Setting) (seat : Seated) (end : End) (old new : AtReceiving) : Type 0 where
   pub given : List Received
   pub grown : Grows old.received new.received given
   pub heard : AreHeard (datagrams_in given) seat.calls end.counts
   pub sent : HasSent o seat.calls old.posted new.posted end.counts.unsent
 
--- each tick of the pace, in order, became one call of this seat, which made no other, or was refused and counted; and the
--- post was handed the datagrams of the replies, each once, in order
+-- each tick of the pace, in order, became one call of this seat, which made no other, or was refused and counted; and
+-- the post was handed the datagrams of the replies, each once, in order
 pub record Ticks (o : Setting) (seat : Seated) (end : End) (old new : AtTicking) : Type 0 where
   pub given : List Beat
   pub grown : Grows old.beats new.beats given
   pub ticked : AreTicked (ticks_in given) seat.calls end.counts
   pub sent : HasSent o seat.calls old.posted new.posted end.counts.unsent
 
--- each whole line that a connection brought, in order, became exactly its calls of this seat, with the reply that it was
--- answered, and the seat made no other: whatever connections brought, if those lines that came before were answered so
+-- each whole line that a connection brought, in order, became exactly its calls of this seat, with the reply that it
+-- was answered, and the seat made no other: whatever connections brought, if the lines of lives before were answered so
 pub record Controls (o : Setting) (limit : ℕ) (seat : Seated) (end : End) (old new : Talks) : Type 0 where
   pub saw : List Change
   pub seen : List Change
@@ -100,8 +100,8 @@ pub record Controls (o : Setting) (limit : ℕ) (seat : Seated) (end : End) (old
   pub answered : (b : Brought) (log : List Called) → BringsSo b old.count steps → AreAnswered b log old →
       AnswersLines o limit b log saw seen seat end.counts.refused new
 
--- a life of this number from an opening: its journal is one history of three seats, each of which made the calls for what
--- came in by its gate; and it was told
+-- a life of this number from an opening: its journal is one history of three seats, each of which made the calls for
+-- what came in by its gate; and it was told
 pub record IsDaemonLife (fresh : Option (List ℕ)) (terms : Terms) (life : ℕ) (o : Setting) (past : Past)
     (old new : AtDaemon) : Type 0 where
   pub lived : IsDrawnLife terms life o past
