@@ -70,7 +70,7 @@ pub struct Shared<'g, R> {
     pub rt: &'g R,
     pub alloc: Global,
     pub endpoint: &'g UdpEndpoint,
-    pub keys: Option<&'g Keys>,
+    pub keys: &'g Option<Keys>,
     pub counters: &'g Counters,
     pub board: &'g TidingsBoard,
 }
@@ -118,10 +118,10 @@ impl<'g, R: Files<File = File> + Net + Clock + Wait> Shared<'g, R> {
         let timepiece = ClockTimepiece::new(self.rt);
         let line = FencedLine::new(self.endpoint.line(), timepiece, config.fence);
         let line = NotingLine::new(line, &strangers.fenced);
-        let line = SealedLine::new(line, self.keys);
+        let line = SealedLine::new(line, self.keys.as_ref());
         let receiver = Receiver {
             line: NotingLine::new(line, &strangers.forged),
-            post: SealedPost::new(self.endpoint.post(), self.keys),
+            post: SealedPost::new(self.endpoint.post(), self.keys.as_ref()),
             returning: Returning::new(rejoin_of(config), config.opening.me()),
             board: self.board,
         };
@@ -138,8 +138,8 @@ impl<'g, R: Files<File = File> + Net + Clock + Wait> Shared<'g, R> {
     {
         let ticker = Ticker {
             pace: SleepingPace::new(ClockSleeper::new(self.rt), config.tick_ms),
-            post: SealedPost::new(self.endpoint.post(), self.keys),
-            knock_post: SealedPost::new(self.endpoint.post(), self.keys),
+            post: SealedPost::new(self.endpoint.post(), self.keys.as_ref()),
+            knock_post: SealedPost::new(self.endpoint.post(), self.keys.as_ref()),
             rejoin: rejoin_of(config),
             knocks: 0,
             board: self.board,

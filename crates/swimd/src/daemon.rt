@@ -224,12 +224,11 @@ fn live<
     let keys = Keys::of(planned.config.keys.as_slice());
     let counters = Counters::new(&planned.config);
     let board = TidingsBoard::new(planned.config.opening.last());
-    let group_keys = keys.as_ref();
     let shared = Shared {
         rt,
         alloc,
         endpoint: &endpoint,
-        keys: group_keys,
+        keys: &keys,
         counters: &counters,
         board: &board,
     };
