@@ -100,7 +100,7 @@ impl<'r, R: Net + Clock + Wait> Folder<'r, R> {
     /// Begins the file of a life, and tells where there is none.
     #[tactic(auto, using(swim_keeper::specs::Notices::no_notices))]
     fn begin<F: Sink>(&mut self, new: NewFile, notices: &mut F) -> JournalFile<'r, R>
-        ensures new { result.text.taken ≡ [] }
+        ensures fresh { result.text.taken ≡ [] }
         ensures opened { self.new.opened ≡ self.old.opened }
         ensures filed { self.new.filed ≡ self.old.filed }
         ensures notices { Notices (F.written notices.old, F.failures notices.old)

@@ -5,11 +5,11 @@ ghost use Rattle.swim_journal.specs.Comments.{EndsLine, MayComment, without_comm
 ghost use Rattle.swimd.specs.HeldTexts.{Takes, all_of};
 
 use crate::disk_desks::DiskDesk;
-use crate::file_faults::FileFault;
 use arrayvec::ArrayVec;
 use std::marker::Model;
 use std::rt::Clock;
 use std::sync::Wait;
+use swim_disk::FileFault;
 use swim_trail::Trail;
 
 /// How many bytes of a file are held back at most.

@@ -1,6 +1,6 @@
 //! Journal files as they are written.
 
-ghost use Rattle.std.specs.Prelude.{◌≡◌, true, false, [], length, None};
+ghost use Rattle.std.specs.Prelude.{◌≡◌, true, false, [], length, None, Some};
 ghost use Rattle.swim_text.specs.Streams.{Puts, failures_if};
 ghost use Rattle.swim_journal.specs.Comments.{EndsLine, MayComment, without_comments};
 ghost use Rattle.swimd.specs.HeldTexts.{Takes, all_of};
@@ -65,7 +65,7 @@ impl<'r, R: Clock + Wait> JournalFile<'r, R> {
 
     /// What it took, and what its desk took of that.
     pub fn into_text(self) -> HeldText
-        ensures { result ≡ self.text }
+        ensures { result ≡ self.entry.text }
     {
         let JournalFile {
             rt: _rt,
