@@ -20,10 +20,11 @@ use Rattle.swim_keeper.specs.Notices.{Notices, no_notices, notices_both}
 use Rattle.swim_keeper.specs.Told.{AreKept, AreWritten, AtLives, EachIsTold, EachLife, IsAnnounced, IsDrawnLife, IsKept}
 use Rattle.swim_keeper.specs.Told.{IsWithout, IsWritten, at_lives}
 
-same_both : {W F H S : Type 0} (k l m : LifeKeeper W F H S) → IsSame k l → IsSame l m → IsSame k m
-same_both k l m first then = (then.0 ∙ first.0, then.1 ∙ first.1, then.2 ∙ first.2)
+pub same_both : {W F H S : Type 0} (k l m : LifeKeeper W F H S) → IsSame k l → IsSame l m → IsSame k m
+same_both k l m first then =
+    (then.0 ∙ first.0, then.1 ∙ first.1, then.2 ∙ first.2, then.3 ∙ first.3, then.4 ∙ first.4)
 
-life_drawn : {A B C D : Type 0} (a : Works A) (b : Works B) (c : Works C) (d : Records D) (terms : Terms) (life : ℕ)
+abbrev pub life_drawn : {A B C D : Type 0} (a : Works A) (b : Works B) (c : Works C) (d : Records D) (terms : Terms) (life : ℕ)
     (o : Setting) (old : CrewAt A B C D) (past : Past) (new : CrewAt A B C D) →
     IsLife a b c d o terms.limit old past new →
     WasDrawn DrawsOrder DrawsPlace o (record (of_seed terms.seed) { stream = life }) past.journal.past →
@@ -42,12 +43,27 @@ life_drawn a b c d terms life o old past new is drawn = record {
   drawn = drawn;
 }
 
+-- the herald was told of a life that a keeper has opened
+pub announced : {W F H S V Q E I Y : Type 0} (out : Outlets W F H S V Y) (life : ℕ) (o : Setting)
+    (k l : LifeKeeper W F H S) (d e : JournalRecorder V Q E I Y) → opens_by out k d life o l e →
+    IsAnnounced life (at_lives (at_keeper out k) (at_recorder out.heard d))
+    (at_lives (at_keeper out l) (at_recorder out.heard e))
+announced {V = V} out life o k l d e is = record {
+  lines = is.2.lines;
+  notices = is.2.notices;
+  begun = is.2.begun;
+  opened = is.2.opened;
+  filed = is.2.filed;
+  gallery = ap (λ (r : AtRecorder V). r.gallery) is.2.others;
+  heard = ap (λ (r : AtRecorder V). r.heard) is.2.others;
+}
+
 module _ {A B C W F H S V Q E I Y : Type 0} (out : Outlets W F H S V Y) (a : Works A) (b : Works B) (c : Works C)
     (law : EachIsTold out.written out.held) where
   abbrev seen : Stand A B C (JournalRecorder V Q E I Y) (LifeKeeper W F H S) → AtLives
   seen s = at_lives (at_keeper out s.keeper) (at_recorder out.heard s.crew.recorder)
 
-  life_kept : (terms : Terms) (life : ℕ) (o : Setting) (past : Past)
+  pub life_kept : (terms : Terms) (life : ℕ) (o : Setting) (past : Past)
       (old new : Stand A B C (JournalRecorder V Q E I Y) (LifeKeeper W F H S)) → old.keeper.terms ≡ terms →
       IsKeptLife (rules a b c (records_by out) (opens_by out) (closes_by out)) o terms.limit terms.seed life old past
       new → IsSame old.keeper new.keeper × IsKept out.fresh terms life o past (seen old) (seen new)
@@ -75,7 +91,7 @@ module _ {A B C W F H S V Q E I Y : Type 0} (out : Outlets W F H S V Y) (a : Wor
       IsSame old.keeper new.keeper × EachLife (IsKept out.fresh terms) first (seen old) lives (seen new)
   lives_kept terms first old [] new is_terms is = (
     subst (λ (s : Stand A B C (JournalRecorder V Q E I Y) (LifeKeeper W F H S)). IsSame old.keeper s.keeper) (sym is)
-        (refl, refl, refl),
+        (refl, refl, refl, refl, refl),
     ap seen is,
   )
   lives_kept terms first old (past ∷ before) new is_terms is =
@@ -92,27 +108,19 @@ module _ {A B C W F H S V Q E I Y : Type 0} (out : Outlets W F H S V Y) (a : Wor
       ⊎ (IsWithout lives end × IsAnnounced (number_after lives) (seen mid) (seen new)))
   last_kept first lives mid new end (inl last) = (
     subst (λ (s : Stand A B C (JournalRecorder V Q E I Y) (LifeKeeper W F H S)). IsSame mid.keeper s.keeper)
-        (sym last.0) (refl, refl, refl),
+        (sym last.0) (refl, refl, refl, refl, refl),
     inl (ap seen last.0, last.1),
   )
-  last_kept first lives mid new end (inr last) =
-      let opened = last.2.0.2 in (
-        last.2.0.0,
-        inr (
-          (last.0, last.1),
-          record {
-            lines = opened.lines;
-            notices = opened.notices;
-            begun = opened.begun;
-            opened = opened.opened;
-            filed = opened.filed;
-            gallery = ap (λ (r : AtRecorder V). r.gallery) opened.others;
-            heard = ap (λ (r : AtRecorder V). r.heard) opened.others;
-          },
-        ),
-      )
+  last_kept first lives mid new end (inr last) = (
+    last.2.0.0,
+    inr (
+      (last.0, last.1),
+      announced out (number_after lives) (opening_after first lives) mid.keeper new.keeper mid.crew.recorder
+          new.crew.recorder last.2.0,
+    ),
+  )
 
-  -- a keeper and a recorder whose lives were lived: it writes to the same sinks still, and each life was told
+  -- a keeper and a recorder whose lives were lived: it has the same of all still, and each life was told
   pub all_kept : (opening : Setting) (old new : Stand A B C (JournalRecorder V Q E I Y) (LifeKeeper W F H S))
       (end : LivesEnd) →
       AreLived (rules a b c (records_by out) (opens_by out) (closes_by out)) opening old.keeper.terms.limit

@@ -54,16 +54,17 @@ abbrev pub at_keeper : {W F H S V Y : Type 0} → Outlets W F H S V Y → LifeKe
 at_keeper out k = record {
   lines = out.lines k.writer.now;
   notices = out.notices k.notices.now;
-  begun = out.begun k.herald;
-  opened = out.opened k.shelf;
-  filed = out.filed k.shelf;
+  begun = out.begun k.herald.now;
+  opened = out.opened k.shelf.now;
+  filed = out.filed k.shelf.now;
 }
 
--- it writes to the same sinks still, and for the same terms
+-- it has the same sinks, the same herald and the same shelf still, and the same terms
 abbrev pub IsSame : {W F H S : Type 0} → LifeKeeper W F H S → LifeKeeper W F H S → Type 0
 IsSame k l =
     (l.terms ≡ k.terms) × (l.writer.ghost_name ≡ k.writer.ghost_name)
-    × (l.notices.ghost_name ≡ k.notices.ghost_name)
+    × (l.notices.ghost_name ≡ k.notices.ghost_name) × (l.herald.ghost_name ≡ k.herald.ghost_name)
+    × (l.shelf.ghost_name ≡ k.shelf.ghost_name)
 
 -- before the life of this number, from an opening: the herald is told of it, and a file is opened for its journal, or
 -- lives have none

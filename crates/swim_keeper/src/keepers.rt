@@ -18,23 +18,25 @@ use swim_work::{Pace, TidingsBoard};
 
 /// Keeps the lives of a daemon. Before a life it has the herald announce it, and the shelf open the file that its
 /// recorder writes. After the life it gives the file back to the shelf, and writes how the life ended.
+///
+/// It has all of that only on loan, so that it is known at its end what was written and told.
 #[derive(Drop)]
-pub struct LifeKeeper<'w, 'f, 'b, W: Sink, F: Sink, H: Herald + Drop, S: Drop> {
+pub struct LifeKeeper<'w, 'f, 'h, 's, 'b, W: Sink, F: Sink, H: Herald, S> {
     /// Takes the lines that tell how lives ended.
     pub writer: &'w mut W,
     /// Takes what the herald and the shelf have to tell people.
     pub notices: &'f mut F,
     /// Announces lives.
-    pub herald: H,
+    pub herald: &'h mut H,
     /// Has the files of the journals.
-    pub shelf: S,
+    pub shelf: &'s mut S,
     /// Where the ticker leaves word for the receiver.
     pub board: &'b TidingsBoard,
     /// The seed and the limit that the headers of the files tell. They are those that the lives run with.
     pub terms: Terms,
 }
 
-impl<'w, 'f, 'b, W: Sink, F: Sink, H: Herald + Drop, S: Drop> LifeKeeper<'w, 'f, 'b, W, F, H, S> {
+impl<'w, 'f, 'h, 's, 'b, W: Sink, F: Sink, H: Herald, S> LifeKeeper<'w, 'f, 'h, 's, 'b, W, F, H, S> {
     /// Removes what the life before left on the board, so that the receiver of the next one doesn't learn of it. From
     /// now on the period with this number runs.
     fn clear_board<R: Wait>(&self, rt: &R, period: u64) {
@@ -46,17 +48,19 @@ impl<'w, 'f, 'b, W: Sink, F: Sink, H: Herald + Drop, S: Drop> LifeKeeper<'w, 'f,
 impl<
     'w,
     'f,
+    'h,
+    's,
     'b,
     W: Sink,
     F: Sink,
-    H: Herald + Drop,
+    H: Herald,
     V: Sink + Drop,
-    S: Shelf<V> + Drop,
+    S: Shelf<V>,
     Q: Pace + Drop,
     E: Outlet + Drop,
     I: Entrance<E> + Drop,
     Y: Reporter + Drop,
-> Keeper<JournalRecorder<V, Q, E, I, Y>> for LifeKeeper<'w, 'f, 'b, W, F, H, S> {
+> Keeper<JournalRecorder<V, Q, E, I, Y>> for LifeKeeper<'w, 'f, 'h, 's, 'b, W, F, H, S> {
     ghost use Rattle.swim_keeper.specs.Keeping.{closes_by, opens_by, outlets};
 
     ghost opens = { opens_by (outlets W.written W.failures F.written F.failures H.begun S.opened S.filed S.fresh
@@ -76,7 +80,7 @@ impl<
         self.herald.begins(number, &mut *self.notices);
         recorder.number = number;
         recorder.transcript = begun(
-            &mut self.shelf,
+            &mut *self.shelf,
             &self.terms,
             number,
             opening,
@@ -92,7 +96,7 @@ impl<
         recorder: &mut JournalRecorder<V, Q, E, I, Y>,
     ) {
         let transcript = recorder.transcript.take();
-        let is_cut = put_back(&mut self.shelf, number, transcript, &mut *self.notices);
+        let is_cut = put_back(&mut *self.shelf, number, transcript, &mut *self.notices);
         tell_end(&mut *self.writer, number, past, is_cut);
     }
 }

@@ -96,6 +96,8 @@ fn assert_told<R: Abort + Wait>(
     past: &Past,
     lines: &[u8],
 ) -> Result<(), Fail> {
+    let mut shelf = shelf;
+    let mut herald = Caller { begun: 0 };
     let mut writer = Page::new(alloc);
     let mut notices = Page::new(alloc);
     let board = TidingsBoard::new(0);
@@ -103,8 +105,8 @@ fn assert_told<R: Abort + Wait>(
     let mut keeper = LifeKeeper {
         writer: &mut writer,
         notices: &mut notices,
-        herald: Caller { begun: 0 },
-        shelf,
+        herald: &mut herald,
+        shelf: &mut shelf,
         board: &board,
         terms: terms(),
     };
@@ -112,8 +114,8 @@ fn assert_told<R: Abort + Wait>(
     assert_same(rt, &recorder.number, &1);
     keeper.close(rt, 1, past, &mut recorder);
     assert!(rt; recorder.transcript.is_none());
-    assert_same(rt, &keeper.herald.begun, &1);
     drop(keeper);
+    assert_same(rt, &herald.begun, &1);
     assert_same(rt, &writer.text(), &lines);
     assert!(rt; notices.text().is_empty());
     Ok(())

@@ -2,6 +2,7 @@ pub mod Asked
 pub mod Booking
 pub mod Checked
 pub mod ControlLines
+pub mod DaemonLives
 pub mod Done
 pub mod Explained
 pub mod Given

@@ -1,5 +1,5 @@
 -- What a daemon does.
-use Rattle.std.specs.Prelude.{◌≡◌, ◌⊎◌, ℕ, List, Ok, Err}
+use Rattle.std.specs.Prelude.{◌≡◌, ◌⊎◌, ℕ, List, Ok, Err, None}
 use Rattle.swim_config.specs.declared.config.Config.{Config}
 use Rattle.swim_config.specs.declared.config_fault.ConfigFault.TheVariants as faults
 use Rattle.swim_crew.specs.declared.pasts.LivesEnd.{LivesEnd}
@@ -12,9 +12,9 @@ use Rattle.swim_config.specs.Beginnings.{begun_at}
 use Rattle.swim_config.specs.Configuration.{config_of}
 use Rattle.swim_keeper.specs.Endings.{Written}
 use Rattle.swim_keeper.specs.Notices.{Notices}
-use Rattle.swim_keeper.specs.Told.{AreWritten}
 use Rattle.swim_config.specs.Reading.{OrNoMemory}
 use Rattle.swimd.specs.Checking.{Warned}
+use Rattle.swimd.specs.DaemonLives.{AreDaemonLives, AtDaemon, IsBeginning}
 
 -- a configuration that was read of some text
 abbrev pub IsConfiguration : Config → Type 0
@@ -34,10 +34,15 @@ outcome_of ends.NoMemory = Refused faults.NoMemory
 outcome_of ends.NoPlace = NoPlace
 
 -- lives were lived from the configuration's opening, with journals of at most as many entries as it says and draws of
--- its seed
+-- its seed, over gates of the daemon's own, of which nothing had come in before
 pub record IsLivedBy (config : Config) (old new : Written) (outcome : Outcome) : Type 0 where
   pub end : LivesEnd
-  pub lived : AreWritten (record { seed = config.seed; limit = config.journal }) config.opening old new end
+  pub before : AtDaemon
+  pub after : AtDaemon
+  pub lived : AreDaemonLives None (record { seed = config.seed; limit = config.journal }) config.opening before after end
+  pub beginning : IsBeginning before
+  pub began : before.told.keeper.lines ≡ old
+  pub ended : after.told.keeper.lines ≡ new
   pub is : outcome ≡ outcome_of end
 
 -- why there is no control socket, and no events' socket

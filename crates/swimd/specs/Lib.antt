@@ -4,6 +4,7 @@ pub mod Booked
 pub mod Checking
 pub mod Commands
 pub mod Daemon
+pub mod DaemonLives
 pub mod Details
 pub mod Outcomes
 pub mod Screens

@@ -1,5 +1,9 @@
 //! The crew of a daemon: its workers and its recorder, over the gates of a configuration.
 
+ghost use Rattle.std.specs.Prelude.{◌≡◌, [], IfOk, box_value};
+ghost use Rattle.swim_receiver.specs.Rejoining.{IsReturning};
+ghost use Rattle.swimd.specs.DaemonLives.{at_receiving, at_ticking, none_connected, none_received, none_ticked};
+
 use crate::chroniclers::Chronicler;
 use crate::clerks::Clerk;
 use crate::counters::Counters;
@@ -28,7 +32,7 @@ use swim_receiver::{Receiver, Returning};
 use swim_recorder::JournalRecorder;
 use swim_text::Sink;
 use swim_ticker::Ticker;
-use swim_work::TidingsBoard;
+use swim_work::{Line, Pace, Post, TidingsBoard};
 
 /// By which a daemon hears: what comes faster than the fence lets in is thrown away first, and then what has no tag by a
 /// key of the group. Of both is noted how many there were.
@@ -81,7 +85,16 @@ impl<'g, R: Files<File = File> + Net + Clock + Wait> Shared<'g, R> {
         door: D,
         entrance: UnixEntrance<K>,
         log: G,
-    ) -> Result<DaemonCrew<'g, R, D, G, K>, AllocError> {
+    ) -> Result<DaemonCrew<'g, R, D, G, K>, AllocError>
+        ensures returning { IfOk result (λ crew. IsReturning (box_value crew.first).returning []) }
+        ensures receiving { IfOk result (λ crew. at_receiving
+            (⟦<GuardedLine<'g, R> as Line>⟧.received (box_value crew.first).line)
+            (⟦<GuardedPost<'g> as Post>⟧.posted (box_value crew.first).post) ≡ none_received) }
+        ensures ticking { IfOk result (λ crew. at_ticking
+            (⟦<ClockPace<'g, R> as Pace>⟧.beats (box_value crew.second).pace)
+            (⟦<GuardedPost<'g> as Post>⟧.posted (box_value crew.second).post) ≡ none_ticked) }
+        ensures connections { IfOk result (λ crew. (box_value crew.third).hall.connections ≡ none_connected) }
+    {
         Ok(Crew {
             first: self.receiver(config)?,
             second: self.ticker(config)?,
@@ -95,7 +108,12 @@ impl<'g, R: Files<File = File> + Net + Clock + Wait> Shared<'g, R> {
     fn receiver(
         &self,
         config: &Config,
-    ) -> Result<Box<Receiver<'g, GuardedLine<'g, R>, GuardedPost<'g>>>, AllocError> {
+    ) -> Result<Box<Receiver<'g, GuardedLine<'g, R>, GuardedPost<'g>>>, AllocError>
+        ensures returning { IfOk result (λ receiver. IsReturning (box_value receiver).returning []) }
+        ensures receiving { IfOk result (λ receiver. at_receiving
+            (⟦<GuardedLine<'g, R> as Line>⟧.received (box_value receiver).line)
+            (⟦<GuardedPost<'g> as Post>⟧.posted (box_value receiver).post) ≡ none_received) }
+    {
         let strangers = &self.counters.strangers;
         let timepiece = ClockTimepiece::new(self.rt);
         let line = FencedLine::new(self.endpoint.line(), timepiece, config.fence);
@@ -114,7 +132,10 @@ impl<'g, R: Files<File = File> + Net + Clock + Wait> Shared<'g, R> {
     fn ticker(
         &self,
         config: &Config,
-    ) -> Result<Box<Ticker<'g, ClockPace<'g, R>, GuardedPost<'g>>>, AllocError> {
+    ) -> Result<Box<Ticker<'g, ClockPace<'g, R>, GuardedPost<'g>>>, AllocError>
+        ensures { IfOk result (λ ticker. at_ticking (⟦<ClockPace<'g, R> as Pace>⟧.beats (box_value ticker).pace)
+            (⟦<GuardedPost<'g> as Post>⟧.posted (box_value ticker).post) ≡ none_ticked) }
+    {
         let ticker = Ticker {
             pace: SleepingPace::new(ClockSleeper::new(self.rt), config.tick_ms),
             post: SealedPost::new(self.endpoint.post(), self.keys),
@@ -133,7 +154,9 @@ impl<'g, R: Files<File = File> + Net + Clock + Wait> Shared<'g, R> {
         is_quiet: bool,
         door: D,
         log: G,
-    ) -> Result<Box<Controller<D, LogSpeaker<'g, 'g, R, G>>>, AllocError> {
+    ) -> Result<Box<Controller<D, LogSpeaker<'g, 'g, R, G>>>, AllocError>
+        ensures { IfOk result (λ controller. (box_value controller).hall.connections ≡ none_connected) }
+    {
         let speaker = LogSpeaker::new(self.rt, self.alloc, self.counters, metrics, log, is_quiet);
         let controller = Controller {
             alloc: self.alloc,

@@ -14,7 +14,7 @@ use crate::details::{Details, words_why};
 use crate::doors::open_door;
 use crate::entrances::open_entrance;
 use crate::folders::Folder;
-use crate::journal_files::JournalFile;
+use crate::lives::keep_lives;
 use crate::metrics_times::MetricsTimes;
 use crate::notices::{Announcer, Notice};
 use crate::outcomes::Outcome;
@@ -28,11 +28,10 @@ use std::rt::{Clock, Files};
 use std::sync::Wait;
 use std::thread::Threads;
 use swim_config::{Config, ConfigFault, JournalFiles};
-use swim_crew::{LivesEnd, Terms, run_lives};
+use swim_crew::{LivesEnd, Terms};
 use swim_desk::Door;
 use swim_devices::{UdpEndpoint, UnixEntrance};
 use swim_keeper::LifeKeeper;
-use swim_keeper::laws::a_kept_life_is_told;
 use swim_keys::Keys;
 use swim_text::Sink;
 use swim_wire::Peer;
@@ -272,23 +271,23 @@ fn live_shared<
         dir: config.files.dir.take(),
         keep: config.files.keep,
     };
-    let Ok(shelf) = Folder::open(rt, alloc, files, me, seconds(rt), &log) else {
+    let Ok(mut shelf) = Folder::open(rt, alloc, files, me, seconds(rt), &log) else {
         return Outcome::NoMemory;
     };
     let Ok(crew) = shared.crew(&config, is_quiet, metrics, door, entrance, log) else {
         return Outcome::NoMemory;
     };
     let opening = config.opening;
+    let mut herald = Announcer::new(rt, alloc, is_quiet);
     let mut keeper = LifeKeeper {
         writer,
         notices: faults,
-        herald: Announcer::new(rt, alloc, is_quiet),
-        shelf,
+        herald: &mut herald,
+        shelf: &mut shelf,
         board: shared.board,
         terms,
     };
-    let (end, crew) = run_lives(rt, alloc, opening, terms, crew, &mut keeper);
-    a_kept_life_is_told::<JournalFile<'_, R>>();
+    let (end, crew) = keep_lives(rt, alloc, opening, crew, &mut keeper);
     leave(rt, alloc, crew);
     outcome_of(end)
 }

@@ -33,6 +33,7 @@ mod happenings;
 mod hints;
 mod journal_files;
 mod key_making;
+mod lives;
 mod metrics_desks;
 mod metrics_files;
 mod metrics_times;

@@ -4,7 +4,7 @@ use Rattle.swim_keeper.proofs.keepers.LifeKeeperKeeperJournalRecorder.open.Goals
 
 pub returns : goal.returns
 returns g c = (
-  (refl, refl, refl),
+  (refl, refl, refl, refl, refl),
   refl,
   record {
     setting = c.last.ensures.limits;

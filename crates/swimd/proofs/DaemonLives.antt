@@ -1,0 +1,244 @@
+-- That a crew of a receiver, a ticker and a controller, and a keeper, live the lives of a daemon.
+use Rattle.std.proofs.Common.{◌≡◌, ◌⊎◌, ℕ, Bool, List, [], ◌∷◌, Option, None, Some, refl, sym, ap, subst, ◌∙◌, inl, inr, map}
+use Rattle.std.specs.Option.{option_map}
+use Rattle.swim_history.specs.declared.rows.Change.{Change}
+use Rattle.swim_history.specs.Setting.{Setting}
+use Rattle.swim_node.specs.Seats.{Seated}
+use Rattle.swim_rejoin.specs.Histories.{Event}
+use Rattle.swim_control.specs.SideBySide.{Brought, Called}
+use Rattle.swim_control.specs.Talks.{Talks}
+use Rattle.swim_work.specs.declared.paces.Beat.{Beat}
+use Rattle.swim_work.specs.declared.workers.End.{End}
+use Rattle.swim_work.specs.Gates.{Received}
+use Rattle.swim_work.specs.Posts.{Grows, Posted}
+use Rattle.swim_guard.specs.Fenced.{AtFence}
+use Rattle.swim_guard.specs.Guarded.{AtLine, AtPost, handed_on}
+use Rattle.swim_devices.specs.Pacing.{Pacing}
+use Rattle.swim_receiver.specs.declared.receivers.Receiver.{Receiver}
+use Rattle.swim_ticker.specs.declared.tickers.Ticker.{Ticker}
+use Rattle.swim_desk.specs.declared.controllers.Controller.{Controller}
+use Rattle.swim_receiver.specs.Datagrams.{AreHeard, datagrams_in}
+use Rattle.swim_receiver.specs.Receiving.{HearsLife}
+use Rattle.swim_receiver.specs.Receiving.{Owned as Receiving}
+use Rattle.swim_receiver.specs.Rejoining.{IsReturning}
+use Rattle.swim_ticker.specs.Ticking.{TicksLife}
+use Rattle.swim_ticker.specs.Ticking.{Owned as Ticking}
+use Rattle.swim_ticker.specs.Ticks.{AreTicked, ticks_in}
+use Rattle.swim_desk.specs.Connected.{AnswersLines, AreAnswered, BringsSo}
+use Rattle.swim_desk.specs.Controlling.{ControlsLife, Step}
+use Rattle.swim_recorder.specs.declared.journal_recorder.JournalRecorder.{JournalRecorder}
+use Rattle.swim_crew.specs.declared.pasts.LivesEnd.{LivesEnd}
+use Rattle.swim_crew.specs.declared.pasts.Past.{Past}
+use Rattle.swim_crew.specs.declared.pasts.Terms.{Terms}
+use Rattle.swim_crew.specs.Crews.{CrewAt, Stand, Works, rules}
+use Rattle.swim_crew.specs.Lives.{AreEnded, AreEndedByLife, AreLived, AreLives, IsKeptLife, number_after, opening_after}
+use Rattle.swim_keeper.specs.declared.keepers.LifeKeeper.{LifeKeeper}
+use Rattle.swim_keeper.specs.Keeping.{IsSame, Outlets, closes_by, opens_by, records_by}
+use Rattle.swim_keeper.specs.Told.{EachIsTold, EachLife, IsAnnounced, IsWithout}
+use Rattle.swim_keeper.proofs.Lives.{announced, life_drawn, life_kept, same_both}
+use Rattle.swimd.specs.DaemonLives.{AreDaemonLives, AtDaemon, AtReceiving, AtTicking, Controls, IsDaemonLife, Receives}
+use Rattle.swimd.specs.DaemonLives.{Ticks, at_daemon, told_by}
+
+-- the laws of the three workers, for posts that are known so
+abbrev pub IsHeard : {O : Type 0} → (O → Option (List Posted)) → Type 0
+IsHeard {O} posted =
+    (o : Setting) (limit : ℕ) (old new : Receiving O) (seat : Seated) (end : End) (h : List Event) →
+    HearsLife posted o limit old seat end new → IsReturning old.returning h →
+    (given : List Received) × Grows old.received new.received given
+    × AreHeard (datagrams_in given) seat.calls end.counts
+
+abbrev pub IsTicked : {O : Type 0} → (O → Option (List Posted)) → Type 0
+IsTicked {O} posted =
+    (o : Setting) (limit : ℕ) (old new : Ticking O) (seat : Seated) (end : End) →
+    TicksLife posted o limit old seat end new →
+    (given : List Beat) × Grows old.beats new.beats given × AreTicked (ticks_in given) seat.calls end.counts
+
+abbrev pub IsControlled : Type 0
+IsControlled =
+    (o : Setting) (limit : ℕ) (before after : Option (List Bool)) (old new : Talks) (seat : Seated) (end : End) →
+    ControlsLife o limit before after old seat end new → (saw : List Change) × (seen : List Change)
+    × (steps : List Step) × ((b : Brought) (log : List Called) → BringsSo b old.count steps → AreAnswered b log old →
+    AnswersLines o limit b log saw seen seat end.counts.refused new)
+
+abbrev hears : {A O : Type 0} → (O → Option (List Posted)) → (A → Receiving O) → Works A
+hears posted receiving x o limit seat end y = HearsLife posted o limit (receiving x) seat end (receiving y)
+
+abbrev ticks : {B O : Type 0} → (O → Option (List Posted)) → (B → Ticking O) → Works B
+ticks posted ticking x o limit seat end y = TicksLife posted o limit (ticking x) seat end (ticking y)
+
+abbrev controls : {C : Type 0} → (C → Option (List Bool)) → (C → Talks) → Works C
+controls faults talks x o limit seat end y = ControlsLife o limit (faults x) (faults y) (talks x) seat end (talks y)
+
+abbrev hearing : {O : Type 0} → (O → Option (List Posted)) → Receiving O → AtReceiving
+hearing posted r = record { received = r.received; posted = posted r.post }
+
+abbrev beating : {O : Type 0} → (O → Option (List Posted)) → Ticking O → AtTicking
+beating posted t = record { beats = t.beats; posted = posted t.post }
+
+-- something happened to members that may come back, of which the receiver knows
+abbrev Knows : {O : Type 0} → Receiving O → Type 0
+Knows r = (h : List Event) × IsReturning r.returning h
+
+received : {O : Type 0} (posted : O → Option (List Posted)) → IsHeard posted → (o : Setting) (limit : ℕ)
+    (seat : Seated) (end : End) (x y : Receiving O) → Knows x → HearsLife posted o limit x seat end y →
+    Receives o seat end (hearing posted x) (hearing posted y)
+received posted is_heard o limit seat end x y knows is =
+    let law = is_heard o limit x y seat end knows.0 is knows.1 in
+    record { given = law.0; grown = law.1; heard = law.2; sent = is.sent }
+
+knows_on : {O : Type 0} (posted : O → Option (List Posted)) (o : Setting) (limit : ℕ) (seat : Seated) (end : End)
+    (x y : Receiving O) → Knows x → HearsLife posted o limit x seat end y → Knows y
+knows_on posted o limit seat end x y knows is = let then = is.heard knows.0 knows.1 in (then.0, then.1)
+
+ticked : {O : Type 0} (posted : O → Option (List Posted)) → IsTicked posted → (o : Setting) (limit : ℕ)
+    (seat : Seated) (end : End) (x y : Ticking O) → TicksLife posted o limit x seat end y →
+    Ticks o seat end (beating posted x) (beating posted y)
+ticked posted is_ticked o limit seat end x y is =
+    let law = is_ticked o limit x y seat end is in
+    record { given = law.0; grown = law.1; ticked = law.2; sent = is.sent }
+
+controlled : IsControlled → (o : Setting) (limit : ℕ) (seat : Seated) (end : End)
+    (before after : Option (List Bool)) (x y : Talks) → ControlsLife o limit before after x seat end y →
+    Controls o limit seat end x y
+controlled is_controlled o limit seat end before after x y is =
+    let law = is_controlled o limit before after x y seat end is in
+    record { saw = law.0; seen = law.1; steps = law.2; answered = law.3 }
+
+module _ {A B C W F H S V Q E I Y O : Type 0} (out : Outlets W F H S V Y) (posted : O → Option (List Posted))
+    (receiving : A → Receiving O) (ticking : B → Ticking O) (faults : C → Option (List Bool)) (talks : C → Talks)
+    (told : EachIsTold out.written out.held) (is_heard : IsHeard posted) (is_ticked : IsTicked posted)
+    (is_controlled : IsControlled) where
+  -- what is seen of the crew and its keeper
+  abbrev seen : Stand A B C (JournalRecorder V Q E I Y) (LifeKeeper W F H S) → AtDaemon
+  seen s = at_daemon (told_by out) (λ x. hearing posted (receiving x)) (λ x. beating posted (ticking x)) talks s
+
+  life_lived : (terms : Terms) (life : ℕ) (o : Setting) (past : Past)
+      (old new : Stand A B C (JournalRecorder V Q E I Y) (LifeKeeper W F H S)) → old.keeper.terms ≡ terms →
+      Knows (receiving old.crew.first) →
+      IsKeptLife (rules (hears posted receiving) (ticks posted ticking) (controls faults talks) (records_by out)
+      (opens_by out) (closes_by out)) o terms.limit terms.seed life old past new →
+      IsSame old.keeper new.keeper × Knows (receiving new.crew.first)
+      × IsDaemonLife out.fresh terms life o past (seen old) (seen new)
+  life_lived terms life o past old new is_terms knows is =
+      let kept = life_kept out (hears posted receiving) (ticks posted ticking) (controls faults talks) told terms life o
+      past old new is_terms is in
+      let first : new.crew.first ≡ is.crew.first =
+      ap (λ (c : CrewAt A B C (JournalRecorder V Q E I Y)). c.first) is.others in
+      let second : new.crew.second ≡ is.crew.second =
+      ap (λ (c : CrewAt A B C (JournalRecorder V Q E I Y)). c.second) is.others in
+      let third : new.crew.third ≡ is.crew.third =
+      ap (λ (c : CrewAt A B C (JournalRecorder V Q E I Y)). c.third) is.others in (
+        kept.0,
+        subst (λ (x : A). Knows (receiving x)) (sym first)
+            (knows_on posted o terms.limit is.life.one past.ends.first (receiving old.crew.first)
+            (receiving is.crew.first) knows is.life.by_first),
+        record {
+          lived = life_drawn (hears posted receiving) (ticks posted ticking) (controls faults talks) (records_by out)
+              terms life o (record old.crew { recorder = is.recorder }) past is.crew is.life is.drawn;
+          received = subst (λ (x : A). Receives o is.life.one past.ends.first
+              (hearing posted (receiving old.crew.first)) (hearing posted (receiving x))) (sym first)
+              (received posted is_heard o terms.limit is.life.one past.ends.first (receiving old.crew.first)
+              (receiving is.crew.first) knows is.life.by_first);
+          ticked = subst (λ (x : B). Ticks o is.life.two past.ends.second (beating posted (ticking old.crew.second))
+              (beating posted (ticking x))) (sym second)
+              (ticked posted is_ticked o terms.limit is.life.two past.ends.second (ticking old.crew.second)
+              (ticking is.crew.second) is.life.by_second);
+          controlled = subst (λ (x : C). Controls o terms.limit is.life.three past.ends.third (talks old.crew.third)
+              (talks x)) (sym third)
+              (controlled is_controlled o terms.limit is.life.three past.ends.third (faults old.crew.third)
+              (faults is.crew.third) (talks old.crew.third) (talks is.crew.third) is.life.by_third);
+          kept = kept.1;
+        },
+      )
+
+  lives_lived : (terms : Terms) (from : Setting)
+      (old : Stand A B C (JournalRecorder V Q E I Y) (LifeKeeper W F H S)) (lives : List Past)
+      (new : Stand A B C (JournalRecorder V Q E I Y) (LifeKeeper W F H S)) → old.keeper.terms ≡ terms →
+      Knows (receiving old.crew.first) →
+      AreLives (rules (hears posted receiving) (ticks posted ticking) (controls faults talks) (records_by out) (opens_by out) (closes_by out)) from terms.limit terms.seed
+      old lives new →
+      IsSame old.keeper new.keeper × Knows (receiving new.crew.first)
+      × EachLife (IsDaemonLife out.fresh terms) from (seen old) lives (seen new)
+  lives_lived terms from old [] new is_terms knows is = (
+    subst (λ (s : Stand A B C (JournalRecorder V Q E I Y) (LifeKeeper W F H S)). IsSame old.keeper s.keeper) (sym is)
+        (refl, refl, refl, refl, refl),
+    subst (λ (s : Stand A B C (JournalRecorder V Q E I Y) (LifeKeeper W F H S)). Knows (receiving s.crew.first)) (sym is)
+        knows,
+    ap seen is,
+  )
+  lives_lived terms from old (past ∷ before) new is_terms knows is =
+      let earlier = lives_lived terms from old before is.0 is_terms knows is.1 in
+      let last = life_lived terms (number_after before) (opening_after from before) past is.0 new
+      (earlier.0.0 ∙ is_terms) earlier.1 is.2 in (
+        same_both old.keeper is.0.keeper new.keeper earlier.0 last.0,
+        last.1,
+        (seen is.0, earlier.2, last.2),
+      )
+
+  ended : (from : Setting) (lives : List Past)
+      (mid new : Stand A B C (JournalRecorder V Q E I Y) (LifeKeeper W F H S)) (end : LivesEnd) →
+      AreEnded (rules (hears posted receiving) (ticks posted ticking) (controls faults talks) (records_by out) (opens_by out) (closes_by out)) from lives mid new end →
+      IsSame mid.keeper new.keeper
+      × (((seen new ≡ seen mid) × AreEndedByLife lives end)
+      ⊎ (IsWithout lives end × IsAnnounced (number_after lives) (seen mid).told (seen new).told
+      × (seen new ≡ record (seen mid) { told = (seen new).told })))
+  ended from lives mid new end (inl last) = (
+    subst (λ (s : Stand A B C (JournalRecorder V Q E I Y) (LifeKeeper W F H S)). IsSame mid.keeper s.keeper)
+        (sym last.0) (refl, refl, refl, refl, refl),
+    inl (ap seen last.0, last.1),
+  )
+  ended from lives mid new end (inr last) = (
+    last.2.0.0,
+    inr (
+      (last.0, last.1),
+      announced out (number_after lives) (opening_after from lives) mid.keeper new.keeper mid.crew.recorder
+          new.crew.recorder last.2.0,
+      ap (λ (c : CrewAt A B C (JournalRecorder V Q E I Y)). record {
+        told = (seen new).told;
+        receiving = hearing posted (receiving c.first);
+        ticking = beating posted (ticking c.second);
+        connections = talks c.third;
+      }) last.2.1,
+    ),
+  )
+
+  -- the lives of such a crew
+  pub all_lived : (opening : Setting) (old new : Stand A B C (JournalRecorder V Q E I Y) (LifeKeeper W F H S))
+      (end : LivesEnd) → Knows (receiving old.crew.first) →
+      AreLived (rules (hears posted receiving) (ticks posted ticking) (controls faults talks) (records_by out) (opens_by out) (closes_by out)) opening
+      old.keeper.terms.limit old.keeper.terms.seed old new end →
+      IsSame old.keeper new.keeper × AreDaemonLives out.fresh old.keeper.terms opening (seen old) (seen new) end
+  all_lived opening old new end knows is =
+      let lived = lives_lived old.keeper.terms opening old is.lives is.after_lives refl knows is.lived in
+      let last = ended opening is.lives is.after_lives new end is.ended in (
+        same_both old.keeper is.after_lives.keeper new.keeper lived.0 last.0,
+        record { lives = is.lives; after_lives = seen is.after_lives; lived = lived.2; ended = last.1 },
+      )
+
+-- ---- over the gates of a daemon: a line behind a fence and keys, and posts with keys
+
+abbrev pub receiving : {L P : Type 0} → Receiver (AtLine (AtFence L)) (AtPost P) → Receiving (AtPost P)
+receiving r = record {
+  received = option_map (map (handed_on r.line.keys)) (Some r.line.line.answered);
+  listed = None;
+  post = r.post;
+  returning = r.returning;
+}
+
+abbrev pub ticking : {P : Type 0} → Ticker Pacing (AtPost P) → Ticking (AtPost P)
+ticking t = record {
+  beats = Some t.pace.beats;
+  post = t.post;
+  knocked = Some t.knock_post.handed;
+  rejoin = t.rejoin;
+  knocks = t.knocks;
+}
+
+abbrev pub talks : {D S X Y : Type 0} → Controller D S X Y → Talks
+talks c = c.hall.connections
+
+abbrev pub knocks : {D S X Y : Type 0} → (D → Option (List Bool)) → Controller D S X Y → Option (List Bool)
+knocks faults c = faults c.hall.door
+
+abbrev pub handed : {P : Type 0} → AtPost P → Option (List Posted)
+handed post = Some post.handed

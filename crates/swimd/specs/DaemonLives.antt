@@ -1,0 +1,126 @@
+-- The lives of a daemon: what came in by its gates in each of them, what went out, and who was told.
+use Rattle.std.specs.Prelude.{◌≡◌, ◌⊎◌, ℕ, List, [], Option, Some}
+use Rattle.swim_history.specs.declared.rows.Change.{Change}
+use Rattle.swim_history.specs.Setting.{Setting}
+use Rattle.swim_node.specs.Seats.{Seated}
+use Rattle.swim_control.specs.SideBySide.{Brought, Called}
+use Rattle.swim_control.specs.Talks.{Talks}
+use Rattle.swim_work.specs.declared.paces.Beat.{Beat}
+use Rattle.swim_work.specs.declared.workers.End.{End}
+use Rattle.swim_work.specs.Gates.{Received}
+use Rattle.swim_work.specs.Posts.{Grows, HasSent, Posted}
+use Rattle.swim_receiver.specs.Datagrams.{AreHeard, datagrams_in}
+use Rattle.swim_ticker.specs.Ticks.{AreTicked, ticks_in}
+use Rattle.swim_desk.specs.Connected.{AnswersLines, AreAnswered, BringsSo}
+use Rattle.swim_desk.specs.Controlling.{Step}
+use Rattle.swim_crew.specs.declared.pasts.LivesEnd.{LivesEnd}
+use Rattle.swim_crew.specs.declared.pasts.Past.{Past}
+use Rattle.swim_crew.specs.declared.pasts.Terms.{Terms}
+use Rattle.swim_crew.specs.Crews.{Stand}
+use Rattle.swim_crew.specs.Lives.{AreEndedByLife, number_after}
+use Rattle.swim_recorder.specs.declared.journal_recorder.JournalRecorder.{JournalRecorder}
+use Rattle.swim_recorder.specs.Recording.{at_recorder}
+use Rattle.swim_keeper.specs.declared.keepers.LifeKeeper.{LifeKeeper}
+use Rattle.swim_keeper.specs.Keeping.{Outlets, at_keeper}
+use Rattle.swim_keeper.specs.Told.{AtLives, EachLife, IsAnnounced, IsDrawnLife, IsKept, IsWithout, at_lives}
+
+-- what is seen of a receiver: what its line gave so far, and what its post was handed
+pub record AtReceiving : Type 0 where
+  pub received : Option (List Received)
+  pub posted : Option (List Posted)
+
+-- and of a ticker: the beats of its pace, and what its post was handed
+pub record AtTicking : Type 0 where
+  pub beats : Option (List Beat)
+  pub posted : Option (List Posted)
+
+abbrev pub at_receiving : Option (List Received) → Option (List Posted) → AtReceiving
+at_receiving received posted = record { received = received; posted = posted }
+
+abbrev pub at_ticking : Option (List Beat) → Option (List Posted) → AtTicking
+at_ticking beats posted = record { beats = beats; posted = posted }
+
+-- what is seen of a daemon between two lives: those who are told of lives, its receiver, its ticker, and the connections
+-- of operators
+pub record AtDaemon : Type 0 where
+  pub told : AtLives
+  pub receiving : AtReceiving
+  pub ticking : AtTicking
+  pub connections : Talks
+
+abbrev pub told_by : {W F H S V Q E I Y : Type 0} → Outlets W F H S V Y → LifeKeeper W F H S →
+    JournalRecorder V Q E I Y → AtLives
+told_by out k d = at_lives (at_keeper out k) (at_recorder out.heard d)
+
+abbrev pub at_daemon : {A B C D K : Type 0} → (K → D → AtLives) → (A → AtReceiving) → (B → AtTicking) → (C → Talks) →
+    Stand A B C D K → AtDaemon
+at_daemon told receiving ticking connections s = record {
+  told = told s.keeper s.crew.recorder;
+  receiving = receiving s.crew.first;
+  ticking = ticking s.crew.second;
+  connections = connections s.crew.third;
+}
+
+-- nothing came in or went out yet
+abbrev pub none_received : AtReceiving
+none_received = at_receiving (Some []) (Some [])
+
+abbrev pub none_ticked : AtTicking
+none_ticked = at_ticking (Some []) (Some [])
+
+abbrev pub none_connected : Talks
+none_connected = record { talks = []; count = 0 }
+
+abbrev pub IsBeginning : AtDaemon → Type 0
+IsBeginning d =
+    (d.receiving ≡ none_received) × (d.ticking ≡ none_ticked) × (d.connections ≡ none_connected)
+
+-- each datagram that the line gave in a life, in order, became one call of this seat, which made no other for a datagram,
+-- or was refused and counted; and the post was handed the datagrams of the replies, each once, in order
+pub record Receives (o : Setting) (seat : Seated) (end : End) (old new : AtReceiving) : Type 0 where
+  pub given : List Received
+  pub grown : Grows old.received new.received given
+  pub heard : AreHeard (datagrams_in given) seat.calls end.counts
+  pub sent : HasSent o seat.calls old.posted new.posted end.counts.unsent
+
+-- each tick of the pace, in order, became one call of this seat, which made no other, or was refused and counted; and the
+-- post was handed the datagrams of the replies, each once, in order
+pub record Ticks (o : Setting) (seat : Seated) (end : End) (old new : AtTicking) : Type 0 where
+  pub given : List Beat
+  pub grown : Grows old.beats new.beats given
+  pub ticked : AreTicked (ticks_in given) seat.calls end.counts
+  pub sent : HasSent o seat.calls old.posted new.posted end.counts.unsent
+
+-- each whole line that a connection brought, in order, became exactly its calls of this seat, with the reply that it was
+-- answered, and the seat made no other: whatever connections brought, if those lines that came before were answered so
+pub record Controls (o : Setting) (limit : ℕ) (seat : Seated) (end : End) (old new : Talks) : Type 0 where
+  pub saw : List Change
+  pub seen : List Change
+  pub steps : List Step
+  pub answered : (b : Brought) (log : List Called) → BringsSo b old.count steps → AreAnswered b log old →
+      AnswersLines o limit b log saw seen seat end.counts.refused new
+
+-- a life of this number from an opening: its journal is one history of three seats, each of which made the calls for what
+-- came in by its gate; and it was told
+pub record IsDaemonLife (fresh : Option (List ℕ)) (terms : Terms) (life : ℕ) (o : Setting) (past : Past)
+    (old new : AtDaemon) : Type 0 where
+  pub lived : IsDrawnLife terms life o past
+  pub received : Receives o lived.one past.ends.first old.receiving new.receiving
+  pub ticked : Ticks o lived.two past.ends.second old.ticking new.ticking
+  pub controlled : Controls o terms.limit lived.three past.ends.third old.connections new.connections
+  pub kept : IsKept fresh terms life o past old.told new.told
+
+-- lives, newest first, were lived from this opening, each as it went on from the one before, and they ended so; nothing
+-- else came in, went out, or was told
+pub record AreDaemonLives (fresh : Option (List ℕ)) (terms : Terms) (opening : Setting) (old new : AtDaemon)
+    (end : LivesEnd) : Type 0 where
+  pub lives : List Past
+  pub after_lives : AtDaemon
+  pub lived : EachLife (IsDaemonLife fresh terms) opening old lives after_lives
+  pub ended : ((new ≡ after_lives) × AreEndedByLife lives end)
+      ⊎ (IsWithout lives end × IsAnnounced (number_after lives) after_lives.told new.told
+      × (new ≡ record after_lives { told = new.told }))
+
+-- the same, of a crew and its keeper of which that is seen
+abbrev pub AreSeenLives : {X : Type 0} → (X → AtDaemon) → Option (List ℕ) → Terms → Setting → X → X → LivesEnd → Type 0
+AreSeenLives view fresh terms opening old new end = AreDaemonLives fresh terms opening (view old) (view new) end
