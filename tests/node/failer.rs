@@ -2,7 +2,8 @@
 //! which one of that name, counted from 0, as `read 3`; where a number follows, so many in a row from that one on. Such a call does
 //! nothing and is answered an error of input and output, and `failed` is written to standard error then. Calls on standard error aren't
 //! counted. Where the variable PIECES is set, a read from standard input takes at most so many bytes. Where HOLD is set, a change of a
-//! file's mode waits until there is a file at that path, for ten seconds at most.
+//! file's mode waits until there is a file at that path, for ten seconds at most. Where SLOW is set, each write to a file behind the
+//! standard streams takes so many milliseconds.
 #![no_std]
 
 use core::ffi::{CStr, c_char, c_int, c_long, c_void};
@@ -29,6 +30,7 @@ const ACCEPT4: c_long = 288;
 const INPUT_OUTPUT: c_int = 5;
 const STANDARD_INPUT: c_int = 0;
 const STANDARD_ERROR: c_int = 2;
+const MILLISECOND: [i64; 2] = [0, 1_000_000];
 const UNREAD: i64 = i64::MIN;
 
 /// How many calls of the name that fails are left until the first one that does; below 0 behind it.
@@ -74,8 +76,18 @@ pub extern "C" fn read(file: c_int, bytes: *mut c_void, count: usize) -> isize {
     unsafe { syscall(READ, file, bytes, count.min(most)) as isize }
 }
 
+/// Waits for a millisecond.
+fn wait() {
+    unsafe { syscall(NANOSLEEP, MILLISECOND.as_ptr(), core::ptr::null::<i64>()) };
+}
+
 #[unsafe(no_mangle)]
 pub extern "C" fn write(file: c_int, bytes: *const c_void, count: usize) -> isize {
+    let slow = unsafe { getenv(c"SLOW".as_ptr()) };
+    let milliseconds = if slow.is_null() || file <= STANDARD_ERROR { 0 } else { unsafe { atol(slow) } };
+    for _ in 0..milliseconds {
+        wait();
+    }
     if fails(c"write", file) { -1 } else { unsafe { syscall(WRITE, file, bytes, count) as isize } }
 }
 
@@ -114,10 +126,9 @@ pub extern "C" fn accept4(file: c_int, from: *mut c_void, length: *mut c_int, fl
 #[unsafe(no_mangle)]
 pub extern "C" fn chmod(path: *const c_char, mode: u32) -> c_int {
     let awaited = unsafe { getenv(c"HOLD".as_ptr()) };
-    let millisecond = [0i64, 1_000_000];
     let mut left = if awaited.is_null() { 0 } else { 10_000 };
     while left > 0 && unsafe { syscall(ACCESS, awaited, 0) } != 0 {
-        unsafe { syscall(NANOSLEEP, millisecond.as_ptr(), core::ptr::null::<i64>()) };
+        wait();
         left -= 1;
     }
     unsafe { syscall(CHMOD, path, mode) as c_int }

@@ -24,25 +24,27 @@ BOUNDS = [2**it for it in range(16)]
 REASONS = ["not_for_me", "borrowed", "about_me", "unlisted", "table_full", "stray", "no_request"]
 GAUGES = [
     "build_info", "member_id", "members", "period_number", "period_seconds", "journal_entries", "journal_entries_limit",
-    "journal_entries_behind", "watchers",
+    "journal_entries_behind", "watchers", "journal_file_ok",
 ]
 COUNTERS = [
     "ticks", "pings_sent", "pings_heard", "acks_heard", "asks_sent", "requests_served", "dropped", "verdicts", "joins",
     "own_joins", "removals", "knocks", "lives", "unsent", "wire", "refused", "forged", "fenced", "lost_watchers",
-    "metrics_unwritten",
+    "metrics_unwritten", "journal_files_cut",
 ]
 NAMES = {
     **{f"swimd_{it}": "gauge" for it in GAUGES},
     **{f"swimd_{it}_total": "counter" for it in COUNTERS},
     "swimd_ack_wait_ticks": "histogram",
 }
+# Those of journal files, which a daemon has none of that writes none.
+FILES_NAMES = ["swimd_journal_file_ok", "swimd_journal_files_cut_total"]
 SAMPLE = re.compile(r'([a-z_]+)(?:\{([a-z]+)="((?:[^"\\]|\\["\\n])*)"\})? ([0-9.]+)')
 ENTRY = re.compile(r"= \d+ (.*)")
 
 
-def parsed(text):
+def parsed(text, names=NAMES):
     """The samples of a text in the exposition format, by name and label. Each family stands together, behind what it
-    tells and its type, and once."""
+    tells and its type, and once, and these are all families."""
     samples, family, seen, last_line = {}, None, {}, text[-1:]
     must(last_line == "\n", f"the text ends with {last_line!r}")
     for line in text.split("\n")[:-1]:
@@ -60,7 +62,7 @@ def parsed(text):
             must(found[1] in [family + it for it in suffixes], f"among those of {family} stands {line!r}")
             must((found[1], found[3]) not in samples, f"twice stands {line!r}")
             samples[found[1], found[3]] = float(found[4])
-    must(seen == NAMES, f"the families are {seen}")
+    must(seen == names, f"the families are {seen}")
     return samples
 
 
@@ -85,10 +87,10 @@ def file_of(path):
         return file.read()
 
 
-def written(path, seconds=AT_ONCE):
+def written(path, seconds=AT_ONCE, names=NAMES):
     """The samples in the file, as soon as it is there."""
     until(lambda: os.path.exists(path), f"{path} is written", seconds)
-    return parsed(file_of(path))
+    return parsed(file_of(path), names)
 
 
 class Journal:
@@ -160,6 +162,7 @@ def must_be_counted(samples, daemon, **others):
     wanted["swimd_ack_wait_ticks_bucket", "+Inf"] = wanted["swimd_ack_wait_ticks_count", None] = len(waits)
     wanted["swimd_ack_wait_ticks_sum", None] = sum(waits)
     wanted["swimd_journal_entries", None] = journal.entries
+    wanted |= {(name, None): value for name, value in zip(FILES_NAMES, (1, 0))}
     wanted |= {(f"swimd_{name}", None): value for name, value in others.items()}
     found = {key: samples.get(key) for key in wanted}
     differing = {key: (found[key], wanted[key]) for key in wanted if found[key] != wanted[key]}

@@ -1,2 +1,4 @@
 pub mod Backlogs
+pub mod Files
 pub mod OldFiles
+pub mod Worked

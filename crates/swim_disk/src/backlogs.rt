@@ -1,14 +1,15 @@
 //! Files that wait for a disk.
 
-ghost use Rattle.std.specs.Prelude.{◌≡◌, ◌+◌, ◌++◌, ◌∷◌, ◌<◌, ◌≤◌, ◌↔◌, [], Some, None, false, true, length, min, take};
+ghost use Rattle.std.specs.Prelude.{◌≡◌, ◌+◌, ◌++◌, ◌∷◌, ◌<◌, ◌≤◌, ◌↔◌, [], Some, None, false, true, drop, length, min, take};
 ghost use Rattle.std.specs.Prelude.{IfNone, IfOk, IsTrue, MatchBool, MatchOption, if◌then◌else◌};
 ghost use Rattle.std.specs.Option.{option_to_list};
+ghost use Rattle.swim_disk.specs.Files.{is_current, is_kept};
 ghost use Rattle.swim_disk.specs.Backlogs.{TakesNext, ended, made, to_make, waiting, with_left, written_on};
 
 use crate::new_files::NewFile;
 use crate::pending::{FILE_BYTES, Pending};
+use circular_buffer::HeapCircularBuffer;
 use std::alloc::{AllocError, Global};
-use std::collections::VecDeque;
 use std::mem;
 
 /// How many files may wait for a disk, the one that is still written on among them.
@@ -32,11 +33,11 @@ pub struct Draft {
 #[derive(Drop)]
 pub struct Backlog {
     /// Those that are over.
-    pub over: VecDeque<Draft>,
+    pub over: HeapCircularBuffer<Draft>,
     /// The one that is written on.
     pub current: Option<Draft>,
     /// Room for more files.
-    pub spare: VecDeque<Pending>,
+    pub spare: HeapCircularBuffer<Pending>,
 }
 
 /// What a disk has to do next.
@@ -63,14 +64,15 @@ impl Draft {
 impl Backlog {
     /// No files.
     pub fn new(alloc: Global) -> Result<Backlog, AllocError>
-        ensures { IfOk result (λ backlog. (backlog.over.items ≡ []) × (backlog.current ≡ None)) }
+        ensures { IfOk result (λ backlog. (backlog.over.items ≡ []) × (backlog.current ≡ None)
+            × (length backlog.spare.items ≡ 4) × (backlog.spare.capacity ≡ 4) × (backlog.over.capacity ≡ 4)) }
     {
-        let mut spare = VecDeque::with_capacity(alloc, MOST_FILES)?;
+        let mut spare = HeapCircularBuffer::with_capacity(alloc, MOST_FILES)?;
         for _file in 0..MOST_FILES {
-            spare.push_back(Pending::new(alloc)?)?;
+            let _is_there = spare.try_push_back(Pending::new(alloc)?);
         }
         Ok(Backlog {
-            over: VecDeque::with_capacity(alloc, MOST_FILES)?,
+            over: HeapCircularBuffer::with_capacity(alloc, MOST_FILES)?,
             current: None,
             spare,
         })
@@ -84,6 +86,7 @@ impl Backlog {
             × (self.new.current ≡ Some (record { number = number; unmade = Some new; pending = []; is_told = false })))
             (self.new.current ≡ self.old.current) }
         ensures room { self.old.current ≡ None → 0 < length self.old.spare.items → result ≡ true }
+        ensures spare { self.new.spare.items ≡ (if result then drop 1 self.old.spare.items else self.old.spare.items) }
     {
         if self.current.is_some() {
             return false;
@@ -168,18 +171,30 @@ impl Backlog {
         }
     }
 
-    /// Ends the file that is written on: it is the last of those that are over. Where its memory is refused it is
-    /// forgotten, which is `false`.
+    /// Whether the file of that number is written on.
+    pub fn is_current(&self, number: u64) -> bool
+        ensures { result ≡ is_current number self.now.current }
+    {
+        match &self.current {
+            Some(draft) => draft.number == number,
+            None => false,
+        }
+    }
+
+    /// Ends the file that is written on: it is the last of those that are over. `false` where there is none, or no room
+    /// for it, and then it is forgotten.
     pub fn end(&mut self, is_told: bool) -> bool
+        ensures kept { result ≡ is_kept self.old }
         ensures current { self.new.current ≡ None }
         ensures over { self.new.over.items ≡ (if result then self.old.over.items
             ++ option_to_list (ended is_told self.old.current) else self.old.over.items) }
+        ensures rest { (self.new.spare ≡ self.old.spare) × (self.new.over.capacity ≡ self.old.over.capacity) }
     {
         let Some(mut draft) = mem::replace(&mut self.current, None) else {
             return false;
         };
         draft.is_told = is_told;
-        self.over.push_back(draft).is_ok()
+        self.over.try_push_back(draft).is_ok()
     }
 
     /// Takes the oldest of the files that are over.
@@ -193,9 +208,11 @@ impl Backlog {
 
     /// Has room for a file more, where this was the room of one.
     pub fn give_back(&mut self, pending: Pending)
+        ensures spare { length self.old.spare.items < self.old.spare.capacity → self.new.spare.items
+            ≡ self.old.spare.items ++ pending ∷ [] }
         ensures over { self.new.over.items ≡ self.old.over.items }
         ensures current { self.new.current ≡ self.old.current }
     {
-        let _is_back = self.spare.push_back(pending);
+        let _is_back = self.spare.try_push_back(pending);
     }
 }

@@ -3,12 +3,18 @@
 #![tactic(auto)]
 
 mod backlogs;
+mod file_faults;
+mod file_sheets;
+mod lost_files;
 mod new_files;
 mod old_files;
 mod pending;
 mod plain_files;
 
 pub use backlogs::{Backlog, Draft, FileTask, MOST_FILES};
+pub use file_faults::FileFault;
+pub use file_sheets::{FileEnd, FileSheet, FileState};
+pub use lost_files::LostFile;
 pub use new_files::{DirPath, NewFile};
 pub use old_files::{FilePath, Stamp, path_of};
 pub use pending::{FILE_BYTES, Pending};

@@ -1,7 +1,7 @@
 -- A line of a run's file is told otherwise only behind a call that was refused for want of memory.
 use Rattle.std.specs.Prelude.{is_some as is_told}
 use Rattle.std.proofs.Common.{◌≡◌, ◌≢◌, ℕ, suc, ◌<◌, ◌≤◌, ◌+◌, ◌^◌, Bool, true, false, List, [], ◌∷◌, ◌++◌, length, map}
-use Rattle.std.proofs.Common.{drop, Option, Some, None, Result, Ok, Err, refl, sym, ap, subst, ◌∙◌, arith}
+use Rattle.std.proofs.Common.{inr, drop, Option, Some, None, Result, Ok, Err, refl, sym, ap, subst, ◌∙◌, arith}
 use Rattle.std.proofs.lemmas.Bool.{lt-ltb}
 use Rattle.rand_chacha.specs.ChaCha.{ChaCha}
 use Rattle.swim_text.specs.Lines.{bare}
@@ -206,7 +206,7 @@ behind_call before told start x h asks rest piece run after f piece-is asks-is l
         is_full (limit_in (head_of (lines_of rest)).told) (length (calls_in rest)) ≡ false →
         newest_text run ≢ Some (placed_text (length h) x.reply) → IsRunOf told (calls_in (asks ∷ rest)) run after →
         IsBehindRefusal (asks ∷ rest)
-    by true r asked open_yet other made = (r, x.call, asked)
+    by true r asked open_yet other made = inr (r, x.call, asked)
     by false r asked open_yet other made =
         let calls : calls_in (asks ∷ rest) ≡ x.call ∷ calls_in rest = rw (asked, open_yet, r) refl in
         absurd (other (answered before told start x h rest run after f lines

@@ -1,6 +1,6 @@
 -- A journal file has no fault that the format of scripts names.
 use Rattle.std.proofs.Common.{◌≡◌, ℕ, ◌+◌, ◌≤◌, Bool, true, false, cond, ltb, List, [], ◌∷◌, length, Option, Some, None}
-use Rattle.std.proofs.Common.{Result, Ok, Err, refl, sym, ap, subst, ◌∙◌, arith, length-append}
+use Rattle.std.proofs.Common.{Result, Ok, Err, refl, ap, ◌∙◌, arith, length-append}
 use mathlib.Core.List.{reverse_aux}
 use Rattle.std.specs.List.{flat_map}
 use Rattle.std.proofs.lemmas.Bool.{le-ltb}
@@ -19,13 +19,12 @@ use Rattle.swim_script.specs.declared.forms.Form.TheVariants.{Journal}
 use Rattle.swim_script.specs.Forms.{form_of, most_bytes}
 use Rattle.swim_script.specs.Headers.{Told, Head, head_of, command_in, read_after, said, setting_in}
 use Rattle.swim_script.specs.Texts.{placed_text}
-use Rattle.swim_script.specs.Script.{fault_at, fault_at_end, fault_from, fault_of, fault_of_command, fault_of_header}
+use Rattle.swim_script.specs.Script.{fault_at, fault_at_end, fault_from, fault_of_command, fault_of_header}
 use Rattle.swim_script.specs.Script.{fault_of_opening, fault_of_read, fault_with, first_of, bytes_of}
 use Rattle.swim_journal.specs.Lines.{call_line, answer_line, command_of}
-use Rattle.swim_journal.specs.Replays.{lines_in, told_by, IsJournalFile, file_text}
-use Rattle.swim_journal.proofs.Differing.{IsFile, file_older, file_of}
+use Rattle.swim_journal.specs.Replays.{lines_in}
+use Rattle.swim_journal.proofs.Differing.{IsFile, file_older}
 use Rattle.swim_journal.proofs.FileLines.{IsAt, call_says, call_at, answer_says, answer_bare}
-use Rattle.swim_journal.proofs.FileText.{file_lines}
 use Rattle.swim_journal.proofs.Short.{answer_short}
 use Rattle.swim_journal.proofs.Tellings.{lines_onto, is_some, onto_at}
 
@@ -41,7 +40,7 @@ both_none None later e = (refl, e)
 both_none (Some fault) later e = absurd cc
 
 -- lines without a fault are such
-after_all : (lines before : List (List ℕ)) → fault_from before lines ≡ None → AreFaultless before →
+pub after_all : (lines before : List (List ℕ)) → fault_from before lines ≡ None → AreFaultless before →
     AreFaultless (reverse_aux lines before) × (fault_at_end (head_of (reverse_aux lines before)) ≡ None)
 after_all [] before e all = (all, e)
 after_all (line ∷ lines) before e all =
@@ -68,12 +67,12 @@ bytes_after [] before = omega arith
 bytes_after (line ∷ lines) before =
     bytes_after lines (line ∷ before) ∙ omega (arith, length-append line (flat_map (λ (piece : List ℕ). piece) lines))
 
-bytes_in : (text : List ℕ) → bytes_of (lines_in text) ≡ length text
+pub bytes_in : (text : List ℕ) → bytes_of (lines_in text) ≡ length text
 bytes_in text = bytes_after (pieces text) [] ∙ omega (arith, ap length (lines_join text))
 
 -- ---- one line
 
-neither : {A : Type 0} (one two : Bool) (x y z : A) → one ≡ false → two ≡ false → cond one x (cond two y z) ≡ z
+pub neither : {A : Type 0} (one two : Bool) (x y z : A) → one ≡ false → two ≡ false → cond one x (cond two y z) ≡ z
 neither true two x y z p q = absurd cc
 neither false true x y z p q = absurd cc
 neither false false x y z p q = refl
@@ -103,9 +102,9 @@ call_opens told false (Remove id) e = e
 
 -- ---- the lines of a file
 
-onto_faultless : (before : List (List ℕ)) (told : Told) (start : ChaCha) (h : List Entry) → IsFile before told start h →
-    fault_of_opening told ≡ None → AreFaultless before → bytes_of (lines_onto h before) ≤ 1073741824 →
-    AreFaultless (lines_onto h before)
+pub onto_faultless : (before : List (List ℕ)) (told : Told) (start : ChaCha) (h : List Entry) →
+    IsFile before told start h → fault_of_opening told ≡ None → AreFaultless before →
+    bytes_of (lines_onto h before) ≤ 1073741824 → AreFaultless (lines_onto h before)
 onto_faultless before told start [] f opens all fits = all
 onto_faultless before told start (x ∷ h) f opens all fits =
     let older = lines_onto h before in
@@ -138,30 +137,11 @@ onto_faultless before told start (x ∷ h) f opens all fits =
       ),
     )
 
-opening_none : (opened : Option Opened) (fault : Option ScriptFault) → fault_with opened fault ≡ None → fault ≡ None
+pub opening_none : (opened : Option Opened) (fault : Option ScriptFault) → fault_with opened fault ≡ None → fault ≡ None
 opening_none None fault e = absurd cc
 opening_none (Some opened) fault e = e
 
-end_none : (told : Told) (begun : Bool) → fault_of_header told ≡ None →
+pub end_none : (told : Told) (begun : Bool) → fault_of_header told ≡ None →
     fault_at_end (record { told = told; begun = begun }) ≡ None
 end_none told true e = refl
 end_none told false e = e
-
-pub file_faultless : (header : List ℕ) (h : List Entry) → IsJournalFile header h → fault_of header ≡ None →
-    length (file_text header h) ≤ 1073741824 → fault_of (file_text header h) ≡ None
-file_faultless header h j e fits =
-    let f = file_of header h j in
-    let told = told_by header in
-    let lines : lines_in (file_text header h) ≡ lines_onto h (lines_in header) =
-    file_lines header h j.head.lines f.back in
-    let first = after_all (pieces header) [] e tt in
-    let head_none : fault_of_header told ≡ None = rw j.head.begun at first.1 in
-    let opens : fault_of_opening told ≡ None = opening_none told.opened (fault_of_opening told) head_none in
-    let bytes : bytes_of (lines_onto h (lines_in header)) ≤ 1073741824 =
-    omega (arith, fits, bytes_in (file_text header h), ap bytes_of lines) in
-    let all = onto_faultless (lines_in header) told j.start h f opens first.0 bytes in
-    let last : IsAt (lines_onto h (lines_in header)) told (is_some h) =
-    onto_at (lines_in header) told h f.seeded f.at f.back in
-    none_from (pieces (file_text header h)) [] (subst AreFaultless (sym lines) all)
-    (ap (λ (l : List (List ℕ)). fault_at_end (head_of l)) lines ∙ ap fault_at_end last.head ∙
-    end_none told (is_some h) head_none)

@@ -1,6 +1,9 @@
 pub mod Alike
 pub mod AlikeAnswers
 pub mod Back
+pub mod Commented
+pub mod CommentedFaultless
+pub mod Commenting
 pub mod Differing
 pub mod Faultless
 pub mod FileLines
@@ -8,11 +11,16 @@ pub mod FileText
 pub mod HeadFaultless
 pub mod Headed
 pub mod More
+pub mod PlainFile
 pub mod PlayedBack
 pub mod Replayed
 pub mod Reseated
 pub mod Short
 pub mod Tellings
+pub mod TextLines
+pub mod Uncommented
+pub mod UncommentedFaults
+pub mod UncommentedTurns
 pub mod Unrefused
 pub mod Without
 pub mod WordLines

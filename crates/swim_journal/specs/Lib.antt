@@ -1,3 +1,4 @@
+pub mod Comments
 pub mod Headings
 pub mod Journals
 pub mod Lines

@@ -1,5 +1,5 @@
 -- A journal file, and what it is when it is played.
-use Rattle.std.specs.Prelude.{◌≡◌, ℕ, ◌<◌, ◌≤◌, ◌^◌, true, false, is_some, List, [], ◌∷◌, ◌++◌, length}
+use Rattle.std.specs.Prelude.{◌≡◌, ◌⊎◌, ℕ, ◌<◌, ◌≤◌, ◌^◌, true, false, is_some, List, [], ◌∷◌, ◌++◌, length}
 use Rattle.std.specs.Prelude.{reverse, Option, Some, None, Result}
 use Rattle.rand_chacha.specs.ChaCha.{ChaCha}
 use Rattle.swim_text.specs.Lines.{pieces}
@@ -26,6 +26,7 @@ use Rattle.swim_script.specs.Script.Asked.{Calls}
 use Rattle.swim_script.specs.Ends.{IsEndOf}
 use Rattle.swim_script.specs.Holds.{Played}
 use Rattle.swim_journal.specs.Seatless.{reseated}
+use Rattle.swim_journal.specs.Comments.{is_comment, without_comments, AreShort}
 use Rattle.swim_journal.specs.Journals.{calls_text, AreReadBack}
 
 -- the lines of a text, newest first
@@ -75,21 +76,28 @@ abbrev pub past_in : Option (Recording Drawer) → List Entry
 past_in None = []
 past_in (Some recorded) = recorded.past
 
--- a session that played the file to its end, and so met no difference, made the history, but for who called
-abbrev pub IsPlayedBack : List ℕ → List Entry → Type 0
-IsPlayedBack header h =
-    (old new : Option (List ℕ)) (s : Played) → IsEndOf (file_text header h) old new s → past_in s.recorded ≡ reseated h
+-- a text is the file of this history, but for comments
+abbrev pub IsFileText : List ℕ → List Entry → List ℕ → Type 0
+IsFileText header h text = without_comments text ≡ without_comments (file_text header h)
 
--- the newest of these lines is a call that was refused for want of memory
+-- a session that played the text to its end, and so met no difference, made the history, but for who called
+abbrev pub IsPlayedBack : List ℕ → List Entry → Type 0
+IsPlayedBack text h =
+    (old new : Option (List ℕ)) (s : Played) → IsEndOf text old new s → past_in s.recorded ≡ reseated h
+
+-- a line is a call that was refused for want of memory
+abbrev pub IsRefusal : List Turn → Turn → Type 0
+IsRefusal before turn = (turn.refused ≡ true) × (call : Call) × (asked_in (lines_of before) turn.line ≡ Calls call)
+
+-- the newest of these lines that is no comment is such a call
 abbrev pub IsBehindRefusal : List Turn → Type 0
 IsBehindRefusal [] = ⊥
 IsBehindRefusal (turn ∷ before) =
-    (turn.refused ≡ true) × (call : Call) × (asked_in (lines_of before) turn.line ≡ Calls call)
+    ((is_comment (lines_of before) turn.line ≡ true) × IsBehindRefusal before) ⊎ IsRefusal before turn
 
--- and where one is met, the call before it was refused
-abbrev pub DiffersWhereRefused : List ℕ → List Entry → Type 0
-DiffersWhereRefused header h =
-    (n : ℕ) (written : List ℕ) (d : IsDifferent (file_text header h) n written) → IsBehindRefusal d.turns
+-- and where a difference is met, the call before it was refused
+abbrev pub DiffersWhereRefused : List ℕ → Type 0
+DiffersWhereRefused text = (n : ℕ) (written : List ℕ) (d : IsDifferent text n written) → IsBehindRefusal d.turns
 
 -- a script was played to its end; or its reader or its writer failed, or memory was refused, or an answer differed
 abbrev pub IsFromOutside : Option FaultKind → Type 0
@@ -100,10 +108,11 @@ IsFromOutside (Some Memory) = Unit {0}
 IsFromOutside (Some Differs) = Unit {0}
 IsFromOutside (Some kind) = ⊥
 
--- where its header has no fault, and it is no longer than a journal file may be, no line of it has one
-abbrev pub PlaysWell : List ℕ → List Entry → Type 0
-PlaysWell header h =
-    fault_of header ≡ None → length (file_text header h) ≤ most_bytes Journal →
+-- where the header has no fault, no comment is too long, and the text is no longer than a journal file may be, no line
+-- of it has a fault
+abbrev pub PlaysWell : List ℕ → List ℕ → Type 0
+PlaysWell header text =
+    fault_of header ≡ None → AreShort (lines_in text) → length text ≤ most_bytes Journal →
     (left : List ℕ) (old new : Option (List ℕ))
-    (result : Result (Unit {0}) ScriptFault) → Runs (file_text header h) left old new result →
+    (result : Result (Unit {0}) ScriptFault) → Runs text left old new result →
     IsFromOutside (result_kind result)

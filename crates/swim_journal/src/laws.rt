@@ -11,10 +11,11 @@ ghost use Rattle.swim_journal.specs.Seatless.{reseated, IsReplayed};
 ghost use Rattle.swim_targets.specs.Draws.{of_seed};
 ghost use Rattle.swim_node.specs.Following.{filings_of};
 ghost use Rattle.swim_script.specs.Script.{fault_of};
+ghost use Rattle.swim_journal.specs.Comments.{without_comments};
 ghost use Rattle.swim_journal.specs.Headings.{header_text, IsTellable};
 ghost use Rattle.swim_journal.specs.Journals.{AreReadBack};
-ghost use Rattle.swim_journal.specs.Replays.{IsHeader, IsDrawnRun, IsJournalFile, IsPlayedBack, DiffersWhereRefused};
-ghost use Rattle.swim_journal.specs.Replays.{PlaysWell};
+ghost use Rattle.swim_journal.specs.Replays.{IsHeader, IsDrawnRun, IsJournalFile, IsFileText, IsPlayedBack};
+ghost use Rattle.swim_journal.specs.Replays.{DiffersWhereRefused, PlaysWell, file_text};
 
 use swim_history::drawn_laws::Drawing;
 
@@ -33,19 +34,24 @@ pub fn a_replay_is_the_run<C: Drawing>()
         IsReplayed C.orders C.places C.same o }
 {}
 
-/// A journal file, which is a header and the text of a run's calls, whoever made them, or of a beginning of them. Where
-/// it is played to its end, so that each of its lines was confirmed, the run was made again: no call was refused, and
-/// every reply is the one that was written. A line of it is told otherwise only behind a call that was refused for want
-/// of memory. And nothing else is found wrong with it, where nothing is with its header: its end is reached, or its
-/// reader or its writer failed, or memory was refused.
+/// A journal file, which is a header and the text of a run's calls, whoever made them, or of a beginning of them; or
+/// that text with other comments between its lines. Where it is played to its end, so that each of its lines was
+/// confirmed, the run was made again: no call was refused, and every reply is the one that was written. A line of it is
+/// told otherwise only behind a call that was refused for want of memory, with nothing but comments in between. And
+/// nothing else is found wrong with it, where nothing is with its header, and no comment is longer than a line may be:
+/// its end is reached, or its reader or its writer failed, or memory was refused.
 pub fn a_journal_file_is_its_run()
-    ensures played { (header : List ℕ) (h : List Entry) → IsJournalFile header h → IsPlayedBack header h }
-    ensures differs { (header : List ℕ) (h : List Entry) → IsJournalFile header h → DiffersWhereRefused header h }
-    ensures well { (header : List ℕ) (h : List Entry) → IsJournalFile header h → PlaysWell header h }
+    ensures played { (header : List ℕ) (h : List Entry) (text : List ℕ) → IsJournalFile header h →
+        IsFileText header h text → IsPlayedBack text h }
+    ensures differs { (header : List ℕ) (h : List Entry) (text : List ℕ) → IsJournalFile header h →
+        IsFileText header h text → DiffersWhereRefused text }
+    ensures well { (header : List ℕ) (h : List Entry) (text : List ℕ) → IsJournalFile header h →
+        IsFileText header h text → PlaysWell header text }
 {}
 
 /// The header that `put_header` writes. It tells that opening, with the members that failed, that limit, and the seed,
 /// from the stream of that life; and it has no fault. So with the text of a run that is drawn so it is a journal file.
+/// There are no comments in that.
 pub fn a_header_tells_its_opening()
     ensures tells { (o : Setting) (limit : ℕ) (seed : List ℕ) (life : ℕ) → IsTellable o limit seed life →
         IsHeader (header_text o limit seed life) o limit (record (of_seed seed) { stream = life }) }
@@ -54,4 +60,7 @@ pub fn a_header_tells_its_opening()
     ensures file { (o : Setting) (limit : ℕ) (seed : List ℕ) (life : ℕ) (h : List Entry) → IsTellable o limit seed life →
         IsDrawnRun o (record (of_seed seed) { stream = life }) h → length h ≤ limit → AreReadBack (filings_of h) →
         IsJournalFile (header_text o limit seed life) h }
+    ensures plain { (o : Setting) (limit : ℕ) (seed : List ℕ) (life : ℕ) (h : List Entry) →
+        IsTellable o limit seed life → AreReadBack (filings_of h) →
+        without_comments (file_text (header_text o limit seed life) h) ≡ file_text (header_text o limit seed life) h }
 {}

@@ -1,3 +1,5 @@
+mod comments;
+
 ghost use Rattle.std.specs.Prelude.{◌≡◌, List, Some};
 ghost use Rattle.swim_history.specs.declared.entries.Entry.{Entry};
 

@@ -1,6 +1,8 @@
 -- What becomes of a life that a keeper opened and closed.
-use Rattle.std.proofs.Common.{◌≡◌, ◌≤◌, ℕ, Bool, List, [], ◌∷◌, length, Option, Some, None, refl, sym, ap, subst}
-use Rattle.std.proofs.Common.{inl, inr}
+use Rattle.std.specs.Prelude.{◌&&◌, not}
+use Rattle.std.specs.Io.KnownBytes.{Appends}
+use Rattle.std.proofs.Common.{◌≡◌, ◌≤◌, ℕ, Bool, true, false, List, [], ◌∷◌, ◌++◌, length, Option, Some, None, refl}
+use Rattle.std.proofs.Common.{sym, ap, subst, ◌∙◌, inl, inr}
 use Rattle.swim_text.specs.Streams.{Puts}
 use Rattle.swim_history.specs.declared.entries.Entry.{Entry}
 use Rattle.swim_history.specs.Setting.{Setting}
@@ -8,7 +10,9 @@ use Rattle.swim_targets.specs.Draws.{of_seed}
 use Rattle.swim_node.specs.Following.{filings_of}
 use Rattle.swim_events.specs.Guests.{AtGuest}
 use Rattle.swim_journal.specs.Headings.{header_text, IsTellable}
-use Rattle.swim_journal.specs.Replays.{IsDrawnRun}
+use Rattle.swim_journal.specs.Comments.{without_comments}
+use Rattle.swim_journal.specs.Replays.{IsDrawnRun, file_text}
+use Rattle.swim_journal.proofs.PlainFile.{file_plain}
 use Rattle.swim_work.specs.Posts.{Grows}
 use Rattle.swim_recorder.specs.declared.transcripts.Transcript.{Transcript}
 use Rattle.swim_recorder.specs.Files.{IsLifeFile}
@@ -19,10 +23,10 @@ use Rattle.swim_recorder.specs.Watched.{AreToldLife}
 use Rattle.swim_crew.specs.declared.pasts.Past.{Past}
 use Rattle.swim_crew.specs.declared.pasts.Terms.{Terms}
 use Rattle.swim_keeper.specs.Endings.{TellsEnd, Written}
-use Rattle.swim_keeper.specs.Filing.{Filed, IsBegun, IsPutBack}
+use Rattle.swim_keeper.specs.Filing.{Filed, HoldText, IsBegun, IsPutBack}
 use Rattle.swim_keeper.specs.Keeping.{AtKeeper, IsClosed, IsOpened}
 use Rattle.swim_keeper.specs.Notices.{notices_both}
-use Rattle.swim_keeper.specs.Told.{IsDrawnLife, IsFiled, IsKept, at_lives}
+use Rattle.swim_keeper.specs.Told.{AreBytesOf, IsDrawnLife, IsFiled, IsKept, at_lives}
 
 -- a header, and behind it what a recorder wrote, are the life's file
 abbrev pub TellsFiles : Type 0
@@ -32,6 +36,34 @@ TellsFiles =
     IsDrawnRun opening (record (of_seed seed) { stream = number }) past → length past ≤ limit →
     Puts fresh page (header_text opening limit seed number) was → HasWritten page now was (filings_of past) whole →
     IsLifeFile fresh now opening limit seed number past whole
+
+pub not_cut : (whole kept is_cut : Bool) → is_cut ≡ not (whole && kept) → is_cut ≡ false →
+    (whole ≡ true) × (kept ≡ true)
+not_cut true true is_cut is not = (refl, refl)
+not_cut true false is_cut is not = let bad : false ≡ true = sym not ∙ is in absurd (cc bad)
+not_cut false kept is_cut is not = let bad : false ≡ true = sym not ∙ is in absurd (cc bad)
+
+-- the bytes of a whole text that a new file was given
+bytes_of : (fresh now bytes : Option (List ℕ)) (text : List ℕ) → fresh ≡ Some [] → Appends fresh now text →
+    HoldText bytes now → without_comments text ≡ text → AreBytesOf bytes text
+bytes_of fresh now None text new put holds plain = tt
+bytes_of None now (Some bytes) text new put holds plain = absurd (cc new)
+bytes_of (Some before) None (Some bytes) text new put holds plain = absurd put
+bytes_of (Some before) (Some all) (Some bytes) text new put holds plain =
+    let none : before ≡ [] = cc new in
+    holds ∙ ap without_comments (put ∙ ap (λ (l : List ℕ). l ++ text) none) ∙ plain
+
+file_bytes : (fresh now bytes : Option (List ℕ)) (terms : Terms) (life : ℕ) (o : Setting) (past : List Entry)
+    (whole kept is_cut : Bool) → IsTellable o terms.limit terms.seed life →
+    IsLifeFile fresh now o terms.limit terms.seed life past whole → is_cut ≡ not (whole && kept) →
+    (kept ≡ true → HoldText bytes now) → is_cut ≡ false → fresh ≡ Some [] →
+    AreBytesOf bytes (file_text (header_text o terms.limit terms.seed life) past)
+file_bytes fresh now bytes terms life o past whole kept is_cut tellable file is holds not new =
+    let both = not_cut whole kept is_cut is not in
+    let text = file_text (header_text o terms.limit terms.seed life) past in
+    let put : Puts fresh now text true = subst (λ (w : Bool). Puts fresh now text w) both.0 file.text in
+    let back = (file.file both.0).back in
+    bytes_of fresh now bytes text new put (holds both.1) (file_plain o terms.limit terms.seed life past tellable back)
 
 file_back : {V : Type 0} (written : V → Option (List ℕ)) (fresh : Option (List ℕ)) (terms : Terms) (life : ℕ)
     (o : Setting) (past : List Entry) (start now : Option (Transcript V)) (old new : Option (List Filed))
@@ -45,15 +77,18 @@ file_back written fresh terms life o past None (Some now) old new is_cut law dra
 file_back written fresh terms life o past (Some start) None old new is_cut law drawn within begun wrote back =
     absurd wrote
 file_back written fresh terms life o past (Some start) (Some now) old new is_cut law drawn within begun wrote back =
+    let text = law fresh (written start.sink) (written now.sink) o terms.limit terms.seed life past start.is_whole
+    now.is_whole begun.tellable drawn within begun.header wrote in
     inr (
-      record { number = life; text = written now.sink; is_kept = back.0 },
-      back.1,
+      record { number = life; text = written now.sink; bytes = back.1.bytes; is_kept = back.0 },
+      back.1.grows,
       record {
         number = refl;
         whole = now.is_whole;
-        text = law fresh (written start.sink) (written now.sink) o terms.limit terms.seed life past start.is_whole
-            now.is_whole begun.tellable drawn within begun.header wrote;
+        text = text;
         cut = back.2;
+        bytes = file_bytes fresh (written now.sink) back.1.bytes terms life o past now.is_whole back.0 is_cut
+            begun.tellable text back.2 back.1.holds;
       },
     )
 

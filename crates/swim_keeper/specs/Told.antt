@@ -1,5 +1,6 @@
 -- What becomes of lives: who is told of each, and its file.
 use Rattle.std.specs.Prelude.{◌≡◌, ◌⊎◌, ◌&&◌, ℕ, ◌≤◌, Bool, false, not, List, [], ◌∷◌, length, Option}
+use Rattle.std.specs.Prelude.{Some, None}
 use Rattle.swim_history.specs.declared.entries.Entry.{Entry}
 use Rattle.swim_history.specs.Changes.{changes}
 use Rattle.swim_history.specs.Setting.{Setting}
@@ -9,6 +10,9 @@ use Rattle.swim_node.specs.OneHistory.{AreFullWhereMet, IsOneHistory}
 use Rattle.swim_node.specs.Seats.{Seated, AreTheSeats}
 use Rattle.swim_targets.specs.Draws.{DrawsOrder, DrawsPlace, of_seed}
 use Rattle.swim_events.specs.Guests.{AtGuest}
+use Rattle.swim_journal.specs.Comments.{without_comments}
+use Rattle.swim_journal.specs.Headings.{header_text}
+use Rattle.swim_journal.specs.Replays.{file_text}
 use Rattle.swim_work.specs.declared.counts.Why.TheVariants.{JournalFull}
 use Rattle.swim_work.specs.Callers.{fresh_seat}
 use Rattle.swim_work.specs.Posts.{Grows}
@@ -49,14 +53,22 @@ pub record IsDrawnLife (terms : Terms) (life : ℕ) (o : Setting) (past : Past) 
   pub full : past.why ≡ JournalFull → length past.journal.past ≡ terms.limit
   pub drawn : WasDrawn DrawsOrder DrawsPlace o (record (of_seed terms.seed) { stream = life }) past.journal.past
 
+-- bytes without their comments are a text, where they are known
+abbrev pub AreBytesOf : Option (List ℕ) → List ℕ → Type 0
+AreBytesOf None text = Unit {0}
+AreBytesOf (Some bytes) text = without_comments bytes ≡ text
+
 -- the file of that life, or if it isn't whole, a front of it; and the life is told as cut unless it is whole, and is
--- kept
+-- kept. If it isn't told so, and a new file has nothing in it, the bytes that were handed on for it, comments left out,
+-- are the life's file
 pub record IsFileOf (fresh : Option (List ℕ)) (terms : Terms) (life : ℕ) (o : Setting) (past : List Entry)
     (file : Filed) (is_cut : Bool) : Type 0 where
   pub number : file.number ≡ life
   pub whole : Bool
   pub text : IsLifeFile fresh file.text o terms.limit terms.seed life past whole
   pub cut : is_cut ≡ not (whole && file.is_kept)
+  pub bytes : is_cut ≡ false → fresh ≡ Some [] →
+      AreBytesOf file.bytes (file_text (header_text o terms.limit terms.seed life) past)
 
 -- the life has no file, or that one was taken back
 abbrev pub IsFiled : Option (List ℕ) → Terms → ℕ → Setting → List Entry → Option (List Filed) → Option (List Filed) →

@@ -1,6 +1,7 @@
 //! The shelf of lives, which has the files of their journals.
 
 ghost use Rattle.std.specs.Prelude.{◌≡◌, ◌∷◌, [], IfSome};
+ghost use Rattle.swim_keeper.specs.Filing.{IsTakenBack};
 ghost use Rattle.swim_keeper.specs.Notices.{Notices};
 ghost use Rattle.swim_work.specs.Posts.{Grows};
 
@@ -30,11 +31,11 @@ pub trait Shelf<V: Sink> {
         ensures notices { Notices (F.written notices.old, F.failures notices.old)
             (F.written notices.new, F.failures notices.new) };
 
-    /// Takes back the file of the life of this number, which is over. Returns whether the file is kept for good.
+    /// Takes back the file of the life of this number, which is over. Returns whether the file is kept for good. If it
+    /// is, the bytes that were handed on for it are what its sink was given, but for comments.
     fn close<F: Sink>(&mut self, number: u64, sink: V, notices: &mut F) -> bool
         ensures opened { opened self.new ≡ opened self.old }
-        ensures filed { Grows (filed self.old) (filed self.new)
-            (record { number = number; text = V.written sink; is_kept = result } ∷ []) }
+        ensures filed { IsTakenBack number (V.written sink) result (filed self.old) (filed self.new) }
         ensures notices { Notices (F.written notices.old, F.failures notices.old)
             (F.written notices.new, F.failures notices.new) };
 }

@@ -1,9 +1,12 @@
 -- The metrics, as one table: of each its name, what it tells, its type and its samples.
-use Rattle.std.specs.Prelude.{ℕ, ◌==◌, if◌then◌else◌, ◌*◌, ◌/◌, ◌%◌, List, [], ◌∷◌, ◌++◌, map, codes, decimal}
+use Rattle.std.specs.Prelude.{Bool, false, ℕ, ◌==◌, if◌then◌else◌, ◌*◌, ◌/◌, ◌%◌, List, [], ◌∷◌, ◌++◌, map, codes}
+use Rattle.std.specs.Prelude.{Option, Some, None, decimal}
+use Rattle.std.specs.Int.{from_bool}
 use Rattle.swim_metrics.specs.declared.dropped.Dropped.{Dropped}
 use Rattle.swim_metrics.specs.declared.wait_histograms.HistogramBucket.{HistogramBucket}
 use Rattle.swim_metrics.specs.declared.wait_histograms.Waits.{Waits}
 use Rattle.swim_metrics.specs.declared.outside.Outside.{Outside}
+use Rattle.swim_metrics.specs.declared.outside.FileFigures.{FileFigures}
 use Rattle.swim_metrics.specs.declared.families.MetricKind.{MetricKind}
 use Rattle.swim_metrics.specs.declared.families.MetricKind.TheVariants.{Counter, Gauge, Histogram}
 use Rattle.swim_metrics.specs.declared.families.Metric.{Metric}
@@ -85,6 +88,18 @@ total_samples w =
 abbrev pub wait_samples : Waits → List Sample
 wait_samples w = map bucket_sample w.buckets ++ total_samples w
 
+-- ---- journal files
+
+-- whether the newest life's file is whole so far; not where lives have none
+abbrev pub is_ok : Option FileFigures → Bool
+is_ok None = false
+is_ok (Some files) = files.is_ok
+
+-- how many lives have no whole file; 0 where none was to have one
+abbrev pub cut_in : Option FileFigures → ℕ
+cut_in None = 0
+cut_in (Some files) = files.cut
+
 -- ---- the table
 
 abbrev pub family : MetricKind → List ℕ → List ℕ → List Sample → Family
@@ -161,17 +176,32 @@ family_of m out metrics.LostWatchers =
 family_of m out metrics.Unwritten =
     family Counter (codes "swimd_metrics_unwritten_total")
     (codes "Times that the metrics could not be written to their file.") (one out.unwritten)
+family_of m out metrics.JournalFileOk =
+    family Gauge (codes "swimd_journal_file_ok") (codes "Whether this life's journal file is whole so far.")
+    (one (from_bool (is_ok out.files)))
+family_of m out metrics.JournalFilesCut =
+    family Counter (codes "swimd_journal_files_cut_total") (codes "Lives without a whole journal file.")
+    (one (cut_in out.files))
 family_of m out metrics.AckWait =
     family Histogram (codes "swimd_ack_wait_ticks")
     (codes "Ticks from a probe to the first ack of it that came in time.")
     (wait_samples m.counts.waits)
 
--- all of them, in the order in which they are told
-abbrev pub all : List Metric
-all =
+-- those that are told also where lives have no journal files, in the order in which they are told
+abbrev pub without_files : List Metric
+without_files =
     metrics.Build ∷ metrics.Member ∷ metrics.Members ∷ metrics.PeriodNumber ∷ metrics.PeriodSeconds ∷ metrics.Ticks
     ∷ metrics.PingsSent ∷ metrics.PingsHeard ∷ metrics.AcksHeard ∷ metrics.AsksSent ∷ metrics.RequestsServed
     ∷ metrics.Dropped ∷ metrics.AckWait ∷ metrics.Verdicts ∷ metrics.Joins ∷ metrics.OwnJoins ∷ metrics.Removals
     ∷ metrics.Knocks ∷ metrics.Lives ∷ metrics.Entries ∷ metrics.EntriesLimit ∷ metrics.EntriesBehind ∷ metrics.Unsent
     ∷ metrics.Wire ∷ metrics.Refused ∷ metrics.Forged ∷ metrics.Fenced ∷ metrics.Watchers ∷ metrics.LostWatchers
     ∷ metrics.Unwritten ∷ []
+
+-- all of them
+abbrev pub all : List Metric
+all = without_files ++ metrics.JournalFileOk ∷ metrics.JournalFilesCut ∷ []
+
+-- those that are told of a daemon whose journal files stand so, if it has some
+abbrev pub told : Option FileFigures → List Metric
+told None = without_files
+told (Some files) = all

@@ -5,7 +5,7 @@ use Rattle.swim_metrics.specs.declared.families.MetricKind.{MetricKind}
 use Rattle.swim_metrics.specs.declared.families.MetricKind.TheVariants.{Counter, Gauge, Histogram}
 use Rattle.swim_metrics.specs.declared.families.Metric.{Metric}
 use Rattle.swim_metrics.specs.declared.outside.Outside.{Outside}
-use Rattle.swim_metrics.specs.Families.{Family, Sample, all, family_of}
+use Rattle.swim_metrics.specs.Families.{Family, Sample, family_of, told}
 use Rattle.swim_metrics.specs.declared.measures.Measures.{Measures}
 
 abbrev pub kind_text : MetricKind → List ℕ
@@ -45,7 +45,7 @@ families_lines m out (metric ∷ others) = family_lines (family_of m out metric)
 
 -- the whole texts
 abbrev pub exposition_text : Measures → Outside → List ℕ
-exposition_text m out = families_text m out all
+exposition_text m out = families_text m out (told out.files)
 
 abbrev pub stats_text : Measures → Outside → List ℕ
-stats_text m out = families_lines m out all ++ codes ".\n"
+stats_text m out = families_lines m out (told out.files) ++ codes ".\n"

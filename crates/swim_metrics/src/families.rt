@@ -72,6 +72,10 @@ pub enum Metric {
     LostWatchers,
     /// Times that the metrics couldn't be written to their file.
     Unwritten,
+    /// Whether the newest life's file is whole so far.
+    JournalFileOk,
+    /// Lives without a whole file.
+    JournalFilesCut,
 }
 
 /// How a metric is to be read.
@@ -109,7 +113,7 @@ pub(crate) struct Family<'a> {
 }
 
 /// All metrics, in the order in which they are told.
-pub const ALL_METRICS: [Metric; 30] = [
+pub const ALL_METRICS: [Metric; 32] = [
     Metric::Build,
     Metric::Member,
     Metric::Members,
@@ -140,6 +144,8 @@ pub const ALL_METRICS: [Metric; 30] = [
     Metric::Watchers,
     Metric::LostWatchers,
     Metric::Unwritten,
+    Metric::JournalFileOk,
+    Metric::JournalFilesCut,
 ];
 
 impl Metric {
@@ -302,6 +308,16 @@ impl Metric {
                 "swimd_metrics_unwritten_total",
                 "Times that the metrics could not be written to their file.",
                 Samples::One(outside.unwritten),
+            ),
+            Metric::JournalFileOk => gauge(
+                "swimd_journal_file_ok",
+                "Whether this life's journal file is whole so far.",
+                Samples::One(u64::from(outside.is_file_ok())),
+            ),
+            Metric::JournalFilesCut => counter(
+                "swimd_journal_files_cut_total",
+                "Lives without a whole journal file.",
+                Samples::One(outside.files_cut()),
             ),
             Metric::AckWait => histogram(
                 "swimd_ack_wait_ticks",

@@ -23,5 +23,5 @@ pub use hearings::{Hearings, LastHearing};
 pub use measures::Measures;
 pub use metric_texts::{put_exposition, put_stats};
 pub use metrics::Metrics;
-pub use outside::Outside;
+pub use outside::{FileFigures, Outside};
 pub use wait_histograms::{HistogramBucket, Waits};

@@ -2,16 +2,19 @@
 
 ghost use Rattle.std.specs.Prelude.{◌≡◌};
 ghost use Rattle.swim_text.specs.Streams.{Puts, failures_if};
-ghost use Rattle.swim_metrics.specs.Families.{family_of};
+ghost use Rattle.swim_metrics.specs.Families.{family_of, told};
 ghost use Rattle.swim_metrics.specs.Texts.{exposition_text, families_lines, families_text, family_lines, family_text};
 ghost use Rattle.swim_metrics.specs.Texts.{head_text, kind_text, samples_text, stats_text};
 
 use crate::families::{ALL_METRICS, Metric, MetricKind};
 use crate::measures::Measures;
-use crate::outside::Outside;
+use crate::outside::{FileFigures, Outside};
 use crate::samples::put_samples;
 use swim_text::Sink;
 use swim_wire::{Piece, put_pieces};
+
+/// How many metrics, the first, are told also where lives have no journal files.
+const WITHOUT_FILES: usize = 30;
 
 /// Writes the metrics in the exposition format of Prometheus: of each what it tells, its type, and its values.
 pub fn put_exposition<W: Sink>(writer: &mut W, measures: &Measures, outside: &Outside<'_>) -> bool
@@ -19,7 +22,7 @@ pub fn put_exposition<W: Sink>(writer: &mut W, measures: &Measures, outside: &Ou
         (exposition_text measures.now outside.now) result }
     ensures failures { W.failures writer.new ≡ failures_if (W.failures writer.old) result }
 {
-    put_families(writer, measures, outside, &ALL_METRICS)
+    put_families(writer, measures, outside, told(&outside.files))
 }
 
 /// Writes the values of the metrics, a line for each, and a dot.
@@ -27,10 +30,20 @@ pub fn put_stats<W: Sink>(writer: &mut W, measures: &Measures, outside: &Outside
     ensures bytes { Puts (W.written writer.old) (W.written writer.new) (stats_text measures.now outside.now) result }
     ensures failures { W.failures writer.new ≡ failures_if (W.failures writer.old) result }
 {
-    if !put_lines(writer, measures, outside, &ALL_METRICS) {
+    if !put_lines(writer, measures, outside, told(&outside.files)) {
         return false;
     }
     writer.put(b".\n")
+}
+
+/// The metrics that are told of a daemon whose journal files stand so, if it has some.
+fn told(files: &Option<FileFigures>) -> &'static [Metric]
+    ensures { result.now ≡ told files.now }
+{
+    match files {
+        Some(_) => &ALL_METRICS,
+        None => &ALL_METRICS[..WITHOUT_FILES],
+    }
 }
 
 /// These metrics, each with what it tells and its type.

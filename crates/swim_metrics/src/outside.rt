@@ -1,6 +1,18 @@
 //! What is told beside what entries count.
 
+ghost use Rattle.std.specs.Prelude.{◌≡◌};
+ghost use Rattle.swim_metrics.specs.Families.{cut_in, is_ok};
+
 use swim_wire::Id;
+
+/// How the journal files of a daemon stand.
+#[derive(Clone, Copy, Debug, PartialEq, Eq)]
+pub struct FileFigures {
+    /// Whether the newest life has a file, of which nothing is missing as far as that is known.
+    pub is_ok: bool,
+    /// Lives without a whole file.
+    pub cut: u64,
+}
 
 /// What the metrics tell of a daemon that isn't in its journals' entries. Counts go on over all lives.
 #[derive(Clone, Copy, Debug, PartialEq, Eq)]
@@ -37,4 +49,28 @@ pub struct Outside<'a> {
     pub own_joins: u64,
     /// Times that the metrics couldn't be written to their file.
     pub unwritten: u64,
+    /// How journal files stand. `None` where lives have none.
+    pub files: Option<FileFigures>,
+}
+
+impl<'a> Outside<'a> {
+    /// Whether the newest life's file is whole so far; not where lives have none.
+    pub(crate) fn is_file_ok(&self) -> bool
+        ensures { result ≡ is_ok self.now.files }
+    {
+        match &self.files {
+            Some(files) => files.is_ok,
+            None => false,
+        }
+    }
+
+    /// How many lives have no whole file; 0 where none was to have one.
+    pub(crate) fn files_cut(&self) -> u64
+        ensures { result ≡ cut_in self.now.files }
+    {
+        match &self.files {
+            Some(files) => files.cut,
+            None => 0,
+        }
+    }
 }

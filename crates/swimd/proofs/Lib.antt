@@ -6,6 +6,7 @@ pub mod DaemonLives
 pub mod Done
 pub mod Explained
 pub mod Given
+pub mod HeldTexts
 pub mod Indented
 pub mod Keys
 pub mod Kept

@@ -6,6 +6,8 @@ pub mod Commands
 pub mod Daemon
 pub mod DaemonLives
 pub mod Details
+pub mod Folders
+pub mod HeldTexts
 pub mod Outcomes
 pub mod Screens
 pub mod Totals

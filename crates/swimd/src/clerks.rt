@@ -4,12 +4,13 @@ ghost use Rattle.swim_text.specs.Streams.{Puts};
 
 use crate::counters::Figures;
 use crate::disk_desks::DiskDesk;
-use crate::file_sheets::LostFile;
 use crate::metrics_desks::MetricsDesk;
 use crate::metrics_files::Unwritten;
 use std::alloc::{AllocError, Global};
 use std::rt::Clock;
 use std::sync::{Arc, Wait};
+use swim_disk::LostFile;
+use swim_metrics::FileFigures;
 use swim_text::Sink;
 
 /// Who is handed what is to be written, and has it written. It waits for no disk.
@@ -26,8 +27,11 @@ pub trait Clerk {
     /// The desk on which journal files are laid.
     fn desk(&self) -> Result<Arc<DiskDesk, Global>, AllocError>;
 
-    /// Takes a journal file that isn't whole, which nobody was told yet.
+    /// Takes a journal file that isn't whole, of which people are to be told.
     fn take_lost<R: Wait>(&self, rt: &R) -> Option<LostFile>;
+
+    /// How journal files stand, where lives have some.
+    fn files<R: Wait>(&self, rt: &R) -> Option<FileFigures>;
 }
 
 /// The desks of a program: for journal files, and for the metrics.
@@ -111,5 +115,9 @@ impl<'d, W: Sink + Drop> Clerk for Log<'d, W> {
 
     fn take_lost<R: Wait>(&self, rt: &R) -> Option<LostFile> {
         self.desks.journals.take_lost(rt)
+    }
+
+    fn files<R: Wait>(&self, rt: &R) -> Option<FileFigures> {
+        self.desks.journals.figures(rt)
     }
 }

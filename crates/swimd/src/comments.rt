@@ -1,6 +1,9 @@
 //! The comments of journal files, which tell people when things happened.
 
-use crate::words::VERSION;
+ghost use Rattle.std.specs.Prelude.{◌≡◌, true};
+ghost use Rattle.swim_journal.specs.Comments.{IsCommentLine, MayComment};
+
+use crate::words::{VERSION, has_feed};
 use arrayvec::ArrayString;
 use jiff::Timestamp;
 use std::fmt::Write;
@@ -9,8 +12,21 @@ use std::rt::Clock;
 /// Room for a comment.
 const COMMENT_BYTES: usize = 80;
 
-/// The comment behind the line that begins so; empty where it has none.
-pub fn comment_behind<K: Clock>(clock: &K, line: &[u8]) -> ArrayString<COMMENT_BYTES> {
+/// The comment behind the line that begins so: one whole line that begins with `#`. It is empty where the line has
+/// none.
+pub fn comment_behind<K: Clock>(clock: &K, line: &[u8]) -> ArrayString<COMMENT_BYTES>
+    ensures { MayComment result.bytes }
+{
+    let comment = words_behind(clock, line);
+    if is_comment_line(comment.as_str().as_bytes()) {
+        comment
+    } else {
+        ArrayString::new()
+    }
+}
+
+/// What is told behind the line that begins so, if something is.
+fn words_behind<K: Clock>(clock: &K, line: &[u8]) -> ArrayString<COMMENT_BYTES> {
     let mut comment = ArrayString::new();
     let Ok(time) = Timestamp::now(clock) else {
         return comment;
@@ -22,6 +38,16 @@ pub fn comment_behind<K: Clock>(clock: &K, line: &[u8]) -> ArrayString<COMMENT_B
         let _is_whole = write!(comment, "# {seconds}\n");
     }
     comment
+}
+
+/// Whether a text is one whole line that begins with `#`.
+fn is_comment_line(text: &[u8]) -> bool
+    ensures { result ≡ true → IsCommentLine text.now }
+{
+    match text {
+        [b'#', words @ .., b'\n'] => !has_feed(words),
+        _ => false,
+    }
 }
 
 /// Whether a line says that a period was started.

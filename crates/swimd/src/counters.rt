@@ -10,7 +10,7 @@ use crate::words::VERSION;
 use std::sync::Wait;
 use swim_config::Config;
 use swim_control::StatsText;
-use swim_metrics::{Measures, Outside, put_stats};
+use swim_metrics::{FileFigures, Measures, Outside, put_stats};
 use swim_wire::Id;
 
 /// What the metrics tell of a configuration.
@@ -59,10 +59,11 @@ impl Counters {
         }
     }
 
-    /// What was counted by now, as it is told to an operator: lines, and a dot in the last one.
-    pub fn stats<R: Wait>(&self, rt: &R) -> StatsText {
+    /// What was counted by now, as it is told to an operator: lines, and a dot in the last one. Beside that, how journal
+    /// files stand, where lives have some.
+    pub fn stats<R: Wait>(&self, rt: &R, files: Option<FileFigures>) -> StatsText {
         let mut sink = TextSink::new();
-        if let Some(figures) = self.figures(rt) {
+        if let Some(figures) = self.figures(rt, files) {
             if put_stats(&mut sink, &figures.measures(), &figures.outside()) {
                 return sink.into_text();
             }
@@ -70,12 +71,13 @@ impl Counters {
         no_stats()
     }
 
-    /// What was counted by now. `None` before the first life.
-    pub fn figures<R: Wait>(&self, rt: &R) -> Option<Figures> {
+    /// What was counted by now, with how journal files stand. `None` before the first life.
+    pub fn figures<R: Wait>(&self, rt: &R, files: Option<FileFigures>) -> Option<Figures> {
         Some(Figures {
             counted: self.bulletin.counted(rt)?,
             strangers: self.strangers.counts(),
             unwritten: self.bulletin.unwritten(),
+            files,
             facts: self.facts,
         })
     }
@@ -88,6 +90,7 @@ pub struct Figures {
     counted: Counted,
     strangers: StrangerCounts,
     unwritten: u64,
+    files: Option<FileFigures>,
     facts: Facts,
 }
 
@@ -100,53 +103,45 @@ impl Figures {
     }
 
     /// What is told beside them.
-    pub fn outside(&self) -> Outside<'static> {
-        outside_of(&self.facts, &self.counted, self.strangers, self.unwritten)
-    }
-}
-
-/// What is told beside entries, of what was counted of the lives, of the datagrams that were thrown away, and of the
-/// times that the metrics couldn't be written.
-fn outside_of(
-    facts: &Facts,
-    counted: &Counted,
-    strangers: StrangerCounts,
-    unwritten: u64,
-) -> Outside<'static>
-    ensures version { result.version.now ≡ VERSION.now }
-    ensures me { result.me ≡ facts.now.me }
-    ensures tick_ms { result.tick_ms ≡ facts.now.tick_ms }
-    ensures period { result.period ≡ facts.now.period }
-    ensures journal_limit { result.journal_limit ≡ facts.now.journal }
-    ensures behind { result.behind ≡ counted.now.behind }
-    ensures unsent { result.unsent ≡ counted.now.unsent }
-    ensures wire { result.wire ≡ counted.now.wire }
-    ensures refused { result.refused ≡ counted.now.refused }
-    ensures forged { result.forged ≡ strangers.forged }
-    ensures fenced { result.fenced ≡ strangers.fenced }
-    ensures watchers { result.watchers ≡ counted.now.watchers }
-    ensures lost_watchers { result.lost_watchers ≡ counted.now.lost_watchers }
-    ensures knocks { result.knocks ≡ counted.now.knocks }
-    ensures own_joins { result.own_joins ≡ counted.now.own_joins }
-    ensures unwritten { result.unwritten ≡ unwritten }
-{
-    Outside {
-        version: VERSION,
-        me: facts.me,
-        tick_ms: facts.tick_ms,
-        period: facts.period,
-        journal_limit: facts.journal,
-        behind: counted.behind,
-        unsent: counted.unsent,
-        wire: counted.wire,
-        refused: counted.refused,
-        forged: strangers.forged,
-        fenced: strangers.fenced,
-        watchers: counted.watchers,
-        lost_watchers: counted.lost_watchers,
-        knocks: counted.knocks,
-        own_joins: counted.own_joins,
-        unwritten,
+    pub fn outside(&self) -> Outside<'static>
+        ensures version { result.version.now ≡ VERSION.now }
+        ensures me { result.me ≡ self.now.facts.me }
+        ensures tick_ms { result.tick_ms ≡ self.now.facts.tick_ms }
+        ensures period { result.period ≡ self.now.facts.period }
+        ensures journal_limit { result.journal_limit ≡ self.now.facts.journal }
+        ensures behind { result.behind ≡ self.now.counted.behind }
+        ensures unsent { result.unsent ≡ self.now.counted.unsent }
+        ensures wire { result.wire ≡ self.now.counted.wire }
+        ensures refused { result.refused ≡ self.now.counted.refused }
+        ensures forged { result.forged ≡ self.now.strangers.forged }
+        ensures fenced { result.fenced ≡ self.now.strangers.fenced }
+        ensures watchers { result.watchers ≡ self.now.counted.watchers }
+        ensures lost_watchers { result.lost_watchers ≡ self.now.counted.lost_watchers }
+        ensures knocks { result.knocks ≡ self.now.counted.knocks }
+        ensures own_joins { result.own_joins ≡ self.now.counted.own_joins }
+        ensures unwritten { result.unwritten ≡ self.now.unwritten }
+        ensures files { result.files ≡ self.now.files }
+    {
+        let (facts, counted) = (&self.facts, &self.counted);
+        Outside {
+            version: VERSION,
+            me: facts.me,
+            tick_ms: facts.tick_ms,
+            period: facts.period,
+            journal_limit: facts.journal,
+            behind: counted.behind,
+            unsent: counted.unsent,
+            wire: counted.wire,
+            refused: counted.refused,
+            forged: self.strangers.forged,
+            fenced: self.strangers.fenced,
+            watchers: counted.watchers,
+            lost_watchers: counted.lost_watchers,
+            knocks: counted.knocks,
+            own_joins: counted.own_joins,
+            unwritten: self.unwritten,
+            files: self.files,
+        }
     }
 }
 

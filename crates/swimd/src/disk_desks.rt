@@ -1,13 +1,12 @@
 //! Where journal files are laid for the thread that writes them, which alone waits for their disk.
 
 use crate::disk_sheets::{Sheet, Task};
-use crate::file_faults::FileFault;
-use crate::file_sheets::{Begun, FileSheet, LostFile};
 use std::alloc::{AllocError, Global};
 use std::rt::Clock;
 use std::sync::{Condvar, Mutex, Wait};
 use std::time::{Duration, Instant};
-use swim_disk::{Draft, FilePath, NewFile};
+use swim_disk::{Draft, FileEnd, FileFault, FilePath, FileSheet, LostFile, NewFile};
+use swim_metrics::FileFigures;
 
 /// How long the end of a daemon waits for its files, in milliseconds.
 const LAST_MS: u64 = 1_000;
@@ -15,8 +14,16 @@ const LAST_MS: u64 = 1_000;
 /// How long a life waits for its file to be made, or to be kept, in milliseconds.
 const KEEP_MS: u64 = 100;
 
-/// How long a text waits for room, in milliseconds.
-const ROOM_MS: u64 = 500;
+/// How a file began.
+#[derive(Clone, Copy)]
+pub enum Begun {
+    /// It is there, or will be.
+    Going,
+    /// It couldn't be made.
+    Refused,
+    /// Too many wait for the disk. It isn't made.
+    TooMany,
+}
 
 /// A desk between lives, which have something to write, and the thread that writes it.
 #[derive(Drop)]
@@ -53,42 +60,49 @@ impl DiskDesk {
         let (sheet, _is_over) = self
             .changed
             .wait_timeout_while(rt, sheet, most, |sheet| sheet.is_making());
-        match sheet.known_lost() {
-            Some(lost) => Begun::Refused(lost),
-            None => Begun::Going,
+        if sheet.is_lost() {
+            Begun::Refused
+        } else {
+            Begun::Going
         }
     }
 
-    /// Hands over what is to be written into the newest file next. Where there is no room for it, it waits half a second
-    /// for some, and not at all where the disk hangs.
+    /// Hands over what is to be written into the newest file next. Where there is no room for it, it waits for some: half a
+    /// second altogether for one file, and not at all where the disk hangs.
     pub fn add<R: Wait + Clock>(&self, rt: &R, text: &[u8]) -> Result<(), FileFault> {
-        let sheet = self.sheet.lock(rt);
-        let most = patience(rt, &*sheet, ROOM_MS);
         let count = text.len();
+        let sheet = self.sheet.lock(rt);
+        let most = sheet.patience_for(rt, count);
+        let since = Instant::now(rt).ok();
         let (mut sheet, _is_over) = self
             .changed
             .wait_timeout_while(rt, sheet, most, |sheet| sheet.is_full_for(count));
+        if most != Duration::ZERO {
+            sheet.has_waited(rt, since);
+        }
         self.changed.notify_all();
         sheet.add(text)
     }
 
-    /// Ends the newest file: which it is, where it is known not to be whole. Where no reason is known yet, this waits a
-    /// tenth of a second for the system to keep it, and not at all where the disk hangs.
-    pub fn end<R: Wait + Clock>(&self, rt: &R, known: Option<FileFault>) -> Option<LostFile> {
+    /// Ends the newest file, and answers how it ended as far as is known. This waits a tenth of a second for the system to
+    /// keep it, and not at all where the disk hangs, or where it is known already that the file isn't whole.
+    pub fn end<R: Wait + Clock>(&self, rt: &R) -> FileEnd {
         let mut sheet = self.sheet.lock(rt);
         let most = patience(rt, &*sheet, KEEP_MS);
-        let lost = sheet.end(known);
+        sheet.end();
         self.changed.notify_all();
-        if lost.is_some() {
-            return lost;
-        }
         let (mut sheet, _is_over) = self
             .changed
             .wait_timeout_while(rt, sheet, most, |sheet| sheet.is_finishing());
-        sheet.take_ended()
+        sheet.take_end()
     }
 
-    /// Takes a file that isn't whole, which nobody was told yet.
+    /// How files stand, where lives have some.
+    pub fn figures<R: Wait>(&self, rt: &R) -> Option<FileFigures> {
+        self.sheet.lock(rt).figures()
+    }
+
+    /// Takes a file that isn't whole, of which people are to be told.
     pub fn take_lost<R: Wait>(&self, rt: &R) -> Option<LostFile> {
         self.sheet.lock(rt).take_lost()
     }
@@ -123,7 +137,7 @@ impl DiskDesk {
         unreachable!()
     }
 
-    /// Notes how the file of that number stands, which isn't over.
+    /// Notes how the file of that number stands, as long as it isn't over.
     pub fn note<R: Wait + Clock>(
         &self,
         rt: &R,

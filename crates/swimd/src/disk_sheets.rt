@@ -1,13 +1,16 @@
 //! What lies on the desk of the disk.
 
-use crate::file_faults::FileFault;
-use crate::file_sheets::{FileSheet, LostFile};
 use std::rt::Clock;
 use std::time::{Duration, Instant};
-use swim_disk::{FileTask, NewFile};
+use swim_disk::{FileEnd, FileFault, FileSheet, FileTask, LostFile, NewFile};
+use swim_metrics::FileFigures;
 
 /// A disk hangs that isn't done with one thing after so many milliseconds.
 const HANGS_MS: u64 = 500;
+
+/// How long a file waits for room altogether, in milliseconds. Without a limit to all its waits together, a disk that is
+/// slow and doesn't hang would hold up the end of a life by one wait after the other.
+const ROOM_MS: u64 = 500;
 
 /// What the disk has to do next.
 #[derive(Drop)]
@@ -27,6 +30,8 @@ pub struct Sheet {
     pub is_closed: bool,
     /// Since when the disk is at something, if it is.
     pub busy_since: Option<Instant>,
+    // How long the newest file may still wait for room.
+    room_left: Duration,
 }
 
 impl Sheet {
@@ -36,6 +41,7 @@ impl Sheet {
             files: None,
             is_closed: false,
             busy_since: None,
+            room_left: Duration::ZERO,
         }
     }
 
@@ -64,6 +70,25 @@ impl Sheet {
         }
     }
 
+    /// How long the newest file may wait for room for so many bytes: not at all where there is some, or where the disk
+    /// hangs.
+    pub fn patience_for<K: Clock>(&self, clock: &K, count: usize) -> Duration {
+        if self.is_full_for(count) && !self.is_hanging(clock) {
+            self.room_left
+        } else {
+            Duration::ZERO
+        }
+    }
+
+    /// Notes that the newest file waited for room since then, as far as is known.
+    pub fn has_waited<K: Clock>(&mut self, clock: &K, since: Option<Instant>) {
+        let time = match since {
+            Some(since) => since.elapsed(clock).unwrap_or(self.room_left),
+            None => self.room_left,
+        };
+        self.room_left = self.room_left.saturating_sub(time);
+    }
+
     /// Whether the disk has yet to make the newest file.
     pub fn is_making(&self) -> bool {
         match &self.files {
@@ -72,7 +97,7 @@ impl Sheet {
         }
     }
 
-    /// Whether the disk has yet to finish the newest file.
+    /// Whether the disk may yet write all that is left of the newest file.
     pub fn is_finishing(&self) -> bool {
         match &self.files {
             Some(files) => files.is_finishing(),
@@ -98,6 +123,7 @@ impl Sheet {
 
     /// Begins a file. `false` where too many wait, or there are none.
     pub fn begin(&mut self, new: NewFile) -> bool {
+        self.room_left = Duration::from_millis(ROOM_MS);
         match &mut self.files {
             Some(files) => files.begin(new),
             None => false,
@@ -112,32 +138,39 @@ impl Sheet {
         }
     }
 
-    /// The newest file, where it is known not to be whole.
-    pub fn known_lost(&self) -> Option<LostFile> {
+    /// Whether the newest file is known not to be whole.
+    pub fn is_lost(&self) -> bool {
+        match &self.files {
+            Some(files) => files.fault().is_some(),
+            None => false,
+        }
+    }
+
+    /// Ends the newest file.
+    pub fn end(&mut self) {
+        if let Some(files) = &mut self.files {
+            files.end();
+        }
+    }
+
+    /// How the newest file ended, as far as is known.
+    pub fn take_end(&mut self) -> FileEnd {
+        match &mut self.files {
+            Some(files) => files.take_end(),
+            None => FileEnd::Whole,
+        }
+    }
+
+    /// How files stand.
+    pub fn figures(&self) -> Option<FileFigures> {
         let files = self.files.as_ref()?;
-        files.lost_for(files.fault())
+        Some(FileFigures {
+            is_ok: files.is_ok(),
+            cut: files.cut,
+        })
     }
 
-    /// Ends the newest file, which isn't whole for a reason that is known, if for one.
-    pub fn end(&mut self, known: Option<FileFault>) -> Option<LostFile> {
-        let Some(files) = &mut self.files else {
-            return None;
-        };
-        let lost = files.lost_for(known);
-        files.end(lost.is_some());
-        lost
-    }
-
-    /// The newest file, which is over, if it is known by now not to be whole. Otherwise people are told later.
-    pub fn take_ended(&mut self) -> Option<LostFile> {
-        let Some(files) = &mut self.files else {
-            return None;
-        };
-        let fault = files.take_fault();
-        files.lost_for(fault)
-    }
-
-    /// Takes a file that isn't whole, which nobody was told yet.
+    /// Takes a file of which people are to be told.
     pub fn take_lost(&mut self) -> Option<LostFile> {
         match &mut self.files {
             Some(files) => files.take_lost(),

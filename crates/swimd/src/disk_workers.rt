@@ -4,13 +4,12 @@ ghost use Rattle.std.specs.Prelude.{◌≡◌, Some};
 
 use crate::disk_desks::DiskDesk;
 use crate::disk_sheets::Task;
-use crate::file_faults::FileFault;
 use std::alloc::Global;
 use std::fs::{File, OpenFile};
 use std::io::Write;
 use std::rt::{Clock, Files};
 use std::sync::Wait;
-use swim_disk::{Draft, FILE_BYTES, FilePath, FileTask, NewFile};
+use swim_disk::{Draft, FILE_BYTES, FileFault, FilePath, FileTask, NewFile};
 
 /// How many bytes are written at a time at most.
 const PAGE_BYTES: usize = 4_096;
@@ -41,8 +40,9 @@ impl OpenJournal {
         }
     }
 
-    /// Makes a file. Where the last one is named by a later second, so is this one.
-    fn make<R: Files<File = File>>(&mut self, rt: &R, new: &mut NewFile) {
+    /// Makes a file, which is answered as it is named. Where the last one is named by a later second, so is this one.
+    fn made<R: Files<File = File>>(&mut self, rt: &R, new: NewFile) -> NewFile {
+        let mut new = new;
         new.stamp.began = new.stamp.began.max(self.began);
         self.fault = None;
         match new.make(rt) {
@@ -54,6 +54,14 @@ impl OpenJournal {
         }
         self.number = new.stamp.life;
         self.path = new.path();
+        new
+    }
+
+    /// Removes the files that are too many beside the one that was made, if it was.
+    fn remove_old<R: Files<File = File>>(&self, rt: &R, alloc: Global, new: &NewFile) {
+        if self.fault.is_none() {
+            new.remove_old(rt, alloc);
+        }
     }
 
     /// Lets go of the file for this reason.
@@ -129,7 +137,11 @@ fn serve_file<R: Files<File = File> + Clock + Wait>(
     page: &mut [u8],
 ) {
     match task {
-        FileTask::Make(new) => make_file(rt, alloc, desk, open, new),
+        FileTask::Make(new) => {
+            let new = open.made(rt, new);
+            desk.note(rt, open.number, open.path, open.fault);
+            open.remove_old(rt, alloc, &new);
+        }
         FileTask::Write(count) => {
             open.write(&page[..count.min(page.len())]);
             desk.note(rt, open.number, open.path, open.fault);
@@ -138,23 +150,7 @@ fn serve_file<R: Files<File = File> + Clock + Wait>(
     }
 }
 
-/// Makes the file of a life, and then removes those that are too many beside it.
-fn make_file<R: Files<File = File> + Clock + Wait>(
-    rt: &R,
-    alloc: Global,
-    desk: &DiskDesk,
-    open: &mut OpenJournal,
-    new: NewFile,
-) {
-    let mut new = new;
-    open.make(rt, &mut new);
-    desk.note(rt, open.number, open.path, open.fault);
-    if open.fault.is_none() {
-        new.remove_old(rt, alloc);
-    }
-}
-
-/// Writes what is left of a file that is over, and has the system keep it.
+/// Writes what is left of a file, and has the system keep it.
 fn finish_file<R: Files<File = File> + Clock + Wait>(
     rt: &R,
     alloc: Global,
@@ -165,7 +161,8 @@ fn finish_file<R: Files<File = File> + Clock + Wait>(
 ) {
     let mut draft = draft;
     if let Some(new) = draft.take_new() {
-        make_file(rt, alloc, desk, open, new);
+        let new = open.made(rt, new);
+        open.remove_old(rt, alloc, &new);
     }
     open.write_rest(&mut draft, page);
     open.keep();

@@ -1,23 +1,12 @@
-//! Why a journal file isn't whole.
+//! Why a journal file isn't whole, in words.
 
 use crate::details::words_of;
-use std::io::ErrorKind;
+use swim_disk::FileFault;
 
-/// Why a journal file isn't whole.
-#[derive(Clone, Copy, Debug, PartialEq, Eq)]
-pub enum FileFault {
-    /// The system refused to make it, or to take what was to be written.
-    Refused(ErrorKind),
-    /// Its disk took less than there was to write.
-    Slow,
-}
-
-impl FileFault {
-    /// The same in words.
-    pub fn words(self) -> &'static str {
-        match self {
-            FileFault::Refused(kind) => words_of(kind),
-            FileFault::Slow => "the disk is too slow",
-        }
+/// What people are told of a file that isn't whole for this reason.
+pub fn words_for(fault: FileFault) -> &'static str {
+    match fault {
+        FileFault::Refused(kind) => words_of(kind),
+        FileFault::Slow => "the disk is too slow",
     }
 }

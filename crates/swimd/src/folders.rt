@@ -1,12 +1,13 @@
 //! The folder of the journal files, one for each life of a daemon.
 
-ghost use Rattle.std.specs.Prelude.{◌≡◌, None};
+ghost use Rattle.std.specs.Prelude.{◌≡◌, Some, [], true, IfOk};
+ghost use Rattle.swim_journal.specs.Comments.{without_comments};
 ghost use Rattle.swim_keeper.specs.Notices.{Notices};
 
 use crate::clerks::Clerk;
-use crate::disk_desks::DiskDesk;
-use crate::file_faults::FileFault;
-use crate::file_sheets::{Begun, LostFile};
+use crate::disk_desks::{Begun, DiskDesk};
+use crate::file_faults::words_for;
+use crate::held_texts::HeldText;
 use crate::journal_files::JournalFile;
 use crate::notices::Notice;
 use std::alloc::{AllocError, Global};
@@ -15,13 +16,15 @@ use std::net::Net;
 use std::rt::{Clock, Files};
 use std::sync::{Arc, Wait};
 use swim_config::JournalFiles;
-use swim_disk::{DirPath, NewFile, Stamp};
+use swim_disk::{DirPath, FileEnd, LostFile, NewFile, Stamp};
 use swim_keeper::Shelf;
 use swim_text::Sink;
+use swim_trail::Trail;
 use swim_wire::Id;
 
 /// The folder in which a daemon has a file made for each of its lives, if it does: by whoever serves its desk, so that no
-/// life waits for a disk longer than a moment. What fails is told among the notices.
+/// life waits for a disk longer than a moment. What fails is told among the notices. A contract sees for which lives it
+/// was asked for files, and those that it took back: what each of them took, and what its desk took of that.
 #[derive(Drop)]
 pub struct Folder<'r, R> {
     rt: &'r R,
@@ -32,11 +35,15 @@ pub struct Folder<'r, R> {
     desk: Arc<DiskDesk, Global>,
     // How many lives had no file, as too many waited.
     unfiled: u64,
+    // The numbers of the lives for which it was asked for files.
+    opened: Trail<u64>,
+    // The files that it took back, and whether they are kept.
+    filed: Trail<(u64, bool, HeldText)>,
 }
 
 impl<'r, R: Net + Clock + Wait> Folder<'r, R> {
     /// The folder of this member's files, whose daemon began so many seconds after 1970, with the clerk's desk. Where
-    /// files are made, their memory is taken here.
+    /// files are made, their memory is taken here. It was asked for no file yet, and took none back.
     pub fn open<G: Clerk>(
         rt: &'r R,
         alloc: Global,
@@ -44,7 +51,10 @@ impl<'r, R: Net + Clock + Wait> Folder<'r, R> {
         me: Id,
         began: u64,
         clerk: &G,
-    ) -> Result<Folder<'r, R>, AllocError> {
+    ) -> Result<Folder<'r, R>, AllocError>
+        ensures opened { IfOk result (λ folder. folder.opened.items ≡ []) }
+        ensures filed { IfOk result (λ folder. folder.filed.items ≡ []) }
+    {
         let desk = clerk.desk()?;
         if files.dir.is_some() {
             desk.open_files(rt, alloc)?;
@@ -57,6 +67,8 @@ impl<'r, R: Net + Clock + Wait> Folder<'r, R> {
             began,
             desk,
             unfiled: 0,
+            opened: Trail::new(),
+            filed: Trail::new(),
         })
     }
 
@@ -75,35 +87,32 @@ impl<'r, R: Net + Clock + Wait> Folder<'r, R> {
         })
     }
 
-    /// A file that the desk takes; one that takes nothing, where there is no memory for it.
-    fn opened(&self) -> JournalFile<'r, R> {
-        match Arc::try_clone(&self.desk) {
-            Ok(desk) => JournalFile::new(self.rt, Some(desk)),
-            Err(_) => JournalFile::new(self.rt, None),
-        }
-    }
-
     /// Tells of a file that isn't whole.
     #[tactic(auto, using(swim_keeper::specs::Notices::no_notices))]
     fn tell_lost<F: Sink>(&self, lost: &LostFile, notices: &mut F)
         ensures { Notices (F.written notices.old, F.failures notices.old)
             (F.written notices.new, F.failures notices.new) }
     {
-        let notice = Notice::unwritten(self.rt, lost.path.as_str(), lost.fault.words());
+        let notice = Notice::unwritten(self.rt, lost.path.as_str(), words_for(lost.fault));
         notice.tell_notice(self.rt, self.alloc, notices);
     }
 
     /// Begins the file of a life, and tells where there is none.
     #[tactic(auto, using(swim_keeper::specs::Notices::no_notices))]
     fn begin<F: Sink>(&mut self, new: NewFile, notices: &mut F) -> JournalFile<'r, R>
-        ensures { Notices (F.written notices.old, F.failures notices.old)
+        ensures new { result.text.taken ≡ [] }
+        ensures opened { self.new.opened ≡ self.old.opened }
+        ensures filed { self.new.filed ≡ self.old.filed }
+        ensures notices { Notices (F.written notices.old, F.failures notices.old)
             (F.written notices.new, F.failures notices.new) }
     {
-        match self.desk.begin(self.rt, new) {
-            Begun::Going => self.opened(),
-            Begun::Refused(lost) => {
-                let _lost = self.desk.end(self.rt, Some(lost.fault));
-                self.tell_lost(&lost, notices);
+        let Ok(desk) = Arc::try_clone(&self.desk) else {
+            return JournalFile::new(self.rt, None);
+        };
+        match desk.begin(self.rt, new) {
+            Begun::Going => JournalFile::new(self.rt, Some(desk)),
+            Begun::Refused => {
+                self.end_newest(notices);
                 JournalFile::new(self.rt, None)
             }
             Begun::TooMany => {
@@ -114,34 +123,64 @@ impl<'r, R: Net + Clock + Wait> Folder<'r, R> {
             }
         }
     }
+
+    /// Ends the newest file, and answers whether it is whole. Where it isn't, and nobody was told yet, it is told.
+    #[tactic(auto, using(swim_keeper::specs::Notices::no_notices))]
+    fn end_newest<F: Sink>(&self, notices: &mut F) -> bool
+        ensures { Notices (F.written notices.old, F.failures notices.old)
+            (F.written notices.new, F.failures notices.new) }
+    {
+        match self.desk.end(self.rt) {
+            FileEnd::Whole => true,
+            FileEnd::Lost(lost) => {
+                self.tell_lost(&lost, notices);
+                false
+            }
+            FileEnd::Told => false,
+        }
+    }
+
+    /// Ends a file. Whether its disk was handed all of it, and nobody knows yet that it isn't kept.
+    #[tactic(auto, using(swim_keeper::specs::Notices::no_notices))]
+    fn end<F: Sink>(&self, file: &mut JournalFile<'r, R>, notices: &mut F) -> bool
+        ensures taken { file.new.text.taken ≡ file.old.text.taken }
+        ensures same { result ≡ true →
+            without_comments file.new.text.handed ≡ without_comments file.new.text.taken }
+        ensures notices { Notices (F.written notices.old, F.failures notices.old)
+            (F.written notices.new, F.failures notices.new) }
+    {
+        if !file.is_begun() {
+            return false;
+        }
+        let is_taken = file.finish();
+        let is_whole = self.end_newest(notices);
+        is_taken && is_whole
+    }
 }
 
 impl<'r, R: Files<File = File> + Net + Clock + Wait> Shelf<JournalFile<'r, R>> for Folder<'r, R> {
-    ghost fresh = { None };
+    ghost use Rattle.std.specs.Prelude.{map};
+    ghost use Rattle.swim_trail.specs.Noted.{value_in};
+    ghost use Rattle.swimd.specs.Folders.{filed_in};
 
-    ghost opened = { λ s. None };
+    ghost fresh = { Some [] };
 
-    ghost filed = { λ s. None };
+    ghost opened = { λ s. Some (map value_in s.opened.items) };
 
-    #[tactic(auto, using(swim_keeper::specs::Notices::no_notices))]
+    ghost filed = { λ s. Some (map filed_in s.filed.items) };
+
+    #[tactic(auto, using(swim_keeper::specs::Notices::no_notices, swim_trail::specs::Noted::map_more))]
     fn open<F: Sink>(&mut self, number: u64, notices: &mut F) -> Option<JournalFile<'r, R>> {
+        self.opened.note(&number, b"");
         let new = self.file_of(number)?;
         Some(self.begin(new, notices))
     }
 
-    #[tactic(auto, using(swim_keeper::specs::Notices::no_notices))]
-    fn close<F: Sink>(&mut self, _number: u64, sink: JournalFile<'r, R>, notices: &mut F) -> bool {
-        if !sink.is_going() {
-            return false;
-        }
-        let mut sink = sink;
-        let known = sink.finish();
-        match self.desk.end(self.rt, known) {
-            Some(lost) => {
-                self.tell_lost(&lost, notices);
-                false
-            }
-            None => true,
-        }
+    #[tactic(auto, using(crate::specs::Folders::back_more))]
+    fn close<F: Sink>(&mut self, number: u64, sink: JournalFile<'r, R>, notices: &mut F) -> bool {
+        let mut file = sink;
+        let is_kept = self.end(&mut file, notices);
+        self.filed.note(&(number, is_kept, file.into_text()), b"");
+        is_kept
     }
 }

@@ -1,96 +1,108 @@
 //! Journal files as they are written.
 
-ghost use Rattle.std.specs.Prelude.{◌≡◌, true, false, length, None, Some};
-ghost use Rattle.swim_text.specs.Streams.{failures_if};
+ghost use Rattle.std.specs.Prelude.{◌≡◌, true, false, [], length, None};
+ghost use Rattle.swim_text.specs.Streams.{Puts, failures_if};
+ghost use Rattle.swim_journal.specs.Comments.{EndsLine, MayComment, without_comments};
+ghost use Rattle.swimd.specs.HeldTexts.{Takes, all_of};
 
 use crate::comments::comment_behind;
 use crate::disk_desks::DiskDesk;
-use crate::file_faults::FileFault;
+use crate::held_texts::HeldText;
 use arrayvec::ArrayVec;
 use std::alloc::Global;
 use std::rt::Clock;
 use std::sync::{Arc, Wait};
 use swim_text::Sink;
 
-/// How many bytes of a file are held back at most.
-const HELD_BYTES: usize = 16_384;
-
 /// How many bytes of a line are looked at: as many as there are in front of the word that says what was answered.
 const FRONT_BYTES: usize = 32;
 
 /// A journal file, as long as its desk takes what is to be written, from where another thread writes it. It holds back
-/// what it is given until it is flushed. Once something was refused it takes nothing more, and knows why. It adds
-/// comments for people: behind its first line the program with its version and the time, and behind each line of a
-/// started period the seconds since 1970. No contract knows its bytes.
+/// what it is given until it is flushed. Once something was refused it takes nothing more. It adds comments for people:
+/// behind its first line the program with its version and the time, and behind each line of a started period the seconds
+/// since 1970. A contract sees the texts that it took, and the bytes that its desk took.
 #[derive(Drop)]
 pub struct JournalFile<'r, R> {
     rt: &'r R,
     // None once nothing more is taken.
     desk: Option<Arc<DiskDesk, Global>>,
-    held: ArrayVec<u8, HELD_BYTES>,
+    text: HeldText,
     // As much as is looked at of the line that isn't at its end yet.
     front: ArrayVec<u8, FRONT_BYTES>,
     failures: u64,
-    fault: Option<FileFault>,
+    is_begun: bool,
 }
 
 impl<'r, R: Clock + Wait> JournalFile<'r, R> {
     /// The file that the desk has begun; without a desk, it takes nothing.
-    pub fn new(rt: &'r R, desk: Option<Arc<DiskDesk, Global>>) -> JournalFile<'r, R> {
+    pub fn new(rt: &'r R, desk: Option<Arc<DiskDesk, Global>>) -> JournalFile<'r, R>
+        ensures { result.text.taken ≡ [] }
+    {
+        let is_begun = desk.is_some();
         JournalFile {
             rt,
             desk,
-            held: ArrayVec::new(),
+            text: HeldText::new(),
             front: ArrayVec::new(),
             failures: 0,
-            fault: None,
+            is_begun,
         }
     }
 
     /// Whether there was a file from the beginning on.
-    pub fn is_going(&self) -> bool {
-        self.desk.is_some() || self.fault.is_some()
+    pub fn is_begun(&self) -> bool {
+        self.is_begun
     }
 
-    /// Hands over what is held back, as the last of it: why not all was taken, if it wasn't.
-    pub fn finish(&mut self) -> Option<FileFault> {
-        let _is_sent = self.hand_on();
-        self.fault
+    /// Hands over what is held back, as the last of it, and answers whether the desk took all that there was.
+    pub fn finish(&mut self) -> bool
+        ensures taken { self.new.text.taken ≡ self.old.text.taken }
+        ensures same { result ≡ true →
+            without_comments self.new.text.handed ≡ without_comments self.new.text.taken }
+    {
+        self.hand_on()
     }
 
-    /// Hands over what is held back, and answers whether the desk took it.
+    /// What it took, and what its desk took of that.
+    pub fn into_text(self) -> HeldText
+        ensures { result ≡ self.text }
+    {
+        let JournalFile {
+            rt: _rt,
+            desk: _desk,
+            text,
+            front: _front,
+            failures: _failures,
+            is_begun: _is_begun,
+        } = self;
+        text
+    }
+
+    /// Hands over what is held back, and answers whether the desk took it. Where it didn't, the file is let go.
     fn hand_on(&mut self) -> bool
         ensures failures { self.new.failures ≡ self.old.failures }
-        ensures sent { result ≡ true → length self.new.held.items ≡ 0 }
-        ensures gone { self.old.desk ≡ None → (result ≡ false) × (self.new.desk ≡ None) }
+        ensures taken { self.new.text.taken ≡ self.old.text.taken }
+        ensures all { all_of self.new.text ≡ all_of self.old.text }
+        ensures sent { result ≡ true → self.new.text.held ≡ [] }
+        ensures same { result ≡ true →
+            without_comments self.new.text.handed ≡ without_comments self.new.text.taken }
+        ensures gone { result ≡ false → self.new.desk ≡ None }
+        ensures none { self.old.desk ≡ None → result ≡ false }
     {
         let Some(desk) = &self.desk else {
             return false;
         };
-        match desk.add(self.rt, self.held.as_slice()) {
-            Ok(()) => {
-                self.held.clear();
-                true
-            }
-            Err(fault) => self.give_up(fault),
+        if self.text.hand_on(self.rt, &**desk).is_err() {
+            self.desk = None;
+            return false;
         }
-    }
-
-    /// Lets go of the file for this reason.
-    fn give_up(&mut self, fault: FileFault) -> bool
-        ensures failures { self.new.failures ≡ self.old.failures }
-        ensures fault { self.new.fault ≡ Some fault }
-        ensures gone { (result ≡ false) × (self.new.desk ≡ None) }
-    {
-        self.fault = Some(fault);
-        self.desk = None;
-        false
+        true
     }
 
     /// Counts a failure, where it is one.
     fn counted(&mut self, is_done: bool) -> bool
         ensures done { result ≡ is_done }
-        ensures held { self.new.held ≡ self.old.held }
+        ensures text { self.new.text ≡ self.old.text }
         ensures failures { self.new.failures ≡ failures_if self.old.failures is_done }
     {
         if !is_done {
@@ -99,46 +111,57 @@ impl<'r, R: Clock + Wait> JournalFile<'r, R> {
         is_done
     }
 
-    /// Holds a text back, if there is room for it.
-    fn hold(&mut self, text: &[u8]) -> bool
-        ensures { self.new.failures ≡ self.old.failures }
-    {
-        self.held.try_extend_from_slice(text).is_ok()
-    }
-
     /// Holds a text back, and a comment behind it, where it ends a line that is to have one.
+    #[tactic(auto, using(crate::proofs::HeldTexts::puts_none, crate::proofs::HeldTexts::puts_all, crate::proofs::HeldTexts::ends_taken))]
     fn take_told(&mut self, text: &[u8]) -> bool
-        ensures { self.new.failures ≡ self.old.failures }
+        ensures failures { self.new.failures ≡ self.old.failures }
+        ensures taken { Puts (Some self.old.text.taken) (Some self.new.text.taken) text.now result }
     {
         if !self.take(text) {
             return false;
         }
         add_front(&mut self.front, text);
-        if !text.ends_with(b"\n") {
+        let [_front @ .., b'\n'] = text else {
             return true;
-        }
+        };
         let comment = comment_behind(self.rt, self.front.as_slice());
         self.front.clear();
-        self.take(comment.as_str().as_bytes())
+        self.take_comment(comment.as_str().as_bytes())
     }
 
     /// Holds a text back; where there is no room for it, behind what was written then.
+    #[tactic(auto, using(crate::proofs::HeldTexts::then_takes))]
     fn take(&mut self, text: &[u8]) -> bool
-        ensures { self.new.failures ≡ self.old.failures }
+        ensures failures { self.new.failures ≡ self.old.failures }
+        ensures taken { Takes self.old.text self.new.text text.now result }
     {
-        if self.hold(text) {
+        if self.text.put(text) {
             return true;
         }
-        self.hand_on() && self.hold(text)
+        self.hand_on() && self.text.put(text)
+    }
+
+    /// Holds a comment back behind a line; where there is no room for it, behind what was written then.
+    #[tactic(auto, using(crate::proofs::HeldTexts::ends_same))]
+    fn take_comment(&mut self, comment: &[u8]) -> bool
+        requires comment { MayComment comment.now }
+        requires behind { EndsLine (all_of self.old.text) }
+        ensures failures { self.new.failures ≡ self.old.failures }
+        ensures taken { self.new.text.taken ≡ self.old.text.taken }
+    {
+        if self.text.put_comment(comment) {
+            return true;
+        }
+        self.hand_on() && self.text.put_comment(comment)
     }
 }
 
 impl<'r, R: Clock + Wait> Sink for JournalFile<'r, R> {
-    ghost written = { λ f. None };
+    ghost written = { λ f. Some f.text.taken };
 
     ghost failures = { λ f. f.failures };
 
-    ghost held = { λ f. length f.held.items };
+    ghost held = { λ f. length f.text.held };
 
     fn put(&mut self, text: &[u8]) -> bool {
         let is_taken = self.take_told(text);

@@ -3,6 +3,7 @@
 
 use crate::clerks::Clerk;
 use crate::counters::Counters;
+use crate::file_faults::words_for;
 use crate::happenings::{Happening, unsaid};
 use crate::metrics_times::MetricsTimes;
 use crate::notices::Notice;
@@ -138,7 +139,7 @@ impl<'s, 'r, R: Files<File = File> + Net + Clock, G: Sink + Clerk + Drop> LogSpe
         self.tell_metrics(rt);
         self.log.settle(rt);
         self.tell_unwritten(rt);
-        for _file in 0..MOST_FILES {
+        for _file in 0..=MOST_FILES {
             self.tell_lost(rt);
         }
     }
@@ -183,7 +184,7 @@ impl<'s, 'r, R: Files<File = File> + Net + Clock, G: Sink + Clerk + Drop> LogSpe
 
     /// Has the metrics file written, once something was counted.
     fn tell_metrics<W: Wait>(&mut self, rt: &W) {
-        let Some(figures) = self.counters.figures(rt) else {
+        let Some(figures) = self.counters.figures(rt, self.log.files(rt)) else {
             return;
         };
         if let Some(path) = self.metrics.path_now(self.rt) {
@@ -191,10 +192,10 @@ impl<'s, 'r, R: Files<File = File> + Net + Clock, G: Sink + Clerk + Drop> LogSpe
         }
     }
 
-    /// Tells of a journal file of an earlier life that isn't whole, if there is one.
+    /// Tells of a journal file that isn't whole, if there is one of which nobody was told.
     fn tell_lost<W: Wait>(&mut self, rt: &W) {
         if let Some(lost) = self.log.take_lost(rt) {
-            let notice = Notice::unwritten(self.rt, lost.path.as_str(), lost.fault.words());
+            let notice = Notice::unwritten(self.rt, lost.path.as_str(), words_for(lost.fault));
             notice.tell_notice(self.rt, self.alloc, &mut self.log);
         }
     }
@@ -214,7 +215,7 @@ impl<'s, 'r, R: Files<File = File> + Net + Clock, G: Sink + Clerk + Drop> LogSpe
 impl<'s, 'r, R: Files<File = File> + Net + Clock, G: Sink + Clerk + Drop> Speaker
     for LogSpeaker<'s, 'r, R, G> {
     fn stats<W: Wait>(&self, rt: &W) -> StatsText {
-        self.counters.stats(rt)
+        self.counters.stats(rt, self.log.files(rt))
     }
 
     fn tell<W: Wait>(&mut self, rt: &W, turned_away: u64) {

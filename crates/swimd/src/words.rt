@@ -337,7 +337,7 @@ fn seconds_in(given: &ArgMatches<'_>) -> Option<u64>
 }
 
 /// Whether a word has a line feed.
-fn has_feed(word: &[u8]) -> bool
+pub fn has_feed(word: &[u8]) -> bool
     ensures { result ≡ has_feed word.now }
 {
     word.contains(&b'\n')

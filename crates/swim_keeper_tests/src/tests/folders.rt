@@ -52,7 +52,7 @@ impl Shelf<Page> for Folder {
         Some(Page::new(self.alloc))
     }
 
-    #[tactic(auto, using(swim_keeper::specs::Notices::no_notices))]
+    #[tactic(auto, using(swim_keeper::specs::Notices::no_notices, swim_keeper::specs::Filing::unknown_back))]
     fn close<F: Sink>(&mut self, _number: u64, sink: Page, _notices: &mut F) -> bool {
         self.is_keeping && has_text(&sink, self.expected)
     }

@@ -3,7 +3,7 @@
 use arrayvec::ArrayVec;
 use std::test::Fail;
 use swim_history::{Call, DropReason, Opening, Probe, Relay, Reply};
-use swim_metrics::Outside;
+use swim_metrics::{FileFigures, Outside};
 use swim_wire::{Id, Kind, Message, Peer, PeriodNumber, Version};
 
 pub(crate) fn id(member: u8) -> Id {
@@ -62,6 +62,10 @@ pub(crate) fn outside(version: &str, me: Id) -> Outside<'_> {
         knocks: 12,
         own_joins: 13,
         unwritten: 14,
+        files: Some(FileFigures {
+            is_ok: true,
+            cut: 15,
+        }),
     }
 }
 

@@ -117,6 +117,12 @@ swimd_lost_watchers_total 11
 # HELP swimd_metrics_unwritten_total Times that the metrics could not be written to their file.
 # TYPE swimd_metrics_unwritten_total counter
 swimd_metrics_unwritten_total 14
+# HELP swimd_journal_file_ok Whether this life's journal file is whole so far.
+# TYPE swimd_journal_file_ok gauge
+swimd_journal_file_ok 1
+# HELP swimd_journal_files_cut_total Lives without a whole journal file.
+# TYPE swimd_journal_files_cut_total counter
+swimd_journal_files_cut_total 15
 ";
 
 // Of a daemon that was just started.
@@ -176,6 +182,8 @@ swimd_fenced_total 9
 swimd_watchers 10
 swimd_lost_watchers_total 11
 swimd_metrics_unwritten_total 14
+swimd_journal_file_ok 1
+swimd_journal_files_cut_total 15
 .
 ";
 

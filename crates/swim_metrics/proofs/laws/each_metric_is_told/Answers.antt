@@ -35,6 +35,8 @@ told metrics.Fenced = (26, omega arith, refl)
 told metrics.Watchers = (27, omega arith, refl)
 told metrics.LostWatchers = (28, omega arith, refl)
 told metrics.Unwritten = (29, omega arith, refl)
+told metrics.JournalFileOk = (30, omega arith, refl)
+told metrics.JournalFilesCut = (31, omega arith, refl)
 
 pub returns : goal.returns
 returns c = told
