@@ -73,7 +73,7 @@ impl Shelf<File> for Player {
         })
     }
 
-    #[tactic(auto, using(swim_keeper::specs::Notices::no_notices))]
+    #[tactic(auto, using(swim_keeper::specs::Notices::no_notices, swim_keeper::specs::Filing::unknown_back))]
     fn close<F: Sink>(&mut self, _number: u64, sink: File, _notices: &mut F) -> bool {
         let mut session = Session::new(self.alloc);
         let mut output = Page::new(self.alloc);

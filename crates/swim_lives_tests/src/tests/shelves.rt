@@ -36,7 +36,7 @@ impl Shelf<Page> for NoShelf {
         None
     }
 
-    #[tactic(auto, using(swim_keeper::specs::Notices::no_notices))]
+    #[tactic(auto, using(swim_keeper::specs::Notices::no_notices, swim_keeper::specs::Filing::unknown_back))]
     fn close<F: Sink>(&mut self, _number: u64, _sink: Page, _notices: &mut F) -> bool {
         false
     }

@@ -62,19 +62,21 @@ pub fn live_shortly<
         seed: [0; 32],
         limit: 2,
     };
+    let mut shelf = shelf;
+    let mut herald = Counter { begun: 0 };
     let mut page = Page::new(alloc);
     let mut notices = Page::new(alloc);
     let mut keeper = LifeKeeper {
         writer: &mut page,
         notices: &mut notices,
-        herald: Counter { begun: 0 },
-        shelf,
+        herald: &mut herald,
+        shelf: &mut shelf,
         board: &board,
         terms,
     };
     let (end, crew) = run_lives(rt, alloc, opening, terms, crew, &mut keeper);
-    let begun = keeper.herald.begun;
-    let shelf = keeper.shelf;
+    drop(keeper);
+    let begun = herald.begun;
     Ok(Lived {
         end,
         begun,
