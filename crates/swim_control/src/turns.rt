@@ -3,6 +3,7 @@
 ghost use Rattle.std.specs.Prelude.{◌≡◌, not, Ok};
 ghost use Rattle.swim_text.specs.Streams.{failures_if};
 ghost use Rattle.swim_control.specs.declared.commands.Said.TheVariants.{Asks};
+ghost use Rattle.swim_control.specs.declared.desks.DeskCommand.{DeskCommand};
 ghost use Rattle.swim_control.specs.Commands.{line_said, said_by};
 ghost use Rattle.swim_control.specs.Serving.{is_write_fault};
 ghost use Rattle.swim_control.specs.Texts.{fault_text};
@@ -78,18 +79,12 @@ fn carry_out<R: Wait, W: Sink, D: Desk>(
     ensures failures { W.failures writer.new ≡ failures_if (W.failures writer.old) (not (is_write_fault result)) }
 {
     match command {
-        DeskCommand::List => {
-            let table = desk.list(rt);
-            close(put_list(writer, &table), None)
-        }
+        DeskCommand::List => answer_list(rt, writer, desk),
         DeskCommand::Gap(id) => {
             let gap = desk.gap(rt, id);
             close(put_gap(writer, gap), None)
         }
-        DeskCommand::Stats => {
-            let text = desk.stats(rt);
-            close(put_counts(writer, &text), None)
-        }
+        DeskCommand::Stats => answer_stats(rt, writer, desk),
         DeskCommand::Join(id, peer) => {
             let answer = desk.join(rt, alloc, id, peer);
             close(put_answer(writer, answer), end_of(answer))
@@ -99,6 +94,30 @@ fn carry_out<R: Wait, W: Sink, D: Desk>(
             close(put_answer(writer, answer), end_of(answer))
         }
     }
+}
+
+/// Lists the known members.
+// Kept out of line: a table is large, and `carry_out` runs for every command.
+#[inline(never)]
+fn answer_list<R: Wait, W: Sink, D: Desk>(rt: &R, writer: &mut W, desk: &mut D) -> Option<Served>
+    ensures turned { Turned D.asks (Ok (Asks DeskCommand.List)) desk.old desk.new (W.written writer.old)
+        (W.written writer.new) result }
+    ensures failures { W.failures writer.new ≡ failures_if (W.failures writer.old) (not (is_write_fault result)) }
+{
+    let table = desk.list(rt);
+    close(put_list(writer, &table), None)
+}
+
+/// Writes what was counted.
+// Kept out of line, since the text is large.
+#[inline(never)]
+fn answer_stats<R: Wait, W: Sink, D: Desk>(rt: &R, writer: &mut W, desk: &mut D) -> Option<Served>
+    ensures turned { Turned D.asks (Ok (Asks DeskCommand.Stats)) desk.old desk.new (W.written writer.old)
+        (W.written writer.new) result }
+    ensures failures { W.failures writer.new ≡ failures_if (W.failures writer.old) (not (is_write_fault result)) }
+{
+    let text = desk.stats(rt);
+    close(put_counts(writer, &text), None)
 }
 
 /// How serving ends with an answer, if it does.
