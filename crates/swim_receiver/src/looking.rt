@@ -31,6 +31,8 @@ impl<'b, L: Line + Drop, O: Post + Drop> Receiver<'b, L, O> {
     }
 
     /// Shows the line who stands in the table now: whoever does, as one that was judged may be up all the same.
+    // Kept out of line: tables are large, and `show` runs twice for every datagram.
+    #[inline(never)]
     #[tactic(auto, using(crate::proofs::Showing::none_shown, crate::proofs::Showing::one_shown, crate::proofs::Learning::none_learnt))]
     fn look<N: Naming>(&mut self, viewer: &mut Viewer<N>)
         ensures received { L.received self.new.line ≡ L.received self.old.line }

@@ -64,6 +64,8 @@ impl Returning {
     }
 
     /// Takes over what the ticker left.
+    // Kept out of line, as `Receiver::look` is: `show` runs twice for every datagram.
+    #[inline(never)]
     pub(crate) fn take_over<R: Wait>(&mut self, rt: &R, board: &TidingsBoard)
         ensures same { IsOfSame self.old self.new }
         ensures learns { (o : Setting) → Learns o self.old self.new }

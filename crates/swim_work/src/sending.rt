@@ -7,7 +7,7 @@ ghost use Rattle.swim_work.specs.Posts.{ArePosted};
 use crate::counts::{Counts, Why};
 use crate::posts::Post;
 use std::sync::Wait;
-use swim_history::{Opening, sends};
+use swim_history::{Opening, Reply, sends};
 use swim_node::{CallFault, Naming, Receipt};
 use swim_wire::{Message, Peer, encode};
 
@@ -25,8 +25,7 @@ pub fn finish<N: Naming, R: Wait, O: Post>(
 {
     match answer {
         Ok(receipt) => {
-            let messages = sends(&receipt.reply, opening);
-            let unsent = send_each(rt, post, messages.as_slice());
+            let unsent = send_all(rt, post, opening, &receipt.reply);
             counts.unsent = counts.unsent.saturating_add(unsent);
             None
         }
@@ -40,6 +39,25 @@ pub fn finish<N: Naming, R: Wait, O: Post>(
         }
         Err(CallFault::JournalFull) => Some(Why::JournalFull),
     }
+}
+
+/// Sends the datagrams of a reply, each once, in order. Returns how many couldn't be sent.
+fn send_all<R: Wait, O: Post>(rt: &R, post: &mut O, opening: &Opening, reply: &Reply) -> u64
+    ensures { ArePosted (sends_of reply.now opening.now) (O.posted post.old) (O.posted post.new) result }
+{
+    match reply {
+        Reply::Send { peer, message } => send_each(rt, post, &[(*peer, *message)]),
+        _ => send_listed(rt, post, opening, reply),
+    }
+}
+
+/// Sends them from a list.
+// Kept out of line: the list is large, and most replies send one message or none.
+#[inline(never)]
+fn send_listed<R: Wait, O: Post>(rt: &R, post: &mut O, opening: &Opening, reply: &Reply) -> u64
+    ensures { ArePosted (sends_of reply.now opening.now) (O.posted post.old) (O.posted post.new) result }
+{
+    send_each(rt, post, sends(reply, opening).as_slice())
 }
 
 /// Sends datagrams, each once, in order. How many couldn't be sent.
