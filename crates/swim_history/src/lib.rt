@@ -32,7 +32,7 @@ pub use probing::Probed;
 pub use replies::{DropReason, MOST_RELAYS, Probe, Refusal, Relay, Reply};
 pub use rows::{Change, Row, RowState, Table};
 pub use seats::Kept;
-pub use sending::sends;
+pub use sending::{own_message, sends};
 pub use swim_wire::{KNOWN_MEMBERS, Order};
 pub use tables::{change_by, table_of};
 pub use texts::{put_gap, put_table};

@@ -45,7 +45,7 @@ pub fn sends(reply: &Reply, opening: &Opening) -> ArrayVec<(Peer, Message), MOST
 
 /// The message of this member's own probe of that kind, which tells where the target is if a message of its version and
 /// kind does. `None` for a probe of number 0, which no period has.
-fn own_message(opening: &Opening, kind: Kind, probe: &Probe) -> Option<Message>
+pub fn own_message(opening: &Opening, kind: Kind, probe: &Probe) -> Option<Message>
     ensures { SomeIff result (0 < probe.now.number) (own opening.now kind probe.now) }
 {
     let version = opening.version();
