@@ -71,7 +71,7 @@ ROOMS = [
     room("swimsim/compare", "swimsim beside the reference, on random scripts", SWIMSIM, RUSTC),
     room("node/failures", "the programs, each call of the system failing in turn", SWIMSIM + SWIMD, RUSTC),
     room("bench/bounds", "instructions of datagrams, ticks and lines, each within a bound", SWIMSIM + SWIMD, VALGRIND),
-    room("bench/frames", "how deep the stacks of swimd's threads can get", SWIMD, OBJDUMP, is_short=True),
+    room("bench/frames", "swimd's stacks, and the frames that every datagram pays for", SWIMD, OBJDUMP, is_short=True),
     room("tools/layout", "sources, definitions and proofs are laid out as `rt ci` wants them", (), is_short=True),
     room("tools/contracts", "docs/CONTRACTS.md is what the sources say", (), is_short=True),
     room("tools/by_hand", "no proof was written by hand but those that are known", (), is_short=True),
