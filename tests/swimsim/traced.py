@@ -94,7 +94,7 @@ class Losing:
         return (names[(kind, to)], self.relays.index(relay))
 
 
-# So many steps are a period: one less, and it would be in time.
+# A period has so many ticks: one less, and the ack would be in time.
 LATE = 8
 # What is lost or late of a probe, and what the last line tells of it: T is the target, and A and B are the relays.
 LOSSES = {
@@ -171,7 +171,7 @@ def traced_one_that_stopped(program):
 
 
 def traced_one_that_was_killed(program):
-    """A member that ends answers nothing, and its journal has too few ticks. Its last line is cut off."""
+    """A member that ends answers nothing, and its journal has too few ticks."""
     with Group(program, MEMBERS, at_once) as group:
         group.run(20)
         group.dead = {5}
@@ -315,7 +315,6 @@ def traced_two_with_one_id(program):
     files = [("one", group.members[1].file()), ("two", other.members[1].file())]
     lines = told(traced(program, files)).splitlines()
     ends = [it for it in lines if it.startswith("  so ")]
-    number = group.judgements[0].probe.number
     number = next(it.probe.number for it in group.judgements if it.probe.initiator == 1)
     wanted = f"  so 1 probed 5 more than once in a period {number}: it is unknown which datagram belongs to which probe"
     return [] if ends == [wanted, wanted] else [f"it ends with {ends}, and not twice with {wanted!r}"]
