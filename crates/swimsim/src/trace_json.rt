@@ -55,15 +55,15 @@ impl<'f, 'a> fmt::Display for JsonFile<'f, 'a> {
 
 /// The object of a judgement.
 #[derive(Clone, Copy)]
-pub struct JsonTrace<'r, 't, 'p>(pub &'r TraceReport<'t, 'p>);
+pub struct JsonTrace<'r, 't, 'a, 'p>(pub &'r TraceReport<'t, 'a, 'p>);
 
-impl<'r, 't, 'p> fmt::Display for JsonTrace<'r, 't, 'p> {
+impl<'r, 't, 'a, 'p> fmt::Display for JsonTrace<'r, 't, 'a, 'p> {
     fn fmt<W: fmt::Write>(&self, f: &mut fmt::Formatter<W>) -> fmt::Result {
         self.0.show_object(f)
     }
 }
 
-impl<'t, 'p> TraceReport<'t, 'p> {
+impl<'t, 'a, 'p> TraceReport<'t, 'a, 'p> {
     /// The object of a judgement.
     fn show_object<W: fmt::Write>(&self, f: &mut fmt::Formatter<W>) -> fmt::Result {
         let initiator = self.case.probe.initiator.get();

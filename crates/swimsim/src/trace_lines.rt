@@ -13,8 +13,8 @@ use swim_wire::Kind;
 
 /// What is known of a probe after which its target was judged failed.
 #[derive(Clone, Copy)]
-pub struct TraceReport<'t, 'p> {
-    pub accounts: &'t [Account<'p>],
+pub struct TraceReport<'t, 'a, 'p> {
+    pub accounts: &'a [Account<'p>],
     /// The place of the initiator's file among these.
     pub file: u32,
     /// What the judgement rests on.
@@ -27,7 +27,7 @@ pub struct TraceReport<'t, 'p> {
     pub clock: Option<Clock>,
 }
 
-impl<'t, 'p> fmt::Display for TraceReport<'t, 'p> {
+impl<'t, 'a, 'p> fmt::Display for TraceReport<'t, 'a, 'p> {
     fn fmt<W: fmt::Write>(&self, f: &mut fmt::Formatter<W>) -> fmt::Result {
         let initiator = self.case.probe.initiator.get();
         let target = self.case.probe.target.get();
@@ -47,7 +47,7 @@ impl<'t, 'p> fmt::Display for TraceReport<'t, 'p> {
     }
 }
 
-impl<'t, 'p> TraceReport<'t, 'p> {
+impl<'t, 'a, 'p> TraceReport<'t, 'a, 'p> {
     /// The line of a datagram that was sent or heard, or of which neither is known.
     fn show_way<W: fmt::Write>(&self, way: &Way, f: &mut fmt::Formatter<W>) -> fmt::Result {
         let leg = &way.leg;
@@ -268,7 +268,7 @@ impl<'t, 'p> TraceReport<'t, 'p> {
         }
     }
 
-    fn entry(&self, spot: Spot) -> EntryName<'t, 'p> {
+    fn entry(&self, spot: Spot) -> EntryName<'a, 'p> {
         EntryName {
             spot,
             accounts: self.accounts,

@@ -140,9 +140,9 @@ fn tell_missing_lives(rt: &HostRuntime, accounts: &[Account<'_>]) {
 }
 
 /// Tells of each of these judgements what became of its probe.
-fn tell_all(
-    rt: &HostRuntime,
-    accounts: &[Account<'_>],
+fn tell_all<'r>(
+    rt: &'r HostRuntime,
+    accounts: &'r [Account<'_>],
     choice: &Choice,
     is_json: bool,
 ) -> Result<Standing> {
