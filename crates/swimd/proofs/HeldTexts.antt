@@ -1,6 +1,7 @@
 -- A text that is held back is its bytes but for comments.
 use Rattle.std.proofs.Common.{◌≡◌, ℕ, Bool, true, false, List, [], ◌∷◌, ◌++◌, Some, refl, sym, ap, subst, ◌∙◌}
-use Rattle.std.proofs.Common.{append_assoc, append-nil}
+use Rattle.std.proofs.Common.{append_assoc, append-nil, Result, Ok, Err}
+use Rattle.std.specs.Prelude.{OnOk, OnErr}
 use Rattle.std.specs.List.{flat_map}
 use Rattle.std.proofs.lemmas.Grind.{flat_map-append}
 use Rattle.swim_text.specs.Streams.{Puts}
@@ -40,6 +41,16 @@ comment_behind handed held held' comment taken is ends may held-is =
     let all : handed ++ held' ≡ (handed ++ held) ++ comment =
     ap (λ (h : List ℕ). handed ++ h) held-is ∙ sym (append_assoc handed held comment) in
     subst (λ (t : List ℕ). IsCommented t taken) (sym all) (comment_grows (handed ++ held) taken comment is ends may)
+
+-- behind a line a comment was put, or nothing
+pub comment_or_none : {A E X : Type 0} (items : X → List ℕ) (old new : X) (handed comment taken : List ℕ)
+    (result : Result A E) → IsCommented (handed ++ items old) taken → EndsLine (handed ++ items old) →
+    MayComment comment → OnOk result (items new ≡ items old ++ comment) → OnErr result (new ≡ old) →
+    IsCommented (handed ++ items new) taken
+comment_or_none items old new handed comment taken (Ok a) is ends may ok err =
+    comment_behind handed (items old) (items new) comment taken is ends may ok
+comment_or_none items old new handed comment taken (Err e) is ends may ok err =
+    subst (λ x. IsCommented (handed ++ items x) taken) (sym err) is
 
 -- ---- handed on
 

@@ -1,6 +1,6 @@
 //! What is held back of a journal file until it is handed on, with comments for people between its lines.
 
-ghost use Rattle.std.specs.Prelude.{◌≡◌, [], OnOk};
+ghost use Rattle.std.specs.Prelude.{◌≡◌, false, [], OnOk};
 ghost use Rattle.swim_journal.specs.Comments.{EndsLine, MayComment, without_comments};
 ghost use Rattle.swimd.specs.HeldTexts.{Takes, all_of};
 
@@ -74,7 +74,8 @@ impl HeldText {
     pub fn put_comment(&mut self, comment: &[u8]) -> bool
         requires comment { MayComment comment.now }
         requires behind { EndsLine (all_of self.old) }
-        ensures { self.new.taken ≡ self.old.taken }
+        ensures taken { self.new.taken ≡ self.old.taken }
+        ensures none { result ≡ false → all_of self.new ≡ all_of self.old }
     {
         match self.held.try_extend_from_slice(comment) {
             Ok(()) => true,

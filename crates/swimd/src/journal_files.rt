@@ -121,9 +121,12 @@ impl<'r, R: Clock + Wait> JournalFile<'r, R> {
             return false;
         }
         add_front(&mut self.front, text);
-        let [_front @ .., b'\n'] = text else {
+        let Some((last, _line)) = text.split_last() else {
             return true;
         };
+        if *last != b'\n' {
+            return true;
+        }
         let comment = comment_behind(self.rt, self.front.as_slice());
         self.front.clear();
         self.take_comment(comment.as_str().as_bytes())
