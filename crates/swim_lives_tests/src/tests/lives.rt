@@ -8,15 +8,16 @@ fn live_listed<'s, R: Threads + Wait + Clock + Send + Sync + Copy + Drop>(
     alloc: Global,
     signals: &'s Signals,
 ) -> Result<Option<Past>, Fail> {
+    let door = OneDoor {
+        clock: rt,
+        signals,
+        was_open: false,
+    };
     let gates = Gates {
         line: line(rt, signals, 0),
         post: post(signals),
         pace: pace(rt, &signals.is_stopping, 0),
-        door: OneDoor {
-            clock: rt,
-            signals,
-            was_open: false,
-        },
+        door,
     };
     Ok(live_over(&rt, alloc, opening()?, 1000, gates)?)
 }
@@ -44,14 +45,16 @@ fn live_with_faults<'s, R: Threads + Wait + Clock + Send + Sync + Copy + Drop>(
     is_sending: bool,
     signal: &'s AtomicBool,
 ) -> Result<Option<Past>, Fail> {
+    let post = AckPost {
+        signals,
+        is_sending,
+    };
+    let door = NoDoor { clock: rt };
     let gates = Gates {
         line: line(rt, signals, faults),
-        post: AckPost {
-            signals,
-            is_sending,
-        },
+        post,
         pace: pace(rt, signal, 0),
-        door: NoDoor { clock: rt },
+        door,
     };
     Ok(live_over(&rt, alloc, opening()?, 1000, gates)?)
 }
@@ -91,11 +94,12 @@ fn live_briefly<'s, R: Threads + Wait + Clock + Send + Sync + Copy + Drop>(
     alloc: Global,
     signals: &'s Signals,
 ) -> Result<Option<Past>, Fail> {
+    let door = NoDoor { clock: rt };
     let gates = Gates {
         line: line(rt, signals, 0),
         post: post(signals),
         pace: pace(rt, &signals.is_stopping, 5),
-        door: NoDoor { clock: rt },
+        door,
     };
     Ok(live_over(&rt, alloc, opening()?, 2, gates)?)
 }

@@ -104,19 +104,22 @@ fn assert_handed<'s, R: Threads + Wait + Clock + Abort + Send + Sync + Copy + Dr
     board: &'s TidingsBoard,
     is_asked_again: &'s AtomicBool,
 ) -> Result<(), Fail> {
+    let line = OnePing {
+        clock: rt,
+        was_given: false,
+        is_asked_again,
+    };
+    let post = KeepingPost {
+        alloc,
+        refused: at(3),
+        sheets: Vec::new(alloc),
+    };
+    let door = NoDoor { clock: rt };
     let gates = Gates {
-        line: OnePing {
-            clock: rt,
-            was_given: false,
-            is_asked_again,
-        },
-        post: KeepingPost {
-            alloc,
-            refused: at(3),
-            sheets: Vec::new(alloc),
-        },
+        line,
+        post,
         pace: pace(rt, is_asked_again, 2),
-        door: NoDoor { clock: rt },
+        door,
     };
     let opening = opening()?;
     let crew = crew(alloc, &opening, 0, board, gates)?;

@@ -52,15 +52,17 @@ fn insist<'s, R: Threads + Wait + Clock + Send + Sync + Copy + Drop>(
 ) -> Option<Past> {
     let mut pace = pace(rt, &signals.is_stopping, 0);
     pace.turns = TURNS - PATIENCE;
+    let line = InsistentLine { clock: rt, signals };
+    let door = OneDoor {
+        clock: rt,
+        signals,
+        was_open: false,
+    };
     let gates = Gates {
-        line: InsistentLine { clock: rt, signals },
+        line,
         post: post(signals),
         pace,
-        door: OneDoor {
-            clock: rt,
-            signals,
-            was_open: false,
-        },
+        door,
     };
     live_over(&rt, alloc, opening, 1000, gates).ok().flatten()
 }

@@ -126,20 +126,24 @@ fn assert_joined_again<'s, R: Threads + Wait + Clock + Abort + Send + Sync + Cop
     board: &'s TidingsBoard,
     visit: &'s Visit,
 ) -> Result<(), Fail> {
+    let line = AckLine {
+        clock: rt,
+        visit,
+        was_given: false,
+    };
+    let post = CountingPost { visit };
+    let pace = KnockPace {
+        clock: rt,
+        visit,
+        ticks: 4,
+        turns: 0,
+    };
+    let door = NoDoor { clock: rt };
     let gates = Gates {
-        line: AckLine {
-            clock: rt,
-            visit,
-            was_given: false,
-        },
-        post: CountingPost { visit },
-        pace: KnockPace {
-            clock: rt,
-            visit,
-            ticks: 4,
-            turns: 0,
-        },
-        door: NoDoor { clock: rt },
+        line,
+        post,
+        pace,
+        door,
     };
     let opening = pair()?;
     let crew = crew(alloc, &opening, 1, board, gates)?;

@@ -139,15 +139,17 @@ fn live_slowly<'s, R: Threads + Wait + Clock + Send + Sync + Copy + Drop>(
     signals: &'s Signals,
     marks: &'s Marks,
 ) -> Result<Option<Past>, Fail> {
+    let post = SlowPost { clock: rt, marks };
+    let door = AskingDoor {
+        clock: rt,
+        marks,
+        was_open: false,
+    };
     let gates = Gates {
         line: line(rt, signals, 0),
-        post: SlowPost { clock: rt, marks },
+        post,
         pace: pace(rt, &marks.was_answered, 0),
-        door: AskingDoor {
-            clock: rt,
-            marks,
-            was_open: false,
-        },
+        door,
     };
     Ok(live_over(&rt, alloc, opening()?, 1000, gates)?)
 }

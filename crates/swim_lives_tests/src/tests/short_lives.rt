@@ -95,11 +95,13 @@ fn ticking_crew<'s, R: Clock + Copy + Drop>(
     signals: &'s Signals,
     is_told: &'s AtomicBool,
 ) -> Result<GatedCrew<'s, PingLine<'s, R>, TakingPost, StopPace<'s, R>, NoDoor<R>>, AllocError> {
+    let post = TakingPost {};
+    let door = NoDoor { clock: rt };
     let gates = Gates {
         line: line(rt, signals, 0),
-        post: TakingPost {},
+        post,
         pace: pace(rt, is_told, 5),
-        door: NoDoor { clock: rt },
+        door,
     };
     crew(alloc, opening, 0, board, gates)
 }

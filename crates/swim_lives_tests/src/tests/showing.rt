@@ -185,24 +185,28 @@ fn live_on<'s, R: Threads + Wait + Clock + Send + Sync + Copy + Drop>(
     alloc: Global,
     shown: &'s Shown,
 ) -> Result<Option<Past>, Fail> {
+    let line = NotedLine {
+        clock: rt,
+        shown,
+        was_asked: false,
+    };
+    let post = TakingPost {};
+    let pace = JoinPace {
+        clock: rt,
+        shown,
+        has_ticked: false,
+        turns: 0,
+    };
+    let door = JoinDoor {
+        clock: rt,
+        shown,
+        was_open: false,
+    };
     let gates = Gates {
-        line: NotedLine {
-            clock: rt,
-            shown,
-            was_asked: false,
-        },
-        post: TakingPost {},
-        pace: JoinPace {
-            clock: rt,
-            shown,
-            has_ticked: false,
-            turns: 0,
-        },
-        door: JoinDoor {
-            clock: rt,
-            shown,
-            was_open: false,
-        },
+        line,
+        post,
+        pace,
+        door,
     };
     Ok(live_over(&rt, alloc, opening()?, 1000, gates)?)
 }

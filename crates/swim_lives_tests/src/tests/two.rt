@@ -159,19 +159,22 @@ fn ticking<'s, R: Threads + Wait + Clock + Send + Sync + Copy + Drop>(
     endpoint: &'s UdpEndpoint,
     watch: &'s Watch,
 ) -> Option<Past> {
+    let line = WatchedLine {
+        line: endpoint.line(),
+        watch,
+    };
+    let pace = FourTicks {
+        clock: rt,
+        signal: &watch.has_asked_again,
+        ticks: 0,
+        turns: 0,
+    };
+    let door = NoDoor { clock: rt };
     let gates = Gates {
-        line: WatchedLine {
-            line: endpoint.line(),
-            watch,
-        },
+        line,
         post: endpoint.post(),
-        pace: FourTicks {
-            clock: rt,
-            signal: &watch.has_asked_again,
-            ticks: 0,
-            turns: 0,
-        },
-        door: NoDoor { clock: rt },
+        pace,
+        door,
     };
     live_over(&rt, alloc, opening, 1000, gates).ok().flatten()
 }
@@ -184,11 +187,12 @@ fn answering<'s, R: Threads + Wait + Clock + Send + Sync + Copy + Drop>(
     endpoint: &'s UdpEndpoint,
     has_ended: &'s AtomicBool,
 ) -> Option<Past> {
+    let door = NoDoor { clock: rt };
     let gates = Gates {
         line: endpoint.line(),
         post: endpoint.post(),
         pace: pace(rt, has_ended, 0),
-        door: NoDoor { clock: rt },
+        door,
     };
     live_over(&rt, alloc, opening, 1000, gates).ok().flatten()
 }
