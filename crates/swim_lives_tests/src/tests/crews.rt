@@ -5,18 +5,9 @@ use std::alloc::AllocError;
 use swim_control::StatsText;
 use swim_desk::Speaker;
 
-/// What a crew asks, and what it sends by.
-#[derive(Drop)]
-pub struct Gates<L: Line + Drop, O: Post + Drop, P: Pace + Drop, D: Door + Drop> {
-    /// Where datagrams come in.
-    pub line: L,
-    /// Where they go out. The ticker has two posts of the same line.
-    pub post: O,
-    /// Gives the ticks.
-    pub pace: P,
-    /// Where operators come in.
-    pub door: D,
-}
+/// What a crew asks, and what it sends by: where datagrams come in; where they go out, by two posts of the ticker; what
+/// gives the ticks; and where operators come in.
+pub type Gates<L, O, P, D> = (L, O, P, D);
 
 /// A speaker that tells nothing.
 #[derive(Drop)]
@@ -61,12 +52,7 @@ pub fn crew<'b, L: Line + Drop, O: Post + Drop, P: Pace + Drop, D: Door + Drop>(
     board: &'b TidingsBoard,
     gates: Gates<L, O, P, D>,
 ) -> Result<GatedCrew<'b, L, O, P, D>, AllocError> {
-    let Gates {
-        line,
-        post,
-        pace,
-        door,
-    } = gates;
+    let (line, post, pace, door) = gates;
     let (for_ticks, for_knocks) = (post.fresh(), post.fresh());
     Ok(Crew {
         first: Box::new(

@@ -13,12 +13,12 @@ fn live_listed<'s, R: Threads + Wait + Clock + Send + Sync + Copy + Drop>(
         signals,
         was_open: false,
     };
-    let gates = Gates {
-        line: line(rt, signals, 0),
-        post: post(signals),
-        pace: pace(rt, &signals.is_stopping, 0),
+    let gates = (
+        line(rt, signals, 0),
+        post(signals),
+        pace(rt, &signals.is_stopping, 0),
         door,
-    };
+    );
     Ok(live_over(&rt, alloc, opening()?, 1000, gates)?)
 }
 
@@ -50,12 +50,7 @@ fn live_with_faults<'s, R: Threads + Wait + Clock + Send + Sync + Copy + Drop>(
         is_sending,
     };
     let door = NoDoor { clock: rt };
-    let gates = Gates {
-        line: line(rt, signals, faults),
-        post,
-        pace: pace(rt, signal, 0),
-        door,
-    };
+    let gates = (line(rt, signals, faults), post, pace(rt, signal, 0), door);
     Ok(live_over(&rt, alloc, opening()?, 1000, gates)?)
 }
 
@@ -95,12 +90,12 @@ fn live_briefly<'s, R: Threads + Wait + Clock + Send + Sync + Copy + Drop>(
     signals: &'s Signals,
 ) -> Result<Option<Past>, Fail> {
     let door = NoDoor { clock: rt };
-    let gates = Gates {
-        line: line(rt, signals, 0),
-        post: post(signals),
-        pace: pace(rt, &signals.is_stopping, 5),
+    let gates = (
+        line(rt, signals, 0),
+        post(signals),
+        pace(rt, &signals.is_stopping, 5),
         door,
-    };
+    );
     Ok(live_over(&rt, alloc, opening()?, 2, gates)?)
 }
 

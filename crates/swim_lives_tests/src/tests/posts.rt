@@ -115,12 +115,7 @@ fn assert_handed<'s, R: Threads + Wait + Clock + Abort + Send + Sync + Copy + Dr
         sheets: Vec::new(alloc),
     };
     let door = NoDoor { clock: rt };
-    let gates = Gates {
-        line,
-        post,
-        pace: pace(rt, is_asked_again, 2),
-        door,
-    };
+    let gates = (line, post, pace(rt, is_asked_again, 2), door);
     let opening = opening()?;
     let crew = crew(alloc, &opening, 0, board, gates)?;
     let (past, crew) = live(&rt, alloc, opening, chooser(), 1000, crew);

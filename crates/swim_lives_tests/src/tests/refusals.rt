@@ -58,12 +58,7 @@ fn insist<'s, R: Threads + Wait + Clock + Send + Sync + Copy + Drop>(
         signals,
         was_open: false,
     };
-    let gates = Gates {
-        line,
-        post: post(signals),
-        pace,
-        door,
-    };
+    let gates = (line, post(signals), pace, door);
     live_over(&rt, alloc, opening, 1000, gates).ok().flatten()
 }
 

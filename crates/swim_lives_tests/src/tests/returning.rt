@@ -139,12 +139,7 @@ fn assert_joined_again<'s, R: Threads + Wait + Clock + Abort + Send + Sync + Cop
         turns: 0,
     };
     let door = NoDoor { clock: rt };
-    let gates = Gates {
-        line,
-        post,
-        pace,
-        door,
-    };
+    let gates = (line, post, pace, door);
     let opening = pair()?;
     let crew = crew(alloc, &opening, 1, board, gates)?;
     let (past, crew) = live(&rt, alloc, opening, chooser(), 1000, crew);

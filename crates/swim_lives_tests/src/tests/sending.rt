@@ -145,11 +145,11 @@ fn live_slowly<'s, R: Threads + Wait + Clock + Send + Sync + Copy + Drop>(
         marks,
         was_open: false,
     };
-    let gates = Gates {
-        line: line(rt, signals, 0),
+    let gates = (
+        line(rt, signals, 0),
         post,
-        pace: pace(rt, &marks.was_answered, 0),
+        pace(rt, &marks.was_answered, 0),
         door,
-    };
+    );
     Ok(live_over(&rt, alloc, opening()?, 1000, gates)?)
 }

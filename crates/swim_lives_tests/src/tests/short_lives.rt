@@ -97,11 +97,6 @@ fn ticking_crew<'s, R: Clock + Copy + Drop>(
 ) -> Result<GatedCrew<'s, PingLine<'s, R>, TakingPost, StopPace<'s, R>, NoDoor<R>>, AllocError> {
     let post = TakingPost {};
     let door = NoDoor { clock: rt };
-    let gates = Gates {
-        line: line(rt, signals, 0),
-        post,
-        pace: pace(rt, is_told, 5),
-        door,
-    };
+    let gates = (line(rt, signals, 0), post, pace(rt, is_told, 5), door);
     crew(alloc, opening, 0, board, gates)
 }

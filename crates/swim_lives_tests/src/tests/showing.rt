@@ -202,12 +202,7 @@ fn live_on<'s, R: Threads + Wait + Clock + Send + Sync + Copy + Drop>(
         shown,
         was_open: false,
     };
-    let gates = Gates {
-        line,
-        post,
-        pace,
-        door,
-    };
+    let gates = (line, post, pace, door);
     Ok(live_over(&rt, alloc, opening()?, 1000, gates)?)
 }
 

@@ -170,12 +170,7 @@ fn ticking<'s, R: Threads + Wait + Clock + Send + Sync + Copy + Drop>(
         turns: 0,
     };
     let door = NoDoor { clock: rt };
-    let gates = Gates {
-        line,
-        post: endpoint.post(),
-        pace,
-        door,
-    };
+    let gates = (line, endpoint.post(), pace, door);
     live_over(&rt, alloc, opening, 1000, gates).ok().flatten()
 }
 
@@ -188,11 +183,11 @@ fn answering<'s, R: Threads + Wait + Clock + Send + Sync + Copy + Drop>(
     has_ended: &'s AtomicBool,
 ) -> Option<Past> {
     let door = NoDoor { clock: rt };
-    let gates = Gates {
-        line: endpoint.line(),
-        post: endpoint.post(),
-        pace: pace(rt, has_ended, 0),
+    let gates = (
+        endpoint.line(),
+        endpoint.post(),
+        pace(rt, has_ended, 0),
         door,
-    };
+    );
     live_over(&rt, alloc, opening, 1000, gates).ok().flatten()
 }

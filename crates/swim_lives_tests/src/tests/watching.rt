@@ -114,12 +114,12 @@ fn live_watched<'s, R: Threads + Wait + Clock + Send + Sync + Copy + Drop>(
     let opening = pair()?;
     let board = TidingsBoard::new(0);
     let lines = Lines::new(seen, FAILED, TABLE);
-    let gates = Gates {
-        line: line(rt, signals, 0),
-        post: post(signals),
-        pace: FourTicks::new(rt, seen),
-        door: OneOperator::new(rt, alloc, lines),
-    };
+    let gates = (
+        line(rt, signals, 0),
+        post(signals),
+        FourTicks::new(rt, seen),
+        OneOperator::new(rt, alloc, lines),
+    );
     let Crew {
         first,
         second,
