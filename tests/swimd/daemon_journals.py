@@ -25,8 +25,8 @@ JUDGED = re.compile(rb"^= \d+ started judged (\d+) probe \d+ (\d+)$", re.MULTILI
 TICKS = {"k": 1, "rtt": 1, "period": 4, "tick_ms": 10}
 # What a call may take to its file, and how far a comment's time may be off.
 SOON, OFF = 0.5, 2.0
-# What was answered so long before a daemon is killed stands in a file. A moment at which this machine itself was so
-# late that nobody could write in time tells nothing of the daemon: another one takes its place.
+# What was answered so long before a daemon is killed stands in a file. A moment at which this machine itself, or its
+# disk, was so late that nobody could write in time tells nothing of the daemon: another one takes its place.
 BEFORE, LATE = 0.2, 0.05
 KILLED, AT_ONCE, MOST_LATE = 50, 5, 100
 LIVES = 40
@@ -251,21 +251,27 @@ class Pinger(threading.Thread):
 
 
 class Clock(threading.Thread):
-    """Sleeps a hundredth of a second again and again, and notes how much longer each of these sleeps was."""
+    """Sleeps a hundredth of a second again and again, and has the disk of this folder keep a byte. It notes how much
+    longer each of these sleeps was, and how long the disk took: while that keeps one file, no other is written."""
 
-    def __init__(self):
+    def __init__(self, folder):
         super().__init__(daemon=True)
-        self.late, self.is_over = [], False
+        self.path, self.late, self.is_over = f"{folder}/clock", [], False
 
     def run(self):
-        while not self.is_over:
-            began = time.monotonic()
-            time.sleep(0.01)
-            now = time.monotonic()
-            self.late.append((now, now - began - 0.01))
+        with open(self.path, "wb", buffering=0) as file:
+            while not self.is_over:
+                began = time.monotonic()
+                time.sleep(0.01)
+                slept = time.monotonic()
+                self.late.append((slept, slept - began - 0.01))
+                file.write(b".")
+                os.fsync(file.fileno())
+                now = time.monotonic()
+                self.late.append((now, now - slept))
 
     def lateness(self, since, until):
-        """The most that it was late in that time, or in a sleep that reached into it."""
+        """The most that it was late in that time, or in a sleep or a wait for the disk that reached into it."""
         return max((late for at, late in list(self.late) if since <= at and at - late <= until), default=0.0)
 
 
@@ -273,7 +279,7 @@ def killed_at_once(machine, ids, r):
     """Kills each of these at a moment of its own: by its id the pings that it answered, with the seconds before that,
     and how late the machine was meanwhile."""
     daemons = [machine.daemon(id, members=ROWS, journal=r.choice([5, 40, 1_000]), **TICKS) for id in ids]
-    pingers, clock = {it.id: Pinger(machine, it) for it in daemons}, Clock()
+    pingers, clock = {it.id: Pinger(machine, it) for it in daemons}, Clock(machine.folder)
     for it in daemons:
         it.launch()
     clock.start()
