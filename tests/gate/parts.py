@@ -62,6 +62,7 @@ ROOMS = [
         "swimd/keys", "daemons with keys of a group, and groups whose keys differ or are changed over", SWIMD + SWIMSIM
     ),
     room("swimd/watch", "daemons that tell those who watch of each change, and `swimd watch`", SWIMD + SWIMSIM),
+    room("swimd/web", "pages that `swimd web` serves, and whoever asks for them", SWIMD + SWIMSIM),
     room("swimd/metrics", "what daemons log and count, beside their journal files", SWIMD + SWIMSIM),
     room("swimd/rejoin", "groups whose members are judged and come back", SWIMD + SWIMSIM),
     room("swimd/compare", "swimd beside models of its texts, and beside the reference", SWIMD + SWIMSIM, TOML),

@@ -1,6 +1,7 @@
 """Daemons on this machine: they are configured, started, asked, and ended. Ports are chosen by the system, and each
 wait has a limit."""
 
+import glob
 import os
 import re
 import select
@@ -11,6 +12,7 @@ import subprocess
 import sys
 import tempfile
 import time
+from contextlib import suppress
 from typing import NamedTuple
 
 from tests.support.configurations import HOST, configuration
@@ -149,6 +151,14 @@ def come(stream, length):
     return found
 
 
+def states_of_threads(process):
+    """A letter a thread of a process, as the system has it: `T` is one that a signal stopped."""
+    for path in glob.glob(f"/proc/{process}/task/*/stat"):
+        # A thread may end before it is read. Its state stands behind its name, which may have parentheses of its own.
+        with suppress(FileNotFoundError, ProcessLookupError), open(path, encoding="utf-8", errors="replace") as file:
+            yield file.read().rpartition(") ")[2][0]
+
+
 class Daemon:
     """A daemon with its folder. What isn't given of its configuration is that of a group on one fast machine."""
 
@@ -272,6 +282,16 @@ class Daemon:
         """What it told on standard error by now."""
         self.said += lying_in(self.child.stderr)
         return self.said
+
+    def stand_still(self):
+        """Stops it by a signal, and comes back once each of its threads stands: on a machine at work they go on for a
+        moment after the signal."""
+        self.child.send_signal(signal.SIGSTOP)
+        until(lambda: set(states_of_threads(self.child.pid)) == {"T"}, f"member {self.id} stands still")
+
+    def go_on(self):
+        """Lets it go on after it stood still."""
+        self.child.send_signal(signal.SIGCONT)
 
     def kill(self):
         """Ends it without a word, as a machine that fails does."""

@@ -7,6 +7,7 @@ from tests.support.parts import TOP, content
 CODE = re.compile(r"^```python\n(.*?)^```$", re.MULTILINE | re.DOTALL)
 ROWS = {"key": 7, "text": 6, "HMAC": 6, "datagram": 2}
 TAGGED = re.compile("\n".join(rf"^    {name} {{{spaces}}}([0-9a-f]+)$" for name, spaces in ROWS.items()), re.MULTILINE)
+TABLES = re.compile(r"^    swimd ask .* list \| (awk '.*')$", re.MULTILINE)
 TAGGING = re.compile(r"^    (printf [^\n]*\|\n {8}openssl [^\n]*)$", re.MULTILINE)
 
 
@@ -14,6 +15,12 @@ def code_in(document):
     """The one program in Python of a document of docs/."""
     (code,) = CODE.findall(content(f"{TOP}/docs/{document}").decode())
     return code
+
+
+def tables_of_members():
+    """The command of docs/OPERATING.md for a shell that makes tables of a configuration of the answer to `list`."""
+    (command,) = TABLES.findall(content(f"{TOP}/docs/OPERATING.md").decode())
+    return command
 
 
 def tagged_example():

@@ -2,14 +2,14 @@
 
 import os
 import re
-import signal
 import socket
 import subprocess
 import time
 from contextlib import contextmanager
 
 from tests.support.daemons import SECONDS, come, must, until
-from tests.swimd.daemon_lines import LISTED, quiet
+from tests.support.documents import tables_of_members
+from tests.swimd.daemon_lines import LISTED, MINUTE, quiet
 
 # How long a limit of one second may take on a machine that has much to do.
 SOON = 5.0
@@ -61,6 +61,18 @@ def a_line_of_words(machine):
     must_be(asked(daemon, "a" * 100_000), (b"fault 1\n", b"", 3), "a line of 100,000 bytes")
     must_be(asked(daemon), (b"", b"", 0), "no words, and nothing on standard input")
     must(daemon.stop().entries == 0, "it made entries")
+
+
+def a_list_as_a_configuration(machine):
+    """The command of OPERATING makes tables of the answer to `list`, with which a daemon knows these members."""
+    members = [(2, "10.0.0.2:7000"), (17, "10.0.0.17:7017")]
+    daemon, other = machine.started(members=members, tick_ms=MINUTE), machine.daemon(1, tick_ms=MINUTE)
+    listed, _, _ = asked(daemon, "list")
+    made = subprocess.run(["sh", "-c", tables_of_members()], input=listed, capture_output=True, timeout=SECONDS)
+    with open(other.file, "ab") as file:
+        file.write(made.stdout)
+    other.start()
+    must_be(asked(other, "list"), (listed, b"", 0), "a daemon of those tables")
 
 
 def no_second_line(machine):
@@ -146,13 +158,13 @@ def many_stops_at_once(machine):
     """However many ask at once: each that met the daemon ends well, and says that it stops."""
     for turn in range(STOPS):
         daemon = quiet(machine)
-        daemon.child.send_signal(signal.SIGSTOP)
+        daemon.stand_still()
         words = [daemon.program, "ask", "--control", daemon.control, "stop"]
         pipes = {"stdin": subprocess.DEVNULL, "stdout": subprocess.PIPE, "stderr": subprocess.PIPE}
         asking = [subprocess.Popen(words, **pipes) for _ in range(1 + turn)]
         # All of them have connected by then, and sent their line.
         time.sleep(0.3)
-        daemon.child.send_signal(signal.SIGCONT)
+        daemon.go_on()
         for it in asking:
             out, err = it.communicate(timeout=SECONDS)
             must_be((out, err, it.returncode), (b"stopping\n", b"", 0), f"one of {len(asking)} that ask to stop")
@@ -184,13 +196,13 @@ def full_queue(path):
 def a_daemon_that_stands_still(machine):
     """Five seconds are waited where no word says how long; as many clients as the queue takes hold nobody up either."""
     daemon = quiet(machine)
-    daemon.child.send_signal(signal.SIGSTOP)
+    daemon.stand_still()
     try:
         began = time.monotonic()
         must_be(asked(daemon, "list"), (b"", b"ask timeout\n", 5), "a daemon that is stopped")
         must(4.9 < time.monotonic() - began < 5 + SOON, f"five seconds last {time.monotonic() - began:.1f}")
     finally:
-        daemon.child.send_signal(signal.SIGCONT)
+        daemon.go_on()
     until(lambda: asked(daemon, "list") == (LISTED, b"", 0), "the daemon goes on")
     path = f"{machine.folder}/full.sock"
     with full_queue(path):
@@ -266,6 +278,7 @@ def help_and_version(machine):
 
 ASKING = [
     a_line_of_words,
+    a_list_as_a_configuration,
     no_second_line,
     statuses_of_answers,
     more_lines_than_a_connection_takes,

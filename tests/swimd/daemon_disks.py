@@ -9,10 +9,14 @@ from tests.support.daemons import SECONDS, introduced, must, until
 from tests.support.datagrams import PING, datagram
 from tests.support.disks import disk, fill, hanging
 from tests.support.journals import front, journals, must_play, told
-from tests.support.sayings import TIME
+from tests.support.parts import content
+from tests.support.sayings import TIME, but_for_notices
 from tests.swimd.daemon_journal_faults import told_faults
 from tests.swimd.daemon_journals import MINUTE, filled, must_be_told
+from tests.swimd.daemon_metrics import stats_of
+from tests.swimd.daemon_patience import FEWER, must_be_whole
 from tests.swimd.daemon_shortages import MOST_SECONDS, soon
+from tests.swimd.daemon_starting import SHORT
 
 JOURNAL, HANGS = 300, 4.0
 # A period of a second.
@@ -24,6 +28,12 @@ TOO_MANY = re.compile(
 )
 # So many have more than a block of the disk.
 FEW = 200
+# The lines of so many lives have more than 8 KiB; each of these lives takes a tenth of a second.
+MANY = 200
+# Of so many lives behind those that were left out some are told.
+LATER = 5
+# So many seconds four lives may take.
+MOST_TURNS = 30
 
 
 class Pings:
@@ -106,6 +116,10 @@ def a_disk_that_hangs_for_a_moment(machine):
             with hanging(folder):
                 pings.go_on(0.5)
             pings.go_on(0.5)
+        # A machine that has much to do takes longer for that many lives.
+        for _ in range(MOST_TURNS):
+            if daemon.lives_so_far() <= 3:
+                pings.go_on(1)
         closing, files = daemon.stop(), journals(folder)
         must(closing.status == 0 and len(daemon.lives) > 3, f"it ended {closing}")
         must_be_told(daemon, closing, files)
@@ -133,4 +147,70 @@ def a_fault_that_comes_late(machine):
         must_play(machine.simulator, front(journals(folder)[0].text), path)
 
 
-DISKS = [a_disk_that_hangs_holds_up_nobody, a_disk_that_hangs_for_a_moment, a_fault_that_comes_late]
+def with_streams_in(folder, daemon):
+    """Starts it with standard output and standard error in files of that folder."""
+    with open(f"{folder}/out", "wb") as out, open(f"{folder}/err", "wb") as err:
+        daemon.launch(stdout=out, stderr=err)
+    until(daemon.answers, "it answers")
+    return daemon
+
+
+def lives_of(daemon):
+    return stats_of(daemon)["swimd_lives_total", None]
+
+
+def streams_on_a_disk_that_hangs(machine):
+    """Standard output and standard error are files there: pings and operators are answered, lives change, and `stop`
+    ends them. Once the disk goes on each line is there, and the program ends."""
+    with disk(machine) as folder:
+        if folder is None:
+            return
+        daemon = with_streams_in(folder, machine.daemon(1, **TIMES, fence=0, journal=JOURNAL))
+        pings = Pings(machine, daemon)
+        pings.go_on(0.5)
+        with hanging(folder):
+            pings.go_on(HANGS)
+            must(pings.longest < MOST_SECONDS / 2, f"a ping is answered after {pings.longest:.2f} seconds")
+            must(soon(daemon).endswith(b".\n"), "it isn't answered")
+            lives = lives_of(daemon)
+            must(lives > 2, f"there are {lives} lives")
+            must(daemon.ask(b"stop\n") == b"stopping\n", "it doesn't stop")
+            time.sleep(0.5)
+            must(daemon.child.poll() is None, "the disk doesn't hang")
+        must(daemon.child.wait(SECONDS) == 0, "it ended otherwise")
+        out, err = content(f"{folder}/out"), content(f"{folder}/err")
+        numbers = must_be_whole(out)
+        must(len(numbers) >= lives - 1 and numbers == list(range(len(numbers))), f"of {lives} lives it tells {numbers}")
+        must(b"\nended stopped " in out, f"it ends with {out[-300:]!r}")
+        must(but_for_notices(err) == b"" and err.count(b" begins\n") == len(numbers) + 1, f"it tells {err!r}")
+        print(f"  in {lives:.0f} lives no ping was answered later than {pings.longest:.2f} seconds after the last")
+
+
+def streams_whose_disk_hangs_long(machine):
+    """Where more lines wait than there is room for, each further one is left out whole, and counted."""
+    with disk(machine) as folder:
+        if folder is None:
+            return
+        daemon = with_streams_in(folder, machine.daemon(1, members=[(2, "10.0.0.2:7000")], **SHORT, journal_dir=None))
+        with hanging(folder):
+            until(lambda: lives_of(daemon) > MANY, f"{MANY} lives", 3 * SECONDS)
+        lives = lives_of(daemon)
+        until(lambda: content(f"{folder}/out"), "the disk goes on")
+        until(lambda: lives_of(daemon) > lives + LATER, f"{LATER} lives more")
+        must(daemon.ask(b"stop\n") == b"stopping\n", "it doesn't stop")
+        must(daemon.child.wait(SECONDS) == 0, "it ended otherwise")
+        out, err = content(f"{folder}/out"), content(f"{folder}/err")
+        numbers, fewer = must_be_whole(out), FEWER.findall(err)
+        must(len(numbers) < MANY, f"of {MANY} lives it tells {len(numbers)}")
+        must(but_for_notices(err) == b"", f"it tells {err[-300:]!r}")
+        must([int(it) for it in fewer] == [numbers[-1] + 1 - len(numbers)], f"of {numbers} it tells {fewer}")
+        must(out.rsplit(b"\n", 2)[1].startswith(b"ended stopped "), f"it ends with {out[-300:]!r}")
+
+
+DISKS = [
+    a_disk_that_hangs_holds_up_nobody,
+    a_disk_that_hangs_for_a_moment,
+    a_fault_that_comes_late,
+    streams_on_a_disk_that_hangs,
+    streams_whose_disk_hangs_long,
+]

@@ -156,8 +156,6 @@ def restarts_are_verified_together(machine):
         daemon = machine.started(members=ROWS, tick_ms=MINUTE, journal=5)
         filled(daemon, peer, 2)
         daemon.kill()
-        # A start within the same second has no file of its own.
-        time.sleep(1.1)
     files = journals(machine.journals)
     firsts = [it.path.encode() for it in files if it.life == 0]
     must(len(firsts) == 3 and len(files) >= 9, f"three starts of three lives left {[it.path for it in files]}")

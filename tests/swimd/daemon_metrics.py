@@ -38,14 +38,16 @@ NAMES = {
 }
 # Those of journal files, which a daemon has none of that writes none.
 FILES_NAMES = ["swimd_journal_file_ok", "swimd_journal_files_cut_total"]
-SAMPLE = re.compile(r'([a-z_]+)(?:\{([a-z]+)="((?:[^"\\]|\\["\\n])*)"\})? ([0-9.]+)')
+SAMPLE = re.compile(
+    r'(?P<name>[a-z_]+)\{member="(?P<member>\d+)"(?:,[a-z]+="(?P<label>(?:[^"\\]|\\["\\n])*)")?\} (?P<value>[0-9.]+)'
+)
 ENTRY = re.compile(r"= \d+ (.*)")
 
 
 def parsed(text, names=NAMES):
     """The samples of a text in the exposition format, by name and label. Each family stands together, behind what it
-    tells and its type, and once, and these are all families."""
-    samples, family, seen, last_line = {}, None, {}, text[-1:]
+    tells and its type, and once, and these are all families. All samples are of one member."""
+    samples, family, seen, last_line, members = {}, None, {}, text[-1:], set()
     must(last_line == "\n", f"the text ends with {last_line!r}")
     for line in text.split("\n")[:-1]:
         if line.startswith("# HELP "):
@@ -59,10 +61,12 @@ def parsed(text, names=NAMES):
             found = SAMPLE.fullmatch(line)
             must(found and family in seen, f"no sample is {line!r}")
             suffixes = ["_bucket", "_sum", "_count"] if seen[family] == "histogram" else [""]
-            must(found[1] in [family + it for it in suffixes], f"among those of {family} stands {line!r}")
-            must((found[1], found[3]) not in samples, f"twice stands {line!r}")
-            samples[found[1], found[3]] = float(found[4])
+            must(found["name"] in [family + it for it in suffixes], f"among those of {family} stands {line!r}")
+            must((found["name"], found["label"]) not in samples, f"twice stands {line!r}")
+            samples[found["name"], found["label"]] = float(found["value"])
+            members.add(int(found["member"]))
     must(seen == names, f"the families are {seen}")
+    must(members == {samples["swimd_member_id", None]}, f"they are samples of {members}")
     return samples
 
 
@@ -72,8 +76,8 @@ def stats_of(daemon):
     lines = text.decode().split("\n")
     must(lines[-2:] == [".", ""], f"`stats` ends with {lines[-2:]}")
     found = [SAMPLE.fullmatch(it) for it in lines[:-2]]
-    must(all(found), f"`stats` says {lines}")
-    return {(it[1], it[3]): float(it[4]) for it in found}
+    must(all(it and it["member"] == str(daemon.id) for it in found), f"`stats` says {lines}")
+    return {(it["name"], it["label"]): float(it["value"]) for it in found}
 
 
 def counted(machine, id=1, **values):
@@ -191,6 +195,22 @@ def metrics_of_a_group(machine):
         )
         must(samples["swimd_build_info", "1.0"] == 1, f"it says {samples}")
     must(samples["swimd_verdicts_total", None] == 1, f"the second one says {samples}")
+
+
+def two_members_in_one_folder(machine):
+    """Of two daemons whose files lie in one folder no two series are the same, and each family tells the same of both."""
+    texts = []
+    for id in (1, 2):
+        _, path = counted(machine, id, tick_ms=MINUTE)
+        written(path)
+        texts.append(file_of(path))
+    series, heads = [], []
+    for text in texts:
+        lines = text.split("\n")[:-1]
+        series.append({it.rpartition(" ")[0] for it in lines if not it.startswith("#")})
+        heads.append([it for it in lines if it.startswith("#")])
+    must(not series[0] & series[1], f"both have {sorted(series[0] & series[1])}")
+    must(heads[0] == heads[1], "what a family tells differs")
 
 
 def a_histogram_of_waits(machine):
@@ -318,6 +338,7 @@ def promtool_agrees(machine):
 METRICS = [
     the_file_is_never_half,
     metrics_of_a_group,
+    two_members_in_one_folder,
     a_histogram_of_waits,
     stats_say_the_same,
     what_nobody_sent_is_counted,

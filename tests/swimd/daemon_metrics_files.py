@@ -38,6 +38,18 @@ def a_folder_that_is_gone(machine):
     must(written(path)["swimd_verdicts_total", None] == 1, "once the folder is there, the file isn't written")
 
 
+def a_file_for_all_to_read(machine):
+    """Whatever the mask of the daemon, as that of the service is, and each time that it is written."""
+    for id, mask in enumerate((0, 0o022, 0o077, 0o777), 1):
+        path = f"{machine.folder}/{id}.prom"
+        daemon = machine.started(id, how={"preexec_fn": lambda: os.umask(mask)}, tick_ms=MINUTE, metrics=path)
+        written(path)
+        first = stat.S_IMODE(os.stat(path).st_mode)
+        must(daemon.stop().status == 0, "it ended otherwise")
+        modes = first, stat.S_IMODE(os.stat(path).st_mode)
+        must(modes == (0o644, 0o644), f"with mask {mask:o} it has the modes {modes}")
+
+
 def a_disk_that_hangs(machine):
     """While the metrics wait for their disk, operators and members are answered, lives change, and the daemon stops. All
     is written once the disk goes on."""
@@ -188,6 +200,7 @@ def a_path_of_a_socket(machine):
 
 
 METRICS_FILES = [
+    a_file_for_all_to_read,
     a_folder_that_is_gone,
     a_disk_that_is_full,
     a_disk_that_hangs,

@@ -3,9 +3,7 @@ operator. Between daemons stands a relay of datagrams, which a test can cut, one
 
 import collections
 import contextlib
-import os
 import select
-import signal
 import threading
 import time
 
@@ -20,6 +18,8 @@ QUICK = {"tick_ms": 10, "rtt": 3, "period": 12, "k": 1}
 SLACK_SECONDS = 1.5
 CUTS, ROUNDS, RECORDED_PERIODS = 10, 3, 64
 SOON, MOST_TIMES = 16, 64
+# What stands in a journal file behind a join that the daemon made by itself.
+OWN_JOIN = "# rejoin"
 
 
 class Wires(threading.Thread):
@@ -112,12 +112,12 @@ def stopped_and_continued(machine):
     """A member that stands still for three rounds is judged, and is up again everywhere soon after it goes on."""
     daemons, _ = wired(machine, 3, rejoin=1)
     still, others = daemons[2], daemons[:2]
-    os.kill(still.child.pid, signal.SIGSTOP)
+    still.stand_still()
     try:
         until(lambda: judged_by(others, still.id), "who stands still is judged")
         time.sleep(ROUNDS * 2 * still.period_seconds)
     finally:
-        os.kill(still.child.pid, signal.SIGCONT)
+        still.go_on()
     took = all_up_within(daemons, periods_of_a_round(3) + 1, "it is up again everywhere")
     print(f"  up again everywhere after {took:.1f} periods")
     stop_all(daemons)
@@ -333,6 +333,23 @@ def who_flaps_waits(machine):
     print(f"  joined again after {', '.join(map(str, waits))} knocks")
 
 
+def a_file_tells_own_joins(machine):
+    """Behind the answer to a join of the daemon's own stands a comment, in no other place, and so not behind that of an
+    operator's join."""
+    silent, operators = Silent(machine, rejoin=1), machine.socket()
+    silent.socket.sendto(datagram(ACK, 2, 1, 2, silent.knock()), silent.daemon.address)
+    until(silent.is_up, "it is up after an ack of a knock", 2)
+    answer = silent.daemon.ask(f"join 3 {HOST}:{operators.getsockname()[1]}\n".encode())
+    must(answer.startswith(b"joined "), f"an operator's join is answered {answer!r}")
+    silent.daemon.stop()
+    (file,) = journals(silent.daemon.values["journal_dir"], silent.daemon.id)
+    lines = file.text.decode().split("\n")
+    joins = {line.split(" ")[1]: at for at, line in enumerate(lines) if line.startswith("join ")}
+    must(joins.keys() == {"2", "3"}, f"the file has joins of {joins.keys()}")
+    own = [at for at, line in enumerate(lines) if line == OWN_JOIN]
+    must(own == [joins["2"] + 2], f"the joins stand in the lines {joins}, and {OWN_JOIN} in {own}")
+
+
 def without_the_key_nobody_comes_back(machine):
     """Without `rejoin`, and with 0, a failed member is sent nothing and isn't joined, whatever it sends."""
     for values in ({}, {"rejoin": 0}):
@@ -364,5 +381,6 @@ RETURNS = [
     acks_of_no_knock_are_not_believed,
     what_was_recorded_is_not_believed,
     who_flaps_waits,
+    a_file_tells_own_joins,
     without_the_key_nobody_comes_back,
 ]

@@ -180,6 +180,17 @@ def a_path_that_is_served(machine):
     must(first.states() == {2: "up"} and first.stop().status == 0, "the first daemon is disturbed")
 
 
+def one_path_for_two_sockets(machine):
+    """In two spellings: the events' socket is opened first, so somebody serves the control path, and it is kept."""
+    daemon = machine.daemon(1, tick_ms=MINUTE)
+    folder, name = os.path.split(daemon.control)
+    daemon.values["events"] = f"{folder}/./{name}"
+    daemon.write()
+    served = "  somebody serves this socket; it is kept"
+    must_say(refusal(daemon), "bind control", f"  {daemon.control}: address in use", served)
+    must(stat.S_ISSOCK(os.lstat(daemon.control).st_mode), "the socket is gone that was served")
+
+
 def a_path_whose_queue_is_full(machine):
     """Where somebody listens who takes nobody, it is refused at once, and doesn't wait."""
     daemon = machine.daemon(1, tick_ms=MINUTE)
@@ -301,6 +312,7 @@ STARTING = [
     causes_of_paths,
     a_path_that_is_forbidden,
     a_path_that_is_served,
+    one_path_for_two_sockets,
     a_path_whose_queue_is_full,
     a_stale_socket,
     a_stale_socket_for_two,

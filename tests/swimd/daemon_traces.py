@@ -4,7 +4,6 @@ daemons stands a socket of the test, which forwards what comes from the one to t
 import os
 import re
 import select
-import signal
 import subprocess
 import threading
 import time
@@ -153,12 +152,16 @@ def a_kill_is_traced(machine):
 def a_standstill_is_traced(machine):
     """A daemon is stopped by a signal for some periods, and answers too late when it goes on."""
     daemons, _ = group(machine, lambda *_: False)
-    daemons[-1].child.send_signal(signal.SIGSTOP)
+    daemons[-1].stand_still()
     until(lambda: all(is_failed(it, LAST) for it in daemons[:-1]), "verdicts on who stands still")
-    daemons[-1].child.send_signal(signal.SIGCONT)
+    daemons[-1].go_on()
     time.sleep(3 * daemons[0].period_seconds)
     stop_all(daemons)
-    must_end(machine, LAST, "was alive but stood still: it answered ")
+    stood = "was alive but stood still: it answered "
+    # A probe that came just before it stood still leaves no later ping by which to tell that it did.
+    must_end(machine, LAST, stood, "was alive: it answered ")
+    told = traces(machine, "--judged", str(LAST))
+    must(any(f"  so {LAST} {stood}" in it for it in told), f"that it stood still isn't told: {told}")
 
 
 TRACES = [lost_acks_are_traced, a_cut_is_traced, a_kill_is_traced, a_standstill_is_traced]

@@ -13,7 +13,7 @@ from tests.support.parts import TOP, content, leave_out
 from tests.swimd.worked_configs import FULL
 
 SECONDS = 60
-SERVICE = "lib/systemd/system/swimd.service"
+SERVICES = {f"lib/systemd/system/{name}": f"{TOP}/contrib/{name}" for name in ("swimd.service", "swimd-web.service")}
 DOCUMENTS = ["OPERATING.md", "CHECKING.md", "FORMATS.md", "PROTOCOL.md", "healing.svg"]
 # Files that the examples in documents make.
 MADE = ["run.svg"]
@@ -46,7 +46,8 @@ def origins(programs):
         yield f"share/doc/{owner}/examples/{name}", f"{TOP}/examples/{name}", 0o644
     for name in DOCUMENTS:
         yield f"share/doc/swimd/{name}", f"{TOP}/docs/{name}", 0o644
-    yield SERVICE, f"{TOP}/contrib/swimd.service", 0o644
+    for path, origin in SERVICES.items():
+        yield path, origin, 0o644
 
 
 def misplaced(programs, below, prefix=None):
@@ -55,7 +56,7 @@ def misplaced(programs, below, prefix=None):
     said = [f"{path} lies below PREFIX" for path in files(below) if path not in wanted]
     for path, (origin, mode) in wanted.items():
         text = content(origin)
-        if path == SERVICE:
+        if path in SERVICES:
             text = text.replace(b"/usr/local/bin/", f"{prefix or below}/bin/".encode())
         if not os.path.exists(f"{below}/{path}"):
             said.append(f"{path} is missing")
@@ -155,7 +156,7 @@ def the_service_is_read_without_a_warning(programs, _prefix):
         return []
     with tempfile.TemporaryDirectory(prefix="swimd-install-") as prefix:
         said = make(programs, "install", PREFIX=prefix)
-        words = ["systemd-analyze", "verify", "--man=no", f"{prefix}/{SERVICE}"]
+        words = ["systemd-analyze", "verify", "--man=no", *(f"{prefix}/{it}" for it in SERVICES)]
         ran = subprocess.run(words, capture_output=True, text=True, timeout=SECONDS)
     return said + ([ran.stderr or "it is refused"] if ran.returncode or ran.stderr else [])
 

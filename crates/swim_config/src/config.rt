@@ -43,8 +43,8 @@ pub struct Config {
     pub keys: GroupKeys,
     /// Whether `last` is to be the system's clock as the daemon starts: keys are set, and `last` was left out.
     pub begins_by_clock: bool,
-    /// How many datagrams a second are handed on of each listed member's address, and of all others together; 0 for
-    /// all.
+    /// How many datagrams a second are handed on of each listed member's address, and of all others together, and a burst
+    /// of as many; 0 for all.
     pub fence: u32,
     /// Whether `fence` stands in the document.
     pub is_fence_given: bool,
@@ -90,7 +90,7 @@ pub struct JournalSettings {
 /// What is thrown away before it is looked at.
 #[derive(Clone, Copy)]
 pub struct FenceSettings {
-    /// How many datagrams a second of an address are handed on; 0 for all.
+    /// How many datagrams a second of an address are handed on, and a burst of as many; 0 for all.
     pub rate: u32,
     /// Whether it stands in the document.
     pub is_given: bool,

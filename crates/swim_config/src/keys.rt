@@ -35,7 +35,7 @@ pub enum ConfigKey {
     Wire,
     /// The keys of the group, by which datagrams are signed.
     Keys,
-    /// How many datagrams a second of an address are handed on.
+    /// How many datagrams a second of an address are handed on, and a burst of as many.
     Fence,
     /// At every how manieth start of a period a failed member is knocked at.
     Rejoin,

@@ -39,7 +39,7 @@ impl Model for Fence {
 }
 
 impl Fence {
-    /// A fence that lets so many datagrams a second pass. No member is listed.
+    /// A fence that lets up to `rate` datagrams a second pass, and a burst of as many. No member is listed.
     pub fn new(rate: u32) -> Fence
         ensures rate { result.rate ≡ rate }
         ensures follows { Follows result [] }

@@ -1,4 +1,5 @@
-//! A fence against floods: so many datagrams a second of each member's address, and of all other addresses together.
+//! A fence against floods, a token bucket for each member's address and one for all other addresses together: up to a
+//! number of datagrams a second, and as many again at once.
 #![tactic(auto)]
 
 mod buckets;

@@ -1,7 +1,5 @@
 -- One more call in the text of a journal's calls.
-use Rattle.std.proofs.Common.{◌≡◌, ℕ, List, [], ◌∷◌, ◌++◌, Option, Bool, true, false, refl, sym, ap, subst, ◌∙◌}
-use Rattle.std.proofs.Common.{append_assoc, append-nil}
-use Rattle.swim_text.specs.Streams.{Puts, puts_less, puts_then}
+use Rattle.std.proofs.Common.{◌≡◌, List, [], ◌∷◌, ◌++◌, refl, sym, ap, ◌∙◌, append_assoc, append-nil}
 use Rattle.swim_node.specs.Cells.{Filing}
 use Rattle.swim_journal.specs.Journals.{kept_text, calls_text, AreReadBack}
 
@@ -23,16 +21,3 @@ back_join (x ∷ calls) more p q = (p.0, back_join calls more p.1 q)
 pub back_parts : (calls more : List Filing) → AreReadBack (calls ++ more) → AreReadBack calls × AreReadBack more
 back_parts [] more p = (tt, p)
 back_parts (x ∷ calls) more p = let rest = back_parts calls more p.1 in ((p.0, rest.0), rest.1)
-
--- ---- one call more, which was written where the file was whole
-
-pub next_written : (page o n : Option (List ℕ)) (read new : List Filing) (f : Filing) (whole done : Bool) →
-    Puts page o (calls_text read) whole → new ≡ read ++ f ∷ [] → (whole ≡ true → Puts o n (kept_text f.kept) done) →
-    (whole ≡ false → (done ≡ false) × (n ≡ o)) → Puts page n (calls_text new) done
-next_written page o n read new f true done w is puts cut =
-    subst (λ (t : List ℕ). Puts page n t done) (sym (ap calls_text is ∙ calls_more read f))
-    (puts_then page o n (calls_text read) (kept_text f.kept) done w (puts refl))
-next_written page o n read new f false done w is puts cut =
-    rw ((cut refl).0, (cut refl).1)
-    (subst (λ (t : List ℕ). Puts page o t false) (sym (ap calls_text is ∙ calls_more read f))
-    (puts_less page o (calls_text read) (kept_text f.kept) w))

@@ -1,5 +1,5 @@
--- The text of a journal's calls, and what is known of who writes it.
-use Rattle.std.specs.Prelude.{ℕ, Bool, List, [], ◌∷◌, ◌++◌}
+-- The text of a journal's calls.
+use Rattle.std.specs.Prelude.{ℕ, List, [], ◌∷◌, ◌++◌}
 use Rattle.swim_history.specs.declared.seats.Kept.{Kept}
 use Rattle.swim_node.specs.Cells.{Filing}
 use Rattle.swim_journal.specs.Lines.{call_line, answer_line, IsReadBack}
@@ -17,10 +17,3 @@ calls_text (f ∷ calls) = kept_text f.kept ++ calls_text calls
 abbrev pub AreReadBack : List Filing → Type 0
 AreReadBack [] = Unit {0}
 AreReadBack (f ∷ calls) = IsReadBack f.kept.call × AreReadBack calls
-
--- what contracts see of who writes a journal down: the calls that were read, the sink, and whether it took all of their
--- text and handed it on
-pub record Scribed (W : Type 0) : Type 0 where
-  pub read : List Filing
-  pub writer : W
-  pub whole : Bool

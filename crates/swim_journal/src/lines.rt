@@ -65,7 +65,7 @@ fn put_joined<W: Sink>(writer: &mut W, id: Id, peer: Peer) -> bool
 }
 
 /// The line of a call reads back as the call.
-pub(crate) fn read_back(call: &Call)
+fn read_back(call: &Call)
     ensures { IsReadBack call.now }
 {
     check_spoken(call);

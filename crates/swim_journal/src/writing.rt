@@ -1,20 +1,16 @@
-//! A node's journal, written down while the node runs.
+//! The lines of a node's journal.
 
-ghost use Rattle.std.specs.Prelude.{◌≡◌, ◌++◌, false, true};
+ghost use Rattle.std.specs.Prelude.{◌≡◌, ◌++◌};
 ghost use Rattle.swim_text.specs.Streams.{Puts, failures_if};
 ghost use Rattle.swim_history.specs.Texts.{feed};
 ghost use Rattle.swim_script.specs.Texts.{placed_text};
 ghost use Rattle.swim_journal.specs.Lines.{answer_line, IsReadBack};
 ghost use Rattle.swim_journal.specs.Journals.{kept_text};
 
-use crate::lines::{put_call, read_back};
+use crate::lines::put_call;
 use swim_history::{Kept, Reply};
 use swim_script::put_placed;
 use swim_text::Sink;
-
-/// The most calls that whoever writes a journal down reads at a time, so that it comes to an end however fast they are
-/// made.
-pub const STEP_CALLS: u32 = 1024;
 
 /// The lines of an answered call: the call's, which reads back as the call, and one that tells its place and its reply.
 pub fn put_kept<W: Sink>(writer: &mut W, kept: &Kept) -> bool
@@ -26,20 +22,6 @@ pub fn put_kept<W: Sink>(writer: &mut W, kept: &Kept) -> bool
         return false;
     }
     put_answer(writer, kept.position, &kept.reply)
-}
-
-/// The lines of an answered call, as long as the sink took all: once it failed, nothing more is written.
-pub fn put_unless_cut<W: Sink>(writer: &mut W, is_whole: bool, kept: &Kept) -> bool
-    ensures bytes { is_whole ≡ true → Puts (W.written writer.old) (W.written writer.new) (kept_text kept.now) result }
-    ensures failures { is_whole ≡ true → W.failures writer.new ≡ failures_if (W.failures writer.old) result }
-    ensures cut { is_whole ≡ false → (result ≡ false) × (writer.new ≡ writer.old) }
-    ensures back { IsReadBack kept.now.call }
-{
-    if !is_whole {
-        read_back(&kept.call);
-        return false;
-    }
-    put_kept(writer, kept)
 }
 
 /// The line of what was answered, and where.

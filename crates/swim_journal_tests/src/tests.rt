@@ -1,6 +1,6 @@
 mod comments;
 
-ghost use Rattle.std.specs.Prelude.{◌≡◌, List, Some};
+ghost use Rattle.std.specs.Prelude.{◌≡◌, List};
 ghost use Rattle.swim_history.specs.declared.entries.Entry.{Entry};
 
 use std::alloc::Global;
@@ -11,7 +11,7 @@ use std::test::*;
 use swim_doubles::Text;
 use swim_history::Opening;
 use swim_journal::*;
-use swim_node::{CallFault, Naming, Node, Parts, Seat};
+use swim_node::{CallFault, Follower, Naming, Node, Parts, Seat};
 use swim_script::{Session, run};
 use swim_targets::Seeded;
 use swim_text::Page;
@@ -97,7 +97,7 @@ fn callers_of<N: Naming>(seats: [Seat<N>; 4]) -> (Seat<N>, Seat<N>, Seat<N>) {
     (first, second, third)
 }
 
-fn write_calls<N: PageNaming, R: Wait + Abort + Copy + Drop>(
+fn write_calls<N: Naming, R: Wait + Abort + Copy + Drop>(
     rt: R,
     alloc: Global,
     parts: Parts,
@@ -108,56 +108,54 @@ fn write_calls<N: PageNaming, R: Wait + Abort + Copy + Drop>(
     requires opening { opening ≡ N.opening }
     requires limit { N.limit ≡ 2000 }
     requires drawn { (h : List Entry) → N.drawn h }
-    requires page { Some page.text ≡ N.page }
 {
     let chooser = Seeded::life([7; 32], 5);
     match Node::<N, Seeded, R>::open(alloc, rt, parts, opening, chooser, 2000) {
         Ok(opened) => {
             let (node, seats, viewers) = opened;
             drop(viewers);
-            let scribe = Scribe::new(alloc, &node, page);
-            Ok(written(&rt, &node, callers_of(seats), scribe))
+            Ok(written(&rt, alloc, &node, callers_of(seats), page))
         }
         Err(_) => Err(Fail::new("a node")),
     }
 }
 
 // The text of 1,506 calls, which are written down in two goes.
-fn written<N: PageNaming, R: Wait + Abort + Copy + Drop>(
+fn written<N: Naming, R: Wait + Abort + Copy + Drop>(
     rt: &R,
+    alloc: Global,
     node: &Node<N, Seeded, R>,
     callers: (Seat<N>, Seat<N>, Seat<N>),
-    scribe: Scribe<N, Page>,
+    page: Page,
 ) -> Page {
     let (mut hears, mut ticks, mut changes) = callers;
-    let mut scribe = scribe;
+    let (mut follower, mut page) = (node.follower(alloc), page);
     assert!(rt; make_calls(rt, node, &mut hears, &mut ticks, &mut changes).is_ok());
-    assert_eq!(rt; write_on(rt, node, &mut scribe), 6);
+    assert_eq!(rt; write_on(rt, node, &mut follower, &mut page), 6);
     assert!(rt; tick_often(rt, node, &mut ticks).is_ok());
-    assert_eq!(rt; write_on(rt, node, &mut scribe), 1500);
-    let (follower, page, is_whole) = scribe.into_parts();
-    assert!(rt; is_whole);
+    assert_eq!(rt; write_on(rt, node, &mut follower, &mut page), 1500);
     assert_eq!(rt; follower.len(), 1506);
     page
 }
 
-// Writes what was added to the journal, and answers how many calls those were.
-fn write_on<N: PageNaming, R: Wait + Copy + Drop>(
+// Writes what was added to the journal, as far as the page takes it, and answers how many calls those were.
+fn write_on<N: Naming, R: Wait + Copy + Drop>(
     rt: &R,
     node: &Node<N, Seeded, R>,
-    scribe: &mut Scribe<N, Page>,
+    follower: &mut Follower<N>,
+    page: &mut Page,
 ) -> u32 {
     for count in 0..2000 {
-        if scribe.next(rt, node).is_none() {
-            scribe.hand_on();
-            return count;
+        match node.follow(rt, follower) {
+            Some(next) if put_kept(page, &next.kept) => {}
+            _ => return count,
         }
     }
     2000
 }
 
 // The calls of `WORKED`, by three seats.
-fn make_calls<N: PageNaming, R: Wait + Copy + Drop>(
+fn make_calls<N: Naming, R: Wait + Copy + Drop>(
     rt: &R,
     node: &Node<N, Seeded, R>,
     hears: &mut Seat<N>,
@@ -182,7 +180,7 @@ fn make_calls<N: PageNaming, R: Wait + Copy + Drop>(
     Ok(())
 }
 
-fn tick_often<N: PageNaming, R: Wait + Copy + Drop>(
+fn tick_often<N: Naming, R: Wait + Copy + Drop>(
     rt: &R,
     node: &Node<N, Seeded, R>,
     ticks: &mut Seat<N>,

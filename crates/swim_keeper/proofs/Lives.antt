@@ -13,12 +13,11 @@ use Rattle.swim_crew.specs.Draws.{WasDrawn}
 use Rattle.swim_crew.specs.Life.{IsLife}
 use Rattle.swim_crew.specs.Lives.{AreEnded, AreEndedByLife, AreLived, AreLives, IsKeptLife, number_after, opening_after}
 use Rattle.swim_keeper.specs.declared.keepers.LifeKeeper.{LifeKeeper}
-use Rattle.swim_keeper.specs.Endings.{Written}
 use Rattle.swim_keeper.specs.Keeping.{IsOpened, IsSame, Outlets, at_keeper, closes_by, opens_by}
 use Rattle.swim_keeper.specs.Keeping.{records_by}
 use Rattle.swim_keeper.specs.Notices.{Notices, no_notices, notices_both}
-use Rattle.swim_keeper.specs.Told.{AreKept, AreWritten, AtLives, EachIsTold, EachLife, IsAnnounced, IsDrawnLife, IsKept}
-use Rattle.swim_keeper.specs.Told.{IsWithout, IsWritten, at_lives}
+use Rattle.swim_keeper.specs.Told.{AreKept, AtLives, EachIsTold, EachLife, IsAnnounced, IsDrawnLife, IsKept}
+use Rattle.swim_keeper.specs.Told.{IsWithout, at_lives}
 
 pub same_both : {W F H S : Type 0} (k l m : LifeKeeper W F H S) → IsSame k l → IsSame l m → IsSame k m
 same_both k l m first then =
@@ -133,32 +132,6 @@ module _ {A B C W F H S V Q E I Y : Type 0} (out : Outlets W F H S V Y) (a : Wor
         same_both old.keeper is.after_lives.keeper new.keeper lived.0 last.0,
         record { lives = is.lives; after_lives = seen is.after_lives; kept = lived.1; ended = last.1 },
       )
-
--- ---- what was written
-
-lives_written : (fresh : Option (List ℕ)) (terms : Terms) (first : Setting) (old : AtLives) (lives : List Past)
-    (new : AtLives) → EachLife (IsKept fresh terms) first old lives new →
-    EachLife (IsWritten terms) first old.keeper.lines lives new.keeper.lines
-lives_written fresh terms first old [] new is = ap (λ (s : AtLives). s.keeper.lines) is
-lives_written fresh terms first old (past ∷ before) new is =
-    (is.0.keeper.lines, lives_written fresh terms first old before is.0 is.1, (is.2.lived, (is.2.is_cut, is.2.lines)))
-
--- what was written in the end
-last_line : (lives : List Past) (mid new : AtLives) (end : LivesEnd) →
-    ((new ≡ mid) × AreEndedByLife lives end) ⊎ (IsWithout lives end × IsAnnounced (number_after lives) mid new) →
-    (new.keeper.lines ≡ mid.keeper.lines) × (AreEndedByLife lives end ⊎ IsWithout lives end)
-last_line lives mid new end (inl last) = (ap (λ (s : AtLives). s.keeper.lines) last.0, inl last.1)
-last_line lives mid new end (inr last) = (last.1.lines, inr last.0)
-
-pub all_written : (fresh : Option (List ℕ)) (terms : Terms) (opening : Setting) (old new : AtLives) (end : LivesEnd) →
-    AreKept fresh terms opening old new end → AreWritten terms opening old.keeper.lines new.keeper.lines end
-all_written fresh terms opening old new end is =
-    let last = last_line is.lives is.after_lives new end is.ended in record {
-      lives = is.lives;
-      written = subst (λ (w : Written). EachLife (IsWritten terms) opening old.keeper.lines is.lives w) (sym last.0)
-          (lives_written fresh terms opening old is.lives is.after_lives is.kept);
-      ended = last.1;
-    }
 
 -- ---- what people were told
 

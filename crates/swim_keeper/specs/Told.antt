@@ -26,7 +26,7 @@ use Rattle.swim_crew.specs.declared.pasts.Terms.{Terms}
 use Rattle.swim_crew.specs.Draws.{WasDrawn}
 use Rattle.swim_crew.specs.Ends.{why_ended}
 use Rattle.swim_crew.specs.Lives.{AreEndedByLife, AreFull, end_without, number_after, opening_after}
-use Rattle.swim_keeper.specs.Endings.{TellsEnd, Written}
+use Rattle.swim_keeper.specs.Endings.{TellsEnd}
 use Rattle.swim_keeper.specs.Filing.{Filed}
 use Rattle.swim_keeper.specs.Keeping.{AtKeeper, IsClosed, IsOpened}
 use Rattle.swim_keeper.specs.Notices.{Notices}
@@ -129,17 +129,3 @@ pub record AreKept (fresh : Option (List ℕ)) (terms : Terms) (opening : Settin
   pub kept : EachLife (IsKept fresh terms) opening old lives after_lives
   pub ended : ((new ≡ after_lives) × AreEndedByLife lives end)
       ⊎ (IsWithout lives end × IsAnnounced (number_after lives) after_lives new)
-
--- ---- the lines alone
-
--- a life was lived, and told by a line
-abbrev pub IsWritten : Terms → ℕ → Setting → Past → Written → Written → Type 0
-IsWritten terms life o past old new =
-    IsDrawnLife terms life o past × ((is_cut : Bool) × TellsEnd life past is_cut old new)
-
--- lives, newest first, were lived from this opening, each as it went on from the one before; a line was written of
--- each, as far as it was taken, and nothing else; and they ended so
-pub record AreWritten (terms : Terms) (opening : Setting) (old new : Written) (end : LivesEnd) : Type 0 where
-  pub lives : List Past
-  pub written : EachLife (IsWritten terms) opening old lives new
-  pub ended : AreEndedByLife lives end ⊎ IsWithout lives end

@@ -15,37 +15,54 @@ use Rattle.swim_metrics.specs.Texts.{families_lines, families_text, family_lines
 use Rattle.swim_metrics.specs.Texts.{samples_text}
 
 -- the line of a bucket
-pub bucket_line : (bytes name : List ℕ) (b : HistogramBucket) → bytes ≡ name →
-    bytes ++ (codes "_bucket{le=\"" ++ (decimal b.bound ++ (codes "\"} " ++ (decimal b.count ++ (codes "\n" ++ [])))))
-    ≡ sample_text name (bucket_sample b)
-bucket_line bytes name b is =
-    ap (λ t. t ++ (codes "_bucket{le=\"" ++ (decimal b.bound ++ (codes "\"} " ++ (decimal b.count ++ feed))))) is
-    ∙ ap (λ t. name ++ (codes "_bucket{le=\"" ++ t))
-    (sym (append_assoc (decimal b.bound) (codes "\"}") (codes " " ++ (decimal b.count ++ feed))))
+bucket_line_of : (me : ℕ) (bytes name : List ℕ) (b : HistogramBucket) → bytes ≡ name →
+    bytes ++ (codes "_bucket{member=\"" ++ (decimal me ++ (codes "\",le=\"" ++ (decimal b.bound ++ (codes "\"} " ++
+    (decimal b.count ++ (codes "\n" ++ []))))))) ≡ sample_text me name (bucket_sample b)
+bucket_line_of me bytes name b is =
+    ap (λ t. t ++ (codes "_bucket{member=\"" ++ (decimal me ++ (codes "\",le=\"" ++ (decimal b.bound ++ (codes "\"} " ++
+    (decimal b.count ++ feed))))))) is
+    ∙ ap (λ t. name ++ (codes "_bucket{member=\"" ++ (decimal me ++ (codes "\",le=\"" ++ t))))
+    (sym (append_assoc (decimal b.bound) (codes "\"") (codes "} " ++ (decimal b.count ++ feed))))
+
+pub bucket_line : (me number : ℕ) (bytes name : List ℕ) (b : HistogramBucket) → number ≡ me → bytes ≡ name →
+    bytes ++ (codes "_bucket{member=\"" ++ (decimal number ++ (codes "\",le=\"" ++ (decimal b.bound ++ (codes "\"} " ++
+    (decimal b.count ++ (codes "\n" ++ []))))))) ≡ sample_text me name (bucket_sample b)
+bucket_line me number bytes name b same is = rw same (bucket_line_of me bytes name b is)
 
 -- the line of a version, in two parts
-pub version_line : (bytes name version : List ℕ) → bytes ≡ name →
-    (bytes ++ (codes "{version=\"" ++ [])) ++ (escaped version ++ codes "\"} 1\n") ≡
-    samples_text name (version_sample version)
-version_line bytes name version is =
-    append_assoc bytes (codes "{version=\"" ++ []) (escaped version ++ codes "\"} 1\n")
-    ∙ ap (λ t. t ++ (codes "{version=\"" ++ (escaped version ++ codes "\"} 1\n"))) is
-    ∙ ap (λ t. name ++ (codes "{version=\"" ++ t)) (sym (append_assoc (escaped version) (codes "\"}") (codes " 1\n")))
-    ∙ sym (append-nil (sample_text name
-    (record { label = codes "{version=\"" ++ (escaped version ++ codes "\"}"); value = codes "1" })))
+version_line_of : (me : ℕ) (bytes name version : List ℕ) → bytes ≡ name →
+    (bytes ++ (codes "{member=\"" ++ (decimal me ++ (codes "\",version=\"" ++ [])))) ++
+    (escaped version ++ codes "\"} 1\n") ≡ samples_text me name (version_sample version)
+version_line_of me bytes name version is =
+    let rest = escaped version ++ codes "\"} 1\n" in
+    append_assoc bytes (codes "{member=\"" ++ (decimal me ++ (codes "\",version=\"" ++ []))) rest
+    ∙ ap (λ t. bytes ++ (codes "{member=\"" ++ t)) (append_assoc (decimal me) (codes "\",version=\"" ++ []) rest)
+    ∙ ap (λ t. t ++ (codes "{member=\"" ++ (decimal me ++ (codes "\",version=\"" ++ rest)))) is
+    ∙ ap (λ t. name ++ (codes "{member=\"" ++ (decimal me ++ (codes "\",version=\"" ++ t))))
+    (sym (append_assoc (escaped version) (codes "\"") (codes "} 1\n")))
+    ∙ sym (append-nil (sample_text me name (record {
+      suffix = [];
+      labels = codes ",version=\"" ++ (escaped version ++ codes "\"");
+      value = codes "1";
+    })))
+
+pub version_line : (me number : ℕ) (bytes name version : List ℕ) → number ≡ me → bytes ≡ name →
+    (bytes ++ (codes "{member=\"" ++ (decimal number ++ (codes "\",version=\"" ++ [])))) ++
+    (escaped version ++ codes "\"} 1\n") ≡ samples_text me name (version_sample version)
+version_line me number bytes name version same is = rw same (version_line_of me bytes name version is)
 
 -- the lines of some samples and of others
-samples_append : (name : List ℕ) (some others : List Sample) →
-    samples_text name some ++ samples_text name others ≡ samples_text name (some ++ others)
-samples_append name [] others = refl
-samples_append name (sample ∷ some) others =
-    append_assoc (sample_text name sample) (samples_text name some) (samples_text name others)
-    ∙ ap (λ t. sample_text name sample ++ t) (samples_append name some others)
+samples_append : (me : ℕ) (name : List ℕ) (some others : List Sample) →
+    samples_text me name some ++ samples_text me name others ≡ samples_text me name (some ++ others)
+samples_append me name [] others = refl
+samples_append me name (sample ∷ some) others =
+    append_assoc (sample_text me name sample) (samples_text me name some) (samples_text me name others)
+    ∙ ap (λ t. sample_text me name sample ++ t) (samples_append me name some others)
 
-pub wait_lines : (name : List ℕ) (w : Waits) →
-    samples_text name (map bucket_sample w.buckets) ++ samples_text name (total_samples w) ≡
-    samples_text name (wait_samples w)
-wait_lines name w = samples_append name (map bucket_sample w.buckets) (total_samples w)
+pub wait_lines : (me : ℕ) (name : List ℕ) (w : Waits) →
+    samples_text me name (map bucket_sample w.buckets) ++ samples_text me name (total_samples w) ≡
+    samples_text me name (wait_samples w)
+wait_lines me name w = samples_append me name (map bucket_sample w.buckets) (total_samples w)
 
 -- ---- the first and the others
 
@@ -53,11 +70,12 @@ same_first : {X : Type 0} (xs : List X) (d : X) → 1 ≤ length xs → get_or x
 same_first [] d some = absurd (omega (arith, some))
 same_first (x ∷ xs) d some = refl
 
-pub first_line : {X : Type 0} (sample_of : X → Sample) (name : List ℕ) (xs : List X) (d : X) → 1 ≤ length xs →
-    sample_text name (sample_of (get_or xs 0 d)) ++ samples_text name (map sample_of (others_of xs)) ≡
-    samples_text name (map sample_of xs)
-first_line sample_of name xs d some =
-    ap (λ l. samples_text name (map sample_of l))
+pub first_line : {X : Type 0} (sample_of : X → Sample) (me : ℕ) (name : List ℕ) (xs : List X) (d : X) →
+    1 ≤ length xs →
+    sample_text me name (sample_of (get_or xs 0 d)) ++ samples_text me name (map sample_of (others_of xs)) ≡
+    samples_text me name (map sample_of xs)
+first_line sample_of me name xs d some =
+    ap (λ l. samples_text me name (map sample_of l))
     (sym (first_and_others xs (get_or xs 0 d) some (same_first xs d some)))
 
 pub first_escaped : (text : List ℕ) (d : ℕ) → 1 ≤ length text →
@@ -65,23 +83,24 @@ pub first_escaped : (text : List ℕ) (d : ℕ) → 1 ≤ length text →
 first_escaped text d some = ap escaped (sym (first_and_others text (get_or text 0 d) some (same_first text d some)))
 
 pub first_family : (m : Measures) (out : Outside) (told : List Metric) (d : Metric) → 1 ≤ length told →
-    family_text (family_of m out (get_or told 0 d)) ++ families_text m out (others_of told) ≡ families_text m out told
+    family_text out.me (family_of m out (get_or told 0 d)) ++ families_text m out (others_of told) ≡
+    families_text m out told
 first_family m out told d some =
     ap (families_text m out) (sym (first_and_others told (get_or told 0 d) some (same_first told d some)))
 
 pub first_lines : (m : Measures) (out : Outside) (told : List Metric) (d : Metric) → 1 ≤ length told →
-    family_lines (family_of m out (get_or told 0 d)) ++ families_lines m out (others_of told) ≡
+    family_lines out.me (family_of m out (get_or told 0 d)) ++ families_lines m out (others_of told) ≡
     families_lines m out told
 first_lines m out told d some =
     ap (families_lines m out) (sym (first_and_others told (get_or told 0 d) some (same_first told d some)))
 
 -- ---- a metric, as it is written
 
-pub lines_of : (name : List ℕ) (samples : List Sample) (f : Family) → name ≡ f.name → samples ≡ f.samples →
-    samples_text name samples ≡ family_lines f
-lines_of name samples f names are = rw (names, are) refl
+pub lines_of : (me : ℕ) (name : List ℕ) (samples : List Sample) (f : Family) → name ≡ f.name → samples ≡ f.samples →
+    samples_text me name samples ≡ family_lines me f
+lines_of me name samples f names are = rw (names, are) refl
 
-pub text_of : (name help : List ℕ) (kind : MetricKind) (samples : List Sample) (f : Family) → name ≡ f.name →
+pub text_of : (me : ℕ) (name help : List ℕ) (kind : MetricKind) (samples : List Sample) (f : Family) → name ≡ f.name →
     help ≡ f.help → kind ≡ f.kind → samples ≡ f.samples →
-    head_text name help kind ++ samples_text name samples ≡ family_text f
-text_of name help kind samples f names helps kinds are = rw (names, helps, kinds, are) refl
+    head_text name help kind ++ samples_text me name samples ≡ family_text me f
+text_of me name help kind samples f names helps kinds are = rw (names, helps, kinds, are) refl

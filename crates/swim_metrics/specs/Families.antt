@@ -13,9 +13,11 @@ use Rattle.swim_metrics.specs.declared.families.Metric.{Metric}
 use Rattle.swim_metrics.specs.declared.families.Metric.TheVariants as metrics
 use Rattle.swim_metrics.specs.declared.measures.Measures.{Measures}
 
--- a value of a metric, and what stands between the metric's name and it
+-- a value of a metric: what follows the metric's name, its labels behind the first, each with a comma in front, and the
+-- value
 pub record Sample : Type 0 where
-  pub label : List ℕ
+  pub suffix : List ℕ
+  pub labels : List ℕ
   pub value : List ℕ
 
 pub record Family : Type 0 where
@@ -26,8 +28,11 @@ pub record Family : Type 0 where
 
 -- ---- samples
 
+abbrev pub part : List ℕ → List ℕ → ℕ → Sample
+part suffix labels n = record { suffix = suffix; labels = labels; value = decimal n }
+
 abbrev pub labelled : List ℕ → ℕ → Sample
-labelled label n = record { label = label; value = decimal n }
+labelled labels n = part [] labels n
 
 -- one value alone
 abbrev pub one : ℕ → List Sample
@@ -39,7 +44,7 @@ seconds ms =
     decimal (ms / 1000) ++ (codes "." ++ (decimal (ms / 100 % 10) ++ (decimal (ms / 10 % 10) ++ decimal (ms % 10))))
 
 abbrev pub one_time : ℕ → List Sample
-one_time ms = record { label = []; value = seconds ms } ∷ []
+one_time ms = record { suffix = []; labels = []; value = seconds ms } ∷ []
 
 -- a character within quotes
 abbrev pub escaped_one : ℕ → List ℕ
@@ -51,38 +56,41 @@ escaped [] = []
 escaped (c ∷ text) = escaped_one c ++ escaped text
 
 abbrev pub version_sample : List ℕ → List Sample
-version_sample version =
-    record { label = codes "{version=\"" ++ (escaped version ++ codes "\"}"); value = codes "1" } ∷ []
+version_sample version = record {
+  suffix = [];
+  labels = codes ",version=\"" ++ (escaped version ++ codes "\"");
+  value = codes "1";
+} ∷ []
 
 abbrev pub state_samples : ℕ → ℕ → List Sample
-state_samples up failed = labelled (codes "{state=\"up\"}") up ∷ labelled (codes "{state=\"failed\"}") failed ∷ []
+state_samples up failed = labelled (codes ",state=\"up\"") up ∷ labelled (codes ",state=\"failed\"") failed ∷ []
 
 abbrev pub ack_samples : ℕ → ℕ → List Sample
 ack_samples directly by_relay =
-    labelled (codes "{from=\"target\"}") directly ∷ labelled (codes "{from=\"relay\"}") by_relay ∷ []
+    labelled (codes ",from=\"target\"") directly ∷ labelled (codes ",from=\"relay\"") by_relay ∷ []
 
 abbrev pub dropped_samples : Dropped → List Sample
 dropped_samples d =
-    labelled (codes "{reason=\"not_for_me\"}") d.not_for_me
-    ∷ labelled (codes "{reason=\"borrowed\"}") d.borrowed
-    ∷ labelled (codes "{reason=\"about_me\"}") d.about_me
-    ∷ labelled (codes "{reason=\"unlisted\"}") d.unlisted
-    ∷ labelled (codes "{reason=\"table_full\"}") d.table_full
-    ∷ labelled (codes "{reason=\"stray\"}") d.stray
-    ∷ labelled (codes "{reason=\"no_request\"}") d.no_request
+    labelled (codes ",reason=\"not_for_me\"") d.not_for_me
+    ∷ labelled (codes ",reason=\"borrowed\"") d.borrowed
+    ∷ labelled (codes ",reason=\"about_me\"") d.about_me
+    ∷ labelled (codes ",reason=\"unlisted\"") d.unlisted
+    ∷ labelled (codes ",reason=\"table_full\"") d.table_full
+    ∷ labelled (codes ",reason=\"stray\"") d.stray
+    ∷ labelled (codes ",reason=\"no_request\"") d.no_request
     ∷ []
 
 -- of a histogram's bucket
 abbrev pub bucket_sample : HistogramBucket → Sample
 bucket_sample bucket =
-    labelled (codes "_bucket{le=\"" ++ (decimal bucket.bound ++ codes "\"}")) bucket.count
+    part (codes "_bucket") (codes ",le=\"" ++ (decimal bucket.bound ++ codes "\"")) bucket.count
 
 -- behind the buckets: all waits, their sum, and how many there were
 abbrev pub total_samples : Waits → List Sample
 total_samples w =
-    labelled (codes "_bucket{le=\"+Inf\"}") w.count
-    ∷ labelled (codes "_sum") w.sum
-    ∷ labelled (codes "_count") w.count
+    part (codes "_bucket") (codes ",le=\"+Inf\"") w.count
+    ∷ part (codes "_sum") [] w.sum
+    ∷ part (codes "_count") [] w.count
     ∷ []
 
 abbrev pub wait_samples : Waits → List Sample

@@ -1,5 +1,5 @@
 -- The texts that tell the metrics: Prometheus's exposition format, and the lines of `stats`.
-use Rattle.std.specs.Prelude.{ℕ, List, [], ◌∷◌, ◌++◌, codes}
+use Rattle.std.specs.Prelude.{ℕ, List, [], ◌∷◌, ◌++◌, codes, decimal}
 use Rattle.swim_history.specs.Texts.{feed}
 use Rattle.swim_metrics.specs.declared.families.MetricKind.{MetricKind}
 use Rattle.swim_metrics.specs.declared.families.MetricKind.TheVariants.{Counter, Gauge, Histogram}
@@ -19,29 +19,31 @@ head_text name help kind =
     codes "# HELP " ++ (name ++ (codes " " ++ (help ++
     (codes "\n# TYPE " ++ (name ++ (codes " " ++ (kind_text kind ++ feed)))))))
 
--- a line for each sample
-abbrev pub sample_text : List ℕ → Sample → List ℕ
-sample_text name sample = name ++ (sample.label ++ (codes " " ++ (sample.value ++ feed)))
+-- a line for each sample of this member's; its first label is the member
+abbrev pub sample_text : ℕ → List ℕ → Sample → List ℕ
+sample_text me name sample =
+    name ++ (sample.suffix ++ (codes "{member=\"" ++ (decimal me ++ (codes "\"" ++ (sample.labels ++ (codes "} " ++
+    (sample.value ++ feed)))))))
 
-abbrev pub samples_text : List ℕ → List Sample → List ℕ
-samples_text name [] = []
-samples_text name (sample ∷ samples) = sample_text name sample ++ samples_text name samples
+abbrev pub samples_text : ℕ → List ℕ → List Sample → List ℕ
+samples_text me name [] = []
+samples_text me name (sample ∷ samples) = sample_text me name sample ++ samples_text me name samples
 
 -- a metric in the exposition format, and in `stats`
-abbrev pub family_text : Family → List ℕ
-family_text f = head_text f.name f.help f.kind ++ samples_text f.name f.samples
+abbrev pub family_text : ℕ → Family → List ℕ
+family_text me f = head_text f.name f.help f.kind ++ samples_text me f.name f.samples
 
-abbrev pub family_lines : Family → List ℕ
-family_lines f = samples_text f.name f.samples
+abbrev pub family_lines : ℕ → Family → List ℕ
+family_lines me f = samples_text me f.name f.samples
 
 -- the same of metrics
 abbrev pub families_text : Measures → Outside → List Metric → List ℕ
 families_text m out [] = []
-families_text m out (metric ∷ others) = family_text (family_of m out metric) ++ families_text m out others
+families_text m out (metric ∷ others) = family_text out.me (family_of m out metric) ++ families_text m out others
 
 abbrev pub families_lines : Measures → Outside → List Metric → List ℕ
 families_lines m out [] = []
-families_lines m out (metric ∷ others) = family_lines (family_of m out metric) ++ families_lines m out others
+families_lines m out (metric ∷ others) = family_lines out.me (family_of m out metric) ++ families_lines m out others
 
 -- the whole texts
 abbrev pub exposition_text : Measures → Outside → List ℕ

@@ -3,7 +3,7 @@ use Rattle.std.specs.Prelude.{List}
 use Rattle.swim_metrics.specs.declared.families.Samples.{Samples}
 use Rattle.swim_metrics.specs.declared.families.Samples.TheVariants as samples
 use Rattle.swim_metrics.specs.declared.samples.Labelled.{Labelled}
-use Rattle.swim_metrics.specs.Families.{Sample, labelled, ack_samples, dropped_samples, one, one_time, state_samples}
+use Rattle.swim_metrics.specs.Families.{Sample, ack_samples, dropped_samples, one, one_time, part, state_samples}
 use Rattle.swim_metrics.specs.Families.{version_sample, wait_samples}
 
 abbrev pub samples_of : Samples → List Sample
@@ -16,4 +16,4 @@ samples_of (samples.Dropped d) = dropped_samples d.now
 samples_of (samples.Waits w) = wait_samples w.now
 
 abbrev pub labelled_of : Labelled → Sample
-labelled_of l = labelled l.0.now l.1
+labelled_of l = part l.0.now l.1.now l.2

@@ -9,7 +9,7 @@ ghost use Rattle.swim_metrics.specs.Texts.{head_text, kind_text, samples_text, s
 use crate::families::{ALL_METRICS, Metric, MetricKind};
 use crate::measures::Measures;
 use crate::outside::{FileFigures, Outside};
-use crate::samples::put_samples;
+use crate::samples::{Series, put_samples};
 use swim_text::Sink;
 use swim_wire::{Piece, put_pieces};
 
@@ -94,14 +94,18 @@ fn put_metric<W: Sink>(
     metric: Metric,
 ) -> bool
     ensures bytes { Puts (W.written writer.old) (W.written writer.new)
-        (family_text (family_of measures.now outside.now metric)) result }
+        (family_text outside.now.me (family_of measures.now outside.now metric)) result }
     ensures failures { W.failures writer.new ≡ failures_if (W.failures writer.old) result }
 {
     let family = metric.family(measures, outside);
     if !put_head(writer, family.name, family.help, family.kind) {
         return false;
     }
-    put_samples(writer, family.name, &family.samples)
+    let series = Series {
+        name: family.name,
+        me: outside.me,
+    };
+    put_samples(writer, &series, &family.samples)
 }
 
 /// The values of a metric.
@@ -112,11 +116,15 @@ fn put_values<W: Sink>(
     metric: Metric,
 ) -> bool
     ensures bytes { Puts (W.written writer.old) (W.written writer.new)
-        (family_lines (family_of measures.now outside.now metric)) result }
+        (family_lines outside.now.me (family_of measures.now outside.now metric)) result }
     ensures failures { W.failures writer.new ≡ failures_if (W.failures writer.old) result }
 {
     let family = metric.family(measures, outside);
-    put_samples(writer, family.name, &family.samples)
+    let series = Series {
+        name: family.name,
+        me: outside.me,
+    };
+    put_samples(writer, &series, &family.samples)
 }
 
 /// What a metric tells, and its type.

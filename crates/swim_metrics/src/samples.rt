@@ -11,80 +11,97 @@ use crate::dropped::Dropped;
 use crate::families::Samples;
 use crate::wait_histograms::{HistogramBucket, Waits};
 use swim_text::Sink;
-use swim_wire::{Piece, put_pieces};
+use swim_wire::{Id, Piece, put_pieces};
 
-/// A value, and what stands between the metric's name and it.
+/// A metric of this member's, whose lines are written.
 #[derive(Clone, Copy)]
-pub(crate) struct Labelled(&'static str, u64);
+pub(crate) struct Series<'a> {
+    pub(crate) name: &'a str,
+    pub(crate) me: Id,
+}
+
+/// A value: what follows the metric's name, the labels behind the member's, each with a comma in front, and the value.
+#[derive(Clone, Copy)]
+pub(crate) struct Labelled(&'static str, &'static str, u64);
 
 /// A line for each value of a metric.
-pub(crate) fn put_samples<W: Sink>(writer: &mut W, name: &str, samples: &Samples<'_>) -> bool
+pub(crate) fn put_samples<W: Sink>(
+    writer: &mut W,
+    series: &Series<'_>,
+    samples: &Samples<'_>,
+) -> bool
     ensures bytes { Puts (W.written writer.old) (W.written writer.new)
-        (samples_text name.now (samples_of samples.now)) result }
+        (samples_text series.now.me series.now.name.now (samples_of samples.now)) result }
     ensures failures { W.failures writer.new ≡ failures_if (W.failures writer.old) result }
 {
     match *samples {
-        Samples::One(count) => put_each(writer, name, &[Labelled("", count)]),
-        Samples::Milliseconds(milliseconds) => put_time(writer, name, milliseconds),
-        Samples::Version(version) => put_version(writer, name, version),
+        Samples::One(count) => put_each(writer, series, &[Labelled("", "", count)]),
+        Samples::Milliseconds(milliseconds) => put_time(writer, series, milliseconds),
+        Samples::Version(version) => put_version(writer, series, version),
         Samples::States { up, failed } => {
             let states = [
-                Labelled("{state=\"up\"}", up),
-                Labelled("{state=\"failed\"}", failed),
+                Labelled("", ",state=\"up\"", up),
+                Labelled("", ",state=\"failed\"", failed),
             ];
-            put_each(writer, name, &states)
+            put_each(writer, series, &states)
         }
         Samples::Acks { directly, by_relay } => {
             let acks = [
-                Labelled("{from=\"target\"}", directly),
-                Labelled("{from=\"relay\"}", by_relay),
+                Labelled("", ",from=\"target\"", directly),
+                Labelled("", ",from=\"relay\"", by_relay),
             ];
-            put_each(writer, name, &acks)
+            put_each(writer, series, &acks)
         }
-        Samples::Dropped(dropped) => put_dropped(writer, name, dropped),
-        Samples::Waits(waits) => put_waits(writer, name, waits),
+        Samples::Dropped(dropped) => put_dropped(writer, series, dropped),
+        Samples::Waits(waits) => put_waits(writer, series, waits),
     }
 }
 
 /// A line for each of these values.
-fn put_each<W: Sink>(writer: &mut W, name: &str, values: &[Labelled]) -> bool
+fn put_each<W: Sink>(writer: &mut W, series: &Series<'_>, values: &[Labelled]) -> bool
     ensures bytes { Puts (W.written writer.old) (W.written writer.new)
-        (samples_text name.now (map labelled_of values.now)) result }
+        (samples_text series.now.me series.now.name.now (map labelled_of values.now)) result }
     ensures failures { W.failures writer.new ≡ failures_if (W.failures writer.old) result }
 {
     let [first, others @ ..] = values else {
         return writer.put(b"");
     };
-    if !put_one(writer, name, *first) {
+    if !put_one(writer, series, *first) {
         return false;
     }
-    put_each(writer, name, others)
+    put_each(writer, series, others)
 }
 
-fn put_one<W: Sink>(writer: &mut W, name: &str, value: Labelled) -> bool
+fn put_one<W: Sink>(writer: &mut W, series: &Series<'_>, value: Labelled) -> bool
     ensures bytes { Puts (W.written writer.old) (W.written writer.new)
-        (sample_text name.now (labelled_of value)) result }
+        (sample_text series.now.me series.now.name.now (labelled_of value)) result }
     ensures failures { W.failures writer.new ≡ failures_if (W.failures writer.old) result }
 {
     let pieces = [
-        Piece::Text(name.as_bytes()),
+        Piece::Text(series.name.as_bytes()),
         Piece::Text(value.0.as_bytes()),
-        Piece::Text(b" "),
-        Piece::Number(value.1),
+        Piece::Text(b"{member=\""),
+        Piece::Number(u64::from(series.me.get())),
+        Piece::Text(b"\""),
+        Piece::Text(value.1.as_bytes()),
+        Piece::Text(b"} "),
+        Piece::Number(value.2),
         Piece::Text(b"\n"),
     ];
     put_pieces(writer, &pieces)
 }
 
 /// A time, in seconds.
-fn put_time<W: Sink>(writer: &mut W, name: &str, milliseconds: u64) -> bool
+fn put_time<W: Sink>(writer: &mut W, series: &Series<'_>, milliseconds: u64) -> bool
     ensures bytes { Puts (W.written writer.old) (W.written writer.new)
-        (samples_text name.now (one_time milliseconds)) result }
+        (samples_text series.now.me series.now.name.now (one_time milliseconds)) result }
     ensures failures { W.failures writer.new ≡ failures_if (W.failures writer.old) result }
 {
     let pieces = [
-        Piece::Text(name.as_bytes()),
-        Piece::Text(b" "),
+        Piece::Text(series.name.as_bytes()),
+        Piece::Text(b"{member=\""),
+        Piece::Number(u64::from(series.me.get())),
+        Piece::Text(b"\"} "),
         Piece::Number(milliseconds / 1000),
         Piece::Text(b"."),
         Piece::Number(milliseconds / 100 % 10),
@@ -95,62 +112,64 @@ fn put_time<W: Sink>(writer: &mut W, name: &str, milliseconds: u64) -> bool
     put_pieces(writer, &pieces)
 }
 
-fn put_dropped<W: Sink>(writer: &mut W, name: &str, dropped: &Dropped) -> bool
+fn put_dropped<W: Sink>(writer: &mut W, series: &Series<'_>, dropped: &Dropped) -> bool
     ensures bytes { Puts (W.written writer.old) (W.written writer.new)
-        (samples_text name.now (dropped_samples dropped.now)) result }
+        (samples_text series.now.me series.now.name.now (dropped_samples dropped.now)) result }
     ensures failures { W.failures writer.new ≡ failures_if (W.failures writer.old) result }
 {
     let reasons = [
-        Labelled("{reason=\"not_for_me\"}", dropped.not_for_me),
-        Labelled("{reason=\"borrowed\"}", dropped.borrowed),
-        Labelled("{reason=\"about_me\"}", dropped.about_me),
-        Labelled("{reason=\"unlisted\"}", dropped.unlisted),
-        Labelled("{reason=\"table_full\"}", dropped.table_full),
-        Labelled("{reason=\"stray\"}", dropped.stray),
-        Labelled("{reason=\"no_request\"}", dropped.no_request),
+        Labelled("", ",reason=\"not_for_me\"", dropped.not_for_me),
+        Labelled("", ",reason=\"borrowed\"", dropped.borrowed),
+        Labelled("", ",reason=\"about_me\"", dropped.about_me),
+        Labelled("", ",reason=\"unlisted\"", dropped.unlisted),
+        Labelled("", ",reason=\"table_full\"", dropped.table_full),
+        Labelled("", ",reason=\"stray\"", dropped.stray),
+        Labelled("", ",reason=\"no_request\"", dropped.no_request),
     ];
-    put_each(writer, name, &reasons)
+    put_each(writer, series, &reasons)
 }
 
 /// A histogram: its buckets, all waits, their sum, and how many there were.
-fn put_waits<W: Sink>(writer: &mut W, name: &str, waits: &Waits) -> bool
+fn put_waits<W: Sink>(writer: &mut W, series: &Series<'_>, waits: &Waits) -> bool
     ensures bytes { Puts (W.written writer.old) (W.written writer.new)
-        (samples_text name.now (wait_samples waits.now)) result }
+        (samples_text series.now.me series.now.name.now (wait_samples waits.now)) result }
     ensures failures { W.failures writer.new ≡ failures_if (W.failures writer.old) result }
 {
-    if !put_buckets(writer, name, &waits.buckets) {
+    if !put_buckets(writer, series, &waits.buckets) {
         return false;
     }
     let totals = [
-        Labelled("_bucket{le=\"+Inf\"}", waits.count),
-        Labelled("_sum", waits.sum),
-        Labelled("_count", waits.count),
+        Labelled("_bucket", ",le=\"+Inf\"", waits.count),
+        Labelled("_sum", "", waits.sum),
+        Labelled("_count", "", waits.count),
     ];
-    put_each(writer, name, &totals)
+    put_each(writer, series, &totals)
 }
 
-fn put_buckets<W: Sink>(writer: &mut W, name: &str, buckets: &[HistogramBucket]) -> bool
+fn put_buckets<W: Sink>(writer: &mut W, series: &Series<'_>, buckets: &[HistogramBucket]) -> bool
     ensures bytes { Puts (W.written writer.old) (W.written writer.new)
-        (samples_text name.now (map bucket_sample buckets.now)) result }
+        (samples_text series.now.me series.now.name.now (map bucket_sample buckets.now)) result }
     ensures failures { W.failures writer.new ≡ failures_if (W.failures writer.old) result }
 {
     let [first, others @ ..] = buckets else {
         return writer.put(b"");
     };
-    if !put_bucket(writer, name, first) {
+    if !put_bucket(writer, series, first) {
         return false;
     }
-    put_buckets(writer, name, others)
+    put_buckets(writer, series, others)
 }
 
-fn put_bucket<W: Sink>(writer: &mut W, name: &str, bucket: &HistogramBucket) -> bool
+fn put_bucket<W: Sink>(writer: &mut W, series: &Series<'_>, bucket: &HistogramBucket) -> bool
     ensures bytes { Puts (W.written writer.old) (W.written writer.new)
-        (sample_text name.now (bucket_sample bucket.now)) result }
+        (sample_text series.now.me series.now.name.now (bucket_sample bucket.now)) result }
     ensures failures { W.failures writer.new ≡ failures_if (W.failures writer.old) result }
 {
     let pieces = [
-        Piece::Text(name.as_bytes()),
-        Piece::Text(b"_bucket{le=\""),
+        Piece::Text(series.name.as_bytes()),
+        Piece::Text(b"_bucket{member=\""),
+        Piece::Number(u64::from(series.me.get())),
+        Piece::Text(b"\",le=\""),
         Piece::Number(bucket.bound),
         Piece::Text(b"\"} "),
         Piece::Number(bucket.count),
@@ -160,12 +179,17 @@ fn put_bucket<W: Sink>(writer: &mut W, name: &str, bucket: &HistogramBucket) -> 
 }
 
 /// The version, as a label of the value 1.
-fn put_version<W: Sink>(writer: &mut W, name: &str, version: &str) -> bool
+fn put_version<W: Sink>(writer: &mut W, series: &Series<'_>, version: &str) -> bool
     ensures bytes { Puts (W.written writer.old) (W.written writer.new)
-        (samples_text name.now (version_sample version.now)) result }
+        (samples_text series.now.me series.now.name.now (version_sample version.now)) result }
     ensures failures { W.failures writer.new ≡ failures_if (W.failures writer.old) result }
 {
-    let pieces = [Piece::Text(name.as_bytes()), Piece::Text(b"{version=\"")];
+    let pieces = [
+        Piece::Text(series.name.as_bytes()),
+        Piece::Text(b"{member=\""),
+        Piece::Number(u64::from(series.me.get())),
+        Piece::Text(b"\",version=\""),
+    ];
     if !put_pieces(writer, &pieces) {
         return false;
     }

@@ -7,12 +7,12 @@ ghost use Rattle.once_cell.specs.Once.{cell_name};
 ghost use Rattle.swim_node.specs.Cells.{noted, ArePlaced};
 
 use crate::naming::Naming;
-use crate::remembered::Remembered;
 use once_cell::race::{Note, OnceBox};
 use std::alloc::{AllocError, Global};
 use std::marker::{Model, PhantomData};
 use std::sync::Wait;
 use swim_history::{Call, Kept, Reply};
+use swim_trail::Remembered;
 
 /// What stands in a cell: a call of a seat.
 #[derive(Drop)]

@@ -14,7 +14,6 @@ mod node_openings;
 mod nodes;
 mod parts;
 mod receipts;
-mod remembered;
 mod seats;
 mod shown;
 mod viewers;

@@ -84,7 +84,7 @@ owned received listed post returning =
 
 -- what the receiver has done in a life: a turn for each answer of its line. Each datagram became the next call of its
 -- seat, or was counted, and who came back was joined; its post was handed the datagrams of the replies to its seat's
--- calls; and whatever the line was shown are the members of a table of the node
+-- calls; and whatever the line was shown are the members of tables that some changes make of the opening
 pub record HearsLife {O : Type 0} (posted : O → Option (List Posted)) (o : Setting) (limit : ℕ) (old : Owned O)
     (seat : Seated) (end : End) (new : Owned O) : Type 0 where
   pub row : ℕ

@@ -17,7 +17,7 @@ use Rattle.swim_work.specs.Calling.{Hears, IsMessage, Joins}
 use Rattle.swim_work.specs.Posts.{AtSender}
 use Rattle.swim_receiver.specs.declared.rejoining.Returning.{Returning}
 
--- what the receiver learns between two datagrams: a table of the node, or a knock that the ticker told it of
+-- what the receiver learns between two datagrams: a table that some changes make of the opening, or any knock
 abbrev pub IsNews : Setting → Event → Type 0
 IsNews o (Looked rows) = (log : List Change) × (rows ≡ table_after o log)
 IsNews o (Knocked id number) = Unit {0}

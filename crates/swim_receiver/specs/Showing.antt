@@ -16,7 +16,8 @@ addresses_in rows = map (λ row. row.peer) rows
 abbrev pub AreMembers : Setting → List Change → List Address → Type 0
 AreMembers o seen addresses = (log : List Change) × IsPrefix log seen × (addresses ≡ addresses_in (table_after o log))
 
--- whatever a line was shown by a viewer, meanwhile, are the addresses in a table of the node
+-- whatever a line was shown by a viewer, meanwhile, are the addresses in tables that changes make of the opening: those
+-- that the viewer has seen by then
 pub record AreShown (o : Setting) (old_seen new_seen : List Change) (old new : Option (List (List Address))) : Type
     0 where
   pub shown : List (List Address)

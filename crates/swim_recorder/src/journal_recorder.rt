@@ -16,11 +16,13 @@ use std::sync::Wait;
 use std::sync::atomic::{AtomicBool, Ordering};
 use swim_events::{Entrance, Event, Gallery, Outlet, Watching, tell_next};
 use swim_history::{Journal, Opening};
-use swim_journal::STEP_CALLS;
 use swim_node::{Followed, Follower, Naming, Node};
 use swim_targets::Seeded;
 use swim_text::Sink;
 use swim_work::{Beat, Meters, Pace, Recorder};
+
+/// The most calls that are read at a time, so that a step comes to an end however fast they are made.
+const STEP_CALLS: u32 = 1024;
 
 /// Reads the journal of each life while it goes on: at each tick of its pace what was added to it, which it writes down,
 /// tells those who watch, and has its reporter hear of; at each beat it takes in who has come to watch, and sends. It

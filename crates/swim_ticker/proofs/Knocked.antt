@@ -10,6 +10,7 @@ use Rattle.swim_wire.specs.Messages.{Message}
 use Rattle.swim_wire.specs.Layout.{text_of}
 use Rattle.swim_history.specs.declared.rows.Change.{Change}
 use Rattle.swim_history.specs.declared.rows.Row.{Row}
+use Rattle.swim_history.specs.Changes.{table_after}
 use Rattle.swim_history.specs.Setting.{Setting}
 use Rattle.swim_rejoin.specs.declared.knockers.KnockPing.{KnockPing}
 use Rattle.swim_rejoin.specs.Knockers.{Kept, Follows, knock_at}
@@ -19,17 +20,20 @@ use Rattle.swim_work.specs.Noting.{Begins}
 use Rattle.swim_work.specs.Posts.{ArePosted, Grows, Posted, datagram, handed}
 use Rattle.swim_work.proofs.Posting.{none_posted, one_more_posted}
 use Rattle.swim_work.proofs.Sent.{are_both}
-use Rattle.swim_ticker.specs.Knocking.{AreKnocks, AreLooks, AtKnocking, HasKnocked, IsKnocking, IsLook, KnocksOn}
+use Rattle.swim_ticker.specs.Knocking.{AreKnocks, AreLooks, AtKnocking, HasKnocked, IsKnocking, KnocksOn, LooksOn}
 use Rattle.swim_ticker.specs.Knocking.{at_knocking}
 use Rattle.swim_ticker.specs.Knocking.{knock_of, knocks_of, number_after, sent_as}
-use Rattle.swim_ticker.proofs.Looked.{begins_itself, still_looks}
+use Rattle.swim_ticker.proofs.Looked.{one_more_shown}
 
 -- no period started yet
-pub none_knocked : (o : Setting) (rejoin : ℕ) (k : Kept) (seen : List Change) (now : Option (List Posted)) →
-    k.rejoin ≡ rejoin →
+pub none_knocked : (o : Setting) (rejoin : ℕ) (k : Kept) (seen : List Change) (table : List Row)
+    (now : Option (List Posted)) → table ≡ table_after o [] → k.rejoin ≡ rejoin →
     k.me ≡ o.me → k.version ≡ o.version → Follows k [] → o.last ≡ min (o.last + 0) (2 ^ 64 - 1) →
-    IsKnocking o rejoin 0 now (at_knocking k seen o.last now 0)
-none_knocked o rejoin k seen now rejoin_is me version follows within = record {
+    IsKnocking o rejoin 0 now (at_knocking k seen table o.last now 0)
+none_knocked o rejoin k seen table now table_is rejoin_is me version follows within = record {
+  shown = [];
+  later = (seen, refl);
+  table = table_is;
   has = record {
     looks = [];
     each = tt;
@@ -58,30 +62,35 @@ sent_is o k number None me version = refl
 sent_is o k number (Some row) me version = rw (me, version) refl
 
 -- a period more started
-pub one_more_knocked : (o : Setting) (old new : Kept) (saw seen : List Change) (rows : List Row) (number next : ℕ)
+pub one_more_knocked : (o : Setting) (old new : Kept) (saw seen : List Change) (was rows : List Row) (number next : ℕ)
     (knock : Option KnockPing) (posted now : Option (List Posted)) (knocks count more : ℕ) → IsPrefix saw seen →
-    IsLook o seen rows →
+    LooksOn o saw was seen rows →
     next ≡ min (number + 1) (2 ^ 64 - 1) → Begins old rows next knock new →
     AreKnocks (sent_as knock) posted now count → more ≡ min (knocks + count) (2 ^ 64 - 1) →
-    KnocksOn o 1 (at_knocking old saw number posted knocks) (at_knocking new seen next now more)
-one_more_knocked o old new saw seen rows number next knock posted now knocks count more later look next_is begins sent
-    more_is =
+    KnocksOn o 1 (at_knocking old saw was number posted knocks) (at_knocking new seen rows next now more)
+one_more_knocked o old new saw seen was rows number next knock posted now knocks count more later look next_is begins
+    sent more_is =
     λ rejoin starts then before is_then is.
     let has = is.has in
     let looks = has.looks in
     let fewer = knocks_of o rejoin looks in
     let so_many : length looks ≡ starts = has.at_starts in
-    let was : number ≡ min (o.last + starts) (2 ^ 64 - 1) = is.number in
-    let next_number : next ≡ number_after o (length looks + 1) = omega (arith, was, next_is, so_many) in
+    let ran : number ≡ min (o.last + starts) (2 ^ 64 - 1) = is.number in
+    let next_number : next ≡ number_after o (length looks + 1) = omega (arith, ran, next_is, so_many) in
     let one = knock_of o (number_after o (length looks + 1)) (knocked_by rejoin looks rows) in
     let this : sent_as knock ≡ one =
     ap sent_as (begins.due looks is.follows) ∙ (sent_is o old next (knocked_by old.rejoin looks rows) is.me is.version
     ∙ (ap (λ n. knock_of o n (knocked_by old.rejoin looks rows)) next_number
     ∙ ap (λ r. knock_of o (number_after o (length looks + 1)) (knocked_by r looks rows)) is.rejoin_is)) in
+    let all = one_more_shown o saw seen was rows looks later look
+    (record { shown = is.shown; later = is.later; is = is.table; each = has.each }) in
     record {
+      shown = all.shown;
+      later = all.later;
+      table = all.is;
       has = record {
         looks = rows ∷ looks;
-        each = (seen, begins_itself seen, look, still_looks o saw seen looks later has.each);
+        each = all.each;
         at_starts = (let e : suc (length looks) ≡ then = omega (arith, so_many, is_then) in e);
         unsent = has.unsent + sent.0;
         posted = are_both fewer one before posted now has.unsent sent.0 has.posted
@@ -92,7 +101,7 @@ one_more_knocked o old new saw seen rows number next knock posted now knocks cou
             let same : length (sent_as knock) ≡ length one = ap (λ (ms : List (Address × Message)). length ms) this in
             omega (arith, before_it, is_count, more_is, same, length-append fewer one));
       };
-      number = (let e : next ≡ min (o.last + then) (2 ^ 64 - 1) = omega (arith, was, next_is, is_then) in e);
+      number = (let e : next ≡ min (o.last + then) (2 ^ 64 - 1) = omega (arith, ran, next_is, is_then) in e);
       rejoin_is = begins.rejoin ∙ is.rejoin_is;
       me = begins.me ∙ is.me;
       version = begins.version ∙ is.version;

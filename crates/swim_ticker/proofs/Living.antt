@@ -37,7 +37,7 @@ life_ticked posted o limit old new first seat none counts why end began knocking
       ticked = rw (sym first_is, sym zero) ticked;
       sent = sends (posted old.post) (rw zero (none_sent o first.calls (posted old.post) no_calls));
       knocks = knocking.knocks;
-      seen = knocking.seen;
+      seen = done.shown;
       knocked = rw knocked done.has;
       counted = counted;
       same = same;

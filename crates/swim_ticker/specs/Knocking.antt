@@ -14,17 +14,17 @@ use Rattle.swim_rejoin.specs.Knockers.{Kept, Follows}
 use Rattle.swim_rejoin.specs.Knocking.{knocked_by, ping_of}
 use Rattle.swim_work.specs.Posts.{ArePosted, Posted, starts_in}
 
--- what a look at the member table shows a viewer that has then seen these changes: the table after them, all of it; or
--- nothing, where nobody looks or the node is closed
-abbrev pub IsLook : Setting → List Change → List Row → Type 0
-IsLook o seen rows = (rows ≡ []) ⊎ (rows ≡ table_after o seen)
-
--- what the looks of a viewer showed, newest first, that has seen these changes by now: at each it had seen a beginning
--- of what it had seen at the next
+-- what the looks of a viewer showed, newest first, that has seen these changes by now: at each the whole table, after
+-- a beginning of them, which has all that the look before showed
 abbrev pub AreLooks : Setting → List Change → List (List Row) → Type 0
 AreLooks o seen [] = Unit {0}
 AreLooks o seen (rows ∷ before) =
-    (then : List Change) × IsPrefix then seen × IsLook o then rows × AreLooks o then before
+    (then : List Change) × IsPrefix then seen × (rows ≡ table_after o then) × AreLooks o then before
+
+-- a viewer that had seen some changes looks, and has then seen these: it is shown the table after all of them; or it is
+-- shown none, has seen no more, and keeps the table that it was shown last
+abbrev pub LooksOn : Setting → List Change → List Row → List Change → List Row → Type 0
+LooksOn o saw was seen rows = (rows ≡ table_after o seen) ⊎ ((rows ≡ was) × (seen ≡ saw))
 
 -- the number of the period that runs after so many starts; it stops at 2^64-1
 abbrev pub number_after : Setting → ℕ → ℕ
@@ -52,23 +52,28 @@ pub record HasKnocked (o : Setting) (rejoin starts : ℕ) (seen : List Change) (
   pub posted : ArePosted (knocks_of o rejoin looks) before now unsent
   pub counted : knocks ≡ min (length (knocks_of o rejoin looks)) (2 ^ 64 - 1)
 
--- what a contract sees of who knocks: what the knocker keeps, what its viewer has seen, the number of the period that
--- runs, what the post was handed so far, and how many knocks there were
+-- what a contract sees of who knocks: what the knocker keeps, what its viewer has seen and was shown last, the number
+-- of the period that runs, what the post was handed so far, and how many knocks there were
 pub record AtKnocking : Type 0 where
   pub knocker : Kept
   pub seen : List Change
+  pub table : List Row
   pub number : ℕ
   pub posted : Option (List Posted)
   pub knocks : ℕ
 
-abbrev pub at_knocking : Kept → List Change → ℕ → Option (List Posted) → ℕ → AtKnocking
-at_knocking knocker seen number posted knocks =
-    record { knocker = knocker; seen = seen; number = number; posted = posted; knocks = knocks }
+abbrev pub at_knocking : Kept → List Change → List Row → ℕ → Option (List Posted) → ℕ → AtKnocking
+at_knocking knocker seen table number posted knocks =
+    record { knocker = knocker; seen = seen; table = table; number = number; posted = posted; knocks = knocks }
 
--- that was handed over at so many starts, by a knocker of this node, and what it keeps is what these starts come to
+-- that was handed over at so many starts, by a knocker of this node, and what it keeps is what these starts come to.
+-- The table that its viewer was shown last is that after some beginning of what it has seen
 pub record IsKnocking (o : Setting) (rejoin starts : ℕ) (before : Option (List Posted)) (now : AtKnocking) : Type
     0 where
-  pub has : HasKnocked o rejoin starts now.seen before now.posted now.knocks
+  pub shown : List Change
+  pub later : IsPrefix shown now.seen
+  pub table : now.table ≡ table_after o shown
+  pub has : HasKnocked o rejoin starts shown before now.posted now.knocks
   pub number : now.number ≡ number_after o starts
   pub rejoin_is : now.knocker.rejoin ≡ rejoin
   pub me : now.knocker.me ≡ o.me

@@ -3,24 +3,26 @@
 ghost use Rattle.std.specs.Prelude.{◌≡◌, ℕ, ◌<◌, List, Option};
 ghost use Rattle.std.specs.Int.{from_bool};
 ghost use mathlib.Core.List.{IsPrefix};
-ghost use Rattle.swim_ticker.specs.Knocking.{AreKnocks, IsKnocking, IsLook, KnocksOn, at_knocking, sent_as};
+ghost use Rattle.swim_ticker.specs.Knocking.{AreKnocks, IsKnocking, KnocksOn, LooksOn, at_knocking, sent_as};
 ghost use Rattle.swim_work.specs.Posts.{Posted};
 
 use std::sync::Wait;
-use swim_history::{Opening, Table};
+use swim_history::{Opening, Table, table_of};
 use swim_node::{Naming, Viewer};
 use swim_rejoin::{KnockPing, Knocker};
 use swim_wire::{PeriodNumber, encode};
 use swim_work::{Post, TidingsBoard};
 
-/// Who knocks in a life: a viewer of its member table, the number of the period that runs, and how many knocks there
-/// were.
+/// Who knocks in a life: a viewer of its member table, what it was shown last, the number of the period that runs, and
+/// how many knocks there were.
 #[derive(Drop)]
 pub(crate) struct Knocking<N: Naming> {
     pub(crate) viewer: Viewer<N>,
     pub(crate) knocker: Knocker,
     // Whether it knocks at all.
     is_open: bool,
+    // Before the first look it is the table of the opening.
+    pub(crate) table: Table,
     pub(crate) number: u64,
     pub(crate) knocks: u64,
 }
@@ -31,12 +33,13 @@ impl<N: Naming> Knocking<N> {
     pub(crate) fn new(rejoin: u16, opening: &Opening, viewer: Viewer<N>) -> Knocking<N>
         requires { opening.now ≡ N.opening }
         ensures knocking { (posted : Option (List Posted)) → IsKnocking N.opening rejoin 0 posted
-            (at_knocking result.knocker result.viewer result.number posted result.knocks) }
+            (at_knocking result.knocker result.viewer result.table.items result.number posted result.knocks) }
     {
         Knocking {
             viewer,
             knocker: Knocker::new(rejoin, opening.me(), opening.version()),
             is_open: rejoin > 0,
+            table: table_of(opening.rows()),
             number: opening.last(),
             knocks: 0,
         }
@@ -51,8 +54,10 @@ impl<N: Naming> Knocking<N> {
         is_started: bool,
     )
         ensures { KnocksOn N.opening (from_bool is_started)
-            (at_knocking self.old.knocker self.old.viewer self.old.number (O.posted post.old) self.old.knocks)
-            (at_knocking self.new.knocker self.new.viewer self.new.number (O.posted post.new) self.new.knocks) }
+            (at_knocking self.old.knocker self.old.viewer self.old.table.items self.old.number
+            (O.posted post.old) self.old.knocks)
+            (at_knocking self.new.knocker self.new.viewer self.new.table.items self.new.number
+            (O.posted post.new) self.new.knocks) }
     {
         if is_started {
             self.start(rt, board, post);
@@ -64,13 +69,15 @@ impl<N: Naming> Knocking<N> {
     /// A period starts: the receiver is told of it, and of the knock that is due, if one is, before that is sent.
     fn start<O: Post, R: Wait>(&mut self, rt: &R, board: &TidingsBoard, post: &mut O)
         ensures { KnocksOn N.opening 1
-            (at_knocking self.old.knocker self.old.viewer self.old.number (O.posted post.old) self.old.knocks)
-            (at_knocking self.new.knocker self.new.viewer self.new.number (O.posted post.new) self.new.knocks) }
+            (at_knocking self.old.knocker self.old.viewer self.old.table.items self.old.number
+            (O.posted post.old) self.old.knocks)
+            (at_knocking self.new.knocker self.new.viewer self.new.table.items self.new.number
+            (O.posted post.new) self.new.knocks) }
     {
-        let rows = look(&mut self.viewer, self.is_open);
+        look(&mut self.viewer, &mut self.table, self.is_open);
         let number = self.number.saturating_add(1);
         let period = period_of(number);
-        let knock = board.begin(rt, &mut self.knocker, rows.as_slice(), period);
+        let knock = board.begin(rt, &mut self.knocker, self.table.as_slice(), period);
         board.make_due();
         let count = send(rt, post, &knock);
         let knocks = self.knocks.saturating_add(count);
@@ -79,18 +86,17 @@ impl<N: Naming> Knocking<N> {
     }
 }
 
-/// The rows of the member table, all of them, where somebody is to look at it.
+/// Looks at the member table, if somebody is to look at it. Where none is shown, the one that was shown last stays.
 #[tactic(auto, using(crate::proofs::Looked::begins_itself))]
-fn look<N: Naming>(viewer: &mut Viewer<N>, is_open: bool) -> Table
+fn look<N: Naming>(viewer: &mut Viewer<N>, table: &mut Table, is_open: bool)
     ensures later { IsPrefix viewer.old viewer.new }
-    ensures look { IsLook N.opening viewer.new result.items }
+    ensures look { LooksOn N.opening viewer.old table.old.items viewer.new table.new.items }
 {
     if !is_open {
-        return Table::new();
+        return;
     }
-    match viewer.list() {
-        Some(table) => table,
-        None => Table::new(),
+    if let Some(shown) = viewer.list() {
+        *table = shown;
     }
 }
 

@@ -35,7 +35,8 @@ pub fn each_reply_is_posted<O: Post>()
 {}
 
 /// What the post of the knocks was handed in a life are the knocks that are due at the starts of periods that the
-/// seat's calls began, each once, in order, by the tables that a viewer saw at these starts; and they are counted.
+/// seat's calls began, each once, in order, by the whole tables that a viewer was shown at these starts; and they are
+/// counted.
 pub fn knocks_are_at_starts<O: Post>()
     ensures { (o : Setting) (limit : ℕ) (old new : Owned O) (seat : Seated) (end : End)
         → TicksLife O.posted o limit old seat end new

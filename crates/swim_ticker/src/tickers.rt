@@ -109,10 +109,12 @@ impl<'b, P: Pace + Drop, O: Post + Drop> Ticker<'b, P, O> {
             (at_sender ticking.old.caller.seat self.old.post ticking.old.caller.counts)
             (at_sender ticking.new.caller.seat self.new.post ticking.new.caller.counts) }
         ensures knocks { KnocksAtStarts N.opening ticking.old.caller.seat.calls
-            (at_knocking ticking.old.knocking.knocker ticking.old.knocking.viewer ticking.old.knocking.number
-            (O.posted self.old.knock_post) ticking.old.knocking.knocks) ticking.new.caller.seat.calls
-            (at_knocking ticking.new.knocking.knocker ticking.new.knocking.viewer ticking.new.knocking.number
-            (O.posted self.new.knock_post) ticking.new.knocking.knocks) }
+            (at_knocking ticking.old.knocking.knocker ticking.old.knocking.viewer
+            ticking.old.knocking.table.items ticking.old.knocking.number (O.posted self.old.knock_post)
+            ticking.old.knocking.knocks) ticking.new.caller.seat.calls
+            (at_knocking ticking.new.knocking.knocker ticking.new.knocking.viewer
+            ticking.new.knocking.table.items ticking.new.knocking.number (O.posted self.new.knock_post)
+            ticking.new.knocking.knocks) }
         ensures number { ticking.new.caller.seat.number ≡ ticking.old.caller.seat.number }
         ensures rejoin { self.new.rejoin ≡ self.old.rejoin }
         ensures earlier { self.new.knocks ≡ self.old.knocks }
@@ -144,10 +146,12 @@ impl<'b, P: Pace + Drop, O: Post + Drop> Ticker<'b, P, O> {
             (at_sender ticking.old.caller.seat self.old.post ticking.old.caller.counts)
             (at_sender ticking.new.caller.seat self.new.post ticking.new.caller.counts) }
         ensures knocks { KnocksAtStarts N.opening ticking.old.caller.seat.calls
-            (at_knocking ticking.old.knocking.knocker ticking.old.knocking.viewer ticking.old.knocking.number
-            (O.posted self.old.knock_post) ticking.old.knocking.knocks) ticking.new.caller.seat.calls
-            (at_knocking ticking.new.knocking.knocker ticking.new.knocking.viewer ticking.new.knocking.number
-            (O.posted self.new.knock_post) ticking.new.knocking.knocks) }
+            (at_knocking ticking.old.knocking.knocker ticking.old.knocking.viewer
+            ticking.old.knocking.table.items ticking.old.knocking.number (O.posted self.old.knock_post)
+            ticking.old.knocking.knocks) ticking.new.caller.seat.calls
+            (at_knocking ticking.new.knocking.knocker ticking.new.knocking.viewer
+            ticking.new.knocking.table.items ticking.new.knocking.number (O.posted self.new.knock_post)
+            ticking.new.knocking.knocks) }
         ensures number { ticking.new.caller.seat.number ≡ ticking.old.caller.seat.number }
         ensures rejoin { self.new.rejoin ≡ self.old.rejoin }
         ensures earlier { self.new.knocks ≡ self.old.knocks }

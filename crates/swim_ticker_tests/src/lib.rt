@@ -9,4 +9,6 @@ mod knocking;
 #[cfg(test)]
 mod lives;
 #[cfg(test)]
+mod metering;
+#[cfg(test)]
 mod ticking;

@@ -1,5 +1,8 @@
 //! What the workers of a life count, as others can read it while they work.
 
+ghost use Rattle.std.specs.Prelude.{◌≡◌};
+ghost use Rattle.swim_work.specs.Ends.{both};
+
 use crate::counts::Counts;
 use std::sync::atomic::{AtomicU64, Ordering};
 
@@ -19,8 +22,14 @@ pub struct Metered {
 }
 
 impl Metered {
-    /// Both together.
-    fn and(self, other: Metered) -> Metered {
+    /// Both together. Each count stops at 2^64-1.
+    fn and(self, other: Metered) -> Metered
+        ensures calls { result.calls ≡ both self.calls other.calls }
+        ensures unsent { result.unsent ≡ both self.unsent other.unsent }
+        ensures wire { result.wire ≡ both self.wire other.wire }
+        ensures refused { result.refused ≡ both self.refused other.refused }
+        ensures knocks { result.knocks ≡ both self.knocks other.knocks }
+    {
         Metered {
             calls: self.calls.saturating_add(other.calls),
             unsent: self.unsent.saturating_add(other.unsent),

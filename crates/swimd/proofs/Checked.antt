@@ -6,14 +6,16 @@ use Rattle.std.proofs.lemmas.List.{take_all, length-take}
 use Rattle.swim_config.specs.declared.config.Config.{Config}
 use Rattle.swim_config.specs.declared.config_fault.ConfigFault.{ConfigFault}
 use Rattle.swim_config.specs.declared.config_fault.ConfigFault.TheVariants.{Size}
-use Rattle.swimd.specs.declared.outcomes.Outcome.{Outcome}
-use Rattle.swimd.specs.declared.outcomes.Outcome.TheVariants.{Checked, Stopped, Asked, Usage, Unread, Refused}
-use Rattle.swimd.specs.declared.outcomes.Outcome.TheVariants.{Unwritten}
-use Rattle.swimd.specs.declared.outcomes.Outcome.TheVariants.{NoListen, NoControl, NoMemory, Socket, NoPlace, NoDaemon}
-use Rattle.swimd.specs.declared.outcomes.Outcome.TheVariants.{NoRandom}
-use Rattle.swimd.specs.declared.outcomes.Outcome.TheVariants.{NoEvents, NoTeller, WatchUnwritten}
-use Rattle.swimd.specs.declared.outcomes.Outcome.TheVariants.{AskRefused, AskTimeout, Unanswered, AskUnwritten}
-use Rattle.swimd.specs.declared.outcomes.Outcome.TheVariants.{AskUnread, Helped}
+use Rattle.swim_commands.specs.declared.outcomes.Outcome.{Outcome}
+use Rattle.swim_commands.specs.declared.outcomes.Outcome.TheVariants.{Checked, Stopped, Asked, Usage, Unread, Refused}
+use Rattle.swim_commands.specs.declared.outcomes.Outcome.TheVariants.{Unwritten}
+use Rattle.swim_commands.specs.declared.outcomes.Outcome.TheVariants.{NoListen, NoControl, NoMemory}
+use Rattle.swim_commands.specs.declared.outcomes.Outcome.TheVariants.{Socket, NoPlace, NoDaemon}
+use Rattle.swim_commands.specs.declared.outcomes.Outcome.TheVariants.{NoRandom}
+use Rattle.swim_commands.specs.declared.outcomes.Outcome.TheVariants.{NoEvents, NoTeller, WatchUnwritten}
+use Rattle.swim_commands.specs.declared.outcomes.Outcome.TheVariants.{NoWeb, WebOver}
+use Rattle.swim_commands.specs.declared.outcomes.Outcome.TheVariants.{AskRefused, AskTimeout, Unanswered, AskUnwritten}
+use Rattle.swim_commands.specs.declared.outcomes.Outcome.TheVariants.{AskUnread, Helped}
 use Rattle.swimd.specs.Checking.{ChecksKnown, Shows}
 use Rattle.swim_config.specs.Configuration.{config_of}
 use Rattle.swim_config.specs.Inputs.{IsRead}
@@ -64,6 +66,8 @@ shown None old new faults then items config NoRandom read is shows = absurd show
 shown None old new faults then items config NoEvents read is shows = absurd shows
 shown None old new faults then items config NoTeller read is shows = absurd shows
 shown None old new faults then items config WatchUnwritten read is shows = absurd shows
+shown None old new faults then items config NoWeb read is shows = absurd shows
+shown None old new faults then items config WebOver read is shows = absurd shows
 shown None old new faults then items config AskRefused read is shows = absurd shows
 shown None old new faults then items config AskTimeout read is shows = absurd shows
 shown None old new faults then items config Unanswered read is shows = absurd shows
@@ -89,6 +93,8 @@ shown (Some text) old new faults then items config NoRandom read is shows = absu
 shown (Some text) old new faults then items config NoEvents read is shows = absurd shows
 shown (Some text) old new faults then items config NoTeller read is shows = absurd shows
 shown (Some text) old new faults then items config WatchUnwritten read is shows = absurd shows
+shown (Some text) old new faults then items config NoWeb read is shows = absurd shows
+shown (Some text) old new faults then items config WebOver read is shows = absurd shows
 shown (Some text) old new faults then items config AskRefused read is shows = absurd shows
 shown (Some text) old new faults then items config AskTimeout read is shows = absurd shows
 shown (Some text) old new faults then items config Unanswered read is shows = absurd shows

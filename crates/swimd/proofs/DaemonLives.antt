@@ -74,7 +74,13 @@ abbrev hearing : {O : Type 0} → (O → Option (List Posted)) → Receiving O �
 hearing posted r = record { received = r.received; posted = posted r.post }
 
 abbrev beating : {O : Type 0} → (O → Option (List Posted)) → Ticking O → AtTicking
-beating posted t = record { beats = t.beats; posted = posted t.post }
+beating posted t = record {
+  beats = t.beats;
+  posted = posted t.post;
+  knocked = t.knocked;
+  rejoin = t.rejoin;
+  knocks = t.knocks;
+}
 
 -- something happened to members that may come back, of which the receiver knows
 abbrev Knows : {O : Type 0} → Receiving O → Type 0
@@ -95,8 +101,17 @@ ticked : {O : Type 0} (posted : O → Option (List Posted)) → IsTicked posted 
     (seat : Seated) (end : End) (x y : Ticking O) → TicksLife posted o limit x seat end y →
     Ticks o seat end (beating posted x) (beating posted y)
 ticked posted is_ticked o limit seat end x y is =
-    let law = is_ticked o limit x y seat end is in
-    record { given = law.0; grown = law.1; ticked = law.2; sent = is.sent }
+    let law = is_ticked o limit x y seat end is in record {
+      given = law.0;
+      grown = law.1;
+      ticked = law.2;
+      sent = is.sent;
+      knocks = is.knocks;
+      seen = is.seen;
+      knocked = is.knocked;
+      counted = is.counted;
+      same = is.same;
+    }
 
 controlled : IsControlled → (o : Setting) (limit : ℕ) (seat : Seated) (end : End)
     (before after : Option (List Bool)) (x y : Talks) → ControlsLife o limit before after x seat end y →

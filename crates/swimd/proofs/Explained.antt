@@ -3,17 +3,19 @@ use Rattle.std.proofs.Common.{◌≡◌, ℕ, List, [], Option, Some, None, refl
 use Rattle.swim_config.specs.declared.config.Config.{Config}
 use Rattle.swim_config.specs.declared.config_fault.ConfigFault.{ConfigFault}
 use Rattle.swim_keeper.specs.Endings.{Written}
-use Rattle.swimd.specs.declared.outcomes.Outcome.{Outcome}
-use Rattle.swimd.specs.declared.outcomes.Outcome.TheVariants.{Checked, Stopped, Asked, Usage, Unread, Refused}
-use Rattle.swimd.specs.declared.outcomes.Outcome.TheVariants.{Unwritten}
-use Rattle.swimd.specs.declared.outcomes.Outcome.TheVariants.{NoListen, NoControl, NoMemory, Socket, NoPlace, NoDaemon}
-use Rattle.swimd.specs.declared.outcomes.Outcome.TheVariants.{AskRefused, AskTimeout, Unanswered, AskUnwritten}
-use Rattle.swimd.specs.declared.outcomes.Outcome.TheVariants.{AskUnread, Helped, NoRandom}
-use Rattle.swimd.specs.declared.outcomes.Outcome.TheVariants.{NoEvents, NoTeller, WatchUnwritten}
-use Rattle.swimd.specs.Asking.{Asks}
+use Rattle.swim_commands.specs.declared.outcomes.Outcome.{Outcome}
+use Rattle.swim_commands.specs.declared.outcomes.Outcome.TheVariants.{Checked, Stopped, Asked, Usage, Unread, Refused}
+use Rattle.swim_commands.specs.declared.outcomes.Outcome.TheVariants.{Unwritten}
+use Rattle.swim_commands.specs.declared.outcomes.Outcome.TheVariants.{NoListen, NoControl, NoMemory}
+use Rattle.swim_commands.specs.declared.outcomes.Outcome.TheVariants.{Socket, NoPlace, NoDaemon}
+use Rattle.swim_commands.specs.declared.outcomes.Outcome.TheVariants.{AskRefused, AskTimeout, Unanswered, AskUnwritten}
+use Rattle.swim_commands.specs.declared.outcomes.Outcome.TheVariants.{AskUnread, Helped, NoRandom}
+use Rattle.swim_commands.specs.declared.outcomes.Outcome.TheVariants.{NoEvents, NoTeller, WatchUnwritten}
+use Rattle.swim_commands.specs.declared.outcomes.Outcome.TheVariants.{NoWeb, WebOver}
+use Rattle.swim_commands.specs.Asking.{Asks}
 use Rattle.swimd.specs.Checking.{Shows}
 use Rattle.swimd.specs.Commands.{AsksWanted, Helps, MakesKey}
-use Rattle.swimd.specs.Details.{Explains, IsExplained}
+use Rattle.swim_commands.specs.Details.{Explains, IsExplained}
 
 -- only where a configuration was refused something has to stand there
 explains_if : (outcome : Outcome) (details : List ℕ) →
@@ -41,6 +43,8 @@ explains_if NoPlace details refused = tt
 explains_if NoDaemon details refused = tt
 explains_if NoTeller details refused = tt
 explains_if WatchUnwritten details refused = tt
+explains_if NoWeb details refused = tt
+explains_if WebOver details refused = tt
 
 -- nothing stands there
 pub nothing_explains : (outcome : Outcome) (details : List ℕ) → details ≡ [] → Explains outcome details

@@ -1,7 +1,7 @@
 -- A text that is held back is its bytes but for comments.
 use Rattle.std.proofs.Common.{◌≡◌, ℕ, Bool, true, false, List, [], ◌∷◌, ◌++◌, Some, refl, sym, ap, subst, ◌∙◌}
-use Rattle.std.proofs.Common.{append_assoc, append-nil, Result, Ok, Err}
-use Rattle.std.specs.Prelude.{OnOk, OnErr}
+use Rattle.std.proofs.Common.{append_assoc, append-nil, inr, Result, Ok, Err}
+use Rattle.std.specs.Prelude.{OnOk, OnErr, codes}
 use Rattle.std.specs.List.{flat_map}
 use Rattle.std.proofs.lemmas.Grind.{flat_map-append}
 use Rattle.swim_text.specs.Streams.{Puts}
@@ -52,6 +52,17 @@ comment_or_none items old new handed comment taken (Ok a) is ends may ok err =
 comment_or_none items old new handed comment taken (Err e) is ends may ok err =
     subst (λ x. IsCommented (handed ++ items x) taken) (sym err) is
 
+-- the comment on a join that the daemon made by itself
+pub own_join_may_comment : MayComment (codes "# rejoin\n")
+own_join_may_comment = inr (record { words = codes " rejoin"; unfed = refl; is = refl })
+
+-- a text ends a line where what is held back of it does
+pub held_ends : (t : AtText) (front : List ℕ) → t.held ≡ front ++ 10 ∷ [] → EndsLine (all_of t)
+held_ends t front is = record {
+  front = t.handed ++ front;
+  is = ap (λ (h : List ℕ). t.handed ++ h) is ∙ sym (append_assoc t.handed front (10 ∷ []));
+}
+
 -- ---- handed on
 
 pub all_handed : {A : Type 0} (held held' : List ℕ) (old new : List (A × List ℕ)) (a : A) →
@@ -97,6 +108,15 @@ pub puts_all : (old mid new : AtText) (text : List ℕ) (done : Bool) → Takes 
 puts_all old mid new text true takes same = same ∙ takes.0
 puts_all old mid new text false takes same =
     record { front = text; unput = []; cut = sym (append-nil text); grows = same ∙ takes.0 }
+
+-- nothing was taken, or a comment alone before
+pub puts_nothing : (old new text : List ℕ) → new ≡ old → Puts (Some old) (Some new) text false
+puts_nothing old new text same =
+    record { front = []; unput = text; cut = refl; grows = same ∙ sym (append-nil old) }
+
+pub puts_next : (old mid new text : List ℕ) (done : Bool) → mid ≡ old → Puts (Some mid) (Some new) text done →
+    Puts (Some old) (Some new) text done
+puts_next old mid new text done same puts = subst (λ (t : List ℕ). Puts (Some t) (Some new) text done) same puts
 
 pub puts_none : (old new : AtText) (text : List ℕ) → Takes old new text false →
     Puts (Some old.taken) (Some new.taken) text false

@@ -1,7 +1,7 @@
 -- What making a key does, whatever the source.
 use Rattle.std.proofs.Common.{ℕ, List, Option, inl, inr}
 use Rattle.swimd.specs.Commands.{MakesKey, MakesKeyOf}
-use Rattle.swimd.specs.declared.outcomes.Outcome.{Outcome}
+use Rattle.swim_commands.specs.declared.outcomes.Outcome.{Outcome}
 
 -- a key of these bytes is a key
 pub key_made : (left_old left_new old new : Option (List ℕ)) (outcome : Outcome) →

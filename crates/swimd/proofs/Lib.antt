@@ -1,16 +1,9 @@
-pub mod Asked
 pub mod Booking
 pub mod Checked
-pub mod ControlLines
 pub mod DaemonLives
 pub mod Done
 pub mod Explained
-pub mod Given
 pub mod HeldTexts
-pub mod Indented
 pub mod Keys
 pub mod Kept
-pub mod Lines
 pub mod Noticed
-pub mod Shown
-pub mod Taken

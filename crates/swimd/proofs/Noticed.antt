@@ -4,7 +4,7 @@ use Rattle.swim_text.specs.Lines.{has_feed}
 use Rattle.swim_config.specs.declared.config.Config.{Config}
 use Rattle.swim_keeper.specs.Endings.{TellsText, Written}
 use Rattle.swim_keeper.specs.Notices.{Notices, line_text, notices_both}
-use Rattle.swimd.specs.declared.outcomes.Outcome.{Outcome}
+use Rattle.swim_commands.specs.declared.outcomes.Outcome.{Outcome}
 use Rattle.swimd.specs.Daemon.{IsNoDoor, IsNoEntrance, Starts}
 
 pub one_noticed : (old new : Written) (line : List ℕ) → has_feed line ≡ false → TellsText (line_text line) old new →

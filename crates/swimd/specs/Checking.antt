@@ -6,8 +6,8 @@ use Rattle.swim_keeper.specs.Endings.{TellsText, Written}
 use Rattle.swim_config.specs.declared.config.Config.{Config}
 use Rattle.swim_config.specs.declared.config_fault.ConfigFault.{ConfigFault}
 use Rattle.swim_config.specs.declared.config_fault.ConfigFault.TheVariants.{Size}
-use Rattle.swimd.specs.declared.outcomes.Outcome.{Outcome}
-use Rattle.swimd.specs.declared.outcomes.Outcome.TheVariants.{Checked, Unread, Refused, Unwritten}
+use Rattle.swim_commands.specs.declared.outcomes.Outcome.{Outcome}
+use Rattle.swim_commands.specs.declared.outcomes.Outcome.TheVariants.{Checked, Unread, Refused, Unwritten}
 use Rattle.swim_config.specs.Configuration.{config_of}
 use Rattle.swim_config.specs.Reading.{OrNoMemory}
 use Rattle.swim_config.specs.Summary.{summary_text}

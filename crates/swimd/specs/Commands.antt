@@ -5,16 +5,18 @@ use Rattle.hex.specs.Hex.{encode_lower}
 use Rattle.swim_text.specs.Streams.{Puts, PutsFront, failures_if}
 use Rattle.swim_keeper.specs.Endings.{Written}
 use Rattle.swim_config.specs.declared.config_fault.ConfigFault.TheVariants.{NoMemory}
-use Rattle.swimd.specs.declared.outcomes.Outcome.{Outcome}
-use Rattle.swimd.specs.declared.outcomes.Outcome.TheVariants.{Usage, Refused, Helped, Unwritten, NoRandom}
-use Rattle.swimd.specs.Asking.{Asks}
+use Rattle.swim_commands.specs.declared.outcomes.Outcome.{Outcome}
+use Rattle.swim_commands.specs.declared.outcomes.Outcome.TheVariants.{Usage, Refused, Helped, Unwritten, NoRandom}
+use Rattle.swim_commands.specs.Asking.{Asks}
 use Rattle.swimd.specs.Checking.{ChecksKnown, is_unwritten}
 use Rattle.swimd.specs.Daemon.{Runs}
 use Rattle.swim_config.specs.Causes.{AreIndented}
-use Rattle.swimd.specs.Details.{Explains}
-use Rattle.swimd.specs.Outcomes.{outcome_text, status_of}
-use Rattle.swimd.specs.Watched.{WatchesDaemon}
-use Rattle.swimd.specs.Words.{Wanted, Check, Run, Ask, Watch, MakeKey, Help, Version}
+use Rattle.swim_commands.specs.Details.{Explains}
+use Rattle.swim_commands.specs.Outcomes.{outcome_text, status_of}
+use Rattle.swimd.specs.Served.{ServesWeb}
+use Rattle.swim_commands.specs.Watched.{WatchesDaemon}
+use Rattle.swim_commands.specs.Words.{Wanted, Check, Run, Ask, Watch, Web, MakeKey, Help, Version}
+use Rattle.swimd.specs.Documents.{Document}
 
 -- an outcome was told on standard error, with details below it, as far as it took the text, and by the status; failed
 -- writes
@@ -64,31 +66,39 @@ MakesKeyOf left_old left_new old new outcome =
     ((outcome ≡ NoRandom) × (new ≡ old))
     ⊎ ((text : List ℕ) × IsKeyOf left_old left_new text × Helps text old new outcome)
 
--- what a command found of the streams and what it left: of standard input, on standard output and on standard error
+-- what a command found of the streams and what it left: of standard input, on standard output and on standard error;
+-- and the files that were read by their paths
 pub record Streams : Type 0 where
   pub left : Option (List ℕ)
+  pub read : Option (List Document)
   pub written : Written
   pub faults : Written
+
+-- nothing was read, and nothing written on standard error
+abbrev pub LetsBe : Streams → Streams → Type 0
+LetsBe old new = (new.left ≡ old.left) × (new.read ≡ old.read) × (new.faults ≡ old.faults)
 
 -- what is done where the words ask this, and how it ends
 abbrev pub DoesWanted : Option Wanted → Streams → Streams → Outcome → Type 0
 DoesWanted None old new outcome = (outcome ≡ Usage) × (new ≡ old)
 DoesWanted (Some Check) old new outcome =
     ChecksKnown old.left old.written.0 new.written.0 old.faults new.faults outcome
-    × (new.written.1 ≡ failures_if old.written.1 (not (is_unwritten outcome)))
+    × (new.written.1 ≡ failures_if old.written.1 (not (is_unwritten outcome))) × (new.read ≡ old.read)
 DoesWanted (Some (Run file is_quiet)) old new outcome =
-    (new.left ≡ old.left) × Runs old.written new.written old.faults new.faults outcome
+    (new.left ≡ old.left) × Runs file old.read new.read old.written new.written old.faults new.faults outcome
 DoesWanted (Some (Ask path line seconds)) old new outcome =
-    AsksWanted line old.left new.left old.written.0 new.written.0 outcome × (new.faults ≡ old.faults)
+    AsksWanted line old.left new.left old.written.0 new.written.0 outcome × (new.read ≡ old.read)
+    × (new.faults ≡ old.faults)
 DoesWanted (Some (Watch path is_json)) old new outcome =
-    WatchesDaemon is_json old.written.0 new.written.0 outcome × (new.left ≡ old.left) × (new.faults ≡ old.faults)
+    WatchesDaemon is_json old.written.0 new.written.0 outcome × LetsBe old new
+DoesWanted (Some (Web listen control events names)) old new outcome =
+    ServesWeb old.faults new.faults outcome × (new.left ≡ old.left) × (new.read ≡ old.read)
+    × (new.written ≡ old.written)
 DoesWanted (Some Help) old new outcome =
-    ((text : List ℕ) × Helps text old.written.0 new.written.0 outcome) × (new.left ≡ old.left) ×
-    (new.faults ≡ old.faults)
-DoesWanted (Some MakeKey) old new outcome =
-    MakesKey old.written.0 new.written.0 outcome × (new.left ≡ old.left) × (new.faults ≡ old.faults)
+    ((text : List ℕ) × Helps text old.written.0 new.written.0 outcome) × LetsBe old new
+DoesWanted (Some MakeKey) old new outcome = MakesKey old.written.0 new.written.0 outcome × LetsBe old new
 DoesWanted (Some Version) old new outcome =
-    Helps (codes "swimd 1.0\n") old.written.0 new.written.0 outcome × (new.left ≡ old.left) × (new.faults ≡ old.faults)
+    Helps (codes "swimd 1.0\n") old.written.0 new.written.0 outcome × LetsBe old new
 
 -- what the words ask was done
 pub record Does (asks : Option Wanted → Type 0) (old new : Streams) (outcome : Outcome) : Type 0 where
@@ -110,5 +120,6 @@ pub record Commanded (asks : Option Wanted → Type 0) (old new : Streams) (stat
   pub then : Streams
   pub done : Carried asks old then outcome
   pub left : new.left ≡ then.left
+  pub read : new.read ≡ then.read
   pub written : new.written ≡ then.written
   pub told : Told outcome then.faults.0 new.faults.0 then.faults.1 new.faults.1 status

@@ -1,30 +1,36 @@
 -- What a daemon does.
-use Rattle.std.specs.Prelude.{◌≡◌, ◌⊎◌, ℕ, List, Ok, Err, [], Some}
+use Rattle.std.specs.Prelude.{◌≡◌, ◌⊎◌, ℕ, ◌-◌, ◌^◌, min, List, [], ◌∷◌, Option, Some, Ok, Err}
 use Rattle.swim_config.specs.declared.config.Config.{Config}
 use Rattle.swim_config.specs.declared.config_fault.ConfigFault.TheVariants as faults
 use Rattle.swim_crew.specs.declared.pasts.LivesEnd.{LivesEnd}
 use Rattle.swim_crew.specs.declared.pasts.LivesEnd.TheVariants as ends
-use Rattle.swimd.specs.declared.outcomes.Outcome.{Outcome}
-use Rattle.swimd.specs.declared.outcomes.Outcome.TheVariants.{Unread, Refused, NoListen, NoControl, NoMemory, Stopped}
-use Rattle.swimd.specs.declared.outcomes.Outcome.TheVariants.{Socket}
-use Rattle.swimd.specs.declared.outcomes.Outcome.TheVariants.{NoEvents, NoPlace}
+use Rattle.swim_commands.specs.declared.outcomes.Outcome.{Outcome}
+use Rattle.swim_commands.specs.declared.outcomes.Outcome.TheVariants.{Unread, Refused, NoListen}
+use Rattle.swim_commands.specs.declared.outcomes.Outcome.TheVariants.{NoControl, NoMemory, Stopped}
+use Rattle.swim_commands.specs.declared.outcomes.Outcome.TheVariants.{Socket}
+use Rattle.swim_commands.specs.declared.outcomes.Outcome.TheVariants.{NoEvents, NoPlace}
 use Rattle.swim_config.specs.Beginnings.{begun_at}
 use Rattle.swim_config.specs.Configuration.{config_of}
 use Rattle.swim_keeper.specs.Endings.{Written}
 use Rattle.swim_keeper.specs.Notices.{Notices}
+use Rattle.swim_work.specs.Posts.{Grows}
 use Rattle.swim_config.specs.Reading.{OrNoMemory}
 use Rattle.swimd.specs.Checking.{Warned}
 use Rattle.swimd.specs.DaemonLives.{AreDaemonLives, AtDaemon, IsBeginning}
+use Rattle.swimd.specs.Documents.{Document, document}
 
--- a configuration that was read of some text
-abbrev pub IsConfiguration : Config → Type 0
-IsConfiguration config = (text : List ℕ) × (config_of text ≡ Ok config)
+-- the file at this path was read, and nothing else, and this is the configuration that its text is
+abbrev pub IsConfiguration : List ℕ → Option (List Document) → Option (List Document) → Config → Type 0
+IsConfiguration path old new config =
+    (text : List ℕ) × Grows old new (document path text ∷ []) × (config_of text ≡ Ok config)
 
--- why there is none: no text could be read, or it has this fault, or memory was refused
-abbrev pub IsNoConfiguration : Outcome → Type 0
-IsNoConfiguration Unread = Unit {0}
-IsNoConfiguration (Refused fault) = (text : List ℕ) × OrNoMemory {A = Config} (Err fault) (config_of text)
-IsNoConfiguration outcome = ⊥
+-- why there is none: the file at this path couldn't be read; or it was, and its text has this fault, or memory was
+-- refused
+abbrev pub IsNoConfiguration : List ℕ → Option (List Document) → Option (List Document) → Outcome → Type 0
+IsNoConfiguration path old new Unread = new ≡ old
+IsNoConfiguration path old new (Refused fault) =
+    (text : List ℕ) × Grows old new (document path text ∷ []) × OrNoMemory {A = Config} (Err fault) (config_of text)
+IsNoConfiguration path old new outcome = ⊥
 
 -- how a daemon ends whose lives ended so
 abbrev pub outcome_of : LivesEnd → Outcome
@@ -33,15 +39,19 @@ outcome_of ends.Socket = Socket
 outcome_of ends.NoMemory = Refused faults.NoMemory
 outcome_of ends.NoPlace = NoPlace
 
+-- at every how manieth start of a period a daemon of this configuration knocks; the key has no higher number
+abbrev pub rejoin_of : Config → ℕ
+rejoin_of config = min config.rejoin (2 ^ 16 - 1)
+
 -- lives were lived from the configuration's opening, with journals of at most as many entries as it says and draws of
--- its seed, over gates of the daemon's own, of which nothing had come in before
+-- its seed, over gates of the daemon's own, by which nothing had come in or gone out before
 pub record IsLivedBy (config : Config) (old new : Written) (outcome : Outcome) : Type 0 where
   pub end : LivesEnd
   pub before : AtDaemon
   pub after : AtDaemon
   pub lived : AreDaemonLives (Some []) (record { seed = config.seed; limit = config.journal }) config.opening before
       after end
-  pub beginning : IsBeginning before
+  pub beginning : IsBeginning (rejoin_of config) before
   pub began : before.told.keeper.lines ≡ old
   pub ended : after.told.keeper.lines ≡ new
   pub is : outcome ≡ outcome_of end
@@ -63,7 +73,6 @@ Starts config old new outcome = IsLivedBy config old new outcome
 
 -- what a daemon of this configuration does, and tells on standard error: what it warns of, and notices behind that
 pub record RunsBy (config : Config) (old new faults_old faults_new : Written) (outcome : Outcome) : Type 0 where
-  pub is : IsConfiguration config
   -- the time, in milliseconds since 1970
   pub now : ℕ
   pub starts : Starts (begun_at now config) old new outcome
@@ -71,8 +80,10 @@ pub record RunsBy (config : Config) (old new faults_old faults_new : Written) (o
   pub warned : Warned config faults_old between
   pub noticed : Notices between faults_new
 
--- what a daemon of some configuration file does: without a configuration nothing is written
-abbrev pub Runs : Written → Written → Written → Written → Outcome → Type 0
-Runs old new faults_old faults_new outcome =
-    (IsNoConfiguration outcome × (new ≡ old) × (faults_new ≡ faults_old))
-    ⊎ ((config : Config) × RunsBy config old new faults_old faults_new outcome)
+-- what a daemon of the configuration in the file at this path does: without a configuration nothing is written
+abbrev pub Runs : List ℕ → Option (List Document) → Option (List Document) → Written → Written → Written → Written →
+    Outcome → Type 0
+Runs path read_old read_new old new faults_old faults_new outcome =
+    (IsNoConfiguration path read_old read_new outcome × (new ≡ old) × (faults_new ≡ faults_old))
+    ⊎ ((config : Config) × IsConfiguration path read_old read_new config
+    × RunsBy config old new faults_old faults_new outcome)

@@ -7,9 +7,11 @@ use Rattle.swim_control.specs.SideBySide.{Brought, Called}
 use Rattle.swim_control.specs.Talks.{Talks}
 use Rattle.swim_work.specs.declared.paces.Beat.{Beat}
 use Rattle.swim_work.specs.declared.workers.End.{End}
+use Rattle.swim_work.specs.Ends.{both}
 use Rattle.swim_work.specs.Gates.{Received}
-use Rattle.swim_work.specs.Posts.{Grows, HasSent, Posted}
+use Rattle.swim_work.specs.Posts.{Grows, HasSent, Posted, starts_in}
 use Rattle.swim_receiver.specs.Datagrams.{AreHeard, datagrams_in}
+use Rattle.swim_ticker.specs.Knocking.{HasKnocked}
 use Rattle.swim_ticker.specs.Ticks.{AreTicked, ticks_in}
 use Rattle.swim_desk.specs.Connected.{AnswersLines, AreAnswered, BringsSo}
 use Rattle.swim_desk.specs.Controlling.{Step}
@@ -29,16 +31,21 @@ pub record AtReceiving : Type 0 where
   pub received : Option (List Received)
   pub posted : Option (List Posted)
 
--- and of a ticker: the beats of its pace, and what its post was handed
+-- and of a ticker: the beats of its pace, what its post and the post of its knocks were handed, how many starts of a
+-- period there are for each knock, and how many knocks there were
 pub record AtTicking : Type 0 where
   pub beats : Option (List Beat)
   pub posted : Option (List Posted)
+  pub knocked : Option (List Posted)
+  pub rejoin : ℕ
+  pub knocks : ℕ
 
 abbrev pub at_receiving : Option (List Received) → Option (List Posted) → AtReceiving
 at_receiving received posted = record { received = received; posted = posted }
 
-abbrev pub at_ticking : Option (List Beat) → Option (List Posted) → AtTicking
-at_ticking beats posted = record { beats = beats; posted = posted }
+abbrev pub at_ticking : Option (List Beat) → Option (List Posted) → Option (List Posted) → ℕ → ℕ → AtTicking
+at_ticking beats posted knocked rejoin knocks =
+    record { beats = beats; posted = posted; knocked = knocked; rejoin = rejoin; knocks = knocks }
 
 -- what is seen of a daemon between two lives: those who are told of lives, its receiver, its ticker, and the
 -- connections of operators
@@ -61,35 +68,53 @@ at_daemon told receiving ticking connections s = record {
   connections = connections s.crew.third;
 }
 
--- nothing came in or went out yet
+-- nothing came in or went out yet; of a ticker that has one knock at so many starts of a period
 abbrev pub none_received : AtReceiving
 none_received = at_receiving (Some []) (Some [])
 
-abbrev pub none_ticked : AtTicking
-none_ticked = at_ticking (Some []) (Some [])
+abbrev pub none_ticked : ℕ → AtTicking
+none_ticked rejoin = at_ticking (Some []) (Some []) (Some []) rejoin 0
 
 abbrev pub none_connected : Talks
 none_connected = record { talks = []; count = 0 }
 
-abbrev pub IsBeginning : AtDaemon → Type 0
-IsBeginning d =
-    (d.receiving ≡ none_received) × (d.ticking ≡ none_ticked) × (d.connections ≡ none_connected)
+-- no life was announced or had a file, nobody watches, and the reporter heard of none
+pub record IsUntold (told : AtLives) : Type 0 where
+  pub begun : told.keeper.begun ≡ Some []
+  pub opened : told.keeper.opened ≡ Some []
+  pub filed : told.keeper.filed ≡ Some []
+  pub gallery : told.gallery ≡ []
+  pub heard : told.heard ≡ Some []
+
+-- a daemon whose configuration has this key `rejoin`, before its first life
+pub record IsBeginning (rejoin : ℕ) (d : AtDaemon) : Type 0 where
+  pub received : d.receiving ≡ none_received
+  pub ticked : d.ticking ≡ none_ticked rejoin
+  pub connected : d.connections ≡ none_connected
+  pub told : IsUntold d.told
 
 -- each datagram that the line gave in a life, in order, became one call of this seat, which made no other for a
--- datagram, or was refused and counted; and the post was handed the datagrams of the replies, each once, in order
+-- datagram, or was refused, which is counted unless the journal was full; and the post was handed the datagrams of the
+-- replies, each once, in order
 pub record Receives (o : Setting) (seat : Seated) (end : End) (old new : AtReceiving) : Type 0 where
   pub given : List Received
   pub grown : Grows old.received new.received given
   pub heard : AreHeard (datagrams_in given) seat.calls end.counts
   pub sent : HasSent o seat.calls old.posted new.posted end.counts.unsent
 
--- each tick of the pace, in order, became one call of this seat, which made no other, or was refused and counted; and
--- the post was handed the datagrams of the replies, each once, in order
+-- each tick of the pace, in order, became one call of this seat, which made no other, or was refused, which is counted
+-- unless the journal was full; the post was handed the datagrams of the replies, each once, in order; and that of the
+-- knocks the knocks at the starts of periods that these calls began, by what a viewer saw at these, each once, in order
 pub record Ticks (o : Setting) (seat : Seated) (end : End) (old new : AtTicking) : Type 0 where
   pub given : List Beat
   pub grown : Grows old.beats new.beats given
   pub ticked : AreTicked (ticks_in given) seat.calls end.counts
   pub sent : HasSent o seat.calls old.posted new.posted end.counts.unsent
+  pub knocks : ℕ
+  pub seen : List Change
+  pub knocked : HasKnocked o old.rejoin (starts_in seat.calls) seen old.knocked new.knocked knocks
+  pub counted : new.knocks ≡ both old.knocks knocks
+  pub same : new.rejoin ≡ old.rejoin
 
 -- each whole line that a connection brought, in order, became exactly its calls of this seat, with the reply that it
 -- was answered, and the seat made no other: whatever connections brought, if the lines of lives before were answered so

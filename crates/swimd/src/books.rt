@@ -175,7 +175,7 @@ impl Book {
 }
 
 /// Whether a call of that seat, which changed the member table so, is a join that the daemon made by itself.
-fn is_own_join(seat: u8, change: &Option<Change>) -> bool
+pub fn is_own_join(seat: u8, change: &Option<Change>) -> bool
     ensures { result ≡ is_own_join seat change.now }
 {
     matches!(change, Some(Change::Up(_, _))) && seat == RECEIVER

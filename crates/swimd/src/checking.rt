@@ -3,12 +3,11 @@
 ghost use Rattle.std.specs.Prelude.{◌≡◌, not, []};
 ghost use Rattle.swim_text.specs.Streams.{failures_if};
 ghost use Rattle.swimd.specs.Checking.{ChecksKnown, Shows, Warned, is_unread, is_unwritten};
-ghost use Rattle.swimd.specs.Details.{Explains};
+ghost use Rattle.swim_commands.specs.Details.{Explains};
 
-use crate::details::Details;
-use crate::outcomes::Outcome;
 use arrayvec::ArrayVec;
 use std::alloc::Global;
+use swim_commands::{Details, Outcome};
 use swim_config::{Config, INPUT_BYTES, put_warnings, read_config, read_input, summary};
 use swim_text::{Sink, Source};
 

@@ -1,13 +1,13 @@
-//! The comments of journal files, which tell people when things happened.
+//! The comments of journal files, for people: when things happened, and which joins the daemon made by itself.
 
-ghost use Rattle.std.specs.Prelude.{◌≡◌, true};
+ghost use Rattle.std.specs.Prelude.{◌≡◌, true, codes};
 ghost use Rattle.swim_journal.specs.Comments.{IsCommentLine, MayComment};
 
-use crate::words::{VERSION, has_feed};
 use arrayvec::ArrayString;
 use jiff::Timestamp;
 use std::fmt::Write;
 use std::rt::Clock;
+use swim_commands::{VERSION, has_feed};
 
 /// Room for a comment.
 const COMMENT_BYTES: usize = 80;
@@ -23,6 +23,15 @@ pub fn comment_behind<K: Clock>(clock: &K, line: &[u8]) -> ArrayString<COMMENT_B
     } else {
         ArrayString::new()
     }
+}
+
+/// The comment behind the answer to a join that the daemon made by itself.
+#[tactic(auto, using(crate::proofs::HeldTexts::own_join_may_comment))]
+pub fn own_join() -> &'static [u8]
+    ensures text { result.now ≡ codes "# rejoin\n" }
+    ensures comment { MayComment result.now }
+{
+    b"# rejoin\n"
 }
 
 /// What is told behind the line that begins so, if something is.

@@ -1,13 +1,15 @@
 //! What a daemon counts, as it is told to whoever asks for it, and in the metrics' file.
 
-ghost use Rattle.std.specs.Prelude.{◌≡◌};
+ghost use Rattle.std.specs.Prelude.{◌≡◌, IfSome, codes};
+ghost use Rattle.swimd.specs.Figures.{IsOutside, IsStats};
 
 use crate::bulletins::{Bulletin, Counted};
 use crate::refusals::Refusals;
+use crate::remarks::Remarks;
 use crate::strangers::{StrangerCounts, Strangers};
 use crate::text_sinks::TextSink;
-use crate::words::VERSION;
 use std::sync::Wait;
+use swim_commands::VERSION;
 use swim_config::Config;
 use swim_control::StatsText;
 use swim_metrics::{FileFigures, Measures, Outside, put_stats};
@@ -39,12 +41,13 @@ impl Facts {
     }
 }
 
-/// Where all counts of a daemon stand. Its threads share it.
+/// Where all counts of a daemon stand, and what its journal file is to remark. Its threads share it.
 #[derive(Drop)]
 pub struct Counters {
     pub bulletin: Bulletin,
     pub strangers: Strangers,
     pub refusals: Refusals,
+    pub remarks: Remarks,
     facts: Facts,
 }
 
@@ -55,13 +58,16 @@ impl Counters {
             bulletin: Bulletin::new(),
             strangers: Strangers::new(),
             refusals: Refusals::new(),
+            remarks: Remarks::new(),
             facts: Facts::of(config),
         }
     }
 
     /// What was counted by now, as it is told to an operator: lines, and a dot in the last one. Beside that, how journal
     /// files stand, where lives have some.
-    pub fn stats<R: Wait>(&self, rt: &R, files: Option<FileFigures>) -> StatsText {
+    pub fn stats<R: Wait>(&self, rt: &R, files: Option<FileFigures>) -> StatsText
+        ensures { IsStats self.now.facts files result.items }
+    {
         let mut sink = TextSink::new();
         if let Some(figures) = self.figures(rt, files) {
             if put_stats(&mut sink, &figures.measures(), &figures.outside()) {
@@ -72,7 +78,10 @@ impl Counters {
     }
 
     /// What was counted by now, with how journal files stand. `None` before the first life.
-    pub fn figures<R: Wait>(&self, rt: &R, files: Option<FileFigures>) -> Option<Figures> {
+    pub fn figures<R: Wait>(&self, rt: &R, files: Option<FileFigures>) -> Option<Figures>
+        ensures facts { IfSome result (λ figures. figures.facts ≡ self.now.facts) }
+        ensures files { IfSome result (λ figures. figures.files ≡ files) }
+    {
         Some(Figures {
             counted: self.bulletin.counted(rt)?,
             strangers: self.strangers.counts(),
@@ -104,23 +113,7 @@ impl Figures {
 
     /// What is told beside them.
     pub fn outside(&self) -> Outside<'static>
-        ensures version { result.version.now ≡ VERSION.now }
-        ensures me { result.me ≡ self.now.facts.me }
-        ensures tick_ms { result.tick_ms ≡ self.now.facts.tick_ms }
-        ensures period { result.period ≡ self.now.facts.period }
-        ensures journal_limit { result.journal_limit ≡ self.now.facts.journal }
-        ensures behind { result.behind ≡ self.now.counted.behind }
-        ensures unsent { result.unsent ≡ self.now.counted.unsent }
-        ensures wire { result.wire ≡ self.now.counted.wire }
-        ensures refused { result.refused ≡ self.now.counted.refused }
-        ensures forged { result.forged ≡ self.now.strangers.forged }
-        ensures fenced { result.fenced ≡ self.now.strangers.fenced }
-        ensures watchers { result.watchers ≡ self.now.counted.watchers }
-        ensures lost_watchers { result.lost_watchers ≡ self.now.counted.lost_watchers }
-        ensures knocks { result.knocks ≡ self.now.counted.knocks }
-        ensures own_joins { result.own_joins ≡ self.now.counted.own_joins }
-        ensures unwritten { result.unwritten ≡ self.now.unwritten }
-        ensures files { result.files ≡ self.now.files }
+        ensures { IsOutside self.now result }
     {
         let (facts, counted) = (&self.facts, &self.counted);
         Outside {
@@ -146,7 +139,9 @@ impl Figures {
 }
 
 /// Where nothing was counted yet: no lines, and a dot.
-fn no_stats() -> StatsText {
+fn no_stats() -> StatsText
+    ensures { result.items ≡ codes ".\n" }
+{
     let mut text = StatsText::new();
     let _is_added = text.try_extend_from_slice(b".\n");
     text

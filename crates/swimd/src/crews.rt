@@ -1,7 +1,8 @@
 //! The crew of a daemon: its workers and its recorder, over the gates of a configuration.
 
-ghost use Rattle.std.specs.Prelude.{◌≡◌, [], IfOk, box_value};
+ghost use Rattle.std.specs.Prelude.{◌≡◌, [], Some, IfOk, box_value};
 ghost use Rattle.swim_receiver.specs.Rejoining.{IsReturning};
+ghost use Rattle.swimd.specs.Daemon.{rejoin_of};
 ghost use Rattle.swimd.specs.DaemonLives.{at_receiving, at_ticking, none_connected, none_received, none_ticked};
 
 use crate::chroniclers::Chronicler;
@@ -29,7 +30,7 @@ use swim_events::{Entrance, Gallery};
 use swim_guard::{ClockTimepiece, FencedLine, SealedLine, SealedPost};
 use swim_keys::Keys;
 use swim_receiver::{Receiver, Returning};
-use swim_recorder::JournalRecorder;
+use swim_recorder::{JournalRecorder, Reporter};
 use swim_text::Sink;
 use swim_ticker::Ticker;
 use swim_work::{Line, Pace, Post, TidingsBoard};
@@ -92,8 +93,13 @@ impl<'g, R: Files<File = File> + Net + Clock + Wait> Shared<'g, R> {
             (⟦<GuardedPost<'g> as Post>⟧.posted (box_value crew.first).post) ≡ none_received) }
         ensures ticking { IfOk result (λ crew. at_ticking
             (⟦<ClockPace<'g, R> as Pace>⟧.beats (box_value crew.second).pace)
-            (⟦<GuardedPost<'g> as Post>⟧.posted (box_value crew.second).post) ≡ none_ticked) }
+            (⟦<GuardedPost<'g> as Post>⟧.posted (box_value crew.second).post)
+            (⟦<GuardedPost<'g> as Post>⟧.posted (box_value crew.second).knock_post)
+            (box_value crew.second).rejoin (box_value crew.second).knocks ≡ none_ticked (rejoin_of config.now)) }
         ensures connections { IfOk result (λ crew. (box_value crew.third).hall.connections ≡ none_connected) }
+        ensures gallery { IfOk result (λ crew. (box_value crew.recorder).gallery ≡ []) }
+        ensures heard { IfOk result (λ crew.
+            ⟦<Chronicler<'g> as Reporter>⟧.heard (box_value crew.recorder).reporter ≡ Some []) }
     {
         Ok(Crew {
             first: self.receiver(config)?,
@@ -134,7 +140,9 @@ impl<'g, R: Files<File = File> + Net + Clock + Wait> Shared<'g, R> {
         config: &Config,
     ) -> Result<Box<Ticker<'g, ClockPace<'g, R>, GuardedPost<'g>>>, AllocError>
         ensures { IfOk result (λ ticker. at_ticking (⟦<ClockPace<'g, R> as Pace>⟧.beats (box_value ticker).pace)
-            (⟦<GuardedPost<'g> as Post>⟧.posted (box_value ticker).post) ≡ none_ticked) }
+            (⟦<GuardedPost<'g> as Post>⟧.posted (box_value ticker).post)
+            (⟦<GuardedPost<'g> as Post>⟧.posted (box_value ticker).knock_post)
+            (box_value ticker).rejoin (box_value ticker).knocks ≡ none_ticked (rejoin_of config.now)) }
     {
         let ticker = Ticker {
             pace: SleepingPace::new(ClockSleeper::new(self.rt), config.tick_ms),
@@ -173,7 +181,11 @@ impl<'g, R: Files<File = File> + Net + Clock + Wait> Shared<'g, R> {
         config: &Config,
         is_quiet: bool,
         entrance: UnixEntrance<K>,
-    ) -> Result<Box<DaemonRecorder<'g, R, K>>, AllocError> {
+    ) -> Result<Box<DaemonRecorder<'g, R, K>>, AllocError>
+        ensures gallery { IfOk result (λ recorder. (box_value recorder).gallery ≡ []) }
+        ensures heard { IfOk result (λ recorder.
+            ⟦<Chronicler<'g> as Reporter>⟧.heard (box_value recorder).reporter ≡ Some []) }
+    {
         let recorder = JournalRecorder::new(
             self.alloc,
             &config.opening,
@@ -202,6 +214,8 @@ pub fn leave<
 }
 
 /// At every how manieth start of a period a daemon of this configuration knocks. The key has no higher number.
-fn rejoin_of(config: &Config) -> u16 {
+fn rejoin_of(config: &Config) -> u16
+    ensures { result ≡ rejoin_of config.now }
+{
     u16::try_from(config.rejoin).unwrap_or(u16::MAX)
 }

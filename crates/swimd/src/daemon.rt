@@ -3,22 +3,20 @@
 ghost use Rattle.std.specs.Prelude.{◌≡◌, []};
 ghost use Rattle.swim_keeper.specs.Notices.{Notices};
 ghost use Rattle.swimd.specs.Daemon.{Runs, Starts, outcome_of};
-ghost use Rattle.swimd.specs.Details.{Explains};
+ghost use Rattle.swim_commands.specs.Details.{Explains};
 
 use crate::checking::warn;
 use crate::clerks::Clerk;
 use crate::configurations::configuration;
 use crate::counters::Counters;
 use crate::crews::{Shared, leave};
-use crate::details::{Details, words_why};
+use crate::documents::Documents;
 use crate::doors::open_door;
 use crate::entrances::open_entrance;
 use crate::folders::Folder;
 use crate::lives::keep_lives;
 use crate::metrics_times::MetricsTimes;
 use crate::notices::{Announcer, Notice};
-use crate::outcomes::Outcome;
-use crate::timely_sinks::Timely;
 use jiff::Timestamp;
 use std::alloc::Global;
 use std::fs::File;
@@ -27,21 +25,24 @@ use std::net::Net;
 use std::rt::{Clock, Files};
 use std::sync::Wait;
 use std::thread::Threads;
+use swim_commands::{Details, Outcome, words_why};
 use swim_config::{Config, ConfigFault, JournalFiles};
 use swim_crew::{LivesEnd, Terms};
 use swim_desk::Door;
 use swim_devices::{UdpEndpoint, UnixEntrance};
 use swim_keeper::LifeKeeper;
 use swim_keys::Keys;
+use swim_streams::Timely;
 use swim_text::Sink;
 use swim_wire::Peer;
 use swim_work::TidingsBoard;
 
-/// Which configuration file a daemon is to have, and whether it is to be quiet.
-#[derive(Clone, Copy)]
-pub struct Launch<'p> {
+/// Which configuration file a daemon is to have, whether it is to be quiet, and who reads the file.
+#[derive(Drop)]
+pub struct Launch<'p, 'x, X> {
     pub path: &'p str,
     pub is_quiet: bool,
+    pub documents: &'x mut X,
 }
 
 /// A daemon that is to be started.
@@ -67,24 +68,27 @@ struct Sockets<D: Door + Drop, K: Clock + Drop> {
 /// came from that nobody of the group sent, or more than the fence lets in.
 pub fn run<
     R: Files<File = File> + Net + Clock + Threads + Wait + Sync,
+    X: Documents,
     W: Timely,
     F: Timely,
     G: Sink + Clerk + Drop,
 >(
     rt: &R,
     alloc: Global,
-    launch: Launch<'_>,
+    launch: &mut Launch<'_, '_, X>,
     writer: &mut W,
     faults: &mut F,
     log: G,
     details: &mut Details,
 ) -> Outcome
     requires { details.old ≡ [] }
-    ensures runs { Runs (W.written writer.old, W.failures writer.old) (W.written writer.new, W.failures writer.new)
+    ensures same { launch.new.documents.ghost_name ≡ launch.old.documents.ghost_name }
+    ensures runs { Runs launch.old.path.now (X.read launch.old.documents.now) (X.read launch.new.documents.now)
+        (W.written writer.old, W.failures writer.old) (W.written writer.new, W.failures writer.new)
         (F.written faults.old, F.failures faults.old) (F.written faults.new, F.failures faults.new) result }
     ensures explains { Explains result details.new }
 {
-    match configuration(rt, alloc, launch.path, details) {
+    match configuration(alloc, launch.documents, launch.path, details) {
         Ok(config) => {
             writer.hurry();
             faults.hurry();
@@ -271,7 +275,8 @@ fn live_shared<
         dir: config.files.dir.take(),
         keep: config.files.keep,
     };
-    let Ok(mut shelf) = Folder::open(rt, alloc, files, me, seconds(rt), &log) else {
+    let counters = shared.counters;
+    let Ok(mut shelf) = Folder::open(rt, alloc, files, me, seconds(rt), &log, counters) else {
         return Outcome::NoMemory;
     };
     let Ok(crew) = shared.crew(&config, is_quiet, metrics, door, entrance, log) else {

@@ -4,15 +4,14 @@ ghost use Rattle.std.specs.Prelude.{◌≡◌, IfErr, IfOk};
 ghost use Rattle.swim_keeper.specs.Notices.{Notices};
 ghost use Rattle.swimd.specs.Daemon.{IsNoDoor};
 
-use crate::details::Details;
 use crate::entrances::tell_socket;
 use crate::notices::Notice;
-use crate::outcomes::Outcome;
 use std::alloc::Global;
 use std::fs::File;
 use std::io::ErrorKind;
 use std::net::Net;
 use std::rt::{Clock, Files};
+use swim_commands::{Details, Outcome};
 use swim_devices::{Place, SystemRemover, UnixDoor};
 use swim_text::Sink;
 

@@ -4,14 +4,13 @@ ghost use Rattle.std.specs.Prelude.{◌≡◌, IfErr, IfOk};
 ghost use Rattle.swim_keeper.specs.Notices.{Notices};
 ghost use Rattle.swimd.specs.Daemon.{IsNoEntrance};
 
-use crate::details::{Details, words_why};
 use crate::notices::Notice;
-use crate::outcomes::Outcome;
 use std::alloc::Global;
 use std::fs::File;
 use std::io;
 use std::net::Net;
 use std::rt::{Clock, Files};
+use swim_commands::{Details, Outcome, words_why};
 use swim_config::SocketPath;
 use swim_devices::{Place, Sight, SystemRemover, UnixEntrance};
 use swim_events::{Event, Gallery, Outlet};

@@ -1,6 +1,6 @@
 //! Why a journal file isn't whole, in words.
 
-use crate::details::words_of;
+use swim_commands::words_of;
 use swim_disk::FileFault;
 
 /// What people are told of a file that isn't whole for this reason.

@@ -5,6 +5,7 @@ ghost use Rattle.swim_journal.specs.Comments.{without_comments};
 ghost use Rattle.swim_keeper.specs.Notices.{Notices};
 
 use crate::clerks::Clerk;
+use crate::counters::Counters;
 use crate::disk_desks::{Begun, DiskDesk};
 use crate::file_faults::words_for;
 use crate::held_texts::HeldText;
@@ -33,6 +34,7 @@ pub struct Folder<'r, R> {
     me: Id,
     began: u64,
     desk: Arc<DiskDesk, Global>,
+    counters: &'r Counters,
     // How many lives had no file, as too many waited.
     unfiled: u64,
     // The numbers of the lives for which it was asked for files.
@@ -43,7 +45,8 @@ pub struct Folder<'r, R> {
 
 impl<'r, R: Net + Clock + Wait> Folder<'r, R> {
     /// The folder of this member's files, whose daemon began so many seconds after 1970, with the clerk's desk. Where
-    /// files are made, their memory is taken here. It was asked for no file yet, and took none back.
+    /// files are made, their memory is taken here. They have the remarks that stand among the counters. It was asked
+    /// for no file yet, and took none back.
     pub fn open<G: Clerk>(
         rt: &'r R,
         alloc: Global,
@@ -51,6 +54,7 @@ impl<'r, R: Net + Clock + Wait> Folder<'r, R> {
         me: Id,
         began: u64,
         clerk: &G,
+        counters: &'r Counters,
     ) -> Result<Folder<'r, R>, AllocError>
         ensures opened { IfOk result (λ folder. folder.opened.items ≡ []) }
         ensures filed { IfOk result (λ folder. folder.filed.items ≡ []) }
@@ -66,6 +70,7 @@ impl<'r, R: Net + Clock + Wait> Folder<'r, R> {
             me,
             began,
             desk,
+            counters,
             unfiled: 0,
             opened: Trail::new(),
             filed: Trail::new(),
@@ -107,21 +112,28 @@ impl<'r, R: Net + Clock + Wait> Folder<'r, R> {
             (F.written notices.new, F.failures notices.new) }
     {
         let Ok(desk) = Arc::try_clone(&self.desk) else {
-            return JournalFile::new(self.rt, None);
+            return self.file(None);
         };
         match desk.begin(self.rt, new) {
-            Begun::Going => JournalFile::new(self.rt, Some(desk)),
+            Begun::Going => self.file(Some(desk)),
             Begun::Refused => {
                 self.end_newest(notices);
-                JournalFile::new(self.rt, None)
+                self.file(None)
             }
             Begun::TooMany => {
                 self.unfiled = self.unfiled.saturating_add(1);
                 let notice = Notice::unfiled(self.rt, new.path().as_str(), self.unfiled);
                 notice.tell_notice(self.rt, self.alloc, notices);
-                JournalFile::new(self.rt, None)
+                self.file(None)
             }
         }
+    }
+
+    /// The file that the desk has begun; without a desk, one that takes nothing.
+    fn file(&self, desk: Option<Arc<DiskDesk, Global>>) -> JournalFile<'r, R>
+        ensures { result.text.taken ≡ [] }
+    {
+        JournalFile::new(self.rt, &self.counters.remarks, desk)
     }
 
     /// Ends the newest file, and answers whether it is whole. Where it isn't, and nobody was told yet, it is told.

@@ -1,6 +1,6 @@
 //! What is held back of a journal file until it is handed on, with comments for people between its lines.
 
-ghost use Rattle.std.specs.Prelude.{◌≡◌, false, [], OnOk};
+ghost use Rattle.std.specs.Prelude.{◌≡◌, true, false, [], OnOk};
 ghost use Rattle.swim_journal.specs.Comments.{EndsLine, MayComment, without_comments};
 ghost use Rattle.swimd.specs.HeldTexts.{Takes, all_of};
 
@@ -81,6 +81,20 @@ impl HeldText {
             Ok(()) => true,
             Err(_) => false,
         }
+    }
+
+    /// Whether what it holds back ends a line.
+    #[tactic(auto, using(crate::proofs::HeldTexts::held_ends))]
+    pub fn ends_line(&self) -> bool
+        ensures { result ≡ true → EndsLine (all_of self.now) }
+    {
+        let Some((last, _front)) = self.held.as_slice().split_last() else {
+            return false;
+        };
+        if *last != b'\n' {
+            return false;
+        }
+        true
     }
 
     /// Has the desk take what is held back, and notes it. Nothing else hands anything on or notes it.

@@ -5,9 +5,10 @@ ghost use Rattle.swim_text.specs.Streams.{Puts, failures_if};
 ghost use Rattle.swim_journal.specs.Comments.{EndsLine, MayComment, without_comments};
 ghost use Rattle.swimd.specs.HeldTexts.{Takes, all_of};
 
-use crate::comments::comment_behind;
+use crate::comments::{comment_behind, own_join};
 use crate::disk_desks::DiskDesk;
 use crate::held_texts::HeldText;
+use crate::remarks::Remarks;
 use arrayvec::ArrayVec;
 use std::alloc::Global;
 use std::rt::Clock;
@@ -19,11 +20,13 @@ const FRONT_BYTES: usize = 32;
 
 /// A journal file, as long as its desk takes what is to be written, from where another thread writes it. It holds back
 /// what it is given until it is flushed. Once something was refused it takes nothing more. It adds comments for people:
-/// behind its first line the program with its version and the time, and behind each line of a started period the seconds
-/// since 1970. A contract sees the texts that it took, and the bytes that its desk took.
+/// after its first line the program with its version and the time, after each line of a started period the seconds
+/// since 1970, and after the answer to a join that the daemon made by itself that it did. A contract sees the texts
+/// that it took, and the bytes that its desk took.
 #[derive(Drop)]
 pub struct JournalFile<'r, R> {
     rt: &'r R,
+    remarks: &'r Remarks,
     // None once nothing more is taken.
     desk: Option<Arc<DiskDesk, Global>>,
     text: HeldText,
@@ -34,13 +37,20 @@ pub struct JournalFile<'r, R> {
 }
 
 impl<'r, R: Clock + Wait> JournalFile<'r, R> {
-    /// The file that the desk has begun; without a desk, it takes nothing.
-    pub fn new(rt: &'r R, desk: Option<Arc<DiskDesk, Global>>) -> JournalFile<'r, R>
+    /// The file that the desk has begun; without a desk, it takes nothing. It has the remarks that are made from now
+    /// on.
+    pub fn new(
+        rt: &'r R,
+        remarks: &'r Remarks,
+        desk: Option<Arc<DiskDesk, Global>>,
+    ) -> JournalFile<'r, R>
         ensures { result.text.taken ≡ [] }
     {
         let is_begun = desk.is_some();
+        let _earlier = remarks.take();
         JournalFile {
             rt,
+            remarks,
             desk,
             text: HeldText::new(),
             front: ArrayVec::new(),
@@ -60,7 +70,7 @@ impl<'r, R: Clock + Wait> JournalFile<'r, R> {
         ensures same { result ≡ true →
             without_comments self.new.text.handed ≡ without_comments self.new.text.taken }
     {
-        self.hand_on()
+        self.hand_on_all()
     }
 
     /// What it took, and what its desk took of that.
@@ -69,6 +79,7 @@ impl<'r, R: Clock + Wait> JournalFile<'r, R> {
     {
         let JournalFile {
             rt: _rt,
+            remarks: _remarks,
             desk: _desk,
             text,
             front: _front,
@@ -76,6 +87,20 @@ impl<'r, R: Clock + Wait> JournalFile<'r, R> {
             is_begun: _is_begun,
         } = self;
         text
+    }
+
+    /// Hands over what is held back, with the remark on the last call, and answers whether the desk took it.
+    fn hand_on_all(&mut self) -> bool
+        ensures failures { self.new.failures ≡ self.old.failures }
+        ensures taken { self.new.text.taken ≡ self.old.text.taken }
+        ensures sent { result ≡ true → self.new.text.held ≡ [] }
+        ensures same { result ≡ true →
+            without_comments self.new.text.handed ≡ without_comments self.new.text.taken }
+    {
+        if !self.take_remark() {
+            return false;
+        }
+        self.hand_on()
     }
 
     /// Hands over what is held back, and answers whether the desk took it. Where it didn't, the file is let go.
@@ -109,6 +134,29 @@ impl<'r, R: Clock + Wait> JournalFile<'r, R> {
             self.failures = self.failures.saturating_add(1);
         }
         is_done
+    }
+
+    /// Holds the remark on the call before back, if there is one, and then a text.
+    #[tactic(auto, using(crate::proofs::HeldTexts::puts_next, crate::proofs::HeldTexts::puts_nothing))]
+    fn take_next(&mut self, text: &[u8]) -> bool
+        ensures failures { self.new.failures ≡ self.old.failures }
+        ensures taken { Puts (Some self.old.text.taken) (Some self.new.text.taken) text.now result }
+    {
+        if !self.take_remark() {
+            return false;
+        }
+        self.take_told(text)
+    }
+
+    /// Holds the remark on the last call back, if there is one. It is left out if the file ends within a line.
+    fn take_remark(&mut self) -> bool
+        ensures failures { self.new.failures ≡ self.old.failures }
+        ensures taken { self.new.text.taken ≡ self.old.text.taken }
+    {
+        if !self.remarks.take() || !self.text.ends_line() {
+            return true;
+        }
+        self.take_comment(own_join())
     }
 
     /// Holds a text back, and a comment behind it, where it ends a line that is to have one.
@@ -167,12 +215,12 @@ impl<'r, R: Clock + Wait> Sink for JournalFile<'r, R> {
     ghost held = { λ f. length f.text.held };
 
     fn put(&mut self, text: &[u8]) -> bool {
-        let is_taken = self.take_told(text);
+        let is_taken = self.take_next(text);
         self.counted(is_taken)
     }
 
     fn flush(&mut self) -> bool {
-        let is_sent = self.hand_on();
+        let is_sent = self.hand_on_all();
         self.counted(is_sent)
     }
 }

@@ -5,12 +5,12 @@ ghost use Rattle.std.specs.Io.KnownBytes.{Consumes};
 ghost use Rattle.hex.specs.Hex.{encode_lower};
 ghost use Rattle.swimd.specs.Commands.{IsKeyOf, MakesKey, MakesKeyOf};
 
-use crate::outcomes::Outcome;
 use crate::program_commands::help;
 use std::fs;
 use std::fs::File;
 use std::io::Read;
 use std::rt::Files;
+use swim_commands::Outcome;
 use swim_keys::KEY_BYTES;
 use swim_text::Sink;
 

@@ -45,8 +45,9 @@ pub type DaemonKeeper<'g, 'w, 'f, 'h, 's, 'b, R, W, F> = LifeKeeper<
 >;
 
 /// Runs lives with this crew, from this opening, until they end. What the line gave became the calls of the receiver, the
-/// beats of the pace those of the ticker, and the lines of operators those of the controller; what was handed to be sent
-/// are the datagrams of their replies; and each life is told. Returns why the lives ended, and the crew.
+/// beats of the pace those of the ticker, and the lines of operators those of the controller. What was handed to be sent
+/// are the datagrams of their replies, and knocks at the starts of periods. Each life is told. Returns why the lives
+/// ended, and the crew.
 pub fn keep_lives<
     'g,
     'w,
@@ -76,7 +77,8 @@ pub fn keep_lives<
         ⟦<Folder<'g, R> as Shelf<JournalFile<'g, R>>>⟧.fresh ⟦<JournalFile<'g, R> as Sink>⟧.written
         ⟦<JournalFile<'g, R> as Sink>⟧.held ⟦<Chronicler<'g> as Reporter>⟧.heard))
         (λ r. at_receiving (⟦<GuardedLine<'g, R> as Line>⟧.received r.line) (⟦<GuardedPost<'g> as Post>⟧.posted r.post))
-        (λ t. at_ticking (⟦<ClockPace<'g, R> as Pace>⟧.beats t.pace) (⟦<GuardedPost<'g> as Post>⟧.posted t.post))
+        (λ t. at_ticking (⟦<ClockPace<'g, R> as Pace>⟧.beats t.pace) (⟦<GuardedPost<'g> as Post>⟧.posted t.post)
+        (⟦<GuardedPost<'g> as Post>⟧.posted t.knock_post) t.rejoin t.knocks)
         (λ c. c.hall.connections)) ⟦<Folder<'g, R> as Shelf<JournalFile<'g, R>>>⟧.fresh keeper.old.terms opening
         (stand_at crew.entry keeper.old) (stand_at result.1 keeper.new) result.0 }
     ensures notices { Notices (F.written keeper.old.notices.now, F.failures keeper.old.notices.now)

@@ -1,13 +1,10 @@
 //! The failure detector of one group member: its daemon (`run`), a look at a configuration (`check`, or no command),
-//! questions to a daemon that runs (`ask`, `watch`), and new keys (`key`).
+//! questions to a daemon that runs (`ask`, `watch`, `web`), and new keys (`key`).
 #![tactic(auto)]
 
 ghost use Rattle.std.specs.Prelude.{◌≡◌, [], IfErr};
-ghost use Rattle.swimd.specs.Details.{Explains};
+ghost use Rattle.swim_commands.specs.Details.{Explains};
 
-mod answers;
-mod ask;
-mod askers;
 mod books;
 mod bulletins;
 mod checking;
@@ -15,22 +12,19 @@ mod chroniclers;
 mod clerks;
 mod comments;
 mod configurations;
-mod control_lines;
 mod counters;
 mod crews;
 mod daemon;
-mod details;
 mod disk_desks;
 mod disk_sheets;
 mod disk_workers;
+mod documents;
 mod doors;
 mod entrances;
-mod event_sockets;
 mod file_faults;
 mod folders;
 mod happenings;
 mod held_texts;
-mod hints;
 mod journal_files;
 mod key_making;
 mod lives;
@@ -38,71 +32,49 @@ mod metrics_desks;
 mod metrics_files;
 mod metrics_times;
 mod notices;
-mod outcomes;
 mod program_commands;
-mod readiness;
 mod refusals;
-mod screens;
-mod sockets;
+mod remarks;
 mod speakers;
 mod stacks;
 mod strangers;
 mod text_sinks;
-mod timely_sinks;
 mod totals;
-mod watch;
-mod words;
+mod web;
 
 use clerks::{Clerk, Desks, Log};
-use details::Details;
 use disk_workers::serve_disk;
-use hints::explain_no_text;
-use outcomes::Outcome;
-use readiness::{STANDARD_ERROR, STANDARD_OUTPUT};
-use screens::ScreenSink;
+use documents::{Documents, SystemDocuments};
+use program_commands::Streams;
 use stacks::begin_on_own_stack;
 use std::alloc::{AllocError, Global};
 use std::env;
 use std::fs::File;
-use std::io::{ErrorKind, IsTerminal};
+use std::io::{ErrorKind, IsTerminal, Write};
 use std::net::Net;
 use std::process::ExitCode;
+use std::random::RandomSource;
 use std::rt::{Clock, Files};
-use std::sync::Wait;
-use std::thread::Threads;
+use std::sync::{Arc, Wait};
+use std::thread::{JoinHandle, Threads};
+use swim_commands::{Details, Outcome, explain_no_text};
 use swim_config::ConfigFault;
+use swim_streams::{
+    DeskStream, STANDARD_ERROR, STANDARD_OUTPUT, ScreenSink, StreamDesk, StreamDesks, StreamDoor,
+    TEXT_BYTES, Timely, TimelySink, shared,
+};
 use swim_text::{ReadSource, Sink, Source, WriteSink};
-use timely_sinks::{Timely, TimelySink};
 
-/// The program runs in a thread with a stack of its own. This one writes journal files meanwhile, and another one the
-/// metrics, as they alone may wait for their disks.
+/// The program runs in a thread with a stack of its own. This one writes journal files meanwhile, others the metrics
+/// and those standard streams that are files, as they alone may wait for their disks.
 fn main(rt: HostRuntime) -> ExitCode {
     let Some((desks, theirs, written)) = desks(rt.alloc()) else {
         return ExitCode::from(tell_no_memory(&mut WriteSink::new(rt.stderr())));
     };
+    let streams = StreamDesks::new(&rt, rt.alloc());
+    let told = streams.shared();
     let program = begin_on_own_stack(&rt, move || {
-        let alloc = rt.alloc();
-        let mut reader = ReadSource::new(rt.stdin());
-        let is_terminal = rt.stdout().is_terminal();
-        let screen = ScreenSink::new(WriteSink::new(rt.stdout()), is_terminal);
-        let mut writer = TimelySink::new(&rt, alloc, STANDARD_OUTPUT, screen);
-        let mut faults = TimelySink::new(&rt, alloc, STANDARD_ERROR, WriteSink::new(rt.stderr()));
-        let log = Log::new(WriteSink::new(rt.stderr()), &theirs);
-        let mut details = Details::new();
-        let status = match words_given(&rt, &mut details) {
-            Ok(texts) => {
-                run_words(
-                    &rt,
-                    alloc,
-                    texts.as_slice(),
-                    &mut reader,
-                    &mut writer,
-                    &mut faults,
-                    log,
-                )
-            }
-            Err(outcome) => program_commands::tell_outcome(outcome, &details, &mut faults),
-        };
+        let status = run_program(&rt, rt, &theirs, &told);
         theirs.close(&rt);
         status
     });
@@ -112,15 +84,76 @@ fn main(rt: HostRuntime) -> ExitCode {
             if metrics.is_err() {
                 desks.metrics.close(&rt);
             }
+            let output = begin_writer(rt, rt.alloc(), &streams.output, rt.stdout());
+            let error = begin_writer(rt, rt.alloc(), &streams.error, rt.stderr());
             serve_disk(&rt, rt.alloc(), &*desks.journals);
             if let Ok(metrics) = metrics {
                 metrics.join(&rt);
             }
-            program.join(&rt)
+            let status = program.join(&rt);
+            streams.close(&rt);
+            end_writer(&rt, output);
+            end_writer(&rt, error);
+            status
         }
         Err(_) => tell_no_memory(&mut WriteSink::new(rt.stderr())),
     };
     ExitCode::from(status)
+}
+
+/// Begins the thread that writes what is laid on a desk, if there is one. `None` where it can't be had: then nothing is
+/// laid there.
+fn begin_writer<R: Threads + Wait + Copy + Send + Drop + 'static, W: Write + Send + Drop + 'static>(
+    rt: R,
+    alloc: Global,
+    desk: &Option<Arc<StreamDesk, Global>>,
+    stream: W,
+) -> Option<JoinHandle<()>> {
+    let theirs = shared(desk)?;
+    let page = Vec::with_capacity(alloc, TEXT_BYTES).ok()?;
+    begin_on_own_stack(&rt, move || theirs.write_on(&rt, page, stream)).ok()
+}
+
+/// Waits until all is written that was laid on a desk which is closed.
+fn end_writer<R: Threads + Wait>(rt: &R, writer: Option<JoinHandle<()>>) {
+    if let Some(writer) = writer {
+        writer.join(rt);
+    }
+}
+
+/// Does what the words after the program's name ask, over the host's streams and these desks. The status with which the
+/// program ends.
+fn run_program<R: Files<File = File> + Net + Clock + RandomSource + Threads + Wait + Sync>(
+    rt: &R,
+    host: HostRuntime,
+    desks: &Desks,
+    told: &StreamDesks,
+) -> u8 {
+    let alloc = host.alloc();
+    let mut reader = ReadSource::new(host.stdin());
+    let is_terminal = host.stdout().is_terminal();
+    let (output, error) = (StreamDoor::new(&told.output), StreamDoor::new(&told.error));
+    let screen = WriteSink::new(DeskStream::new(rt, output, host.stdout()));
+    let screen = ScreenSink::new(screen, is_terminal);
+    let mut writer = TimelySink::new(rt, alloc, STANDARD_OUTPUT, output, screen);
+    let lines = WriteSink::new(DeskStream::new(rt, error, host.stderr()));
+    let mut faults = TimelySink::new(rt, alloc, STANDARD_ERROR, error, lines);
+    let log = WriteSink::new(DeskStream::new(rt, error, host.stderr()));
+    let log = Log::new(log, desks);
+    let mut documents = SystemDocuments::new(rt);
+    let mut details = Details::new();
+    match words_given(&host, &mut details) {
+        Ok(texts) => {
+            let mut streams = Streams {
+                reader: &mut reader,
+                documents: &mut documents,
+                writer: &mut writer,
+                faults: &mut faults,
+            };
+            run_words(rt, alloc, texts.as_slice(), &mut streams, log)
+        }
+        Err(outcome) => program_commands::tell_outcome(outcome, &details, &mut faults),
+    }
 }
 
 /// The desks, for this thread, for the program's, and for that of the metrics. `None` where memory is refused.
@@ -133,8 +166,9 @@ fn desks(alloc: Global) -> Option<(Desks, Desks, Desks)> {
 
 /// Does what the words of these texts ask. The status with which the program ends.
 fn run_words<
-    R: Files<File = File> + Net + Clock + Threads + Wait + Sync,
+    R: Files<File = File> + Net + Clock + RandomSource + Threads + Wait + Sync,
     S: Source,
+    X: Documents,
     W: Timely,
     F: Timely,
     G: Sink + Clerk + Drop,
@@ -142,22 +176,17 @@ fn run_words<
     rt: &R,
     alloc: Global,
     texts: &[String],
-    reader: &mut S,
-    writer: &mut W,
-    faults: &mut F,
+    streams: &mut Streams<'_, '_, '_, '_, S, X, W, F>,
     log: G,
-) -> u8 {
+) -> u8
+    ensures { (streams.new.reader.ghost_name ≡ streams.old.reader.ghost_name)
+        × (streams.new.documents.ghost_name ≡ streams.old.documents.ghost_name)
+        × (streams.new.writer.ghost_name ≡ streams.old.writer.ghost_name)
+        × (streams.new.faults.ghost_name ≡ streams.old.faults.ghost_name) }
+{
     match words_in(alloc, texts) {
-        Ok(words) => program_commands::command(
-            rt,
-            alloc,
-            words.as_slice(),
-            reader,
-            writer,
-            faults,
-            log,
-        ),
-        Err(_) => tell_no_memory(faults),
+        Ok(words) => program_commands::command(rt, alloc, words.as_slice(), streams, log),
+        Err(_) => tell_no_memory(streams.faults),
     }
 }
 

@@ -1,11 +1,12 @@
 //! The file where metrics are told.
 
-use crate::details::words_of;
 use arrayvec::ArrayString;
 use std::fs;
-use std::fs::File;
+use std::fs::{File, Permissions};
 use std::io::{self, ErrorKind, Read, Write};
+use std::os::unix::fs::PermissionsExt;
 use std::rt::Files;
+use swim_commands::words_of;
 use swim_disk::{is_file, make_file};
 use swim_metrics::{Measures, Outside, put_exposition};
 use swim_text::{Sink, WriteSink};
@@ -81,13 +82,16 @@ fn replace<R: Files<File = File>>(
     fs::rename(rt, new.as_str(), path).map_err(|fault| fault.kind())
 }
 
-/// Makes a file for all to read. A metrics file that was left at its path goes before. Anything else stays there, and
-/// no file is made: by a link what is written would go elsewhere, and at a pipe it would wait for a reader.
+/// Makes a file for all to read, whatever the mask of the daemon says: whoever collects metrics is another user. A
+/// metrics file that was left at its path goes before. Anything else stays there, and no file is made: by a link what is
+/// written would go elsewhere, and at a pipe it would wait for a reader.
 fn make<R: Files<File = File>>(rt: &R, path: &str) -> io::Result<File> {
     if is_of_metrics(rt, path) {
         rt.remove_file(path)?;
     }
-    make_file(rt, path, FOR_ALL_TO_READ)
+    let file = make_file(rt, path, FOR_ALL_TO_READ)?;
+    file.set_permissions(Permissions::from_mode(FOR_ALL_TO_READ))?;
+    Ok(file)
 }
 
 /// Whether nothing lies at a path, as far as the system tells.

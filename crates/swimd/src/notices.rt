@@ -1,13 +1,12 @@
 //! What a daemon tells people while it runs: lines on standard error, each with the time in UTC.
 
-ghost use Rattle.std.specs.Prelude.{◌≡◌, ℕ, None, false};
+ghost use Rattle.std.specs.Prelude.{◌≡◌, ◌∷◌, ℕ, [], Some, false, map};
 ghost use Rattle.swim_text.specs.Lines.{has_feed};
 ghost use Rattle.swim_keeper.specs.Endings.{TellsText};
 ghost use Rattle.swim_keeper.specs.Notices.{Notices, line_text};
+ghost use Rattle.swim_trail.specs.Noted.{value_in};
+ghost use Rattle.swim_work.specs.Posts.{Grows};
 
-use crate::details::{TEXT_BYTES, add_printed};
-use crate::readiness::{STANDARD_ERROR, is_taken};
-use crate::words::VERSION;
 use arrayvec::ArrayVec;
 use jiff::Timestamp;
 use std::alloc::Global;
@@ -16,9 +15,12 @@ use std::fmt::Write;
 use std::marker::Model;
 use std::net::Net;
 use std::rt::Clock;
+use swim_commands::{TEXT_BYTES, VERSION, add_printed};
 use swim_config::Config;
 use swim_keeper::Herald;
+use swim_streams::{STANDARD_ERROR, is_taken};
 use swim_text::Sink;
+use swim_trail::Trail;
 use swim_wire::{Peer, Piece, put_pieces};
 
 /// A line for people, of characters of ASCII that print. A contract sees its bytes, without the line feed behind them.
@@ -59,7 +61,7 @@ impl Notice {
     }
 
     /// The line, without its line feed.
-    #[tactic(auto, using(crate::proofs::Indented::printing_free))]
+    #[tactic(auto, using(swim_commands::proofs::Indented::printing_free))]
     fn as_slice(&self) -> &[u8]
         ensures line { result.now ≡ self.now }
         ensures one { has_feed result.now ≡ false }
@@ -144,6 +146,31 @@ impl Notice {
         notice
     }
 
+    /// That pages are served at this address.
+    pub fn serves<K: Clock>(clock: &K, listen: Peer) -> Notice {
+        let mut notice = Notice::begun(clock);
+        let address = listen.write();
+        let _is_added = write!(
+            notice,
+            "swimd {} serves http://{}/",
+            VERSION,
+            address.as_str()
+        );
+        notice
+    }
+
+    /// That others than this machine may reach them.
+    pub fn is_open<K: Clock>(clock: &K, listen: Peer) -> Notice {
+        let mut notice = Notice::begun(clock);
+        let address = listen.write();
+        let _is_added = write!(
+            notice,
+            "warning: whoever reaches {} reads the member table",
+            address.as_str()
+        );
+        notice
+    }
+
     /// How many lines of lives standard output didn't take.
     pub fn left_out<K: Clock>(clock: &K, count: u64) -> Notice {
         let mut notice = Notice::begun(clock);
@@ -188,30 +215,40 @@ fn put_line<F: Sink>(line: &[u8], faults: &mut F)
     let _is_sent = faults.flush();
 }
 
-/// Who tells that a life begins, unless it is to be quiet.
+/// Who tells that a life begins, unless it is to be quiet. A contract sees of which lives it was told.
 #[derive(Drop)]
 pub struct Announcer<'r, R> {
     rt: &'r R,
     alloc: Global,
     is_quiet: bool,
+    begun: Trail<u64>,
 }
 
 impl<'r, R> Announcer<'r, R> {
-    /// One who tells it in lines with the time, or is quiet.
-    pub fn new(rt: &'r R, alloc: Global, is_quiet: bool) -> Announcer<'r, R> {
+    /// One who tells it in lines with the time, or is quiet. It was told of no life yet.
+    pub fn new(rt: &'r R, alloc: Global, is_quiet: bool) -> Announcer<'r, R>
+        ensures { result.begun.items ≡ [] }
+    {
         Announcer {
             rt,
             alloc,
             is_quiet,
+            begun: Trail::new(),
         }
     }
 }
 
 impl<'r, R: Net + Clock> Herald for Announcer<'r, R> {
-    ghost begun = { λ a. None };
+    ghost begun = { λ a. Some (map value_in a.begun.items) };
 
-    #[tactic(auto, using(swim_keeper::specs::Notices::no_notices))]
-    fn begins<F: Sink>(&mut self, number: u64, notices: &mut F) {
+    #[tactic(auto, using(swim_keeper::specs::Notices::no_notices, swim_trail::specs::Noted::map_more))]
+    fn begins<F: Sink>(&mut self, number: u64, notices: &mut F)
+        ensures begun { Grows (Some (map value_in self.old.begun.items)) (Some (map value_in self.new.begun.items))
+            (number ∷ []) }
+        ensures notices { Notices (F.written notices.old, F.failures notices.old)
+            (F.written notices.new, F.failures notices.new) }
+    {
+        self.begun.note(&number, &[]);
         if !self.is_quiet {
             Notice::begins(self.rt, number).tell_notice(self.rt, self.alloc, notices);
         }

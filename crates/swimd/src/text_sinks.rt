@@ -1,6 +1,6 @@
 //! A sink that keeps a text of counts.
 
-ghost use Rattle.std.specs.Prelude.{◌≡◌, Some};
+ghost use Rattle.std.specs.Prelude.{◌≡◌, [], Some};
 ghost use Rattle.swim_text.specs.Streams.{Puts, failures_if};
 
 use swim_control::StatsText;
@@ -15,7 +15,9 @@ pub struct TextSink {
 
 impl TextSink {
     /// It was given nothing yet.
-    pub fn new() -> TextSink {
+    pub fn new() -> TextSink
+        ensures { result.text.items ≡ [] }
+    {
         TextSink {
             text: StatsText::new(),
             failures: 0,
@@ -23,7 +25,9 @@ impl TextSink {
     }
 
     /// What it was given.
-    pub fn into_text(self) -> StatsText {
+    pub fn into_text(self) -> StatsText
+        ensures { result ≡ self.text }
+    {
         self.text
     }
 }

@@ -3,3 +3,4 @@ pub mod Digits
 pub mod Feeds
 pub mod Paths
 pub mod Unseen
+pub mod Worded

@@ -6,4 +6,5 @@ pub mod Verifying
 pub mod Examined
 pub mod VerdictTexts
 pub mod Sequences
+pub mod Telling
 pub mod WholeLines

@@ -2,6 +2,10 @@
 
 ghost use Rattle.std.specs.Prelude.{◌≡◌};
 ghost use Rattle.swim_text.specs.Streams.{failures_if};
+ghost use Rattle.swim_wire.specs.Layout.{fault_number};
+ghost use Rattle.swim_script.specs.Outcomes.{outcome_text};
+ghost use Rattle.swimsim.specs.Telling.{AreSent, IsAnswer, IsEnd, IsExact, IsFault, IsNewest, IsReply, IsSent};
+ghost use Rattle.swimsim.specs.Telling.{IsWorded, MayHear, MayName, MayStand, PutsSome};
 
 use crate::meanings::message_words;
 use crate::reasons::{Reason, reason_of};
@@ -39,38 +43,73 @@ impl WordTeller {
         self.tally
     }
 
-    /// The answer to a call, behind the words of the message that it heard, if it did.
-    fn put_called<W: Sink>(
+    /// What came of the newest line: its answer, with the words that are asked for.
+    fn tell<W: Sink>(&self, session: &Session, outcome: &LineOutcome, writer: &mut W) -> bool
+        ensures bytes { PutsSome (IsWorded self.now.has_datagrams self.now.has_reasons session.now.recorded outcome.now)
+            (W.written writer.old) (W.written writer.new) result }
+        ensures failures { W.failures writer.new ≡ failures_if (W.failures writer.old) result }
+    {
+        match outcome {
+            LineOutcome::Made(call) => self.put_made(session, call, writer),
+            LineOutcome::Full(call) => self.put_refused(session, outcome, call, writer),
+            LineOutcome::NoMemory(call) => self.put_refused(session, outcome, call, writer),
+            LineOutcome::Unread(fault) => self.put_fault(*fault, writer),
+            LineOutcome::Table => session.put(outcome, writer),
+            LineOutcome::Gap(_) => session.put(outcome, writer),
+        }
+    }
+
+    /// The answer to a call that was made, behind the words of the message that it heard, if it did.
+    fn put_made<W: Sink>(&self, session: &Session, call: &Call, writer: &mut W) -> bool
+        ensures bytes { PutsSome (IsAnswer self.now.has_datagrams call.now
+            (IsNewest self.now.has_datagrams self.now.has_reasons session.now.recorded)) (W.written writer.old)
+            (W.written writer.new) result }
+        ensures failures { W.failures writer.new ≡ failures_if (W.failures writer.old) result }
+    {
+        if !self.put_heard(call, writer) {
+            return false;
+        }
+        self.put_answer(session, writer)
+    }
+
+    /// What came of a call that was refused, behind the same words.
+    fn put_refused<W: Sink>(
         &self,
         session: &Session,
         outcome: &LineOutcome,
         call: &Call,
         writer: &mut W,
     ) -> bool
-        ensures { W.failures writer.new ≡ failures_if (W.failures writer.old) result }
+        ensures bytes { PutsSome (IsAnswer self.now.has_datagrams call.now
+            (IsExact (outcome_text session.now.recorded outcome.now))) (W.written writer.old)
+            (W.written writer.new) result }
+        ensures failures { W.failures writer.new ≡ failures_if (W.failures writer.old) result }
     {
         if !self.put_heard(call, writer) {
             return false;
         }
-        match outcome {
-            LineOutcome::Made(_) => self.put_answer(session, writer),
-            _ => session.put(outcome, writer),
-        }
+        session.put(outcome, writer)
     }
 
     /// The words of the message that a call heard, if it did.
     fn put_heard<W: Sink>(&self, call: &Call, writer: &mut W) -> bool
-        ensures { W.failures writer.new ≡ failures_if (W.failures writer.old) result }
+        ensures bytes { PutsSome (MayHear self.now.has_datagrams call.now) (W.written writer.old)
+            (W.written writer.new) result }
+        ensures failures { W.failures writer.new ≡ failures_if (W.failures writer.old) result }
     {
         match call {
             Call::Hear(_, message) => self.put_message(message, writer),
-            _ => true,
+            Call::Tick => true,
+            Call::Join(_, _) => true,
+            Call::Remove(_) => true,
         }
     }
 
     /// The words of a message.
     fn put_message<W: Sink>(&self, message: &Message, writer: &mut W) -> bool
-        ensures { W.failures writer.new ≡ failures_if (W.failures writer.old) result }
+        ensures bytes { PutsSome (MayStand self.now.has_datagrams message.now) (W.written writer.old)
+            (W.written writer.new) result }
+        ensures failures { W.failures writer.new ≡ failures_if (W.failures writer.old) result }
     {
         if !self.has_datagrams {
             return true;
@@ -83,7 +122,9 @@ impl WordTeller {
 
     /// The newest reply.
     fn put_answer<W: Sink>(&self, session: &Session, writer: &mut W) -> bool
-        ensures { W.failures writer.new ≡ failures_if (W.failures writer.old) result }
+        ensures bytes { PutsSome (IsNewest self.now.has_datagrams self.now.has_reasons session.now.recorded)
+            (W.written writer.old) (W.written writer.new) result }
+        ensures failures { W.failures writer.new ≡ failures_if (W.failures writer.old) result }
     {
         let (Some(reply), Some(opening)) = (session.reply(), session.opening()) else {
             return true;
@@ -93,7 +134,9 @@ impl WordTeller {
 
     /// The lines of a reply: its text, and a line for each message that it sends.
     fn put_lines<W: Sink>(&self, reply: &Reply, opening: &Opening, writer: &mut W) -> bool
-        ensures { W.failures writer.new ≡ failures_if (W.failures writer.old) result }
+        ensures bytes { PutsSome (IsReply self.now.has_datagrams self.now.has_reasons opening.now reply.now)
+            (W.written writer.old) (W.written writer.new) result }
+        ensures failures { W.failures writer.new ≡ failures_if (W.failures writer.old) result }
     {
         if !put_reply(writer, reply) {
             return false;
@@ -106,22 +149,36 @@ impl WordTeller {
 
     /// The messages that are sent, each with its words below.
     fn put_sends<W: Sink>(&self, sent: &[(Peer, Message)], writer: &mut W) -> bool
-        ensures { W.failures writer.new ≡ failures_if (W.failures writer.old) result }
+        ensures bytes { PutsSome (AreSent self.now.has_datagrams sent.now) (W.written writer.old)
+            (W.written writer.new) result }
+        ensures failures { W.failures writer.new ≡ failures_if (W.failures writer.old) result }
     {
-        for one in sent {
-            if !put_send(writer, one.0, &one.1) {
-                return false;
-            }
-            if !self.put_message(&one.1, writer) {
-                return false;
-            }
+        let [first, others @ ..] = sent else {
+            return true;
+        };
+        if !self.put_sent(first, writer) {
+            return false;
         }
-        true
+        self.put_sends(others, writer)
+    }
+
+    /// A message that is sent, with its words below.
+    fn put_sent<W: Sink>(&self, one: &(Peer, Message), writer: &mut W) -> bool
+        ensures bytes { PutsSome (IsSent self.now.has_datagrams one.now) (W.written writer.old)
+            (W.written writer.new) result }
+        ensures failures { W.failures writer.new ≡ failures_if (W.failures writer.old) result }
+    {
+        if !put_send(writer, one.0, &one.1) {
+            return false;
+        }
+        self.put_message(&one.1, writer)
     }
 
     /// The line of a datagram that is none.
     fn put_fault<W: Sink>(&self, fault: WireFault, writer: &mut W) -> bool
-        ensures { W.failures writer.new ≡ failures_if (W.failures writer.old) result }
+        ensures bytes { PutsSome (IsFault self.now.has_reasons (fault_number fault) (Reason.Wire fault))
+            (W.written writer.old) (W.written writer.new) result }
+        ensures failures { W.failures writer.new ≡ failures_if (W.failures writer.old) result }
     {
         if !put_numbered(writer, b"wire ", u64::from(fault.number())) {
             return false;
@@ -131,7 +188,9 @@ impl WordTeller {
 
     /// The end of a line, with the name of the reason that it tells.
     fn end_line<W: Sink>(&self, reason: Option<Reason>, writer: &mut W) -> bool
-        ensures { W.failures writer.new ≡ failures_if (W.failures writer.old) result }
+        ensures bytes { PutsSome (IsEnd self.now.has_reasons reason) (W.written writer.old)
+            (W.written writer.new) result }
+        ensures failures { W.failures writer.new ≡ failures_if (W.failures writer.old) result }
     {
         if !self.put_name(reason, writer) {
             return false;
@@ -140,7 +199,9 @@ impl WordTeller {
     }
 
     fn put_name<W: Sink>(&self, reason: Option<Reason>, writer: &mut W) -> bool
-        ensures { W.failures writer.new ≡ failures_if (W.failures writer.old) result }
+        ensures bytes { PutsSome (MayName self.now.has_reasons reason) (W.written writer.old)
+            (W.written writer.new) result }
+        ensures failures { W.failures writer.new ≡ failures_if (W.failures writer.old) result }
     {
         let Some(reason) = reason else {
             return true;
@@ -155,8 +216,7 @@ impl WordTeller {
     }
 }
 
-/// No contract sees the bytes that standard output takes, so none says where the words stand. That they stand between
-/// the answers, and change none, is tested.
+/// No contract sees the bytes that standard output takes. What is written to any sink says `tell`.
 impl Teller<WriteSink<Stdout>> for WordTeller {
     #[tactic(auto, using(crate::proofs::Unseen::puts_unseen))]
     fn put(
@@ -166,12 +226,6 @@ impl Teller<WriteSink<Stdout>> for WordTeller {
         writer: &mut WriteSink<Stdout>,
     ) -> bool {
         self.tally.add(outcome);
-        match outcome {
-            LineOutcome::Made(call) | LineOutcome::Full(call) | LineOutcome::NoMemory(call) => {
-                self.put_called(session, outcome, call, writer)
-            }
-            LineOutcome::Unread(fault) => self.put_fault(*fault, writer),
-            LineOutcome::Table | LineOutcome::Gap(_) => session.put(outcome, writer),
-        }
+        self.tell(session, outcome, writer)
     }
 }

@@ -3,187 +3,187 @@
 // What two small lives come to, worked out by hand from what the format says of each metric.
 const EXPOSITION: &str = "# HELP swimd_build_info The version of the daemon.
 # TYPE swimd_build_info gauge
-swimd_build_info{version=\"0.9.1\"} 1
+swimd_build_info{member=\"1\",version=\"0.9.1\"} 1
 # HELP swimd_member_id This member's id.
 # TYPE swimd_member_id gauge
-swimd_member_id 1
+swimd_member_id{member=\"1\"} 1
 # HELP swimd_members Other members that are known, by state.
 # TYPE swimd_members gauge
-swimd_members{state=\"up\"} 3
-swimd_members{state=\"failed\"} 1
+swimd_members{member=\"1\",state=\"up\"} 3
+swimd_members{member=\"1\",state=\"failed\"} 1
 # HELP swimd_period_number The number of the period that runs.
 # TYPE swimd_period_number gauge
-swimd_period_number 12
+swimd_period_number{member=\"1\"} 12
 # HELP swimd_period_seconds How long a period lasts.
 # TYPE swimd_period_seconds gauge
-swimd_period_seconds 0.600
+swimd_period_seconds{member=\"1\"} 0.600
 # HELP swimd_ticks_total Ticks of time that were taken.
 # TYPE swimd_ticks_total counter
-swimd_ticks_total 11
+swimd_ticks_total{member=\"1\"} 11
 # HELP swimd_pings_sent_total Pings sent, those for other members among them.
 # TYPE swimd_pings_sent_total counter
-swimd_pings_sent_total 6
+swimd_pings_sent_total{member=\"1\"} 6
 # HELP swimd_pings_heard_total Pings that came.
 # TYPE swimd_pings_heard_total counter
-swimd_pings_heard_total 2
+swimd_pings_heard_total{member=\"1\"} 2
 # HELP swimd_acks_heard_total Acks of own probes that came in time, by who sent them.
 # TYPE swimd_acks_heard_total counter
-swimd_acks_heard_total{from=\"target\"} 1
-swimd_acks_heard_total{from=\"relay\"} 2
+swimd_acks_heard_total{member=\"1\",from=\"target\"} 1
+swimd_acks_heard_total{member=\"1\",from=\"relay\"} 2
 # HELP swimd_asks_sent_total Relays that were asked to ping a member.
 # TYPE swimd_asks_sent_total counter
-swimd_asks_sent_total 3
+swimd_asks_sent_total{member=\"1\"} 3
 # HELP swimd_requests_served_total Requests of others for which a member was pinged.
 # TYPE swimd_requests_served_total counter
-swimd_requests_served_total 1
+swimd_requests_served_total{member=\"1\"} 1
 # HELP swimd_dropped_total Messages that were dropped, by reason.
 # TYPE swimd_dropped_total counter
-swimd_dropped_total{reason=\"not_for_me\"} 1
-swimd_dropped_total{reason=\"borrowed\"} 0
-swimd_dropped_total{reason=\"about_me\"} 0
-swimd_dropped_total{reason=\"unlisted\"} 1
-swimd_dropped_total{reason=\"table_full\"} 0
-swimd_dropped_total{reason=\"stray\"} 1
-swimd_dropped_total{reason=\"no_request\"} 0
+swimd_dropped_total{member=\"1\",reason=\"not_for_me\"} 1
+swimd_dropped_total{member=\"1\",reason=\"borrowed\"} 0
+swimd_dropped_total{member=\"1\",reason=\"about_me\"} 0
+swimd_dropped_total{member=\"1\",reason=\"unlisted\"} 1
+swimd_dropped_total{member=\"1\",reason=\"table_full\"} 0
+swimd_dropped_total{member=\"1\",reason=\"stray\"} 1
+swimd_dropped_total{member=\"1\",reason=\"no_request\"} 0
 # HELP swimd_ack_wait_ticks Ticks from a probe to the first ack of it that came in time.
 # TYPE swimd_ack_wait_ticks histogram
-swimd_ack_wait_ticks_bucket{le=\"1\"} 1
-swimd_ack_wait_ticks_bucket{le=\"2\"} 2
-swimd_ack_wait_ticks_bucket{le=\"4\"} 2
-swimd_ack_wait_ticks_bucket{le=\"8\"} 2
-swimd_ack_wait_ticks_bucket{le=\"16\"} 2
-swimd_ack_wait_ticks_bucket{le=\"32\"} 2
-swimd_ack_wait_ticks_bucket{le=\"64\"} 2
-swimd_ack_wait_ticks_bucket{le=\"128\"} 2
-swimd_ack_wait_ticks_bucket{le=\"256\"} 2
-swimd_ack_wait_ticks_bucket{le=\"512\"} 2
-swimd_ack_wait_ticks_bucket{le=\"1024\"} 2
-swimd_ack_wait_ticks_bucket{le=\"2048\"} 2
-swimd_ack_wait_ticks_bucket{le=\"4096\"} 2
-swimd_ack_wait_ticks_bucket{le=\"8192\"} 2
-swimd_ack_wait_ticks_bucket{le=\"16384\"} 2
-swimd_ack_wait_ticks_bucket{le=\"32768\"} 2
-swimd_ack_wait_ticks_bucket{le=\"+Inf\"} 2
-swimd_ack_wait_ticks_sum 2
-swimd_ack_wait_ticks_count 2
+swimd_ack_wait_ticks_bucket{member=\"1\",le=\"1\"} 1
+swimd_ack_wait_ticks_bucket{member=\"1\",le=\"2\"} 2
+swimd_ack_wait_ticks_bucket{member=\"1\",le=\"4\"} 2
+swimd_ack_wait_ticks_bucket{member=\"1\",le=\"8\"} 2
+swimd_ack_wait_ticks_bucket{member=\"1\",le=\"16\"} 2
+swimd_ack_wait_ticks_bucket{member=\"1\",le=\"32\"} 2
+swimd_ack_wait_ticks_bucket{member=\"1\",le=\"64\"} 2
+swimd_ack_wait_ticks_bucket{member=\"1\",le=\"128\"} 2
+swimd_ack_wait_ticks_bucket{member=\"1\",le=\"256\"} 2
+swimd_ack_wait_ticks_bucket{member=\"1\",le=\"512\"} 2
+swimd_ack_wait_ticks_bucket{member=\"1\",le=\"1024\"} 2
+swimd_ack_wait_ticks_bucket{member=\"1\",le=\"2048\"} 2
+swimd_ack_wait_ticks_bucket{member=\"1\",le=\"4096\"} 2
+swimd_ack_wait_ticks_bucket{member=\"1\",le=\"8192\"} 2
+swimd_ack_wait_ticks_bucket{member=\"1\",le=\"16384\"} 2
+swimd_ack_wait_ticks_bucket{member=\"1\",le=\"32768\"} 2
+swimd_ack_wait_ticks_bucket{member=\"1\",le=\"+Inf\"} 2
+swimd_ack_wait_ticks_sum{member=\"1\"} 2
+swimd_ack_wait_ticks_count{member=\"1\"} 2
 # HELP swimd_verdicts_total Members that were judged failed.
 # TYPE swimd_verdicts_total counter
-swimd_verdicts_total 1
+swimd_verdicts_total{member=\"1\"} 1
 # HELP swimd_joins_total Members that joined, or joined again.
 # TYPE swimd_joins_total counter
-swimd_joins_total 2
+swimd_joins_total{member=\"1\"} 2
 # HELP swimd_own_joins_total Joins that the daemon made by itself.
 # TYPE swimd_own_joins_total counter
-swimd_own_joins_total 13
+swimd_own_joins_total{member=\"1\"} 13
 # HELP swimd_removals_total Members that were removed.
 # TYPE swimd_removals_total counter
-swimd_removals_total 1
+swimd_removals_total{member=\"1\"} 1
 # HELP swimd_knocks_total Pings sent to failed members beside the probes.
 # TYPE swimd_knocks_total counter
-swimd_knocks_total 12
+swimd_knocks_total{member=\"1\"} 12
 # HELP swimd_lives_total Lives that began, each with a journal of its own.
 # TYPE swimd_lives_total counter
-swimd_lives_total 2
+swimd_lives_total{member=\"1\"} 2
 # HELP swimd_journal_entries Entries of this life's journal.
 # TYPE swimd_journal_entries gauge
-swimd_journal_entries 3
+swimd_journal_entries{member=\"1\"} 3
 # HELP swimd_journal_entries_limit The most entries of a journal.
 # TYPE swimd_journal_entries_limit gauge
-swimd_journal_entries_limit 1000
+swimd_journal_entries_limit{member=\"1\"} 1000
 # HELP swimd_journal_entries_behind Entries that are in none of these counts yet.
 # TYPE swimd_journal_entries_behind gauge
-swimd_journal_entries_behind 4
+swimd_journal_entries_behind{member=\"1\"} 4
 # HELP swimd_unsent_total Datagrams that could not be sent.
 # TYPE swimd_unsent_total counter
-swimd_unsent_total 5
+swimd_unsent_total{member=\"1\"} 5
 # HELP swimd_wire_total Datagrams that came and are no message.
 # TYPE swimd_wire_total counter
-swimd_wire_total 6
+swimd_wire_total{member=\"1\"} 6
 # HELP swimd_refused_total Calls that were refused for want of memory.
 # TYPE swimd_refused_total counter
-swimd_refused_total 7
+swimd_refused_total{member=\"1\"} 7
 # HELP swimd_forged_total Datagrams that came without a tag by a key of the group.
 # TYPE swimd_forged_total counter
-swimd_forged_total 8
+swimd_forged_total{member=\"1\"} 8
 # HELP swimd_fenced_total Datagrams that came above the rate and were thrown away.
 # TYPE swimd_fenced_total counter
-swimd_fenced_total 9
+swimd_fenced_total{member=\"1\"} 9
 # HELP swimd_watchers Watchers of the member table now.
 # TYPE swimd_watchers gauge
-swimd_watchers 10
+swimd_watchers{member=\"1\"} 10
 # HELP swimd_lost_watchers_total Watchers that did not keep up.
 # TYPE swimd_lost_watchers_total counter
-swimd_lost_watchers_total 11
+swimd_lost_watchers_total{member=\"1\"} 11
 # HELP swimd_metrics_unwritten_total Times that the metrics could not be written to their file.
 # TYPE swimd_metrics_unwritten_total counter
-swimd_metrics_unwritten_total 14
+swimd_metrics_unwritten_total{member=\"1\"} 14
 # HELP swimd_journal_file_ok Whether this life's journal file is whole so far.
 # TYPE swimd_journal_file_ok gauge
-swimd_journal_file_ok 1
+swimd_journal_file_ok{member=\"1\"} 1
 # HELP swimd_journal_files_cut_total Lives without a whole journal file.
 # TYPE swimd_journal_files_cut_total counter
-swimd_journal_files_cut_total 15
+swimd_journal_files_cut_total{member=\"1\"} 15
 ";
 
 // Of a daemon that was just started.
-const STATS: &str = "swimd_build_info{version=\"a\\\"b\\\\c\\nd\"} 1
-swimd_member_id 1
-swimd_members{state=\"up\"} 2
-swimd_members{state=\"failed\"} 1
-swimd_period_number 7
-swimd_period_seconds 0.600
-swimd_ticks_total 0
-swimd_pings_sent_total 0
-swimd_pings_heard_total 0
-swimd_acks_heard_total{from=\"target\"} 0
-swimd_acks_heard_total{from=\"relay\"} 0
-swimd_asks_sent_total 0
-swimd_requests_served_total 0
-swimd_dropped_total{reason=\"not_for_me\"} 0
-swimd_dropped_total{reason=\"borrowed\"} 0
-swimd_dropped_total{reason=\"about_me\"} 0
-swimd_dropped_total{reason=\"unlisted\"} 0
-swimd_dropped_total{reason=\"table_full\"} 0
-swimd_dropped_total{reason=\"stray\"} 0
-swimd_dropped_total{reason=\"no_request\"} 0
-swimd_ack_wait_ticks_bucket{le=\"1\"} 0
-swimd_ack_wait_ticks_bucket{le=\"2\"} 0
-swimd_ack_wait_ticks_bucket{le=\"4\"} 0
-swimd_ack_wait_ticks_bucket{le=\"8\"} 0
-swimd_ack_wait_ticks_bucket{le=\"16\"} 0
-swimd_ack_wait_ticks_bucket{le=\"32\"} 0
-swimd_ack_wait_ticks_bucket{le=\"64\"} 0
-swimd_ack_wait_ticks_bucket{le=\"128\"} 0
-swimd_ack_wait_ticks_bucket{le=\"256\"} 0
-swimd_ack_wait_ticks_bucket{le=\"512\"} 0
-swimd_ack_wait_ticks_bucket{le=\"1024\"} 0
-swimd_ack_wait_ticks_bucket{le=\"2048\"} 0
-swimd_ack_wait_ticks_bucket{le=\"4096\"} 0
-swimd_ack_wait_ticks_bucket{le=\"8192\"} 0
-swimd_ack_wait_ticks_bucket{le=\"16384\"} 0
-swimd_ack_wait_ticks_bucket{le=\"32768\"} 0
-swimd_ack_wait_ticks_bucket{le=\"+Inf\"} 0
-swimd_ack_wait_ticks_sum 0
-swimd_ack_wait_ticks_count 0
-swimd_verdicts_total 0
-swimd_joins_total 0
-swimd_own_joins_total 13
-swimd_removals_total 0
-swimd_knocks_total 12
-swimd_lives_total 1
-swimd_journal_entries 0
-swimd_journal_entries_limit 1000
-swimd_journal_entries_behind 4
-swimd_unsent_total 5
-swimd_wire_total 6
-swimd_refused_total 7
-swimd_forged_total 8
-swimd_fenced_total 9
-swimd_watchers 10
-swimd_lost_watchers_total 11
-swimd_metrics_unwritten_total 14
-swimd_journal_file_ok 1
-swimd_journal_files_cut_total 15
+const STATS: &str = "swimd_build_info{member=\"1\",version=\"a\\\"b\\\\c\\nd\"} 1
+swimd_member_id{member=\"1\"} 1
+swimd_members{member=\"1\",state=\"up\"} 2
+swimd_members{member=\"1\",state=\"failed\"} 1
+swimd_period_number{member=\"1\"} 7
+swimd_period_seconds{member=\"1\"} 0.600
+swimd_ticks_total{member=\"1\"} 0
+swimd_pings_sent_total{member=\"1\"} 0
+swimd_pings_heard_total{member=\"1\"} 0
+swimd_acks_heard_total{member=\"1\",from=\"target\"} 0
+swimd_acks_heard_total{member=\"1\",from=\"relay\"} 0
+swimd_asks_sent_total{member=\"1\"} 0
+swimd_requests_served_total{member=\"1\"} 0
+swimd_dropped_total{member=\"1\",reason=\"not_for_me\"} 0
+swimd_dropped_total{member=\"1\",reason=\"borrowed\"} 0
+swimd_dropped_total{member=\"1\",reason=\"about_me\"} 0
+swimd_dropped_total{member=\"1\",reason=\"unlisted\"} 0
+swimd_dropped_total{member=\"1\",reason=\"table_full\"} 0
+swimd_dropped_total{member=\"1\",reason=\"stray\"} 0
+swimd_dropped_total{member=\"1\",reason=\"no_request\"} 0
+swimd_ack_wait_ticks_bucket{member=\"1\",le=\"1\"} 0
+swimd_ack_wait_ticks_bucket{member=\"1\",le=\"2\"} 0
+swimd_ack_wait_ticks_bucket{member=\"1\",le=\"4\"} 0
+swimd_ack_wait_ticks_bucket{member=\"1\",le=\"8\"} 0
+swimd_ack_wait_ticks_bucket{member=\"1\",le=\"16\"} 0
+swimd_ack_wait_ticks_bucket{member=\"1\",le=\"32\"} 0
+swimd_ack_wait_ticks_bucket{member=\"1\",le=\"64\"} 0
+swimd_ack_wait_ticks_bucket{member=\"1\",le=\"128\"} 0
+swimd_ack_wait_ticks_bucket{member=\"1\",le=\"256\"} 0
+swimd_ack_wait_ticks_bucket{member=\"1\",le=\"512\"} 0
+swimd_ack_wait_ticks_bucket{member=\"1\",le=\"1024\"} 0
+swimd_ack_wait_ticks_bucket{member=\"1\",le=\"2048\"} 0
+swimd_ack_wait_ticks_bucket{member=\"1\",le=\"4096\"} 0
+swimd_ack_wait_ticks_bucket{member=\"1\",le=\"8192\"} 0
+swimd_ack_wait_ticks_bucket{member=\"1\",le=\"16384\"} 0
+swimd_ack_wait_ticks_bucket{member=\"1\",le=\"32768\"} 0
+swimd_ack_wait_ticks_bucket{member=\"1\",le=\"+Inf\"} 0
+swimd_ack_wait_ticks_sum{member=\"1\"} 0
+swimd_ack_wait_ticks_count{member=\"1\"} 0
+swimd_verdicts_total{member=\"1\"} 0
+swimd_joins_total{member=\"1\"} 0
+swimd_own_joins_total{member=\"1\"} 13
+swimd_removals_total{member=\"1\"} 0
+swimd_knocks_total{member=\"1\"} 12
+swimd_lives_total{member=\"1\"} 1
+swimd_journal_entries{member=\"1\"} 0
+swimd_journal_entries_limit{member=\"1\"} 1000
+swimd_journal_entries_behind{member=\"1\"} 4
+swimd_unsent_total{member=\"1\"} 5
+swimd_wire_total{member=\"1\"} 6
+swimd_refused_total{member=\"1\"} 7
+swimd_forged_total{member=\"1\"} 8
+swimd_fenced_total{member=\"1\"} 9
+swimd_watchers{member=\"1\"} 10
+swimd_lost_watchers_total{member=\"1\"} 11
+swimd_metrics_unwritten_total{member=\"1\"} 14
+swimd_journal_file_ok{member=\"1\"} 1
+swimd_journal_files_cut_total{member=\"1\"} 15
 .
 ";
 

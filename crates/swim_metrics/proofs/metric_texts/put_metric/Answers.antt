@@ -9,9 +9,11 @@ pub returns-then-not-put_head-clause-bytes : goal.returns-then-not-put_head-clau
 returns-then-not-put_head-clause-bytes g c =
     first_failed (g.W.Sink.written c.args.writer.now) (g.W.Sink.written c.put_head.new.writer)
     (head_text c.family-family.result.name.now c.family-family.result.help.now c.family-family.result.kind)
-    (samples_text c.family-family.result.name.now (samples_of c.family-family.result.samples))
-    (family_text (family_of c.args.measures.now c.args.outside.now c.args.metric))
-    (text_of c.family-family.result.name.now c.family-family.result.help.now c.family-family.result.kind
+    (samples_text c.args.outside.now.me c.family-family.result.name.now
+    (samples_of c.family-family.result.samples))
+    (family_text c.args.outside.now.me (family_of c.args.measures.now c.args.outside.now c.args.metric))
+    (text_of c.args.outside.now.me c.family-family.result.name.now c.family-family.result.help.now
+    c.family-family.result.kind
     (samples_of c.family-family.result.samples) (family_of c.args.measures.now c.args.outside.now c.args.metric)
     c.family-family.ensures.name c.family-family.ensures.help c.family-family.ensures.kind
     c.family-family.ensures.samples)
@@ -22,9 +24,12 @@ returns-clause-bytes g c =
     both_put (g.W.Sink.written c.args.writer.now) (g.W.Sink.written c.put_head.new.writer)
     (g.W.Sink.written c.put_samples.new.writer)
     (head_text c.family-family.result.name.now c.family-family.result.help.now c.family-family.result.kind)
-    (samples_text c.family-family.result.name.now (samples_of c.family-family.result.samples))
-    (family_text (family_of c.args.measures.now c.args.outside.now c.args.metric)) c.put_samples.result
-    (text_of c.family-family.result.name.now c.family-family.result.help.now c.family-family.result.kind
+    (samples_text c.args.outside.now.me c.family-family.result.name.now
+    (samples_of c.family-family.result.samples))
+    (family_text c.args.outside.now.me (family_of c.args.measures.now c.args.outside.now c.args.metric))
+    c.put_samples.result
+    (text_of c.args.outside.now.me c.family-family.result.name.now c.family-family.result.help.now
+    c.family-family.result.kind
     (samples_of c.family-family.result.samples) (family_of c.args.measures.now c.args.outside.now c.args.metric)
     c.family-family.ensures.name c.family-family.ensures.help c.family-family.ensures.kind
     c.family-family.ensures.samples)

@@ -10,7 +10,7 @@ returns-clause-bytes g c =
     let P : List ℕ → Type 0 =
     λ t. Puts (g.W.Sink.written c.args.writer.now) (g.W.Sink.written c.put_samples.new.writer) t
     c.put_samples.result in
-    subst P (lines_of c.family-family.result.name.now (samples_of c.family-family.result.samples)
+    subst P (lines_of c.args.outside.now.me c.family-family.result.name.now (samples_of c.family-family.result.samples)
     (family_of c.args.measures.now c.args.outside.now c.args.metric) c.family-family.ensures.name
     c.family-family.ensures.samples)
     c.put_samples.ensures.bytes

@@ -1,4 +1,4 @@
-use Rattle.std.proofs.Common.{List, subst, ℕ}
+use Rattle.std.proofs.Common.{List, rules, subst, ℕ}
 use Rattle.swim_text.specs.Streams.{Puts}
 use Rattle.swim_metrics.proofs.Lines.{bucket_line}
 use Rattle.swim_metrics.proofs.samples.put_bucket.Goals as goal
@@ -8,5 +8,6 @@ returns-clause-bytes g c =
     let P : List ℕ → Type 0 =
     λ t. Puts (g.W.Sink.written c.args.writer.now) (g.W.Sink.written c.put_pieces.new.writer) t
     c.put_pieces.result in
-    subst P (bucket_line c.as_bytes.result.now c.args.name.now c.args.bucket.now c.as_bytes.ensures.value)
+    subst P (bucket_line c.args.series.now.me c.from.result c.as_bytes.result.now c.args.series.now.name.now
+    c.args.bucket.now (search rules) c.as_bytes.ensures.value)
     c.put_pieces.ensures.bytes

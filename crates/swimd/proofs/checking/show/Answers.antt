@@ -1,6 +1,6 @@
 use Rattle.std.proofs.Common.{false, refl}
 use Rattle.swim_config.specs.Summary.{summary_text}
-use Rattle.swimd.proofs.Taken.{put_and_flushed}
+use Rattle.swim_streams.proofs.Taken.{put_and_flushed}
 use Rattle.swimd.proofs.checking.show.Goals as goal
 
 pub returns-then-not-flush-clause-shows : goal.returns-then-not-flush-clause-shows

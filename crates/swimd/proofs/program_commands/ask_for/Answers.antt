@@ -1,5 +1,5 @@
 use Rattle.std.proofs.Common.{◌++◌, Some, option_map, refl, sym, ap, subst, ◌∙◌}
-use Rattle.swimd.specs.Asking.{Asks}
+use Rattle.swim_commands.specs.Asking.{Asks}
 use Rattle.swimd.specs.Commands.{AsksWanted}
 use Rattle.swimd.proofs.program_commands.ask_for.Goals as goal
 
@@ -7,15 +7,16 @@ pub returns-in-Some : goal.returns-in-Some
 returns-in-Some g c =
     subst (λ line. AsksWanted (option_map (λ line. line.items) line) (g.S.Source.left c.args.reader.now)
     (g.S.Source.left c.args.reader.now)
-    (g.W.Sink.written c.args.writer.now) (g.W.Sink.written c.ask-in-Some.new.writer) c.ask-in-Some.result)
+    (g.W.Sink.written c.args.writer.now) (g.W.Sink.written c.ask_daemon-in-Some.new.writer) c.ask_daemon-in-Some.result)
     (sym c.in-Some.is) (
       refl,
       (
-        Some (c.ask-in-Some.new.reader.buffered ++ c.ask-in-Some.new.reader.reader.now),
+        Some (c.ask_daemon-in-Some.new.reader.buffered ++ c.ask_daemon-in-Some.new.reader.reader.now),
         subst (λ text. Asks (Some text)
-            (Some (c.ask-in-Some.new.reader.buffered ++ c.ask-in-Some.new.reader.reader.now))
-            (g.W.Sink.written c.args.writer.now) (g.W.Sink.written c.ask-in-Some.new.writer) c.ask-in-Some.result)
+            (Some (c.ask_daemon-in-Some.new.reader.buffered ++ c.ask_daemon-in-Some.new.reader.reader.now))
+            (g.W.Sink.written c.args.writer.now) (g.W.Sink.written c.ask_daemon-in-Some.new.writer)
+            c.ask_daemon-in-Some.result)
             (ap (λ source. source.buffered ++ source.reader.now) c.new-line.ensures ∙ c.as_slice.ensures.value)
-            c.ask-in-Some.ensures,
+            c.ask_daemon-in-Some.ensures,
       ),
     )

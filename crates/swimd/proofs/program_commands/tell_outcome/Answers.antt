@@ -1,6 +1,6 @@
 use Rattle.std.proofs.Common.{◌++◌, ap, ◌∙◌}
 use Rattle.swim_text.specs.Streams.{puts_kept, failures_if}
-use Rattle.swimd.specs.Outcomes.{outcome_text}
+use Rattle.swim_commands.specs.Outcomes.{outcome_text}
 use Rattle.swimd.proofs.program_commands.tell_outcome.Goals as goal
 
 pub returns : goal.returns

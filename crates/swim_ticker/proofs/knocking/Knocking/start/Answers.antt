@@ -6,12 +6,13 @@ use Rattle.swim_ticker.proofs.knocking.Knocking.start.Goals as goal
 pub returns : goal.returns
 returns g c =
     let old = c.args.self.now in
-    let rows = c.as_slice.result.now in
-    one_more_knocked g.N.Naming.opening old.knocker c.begin-knock.new.knocker old.viewer c.look-rows.new.viewer rows
-    old.number
+    let rows = c.look.new.table.items in
+    one_more_knocked g.N.Naming.opening old.knocker c.begin-knock.new.knocker old.viewer c.look.new.viewer
+    old.table.items rows old.number
     c.saturating_add-number.result c.begin-knock.result (g.O.Post.posted c.args.post.now)
     (g.O.Post.posted c.send-count.new.post) old.knocks c.send-count.result c.saturating_add-knocks.result
-    (search rules) (search rules) (search rules)
+    c.look.ensures.later c.look.ensures.look (search rules)
     (subst (λ n. Begins old.knocker rows n c.begin-knock.result c.begin-knock.new.knocker)
-    c.period_of-period.ensures c.begin-knock.ensures)
+    c.period_of-period.ensures (subst (λ r. Begins old.knocker r c.period_of-period.result c.begin-knock.result
+    c.begin-knock.new.knocker) (search rules) c.begin-knock.ensures))
     c.send-count.ensures (search rules)

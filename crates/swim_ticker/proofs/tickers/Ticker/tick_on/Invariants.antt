@@ -16,10 +16,10 @@ invariant-loop-turn g l = record {
       (at_sender l.ticking.caller.seat l.self.post l.ticking.caller.counts);
   knocks : KnocksAtStarts g.N.Naming.opening l.initial.ticking.caller.seat.calls
       (at_knocking l.initial.ticking.knocking.knocker l.initial.ticking.knocking.viewer
-      l.initial.ticking.knocking.number
+      l.initial.ticking.knocking.table.items l.initial.ticking.knocking.number
       (g.O.Post.posted l.initial.self.knock_post) l.initial.ticking.knocking.knocks) l.ticking.caller.seat.calls
-      (at_knocking l.ticking.knocking.knocker l.ticking.knocking.viewer l.ticking.knocking.number
-      (g.O.Post.posted l.self.knock_post) l.ticking.knocking.knocks);
+      (at_knocking l.ticking.knocking.knocker l.ticking.knocking.viewer l.ticking.knocking.table.items
+      l.ticking.knocking.number (g.O.Post.posted l.self.knock_post) l.ticking.knocking.knocks);
   number : l.ticking.caller.seat.number ≡ l.initial.ticking.caller.seat.number;
   rejoin : l.self.rejoin ≡ l.initial.self.rejoin;
   earlier : l.self.knocks ≡ l.initial.self.knocks;

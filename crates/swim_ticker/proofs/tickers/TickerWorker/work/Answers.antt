@@ -15,8 +15,9 @@ returns-clause-works g c =
     (owned (g.P.Pace.beats new.pace) new.post (g.O.Post.posted new.knock_post) new.rejoin c.saturating_add-self.result)
     c.new.result.seat ticking.caller.seat c.new.result.counts ticking.caller.counts c.tick_on-why.result
     c.done.result.end
-    (at_knocking c.new-2.result.knocker c.new-2.result.viewer c.new-2.result.number knocked c.new-2.result.knocks)
-    (at_knocking ticking.knocking.knocker ticking.knocking.viewer ticking.knocking.number
+    (at_knocking c.new-2.result.knocker c.new-2.result.viewer c.new-2.result.table.items c.new-2.result.number knocked
+    c.new-2.result.knocks)
+    (at_knocking ticking.knocking.knocker ticking.knocking.viewer ticking.knocking.table.items ticking.knocking.number
     (g.O.Post.posted new.knock_post) ticking.knocking.knocks)
     (search rules) (search rules) c.new.ensures.counts (search rules) c.done.ensures.end (search rules) (search rules)
     refl (c.new-2.ensures.knocking knocked) c.tick_on-why.ensures.ticked c.tick_on-why.ensures.sent

@@ -1,0 +1,5 @@
+pub mod ControlLines
+pub mod Exchanges
+pub mod Given
+pub mod Indented
+pub mod Lines

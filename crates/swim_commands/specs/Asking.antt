@@ -1,0 +1,198 @@
+-- What asking a daemon does.
+use Rattle.std.specs.Prelude.{◌≡◌, ◌⊎◌, ℕ, ◌<◌, Bool, true, false, List, [], ◌∷◌, ◌++◌, length, take, drop, map}
+use Rattle.std.specs.Prelude.{Option, Some, None, Result, Ok, Err}
+use Rattle.std.specs.List.{flat_map, list_any}
+use Rattle.std.specs.Io.KnownBytes.{Appends, Consumes, IsAtEnd, Keeps}
+use Rattle.swim_text.specs.Cutting.{feed_if}
+use Rattle.swim_text.specs.Lines.{has_feed}
+use Rattle.swim_text.specs.Streams.{PutsFront}
+use Rattle.swim_commands.specs.declared.askers.Came.{Came}
+use Rattle.swim_commands.specs.declared.askers.Came.TheVariants as came
+use Rattle.swim_commands.specs.declared.control_lines.NextLine.{NextLine}
+use Rattle.swim_commands.specs.declared.control_lines.NextLine.TheVariants.{Line, Over, Fault}
+use Rattle.swim_commands.specs.declared.outcomes.Outcome.{Outcome}
+use Rattle.swim_commands.specs.declared.outcomes.Outcome.TheVariants.{Asked, AskRefused, AskTimeout}
+use Rattle.swim_commands.specs.declared.outcomes.Outcome.TheVariants.{Unanswered, AskUnwritten}
+use Rattle.swim_commands.specs.declared.outcomes.Outcome.TheVariants.{AskUnread, NoDaemon}
+use Rattle.swim_commands.specs.Answers.{is_answer_to, is_refusal, is_stopping}
+
+-- ---- lines
+
+-- words with single spaces between them
+abbrev pub joined : List (List ℕ) → List ℕ
+joined words = drop 1 (flat_map (λ word. 32 ∷ word) words)
+
+-- a line of an input; the last may have no line feed
+pub record InputLine : Type 0 where
+  pub text : List ℕ
+  pub is_ended : Bool
+
+abbrev pub bytes_of : InputLine → List ℕ
+bytes_of line = line.text ++ feed_if line.is_ended
+
+-- what is sent of a line: all of it, but of one that is too long only as much as shows that
+abbrev pub sent_of : InputLine → List ℕ
+sent_of line = take 129 line.text ++ feed_if line.is_ended
+
+-- these bytes were all that was left
+abbrev pub IsAll : Option (List ℕ) → List ℕ → Type 0
+IsAll None text = Unit {0}
+IsAll (Some left) text = left ≡ text
+
+-- the line was taken from the front of what was left; one without a line feed was all that was left
+pub record TakesLine (line : InputLine) (old new : Option (List ℕ)) : Type 0 where
+  pub taken : Consumes old new (bytes_of line)
+  pub one : has_feed line.text ≡ false
+  pub some : 0 < length (bytes_of line)
+  pub last : line.is_ended ≡ false → IsAll old (bytes_of line)
+
+-- bytes of a line were taken, and then a read failed
+abbrev pub TakesPart : Option (List ℕ) → Option (List ℕ) → Type 0
+TakesPart old new = (text : List ℕ) × Consumes old new text × (has_feed text ≡ false)
+
+-- what a look for the next line took, and what of it is to be sent
+abbrev pub Reads : NextLine → Option (List ℕ) → Option (List ℕ) → List ℕ → Type 0
+Reads Line old new sent = (line : InputLine) × TakesLine line old new × (sent ≡ sent_of line)
+Reads Over old new sent = IsAtEnd old × Consumes old new []
+Reads Fault old new sent = TakesPart old new
+
+-- what the end of an input is, where a line has begun or has not
+abbrev pub end_met : Bool → NextLine
+end_met true = Line
+end_met false = Over
+
+-- ---- who is asked
+
+-- a line that was sent, and what came of it
+pub record Sent : Type 0 where
+  pub line : List ℕ
+  pub came : Came
+  pub answer : List ℕ
+
+-- a known list grew by these
+abbrev pub Grows : {A : Type 0} → Option (List A) → Option (List A) → List A → Type 0
+Grows None new more = Unit {0}
+Grows (Some old) None more = ⊥
+Grows (Some old) (Some new) more = new ≡ old ++ more
+
+-- a line and its answer, which is whole and one to that line
+pub record Exchange : Type 0 where
+  pub line : InputLine
+  pub answer : List ℕ
+  pub whole : is_answer_to (sent_of line) answer ≡ true
+
+abbrev pub sent : Exchange → Sent
+sent e = record { line = sent_of e.line; came = came.Answer; answer = e.answer }
+
+-- ---- asking
+
+-- what an input has left, what was written, and what was sent
+pub record Asker : Type 0 where
+  pub left : Option (List ℕ)
+  pub written : Option (List ℕ)
+  pub asked : Option (List Sent)
+
+-- line after line was read and sent, once each and in order, and the answers to them were written, and nothing else
+pub record HasAsked (exchanges : List Exchange) (old new : Asker) : Type 0 where
+  pub read : Consumes old.left new.left (flat_map (λ e. bytes_of e.line) exchanges)
+  pub wrote : Appends old.written new.written (flat_map (λ e. e.answer) exchanges)
+  pub asked : Grows old.asked new.asked (map sent exchanges)
+
+-- an answer says that something was not done
+abbrev pub has_refusal : List Exchange → Bool
+has_refusal exchanges = list_any (λ e. is_refusal e.answer) exchanges
+
+-- the last answer says that the daemon stops
+abbrev pub EndsInStop : List Exchange → Type 0
+EndsInStop exchanges = (before : List Exchange) × (last : Exchange) × (exchanges ≡ before ++ last ∷ [])
+    × (is_stopping last.answer ≡ true)
+
+-- all lines of the input were asked, or those up to a `stop`, and an answer was a refusal, or none was
+pub record IsDone (refused : Bool) (old new : Asker) : Type 0 where
+  pub exchanges : List Exchange
+  pub asked : HasAsked exchanges old new
+  pub refused_is : has_refusal exchanges ≡ refused
+  pub whole : IsAll old.left (flat_map (λ e. bytes_of e.line) exchanges) ⊎ EndsInStop exchanges
+
+-- lines were asked, and then this became of one more
+pub record IsBroken (Last : Asker → Asker → Type 0) (old new : Asker) : Type 0 where
+  pub exchanges : List Exchange
+  pub mid : Asker
+  pub asked : HasAsked exchanges old mid
+  pub last : Last mid new
+
+-- a line was sent, of which this came, and nothing was written
+pub record Misses (met : Came) (old new : Asker) : Type 0 where
+  pub line : InputLine
+  pub answer : List ℕ
+  pub taken : TakesLine line old.left new.left
+  pub asked : Grows old.asked new.asked (record { line = sent_of line; came = met; answer = answer } ∷ [])
+  pub kept : Keeps old.written new.written
+
+-- a line was answered, and not all of the answer could be written
+pub record Loses (old new : Asker) : Type 0 where
+  pub exchange : Exchange
+  pub taken : TakesLine exchange.line old.left new.left
+  pub asked : Grows old.asked new.asked (sent exchange ∷ [])
+  pub wrote : PutsFront old.written new.written exchange.answer
+
+-- the input could not be read on
+pub record IsUnread (old new : Asker) : Type 0 where
+  pub taken : TakesPart old.left new.left
+  pub kept : Keeps old.written new.written
+  pub asked : Grows old.asked new.asked []
+
+-- all lines were asked, up to a `stop` whose end did not come in time
+pub record IsStopped (old new : Asker) : Type 0 where
+  pub exchanges : List Exchange
+  pub asked : HasAsked exchanges old new
+  pub last : EndsInStop exchanges
+
+-- how asking the lines of an input ends
+abbrev pub Asking : Asker → Asker → Outcome → Type 0
+Asking old new Asked = IsDone false old new
+Asking old new AskRefused = IsDone true old new
+Asking old new AskTimeout = IsBroken (Misses came.Late) old new ⊎ IsStopped old new
+Asking old new Unanswered = IsBroken (Misses came.Nothing) old new
+Asking old new AskUnwritten = IsBroken Loses old new
+Asking old new AskUnread = IsBroken IsUnread old new
+Asking old new outcome = ⊥
+
+-- what asking the daemon at a path does, of which nobody knows what it was asked: where there is none, or it lets
+-- nobody
+-- in, nothing is read and nothing is written
+abbrev pub Asks : Option (List ℕ) → Option (List ℕ) → Option (List ℕ) → Option (List ℕ) → Outcome → Type 0
+Asks left_old left_new old new NoDaemon = (left_new ≡ left_old) × (new ≡ old)
+Asks left_old left_new old new AskTimeout =
+    ((left_new ≡ left_old) × (new ≡ old))
+    ⊎ Asking (record { left = left_old; written = old; asked = None })
+    (record { left = left_new; written = new; asked = None }) AskTimeout
+Asks left_old left_new old new outcome =
+    Asking (record { left = left_old; written = old; asked = None })
+    (record { left = left_new; written = new; asked = None }) outcome
+
+-- what asking one line and passing its answer on does
+abbrev pub Passes : List ℕ → Result (Unit {0}) Outcome → List ℕ → Option (List ℕ) → Option (List ℕ)
+    → Option (List Sent) → Option (List Sent) → Type 0
+Passes line (Ok done) answer old new asked_old asked_new =
+    (is_answer_to line answer ≡ true) × Appends old new answer
+    × Grows asked_old asked_new (record { line = line; came = came.Answer; answer = answer } ∷ [])
+Passes line (Err AskTimeout) answer old new asked_old asked_new =
+    Keeps old new × Grows asked_old asked_new (record { line = line; came = came.Late; answer = answer } ∷ [])
+Passes line (Err Unanswered) answer old new asked_old asked_new =
+    Keeps old new × Grows asked_old asked_new (record { line = line; came = came.Nothing; answer = answer } ∷ [])
+Passes line (Err AskUnwritten) answer old new asked_old asked_new =
+    (is_answer_to line answer ≡ true) × PutsFront old new answer
+    × Grows asked_old asked_new (record { line = line; came = came.Answer; answer = answer } ∷ [])
+Passes line (Err outcome) answer old new asked_old asked_new = ⊥
+
+-- how asking ends where each line was answered
+abbrev pub asked_so : Bool → Outcome
+asked_so true = AskRefused
+asked_so false = Asked
+
+-- how asking ends where the daemon stops
+abbrev pub stopped_so : Came → Bool → Outcome
+stopped_so came.Late is_refused = AskTimeout
+stopped_so came.Answer is_refused = asked_so is_refused
+stopped_so came.Nothing is_refused = asked_so is_refused

@@ -1,0 +1,99 @@
+//! What a person needs below `usage`: which word wasn't understood, the nearest one, and a line that works.
+
+ghost use Rattle.std.specs.Prelude.{◌≡◌};
+
+use crate::details::Details;
+use crate::outcomes::Outcome;
+use crate::words::{have_feed, program};
+use std::alloc::Global;
+
+/// How many lines are told of what `clap` says. However long they are, there is room for one more behind them.
+const MOST_LINES: u32 = 4;
+
+/// What stands before a line that works.
+const WORKS: &str = "a line that works";
+
+/// The outcome of words that ask nothing. What is wrong with them is told in the details, and a line that works.
+pub fn explain_words(alloc: Global, words: &[&str], details: &mut Details) -> Outcome
+    ensures { result ≡ Outcome.Usage }
+{
+    add_fault(alloc, words, details);
+    details.add_of(WORKS, line_that_works(words));
+    Outcome::Usage
+}
+
+/// The same of words of which one is no UTF-8.
+pub fn explain_no_text(details: &mut Details) -> Outcome
+    ensures { result ≡ Outcome.Usage }
+{
+    details.add("a word is no text in UTF-8");
+    details.add_of(WORKS, line_that_works(&[]));
+    Outcome::Usage
+}
+
+/// Adds what `clap` says of the words, which names the one that it didn't understand and the nearest; nothing where
+/// memory is refused.
+fn add_fault(alloc: Global, words: &[&str], details: &mut Details) {
+    let Ok(program) = program(alloc) else {
+        return;
+    };
+    match program.try_get_matches_from(words) {
+        Ok(_) => details.add(words_of_range(words)),
+        Err(error) => {
+            if let Ok(text) = format!(in alloc; "{error}") {
+                add_lines(text.as_str(), details);
+            }
+        }
+    }
+}
+
+/// Adds the first lines of a text in which something stands.
+fn add_lines(text: &str, details: &mut Details) {
+    let mut left = MOST_LINES;
+    for line in text.lines() {
+        let words = line.trim();
+        if 0 < left && !words.is_empty() {
+            details.add(words);
+            left -= 1;
+        }
+    }
+}
+
+/// What is wrong with words that `clap` takes.
+fn words_of_range(words: &[&str]) -> &'static str {
+    if first_of(words) == "web" {
+        "--listen takes an address, as 127.0.0.1:8946, and --name stands there eight times at most"
+    } else if have_feed(words) {
+        "a word has a line feed, which would make two lines of one"
+    } else {
+        "--timeout takes a number of seconds, 1 to 86400"
+    }
+}
+
+/// A line that works, of the command that is named first.
+fn line_that_works(words: &[&str]) -> &'static str {
+    let first = first_of(words);
+    if first == "check" {
+        "swimd check < FILE"
+    } else if first == "run" {
+        "swimd run --config FILE"
+    } else if first == "ask" {
+        "swimd ask --control PATH list"
+    } else if first == "watch" {
+        "swimd watch --events PATH"
+    } else if first == "web" {
+        "swimd web --listen 127.0.0.1:8946 --control PATH"
+    } else if first == "key" {
+        "swimd key"
+    } else {
+        "swimd --help"
+    }
+}
+
+/// The first word; an empty one where there is none.
+fn first_of<'a>(words: &[&'a str]) -> &'a str {
+    match words.first() {
+        Some(word) => *word,
+        None => "",
+    }
+}

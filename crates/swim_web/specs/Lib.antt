@@ -1,0 +1,6 @@
+pub mod Asked
+pub mod Asking
+pub mod Objects
+pub mod Pages
+pub mod Recent
+pub mod Replies

@@ -1,0 +1,47 @@
+-- Which page a request asks for.
+use Rattle.std.specs.Prelude.{ℕ, ◌-◌, ◌^◌, Bool, false, not, ◌&&◌, ◌||◌, List, Option, Some, None, is_some, codes}
+use Rattle.std.specs.Prelude.{if◌then◌else◌}
+use Rattle.std.specs.Option.{unwrap_or}
+use Rattle.std.specs.Str.{bytes_eq}
+use Rattle.swim_text.specs.Numbers.{number_of}
+use Rattle.http.specs.declared.request.Parts.{Parts}
+use Rattle.http_header.specs.FieldValue.{FieldValue}
+use Rattle.http_header.specs.HeaderMap.{get}
+use Rattle.http_uri.specs.Uri.{uri_authority, uri_path}
+use Rattle.swim_web.specs.declared.pages.Page.{Page}
+use Rattle.swim_web.specs.declared.pages.Page.TheVariants.{Front, Health, Metrics, Members, Events, Unknown, Forbidden}
+use Rattle.swim_web.specs.declared.pages.Page.TheVariants.{Misdirected}
+
+-- the page at a path, for whoever has seen the events up to some number
+abbrev pub page_at : List ℕ → ℕ → Page
+page_at path seen =
+    if bytes_eq path (codes "/") then Front
+    else (if bytes_eq path (codes "/healthz") then Health
+    else (if bytes_eq path (codes "/metrics") then Metrics
+    else (if bytes_eq path (codes "/members.json") then Members
+    else (if bytes_eq path (codes "/events") then Events seen else Unknown))))
+
+abbrev pub page_by : List ℕ → List ℕ → ℕ → Page
+page_by method path seen =
+    if bytes_eq method (codes "GET") || bytes_eq method (codes "HEAD") then page_at path seen else Forbidden
+
+-- there is a host, and it is one of ours
+abbrev pub is_ours : (List ℕ → Bool) → Option FieldValue → Bool
+is_ours is_name None = false
+is_ours is_name (Some host) = is_name host.bytes
+
+-- the target is a path alone, and the host is one of ours: a page of another site whose name was made to lead here
+-- learns nothing
+abbrev pub is_known : (List ℕ → Bool) → Parts → Bool
+is_known is_name head = not (is_some (uri_authority head.uri)) && is_ours is_name (get head.headers (codes "host"))
+
+-- the number of the last event that was seen; 0 where the field is left out or is none
+abbrev pub seen_in : Option FieldValue → ℕ
+seen_in None = 0
+seen_in (Some value) = unwrap_or (number_of (2 ^ 64 - 1) value.bytes) 0
+
+abbrev pub page_asked : (List ℕ → Bool) → Parts → Page
+page_asked is_name head =
+    if is_known is_name head
+    then page_by head.method (uri_path head.uri) (seen_in (get head.headers (codes "last-event-id")))
+    else Misdirected

@@ -1,0 +1,278 @@
+//! The page for people.
+
+/// What the page may do: its own script runs, its own style is shown, and it asks nobody but its server. The hashes are
+/// those of the texts between `<script>` and `</script>`, and between `<style>` and `</style>`.
+pub(crate) const FRONT_POLICY: &str = "default-src 'none'; \
+    script-src 'sha256-alNqmJrrbi7QQRciXPTfn4zKGUu0+obDcbyiVZVc7g0='; \
+    style-src 'sha256-HFLwqoK37lfNnuIiWqBjv27o91iXSPpXE/0z1zyfiyI='; \
+    connect-src 'self'; img-src 'self' data:; base-uri 'none'; form-action 'none'; frame-ancestors 'none'";
+
+/// The page, which needs nothing but itself, `/members.json`, `/metrics` and `/events`.
+pub(crate) const FRONT_PAGE: &str = r##"<!doctype html>
+<html lang="en">
+<head>
+<meta charset="utf-8">
+<meta name="viewport" content="width=device-width,initial-scale=1">
+<meta name="color-scheme" content="light dark">
+<title>swimd</title>
+<link rel="icon" href="data:,">
+<style>
+:root { --paper: #fff; --band: #f6f8fa; --line: #d8dee4; --text: #1f2328; --quiet: #59636e; --up: #1a7f37;
+  --failed: #cf222e; --alarm: #fff1f0; --link: #0969da }
+@media (prefers-color-scheme: dark) {
+  :root { --paper: #0d1117; --band: #151b23; --line: #2a313c; --text: #e6edf3; --quiet: #9198a1; --up: #3fb950;
+    --failed: #ff7b72; --alarm: #2d1214; --link: #58a6ff }
+}
+* { box-sizing: border-box }
+body { margin: 0; background: var(--paper); color: var(--text);
+  font: 15px/1.5 system-ui, -apple-system, "Segoe UI", Helvetica, Arial, sans-serif }
+header, main, footer { max-width: 60rem; margin: 0 auto; padding: 0 1.25rem }
+header { padding-top: 1.75rem }
+h1 { font-size: 1.35rem; line-height: 1.3; margin: 0 }
+code, .number { font-family: ui-monospace, SFMono-Regular, Menlo, Consolas, "DejaVu Sans Mono", monospace;
+  font-size: .92em; font-variant-numeric: tabular-nums }
+.quiet { color: var(--quiet) }
+p { margin: .25rem 0 }
+a { color: var(--link); text-underline-offset: .15em }
+a:focus-visible, button:focus-visible { outline: 3px solid var(--link); outline-offset: 2px; border-radius: 3px }
+#sum { font-size: 1.05rem; margin-top: 1rem }
+#sum b { font-weight: 650 }
+.f { color: var(--failed) }
+.u { color: var(--up) }
+#alarm { border-left: 4px solid var(--failed); background: var(--alarm); padding: .6rem .9rem; margin: 1rem 0 }
+[hidden] { display: none !important }
+table { border-collapse: collapse; width: 100%; table-layout: fixed }
+th:first-child { width: 20% }
+#figures th { width: 50%; font-weight: 500 }
+caption { text-align: left; font-weight: 600; padding: 1.75rem 0 .5rem }
+th, td { text-align: left; padding: .45rem .75rem .45rem 0; border-bottom: 1px solid var(--line);
+  vertical-align: baseline }
+th:first-child { padding-left: .75rem }
+thead th { font-weight: 500; color: var(--quiet); font-size: .87rem }
+tbody th { font-weight: 600 }
+tr.is-failed th:first-child { box-shadow: inset 3px 0 var(--failed) }
+td svg { width: 11px; height: 11px; margin-right: .45rem; fill: none; stroke-width: 2.2; vertical-align: -.05em }
+.u svg { stroke: var(--up) }
+.f svg { stroke: var(--failed) }
+.none td { color: var(--quiet); padding-left: .75rem }
+meter { width: 10rem; max-width: 50%; margin-right: .5rem; vertical-align: middle }
+footer { color: var(--quiet); font-size: .87rem; padding-top: 1.5rem; padding-bottom: 2.5rem }
+footer a { margin-right: 1rem }
+button { font: inherit; font-size: .87rem; color: inherit; background: var(--band); border: 1px solid var(--line);
+  border-radius: 6px; padding: .2rem .7rem; cursor: pointer; min-height: 2rem }
+@media (max-width: 34rem) {
+  thead { position: absolute; width: 1px; height: 1px; overflow: hidden; clip-path: inset(50%) }
+  table, tbody, caption { display: block }
+  tbody tr { display: flex; flex-wrap: wrap; gap: 0 .75rem; padding: .55rem 0 .55rem .75rem;
+    border-bottom: 1px solid var(--line) }
+  th:first-child, #figures th { width: auto }
+  tbody th, tbody td, tr.is-failed th:first-child { border: 0; padding: 0; box-shadow: none }
+  tbody td.state { flex-basis: 100% }
+  tr.is-failed { box-shadow: inset 3px 0 var(--failed) }
+}
+@media (forced-colors: active) { td svg { stroke: CanvasText } }
+</style>
+</head>
+<body>
+<header>
+<h1 id="me">swimd</h1>
+<p class="quiet" id="at"></p>
+</header>
+<main>
+<noscript><p>This page asks for <a href="/members.json">/members.json</a> every five seconds, by a script. Without it,
+read that, or <a href="/metrics">/metrics</a>.</p></noscript>
+<div id="alarm" role="alert" hidden></div>
+<p id="sum" aria-live="polite">Asking the daemon …</p>
+<div id="told" hidden>
+<table role="table" aria-describedby="at">
+<caption>Members</caption>
+<thead role="rowgroup"><tr role="row"><th role="columnheader" scope="col">Id</th>
+<th role="columnheader" scope="col">Address</th><th role="columnheader" scope="col">State</th></tr></thead>
+<tbody role="rowgroup" id="members"></tbody>
+</table>
+<table role="table" id="changes" hidden>
+<caption>Last changes</caption>
+<thead role="rowgroup"><tr role="row"><th role="columnheader" scope="col">Id</th>
+<th role="columnheader" scope="col">Change</th><th role="columnheader" scope="col">When</th></tr></thead>
+<tbody role="rowgroup" id="events"></tbody>
+</table>
+<table role="table" id="figures" hidden>
+<caption>This daemon</caption>
+<tbody role="rowgroup" id="counts"></tbody>
+</table>
+</div>
+</main>
+<footer>
+<p><a href="/members.json">members.json</a><a href="/metrics">metrics</a><a href="/healthz">healthz</a>
+<button type="button" id="hold" aria-pressed="false">Pause</button></p>
+<p>A member is up until this daemon judges it failed. Other daemons may see their group otherwise.</p>
+</footer>
+<script>
+"use strict";
+const EVERY = 5000, LIMIT = 3000, CHANGES = 20;
+const id = name => document.getElementById(name);
+const shapes = { up: "M1 6 4 9 10 1.5", failed: "M1 1 10 10M1 10 10 1" };
+const roles = { tr: "row", th: "rowheader", td: "cell" };
+const changes = [];
+let last = "", asked = 0, held = false, soon = 0;
+
+function put(parent, tag, text, cls) {
+  const e = document.createElement(tag);
+  if (text !== undefined) e.textContent = text;
+  if (cls) e.className = cls;
+  if (roles[tag]) e.setAttribute("role", roles[tag]);
+  parent.append(e);
+  return e;
+}
+function shape(state) {
+  const ns = "http://www.w3.org/2000/svg";
+  const s = document.createElementNS(ns, "svg"), p = document.createElementNS(ns, "path");
+  s.setAttribute("viewBox", "0 0 11 11");
+  s.setAttribute("aria-hidden", "true");
+  p.setAttribute("d", shapes[state]);
+  s.append(p);
+  return s;
+}
+const clock = time => new Date(time).toLocaleString(undefined, { dateStyle: "medium", timeStyle: "medium" });
+const many = (n, one) => n + " " + one + (n === 1 ? "" : "s");
+function rowsOf(body, list, none, fill) {
+  body.textContent = "";
+  for (const x of list) fill(put(body, "tr"), x);
+  if (!list.length) put(put(body, "tr", undefined, "none"), "td", none).colSpan = 3;
+}
+function putState(tr, state, text) {
+  const td = put(tr, "td", undefined, "state " + (state === "failed" ? "f" : "u"));
+  td.append(shape(state), text);
+}
+function showMembers(members) {
+  const failed = members.filter(m => m.state === "failed"), up = members.length - failed.length;
+  id("told").hidden = false;
+  document.title = (failed.length ? "(" + failed.length + " failed) " : "") + id("me").textContent;
+  const sum = id("sum");
+  sum.textContent = "";
+  if (failed.length) {
+    put(sum, "b", failed.length + " failed", "f");
+    sum.append(", " + up + " up");
+  } else {
+    put(sum, "b", up ? "All " + many(up, "member") + " up" : "No other member is known", "u");
+  }
+  const order = failed.concat(members.filter(m => m.state === "up"));
+  rowsOf(id("members"), order, "No other member is known.", (tr, m) => {
+    tr.className = m.state === "failed" ? "is-failed" : "";
+    put(tr, "th", m.id, "number").scope = "row";
+    put(put(tr, "td"), "code", m.peer);
+    putState(tr, m.state, m.state === "failed" ? "failed in period " + m.period : "up");
+  });
+}
+const words = { up: e => "up at " + e.peer, failed: e => "failed in period " + e.period, gone: () => "removed",
+  life: e => "life " + e.life + " began", lost: () => "some changes weren’t heard",
+  again: () => "the daemon was found again", ended: () => "the daemon ended" };
+function showChanges() {
+  id("changes").hidden = !changes.length;
+  rowsOf(id("events"), changes, "", (tr, e) => {
+    put(tr, "th", e.id === undefined ? "" : e.id, "number").scope = "row";
+    const text = words[e.event] ? words[e.event](e) : e.event;
+    if (shapes[e.event]) putState(tr, e.event, text); else put(tr, "td", text, "state");
+    put(tr, "td", e.time ? clock(e.time) : "");
+  });
+}
+function follow() {
+  new EventSource("/events").onmessage = m => {
+    changes.unshift(JSON.parse(m.data));
+    changes.length = Math.min(changes.length, CHANGES);
+    showChanges();
+    clearTimeout(soon);
+    soon = setTimeout(ask, 100);
+  };
+}
+function samplesOf(text) {
+  const found = new Map();
+  for (const line of text.split("\n")) {
+    const end = line.lastIndexOf(" ");
+    if (end < 1 || line[0] === "#") continue;
+    // All are this member's.
+    const key = line.slice(0, end).replace(/\{member="\d+",?/, "{").replace("{}", "");
+    found.set(key, Number(line.slice(end + 1)));
+  }
+  return found;
+}
+const figures = [["swimd_period_number", "Period"], ["swimd_period_seconds", "Seconds of a period"],
+  ["swimd_verdicts_total", "Verdicts"], ["swimd_journal_entries", "Entries of this life"],
+  ["swimd_journal_entries_behind", "Entries that aren’t counted yet"], ["swimd_unsent_total", "Datagrams not sent"],
+  ["swimd_wire_total", "Datagrams that are no message"], ["swimd_forged_total", "Datagrams without a tag of the group"],
+  ["swimd_fenced_total", "Datagrams above the rate"], ["swimd_lost_watchers_total", "Watchers that didn’t keep up"]];
+function showFigures(text) {
+  const found = samplesOf(text), me = found.get("swimd_member_id"), body = id("counts");
+  if (me) id("me").textContent = "Member " + me + "’s view of its group";
+  id("figures").hidden = false;
+  body.textContent = "";
+  const figure = name => {
+    const tr = put(body, "tr");
+    put(tr, "th", name).scope = "row";
+    return put(tr, "td", undefined, "number");
+  };
+  for (const [key, name] of figures) if (found.has(key)) figure(name).textContent = found.get(key);
+  for (const [key, n] of found) {
+    const reason = /^swimd_dropped_total\{reason="(.*)"\}$/.exec(key);
+    if (reason && n) figure("Messages dropped, " + reason[1].replaceAll("_", " ")).textContent = n;
+  }
+  showWaits(found, figure);
+}
+function showWaits(found, figure) {
+  const all = found.get("swimd_ack_wait_ticks_count");
+  let below = 0;
+  for (const [key, n] of found) {
+    const bound = /^swimd_ack_wait_ticks_bucket\{le="(.*)"\}$/.exec(key);
+    if (!bound || !all || n === below) continue;
+    const td = figure(bound[1] === "+Inf" ? "Acks after that" : "Acks within " + many(Number(bound[1]), "tick"));
+    const bar = put(td, "meter");
+    bar.max = all;
+    bar.value = n - below;
+    bar.setAttribute("aria-hidden", "true");
+    td.append(n - below);
+    below = n;
+  }
+}
+function tell(text) {
+  const alarm = id("alarm");
+  if (alarm.hidden !== !text || alarm.textContent !== text) {
+    alarm.textContent = text;
+    alarm.hidden = !text;
+  }
+}
+async function get(path) {
+  const r = await fetch(path, { signal: AbortSignal.timeout(LIMIT), cache: "no-store" });
+  if (!r.ok) throw new Error("The daemon");
+  return r.text();
+}
+async function ask() {
+  if (held || document.hidden) return;
+  try {
+    showFigures(await get("/metrics"));
+    const text = await get("/members.json");
+    if (text !== last) showMembers(JSON.parse(text).members);
+    last = text;
+    asked = Date.now();
+    tell("");
+    id("at").textContent = "As the daemon answered at " + new Date().toLocaleTimeString();
+  } catch (e) {
+    const who = e.message === "The daemon" ? e.message : "This page’s server";
+    tell(asked ? who + " hasn’t answered since " + clock(asked) + ". What is below is as it was then."
+      : who + " doesn’t answer.");
+    if (!asked) id("sum").textContent = "";
+  }
+}
+id("hold").addEventListener("click", () => {
+  held = !held;
+  id("hold").setAttribute("aria-pressed", held);
+  id("hold").textContent = held ? "Continue" : "Pause";
+  ask();
+});
+document.addEventListener("visibilitychange", ask);
+setInterval(ask, EVERY);
+follow();
+ask();
+</script>
+</body>
+</html>
+"##;

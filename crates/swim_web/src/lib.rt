@@ -1,0 +1,26 @@
+//! What a daemon answers, served over HTTP: each page is the answer to one question, and no question changes anything.
+#![tactic(auto)]
+
+mod daemons;
+mod front_page;
+mod guests;
+mod hosts;
+mod objects;
+mod pages;
+mod questions;
+mod recent;
+mod replies;
+mod services;
+mod tables;
+mod tellers;
+mod turns;
+
+pub use daemons::{Answer, Daemon};
+pub use hosts::run;
+pub use pages::{Page, page_asked};
+pub use questions::Question;
+pub use recent::{Recent, listen};
+pub use replies::{Kind, reply};
+pub use services::Web;
+pub use tellers::{EventLine, Teller};
+pub use turns::advance;

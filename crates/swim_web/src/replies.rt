@@ -1,0 +1,87 @@
+//! Responses, each with the same safe header fields.
+
+ghost use Rattle.std.specs.Prelude.{◌≡◌, OnOk, OnErr};
+ghost use Rattle.http_server.specs.Response.{IsBlank, IsResponse};
+ghost use Rattle.swim_web.specs.Replies.{IsReply, fields_for, kind_text, policy_text};
+
+use crate::front_page::FRONT_POLICY;
+use bytes::BufMut;
+use http::{HeaderName, HeaderValue, StatusCode, header};
+use http_server::Response;
+use std::alloc::AllocError;
+
+/// What the body of a response is.
+#[derive(Clone, Copy, Debug, PartialEq, Eq)]
+pub enum Kind {
+    /// Plain text.
+    Text,
+    /// Samples in the text format of Prometheus.
+    Metrics,
+    /// JSON.
+    Json,
+    /// A page.
+    Html,
+    /// A stream of Server-Sent Events.
+    Events,
+}
+
+impl Kind {
+    /// Returns the value of `content-type`.
+    fn value(self) -> HeaderValue
+        ensures { result.bytes ≡ kind_text self }
+    {
+        match self {
+            Kind::Text => HeaderValue::from_static("text/plain; charset=utf-8"),
+            Kind::Metrics => HeaderValue::from_static("text/plain; version=0.0.4; charset=utf-8"),
+            Kind::Json => HeaderValue::from_static("application/json"),
+            Kind::Html => HeaderValue::from_static("text/html; charset=utf-8"),
+            Kind::Events => HeaderValue::from_static("text/event-stream"),
+        }
+    }
+
+    /// Returns the value of `content-security-policy`. That of the page has the hashes of its script and its style.
+    fn policy(self) -> HeaderValue
+        ensures { result.bytes ≡ policy_text self }
+    {
+        match self {
+            Kind::Html => HeaderValue::from_static(FRONT_POLICY),
+            _ => HeaderValue::from_static("default-src 'none'; frame-ancestors 'none'"),
+        }
+    }
+}
+
+/// Fills a response that is blank. If memory is refused, it becomes a 500 with neither fields nor a body.
+pub fn reply(response: &mut Response, status: StatusCode, kind: Kind, body: &[u8])
+    requires { IsBlank response.old }
+    ensures { IsReply status kind body.now response.new }
+{
+    if fill(response, status, kind, body).is_err() {
+        response.clear();
+        response.status = StatusCode::INTERNAL_SERVER_ERROR;
+    }
+}
+
+/// Fills a response that is blank. After an `Err` nothing is known of it.
+fn fill(
+    response: &mut Response,
+    status: StatusCode,
+    kind: Kind,
+    body: &[u8],
+) -> Result<(), AllocError>
+    requires { IsBlank response.old }
+    ensures { OnOk result (IsResponse status (fields_for kind) body.now response.new) }
+{
+    response.add_header(header::CONTENT_TYPE, kind.value())?;
+    response.add_header(
+        HeaderName::from_static("x-content-type-options"),
+        HeaderValue::from_static("nosniff"),
+    )?;
+    response.add_header(
+        HeaderName::from_static("content-security-policy"),
+        kind.policy(),
+    )?;
+    response.add_header(header::CACHE_CONTROL, HeaderValue::from_static("no-store"))?;
+    response.add_header(header::ALLOW, HeaderValue::from_static("GET, HEAD"))?;
+    response.status = status;
+    response.body.put_slice(body)
+}

@@ -1,0 +1,220 @@
+ghost use Rattle.std.specs.Prelude.{None};
+
+use http_server::{Config, Connection};
+use std::hash::RandomState;
+use std::process::Abort;
+use std::test::Fail;
+use swim_web::{Answer, Daemon, EventLine, Question, Recent, Teller, Web, advance, listen};
+
+const TABLE: &[u8] = b"2 10.0.0.2:7000 up\n3 10.0.0.3:7000 failed 12\n.\n";
+
+const OBJECT: &[u8] = b"{\"members\":[{\"id\":2,\"peer\":\"10.0.0.2:7000\",\"state\":\"up\"},\
+    {\"id\":3,\"peer\":\"10.0.0.3:7000\",\"state\":\"failed\",\"period\":12}]}\n";
+
+/// Gives this answer, if there is one, and counts the questions.
+#[derive(Drop)]
+struct FixedDaemon {
+    answer: Option<&'static [u8]>,
+    count: u32,
+}
+
+impl Daemon for FixedDaemon {
+    ghost asked = { λ d. None };
+
+    fn ask(&mut self, _question: Question, answer: &mut Answer) -> bool {
+        self.count = self.count.saturating_add(1);
+        answer.clear();
+        match self.answer {
+            Some(text) => answer.try_extend_from_slice(text).is_ok(),
+            None => false,
+        }
+    }
+}
+
+/// Tells so many events.
+#[derive(Drop)]
+struct CountedTeller {
+    left: u32,
+}
+
+impl Teller for CountedTeller {
+    ghost heard = { λ t. None };
+
+    fn hear(&mut self, line: &mut EventLine) -> bool {
+        if self.left == 0 {
+            return false;
+        }
+        self.left -= 1;
+        line.clear();
+        line.try_extend_from_slice(b"{}").is_ok()
+    }
+}
+
+fn web_with(rt: &HostRuntime, answer: Option<&'static [u8]>) -> Result<Web<FixedDaemon>, Fail> {
+    let alloc = rt.alloc();
+    let mut names = Vec::new(alloc);
+    names.push(format!(in alloc; "swim:1")?)?;
+    Ok(Web {
+        alloc,
+        names,
+        recent: Recent::new(),
+        is_late: false,
+        daemon: Box::new(alloc, FixedDaemon { answer, count: 0 })?,
+    })
+}
+
+// What is sent for this request, on a connection of its own.
+fn served(rt: &HostRuntime, web: &mut Web<FixedDaemon>, request: &str) -> Result<Vec<u8>, Fail> {
+    let alloc = rt.alloc();
+    let mut connection = Connection::new(alloc, RandomState::new(rt)?, Config::default());
+    let mut reader = request.as_bytes();
+    let mut sent = Vec::new(alloc);
+    connection.read_from(&mut reader)?;
+    advance(&mut connection, web);
+    for _write in 0..16 {
+        connection.write_to(&mut sent)?;
+    }
+    Ok(sent)
+}
+
+// What is sent begins and ends so.
+fn assert_sent<R: Abort>(rt: &R, sent: &[u8], first: &str, last: &[u8]) {
+    assert!(rt; sent.starts_with(first.as_bytes()), "begins {first}");
+    assert!(rt; sent.ends_with(last), "ends after {first}");
+}
+
+#[test]
+fn answers_each_page(rt: HostRuntime) -> Result<(), Fail> {
+    let mut web = web_with(&rt, Some(TABLE))?;
+    for (request, first, last) in [
+        (
+            "GET /healthz HTTP/1.1\r\nHost: swim:1\r\n\r\n",
+            "HTTP/1.1 200 OK\r\n",
+            b"\r\n\r\nok\n".as_slice(),
+        ),
+        (
+            "GET /members.json HTTP/1.1\r\nHost: swim:1\r\n\r\n",
+            "HTTP/1.1 200 OK\r\n",
+            OBJECT,
+        ),
+        (
+            "HEAD /members.json HTTP/1.1\r\nHost: swim:1\r\n\r\n",
+            "HTTP/1.1 200 OK\r\n",
+            b"\r\n\r\n".as_slice(),
+        ),
+        (
+            "GET / HTTP/1.1\r\nHost: swim:1\r\n\r\n",
+            "HTTP/1.1 200 OK\r\n",
+            b"</html>\n".as_slice(),
+        ),
+        (
+            "GET /events HTTP/1.1\r\nHost: swim:1\r\n\r\n",
+            "HTTP/1.1 200 OK\r\n",
+            b"\r\n\r\nretry: 2000\n\n".as_slice(),
+        ),
+    ] {
+        let sent = served(&rt, &mut web, request)?;
+        assert_sent(&rt, sent.as_slice(), first, last);
+    }
+    assert_eq!(rt; web.daemon.count, 3);
+    Ok(())
+}
+
+#[test]
+fn asks_nothing_else(rt: HostRuntime) -> Result<(), Fail> {
+    let mut web = web_with(&rt, Some(TABLE))?;
+    for (request, first) in [
+        (
+            "GET /other HTTP/1.1\r\nHost: swim:1\r\n\r\n",
+            "HTTP/1.1 404 ",
+        ),
+        (
+            "POST /healthz HTTP/1.1\r\nHost: swim:1\r\n\r\n",
+            "HTTP/1.1 405 ",
+        ),
+        (
+            "GET /healthz HTTP/1.1\r\nHost: swim:2\r\n\r\n",
+            "HTTP/1.1 421 ",
+        ),
+        (
+            "GET http://swim:1/healthz HTTP/1.1\r\nHost: swim:1\r\n\r\n",
+            "HTTP/1.1 421 ",
+        ),
+    ] {
+        let sent = served(&rt, &mut web, request)?;
+        assert_sent(&rt, sent.as_slice(), first, b"\n");
+    }
+    assert_eq!(rt; web.daemon.count, 0);
+    Ok(())
+}
+
+#[test]
+fn tells_samples_alone(rt: HostRuntime) -> Result<(), Fail> {
+    let mut web = web_with(&rt, Some(b"swimd_ticks_total{member=\"1\"} 7\n.\n"))?;
+    let request = "GET /metrics HTTP/1.1\r\nHost: swim:1\r\n\r\n";
+    let sent = served(&rt, &mut web, request)?;
+    assert_sent(
+        &rt,
+        sent.as_slice(),
+        "HTTP/1.1 200 ",
+        b"\r\n\r\nswimd_ticks_total{member=\"1\"} 7\n",
+    );
+    let table = served(
+        &rt,
+        &mut web,
+        "GET /members.json HTTP/1.1\r\nHost: swim:1\r\n\r\n",
+    )?;
+    assert_sent(&rt, table.as_slice(), "HTTP/1.1 503 ", b"no answer\n");
+    Ok(())
+}
+
+#[test]
+fn remembers_an_owed_answer(rt: HostRuntime) -> Result<(), Fail> {
+    let mut web = web_with(&rt, None)?;
+    for _request in 0..2 {
+        let sent = served(
+            &rt,
+            &mut web,
+            "GET /healthz HTTP/1.1\r\nHost: swim:1\r\n\r\n",
+        )?;
+        assert_sent(&rt, sent.as_slice(), "HTTP/1.1 503 ", b"no answer\n");
+    }
+    assert_eq!(rt; web.daemon.count, 1);
+    Ok(())
+}
+
+#[test]
+fn keeps_the_last_events(rt: HostRuntime) -> Result<(), Fail> {
+    let mut web = web_with(&rt, None)?;
+    let mut teller = CountedTeller { left: 70 };
+    listen(&mut teller, &mut web.recent);
+    listen(&mut teller, &mut web.recent);
+    let sent = served(
+        &rt,
+        &mut web,
+        "GET /events HTTP/1.1\r\nHost: swim:1\r\nLast-Event-ID: 69\r\n\r\n",
+    )?;
+    assert_sent(
+        &rt,
+        sent.as_slice(),
+        "HTTP/1.1 200 ",
+        b"\r\n\r\nretry: 2000\n\nid: 70\ndata: {}\n\n",
+    );
+    let all = served(
+        &rt,
+        &mut web,
+        "GET /events HTTP/1.1\r\nHost: swim:1\r\nLast-Event-ID: 71\r\n\r\n",
+    )?;
+    assert_sent(
+        &rt,
+        all.as_slice(),
+        "HTTP/1.1 200 ",
+        b"\n\nid: 70\ndata: {}\n\n",
+    );
+    let count = all
+        .windows(4)
+        .filter(|bytes| *bytes == b"id: ".as_slice())
+        .count();
+    assert_eq!(rt; count, 64);
+    Ok(())
+}

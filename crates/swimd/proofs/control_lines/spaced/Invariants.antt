@@ -1,7 +1,0 @@
-use Rattle.std.proofs.Common.{◌≡◌, ◌∷◌, map, take}
-use Rattle.std.specs.List.{flat_map}
-use Rattle.swimd.proofs.control_lines.spaced.Given as goal
-
-abbrev pub invariant-loop-word : goal.invariant-loop-word
-invariant-loop-word l =
-    l.text.items ≡ take 130 (flat_map (λ word. 32 ∷ word) (map (λ word. word.now) (take l.word-index l.fn.words)))

@@ -1,0 +1,254 @@
+"""`swimd web`: its pages, beside what the daemon answers itself, and how it starts and waits for one."""
+
+import base64
+import hashlib
+import json
+import re
+import shutil
+import subprocess
+import time
+
+from tests.support.configurations import HOST
+from tests.support.daemons import must, until
+from tests.support.parts import TOP, leave_out
+from tests.support.sayings import first_line_of
+from tests.support.web_servers import WebServer
+from tests.swimd.daemon_watchers import MINUTE, watched
+
+MEMBERS = [(2, "10.0.0.2:7000"), (30, "10.0.0.3:7000")]
+SAFE = {"x-content-type-options": "nosniff", "cache-control": "no-store", "allow": "GET, HEAD"}
+# The time that an answer of a daemon may take, and for which one that owes an answer isn't asked, with some room.
+LIMIT = 1.5
+EVENT = re.compile(r"id: (\d+)\ndata: ([^\n]*)\n\n")
+
+
+def must_be_safe(reply):
+    for name, value in SAFE.items():
+        must(reply.fields.get(name) == value, f"{name} is {reply.fields.get(name)!r}")
+    policy = reply.fields.get("content-security-policy", "")
+    must(policy.startswith("default-src 'none'; "), f"the policy is {policy!r}")
+
+
+def must_answer(web, path, status, body=None, kind=None):
+    reply = web.get(path)
+    must(reply.status == status, f"{path} is answered {reply.status}, and not {status}")
+    must(body is None or reply.body == body, f"{path} is answered {reply.body[:200]!r}")
+    must(kind is None or reply.fields["content-type"] == kind, f"{path} is {reply.fields['content-type']}")
+    must_be_safe(reply)
+    return reply
+
+
+def members_of(daemon):
+    """The member table of a daemon, as the page has it."""
+    rows = [(id, row.peer, *row.state.split(" ")) for id, row in sorted(daemon.table().items())]
+    names = ("id", "peer", "state", "period")
+    return {"members": [dict(zip(names, (*it[:3], *map(int, it[3:])))) for it in rows]}
+
+
+def each_page(machine):
+    """The table and the counts are the daemon's, and each answer has safe fields."""
+    daemon = machine.started(members=MEMBERS, tick_ms=MINUTE)
+    with WebServer(machine, daemon.control) as web:
+        must_answer(web, "/healthz", 200, b"ok\n", "text/plain; charset=utf-8")
+        members = must_answer(web, "/members.json", 200, kind="application/json")
+        must(json.loads(members.body) == members_of(daemon), f"the members are {members.body!r}")
+        metrics = must_answer(web, "/metrics", 200, kind="text/plain; version=0.0.4; charset=utf-8")
+        names = lambda text: [line.split(b" ")[0] for line in text.split(b"\n")]
+        must(names(metrics.body + b".\n") == names(daemon.ask(b"stats\n")), f"the metrics are {metrics.body!r}")
+        must_answer(web, "/events", 200, b"retry: 2000\n\n", "text/event-stream")
+        must_answer(web, "/?at=1", 200, kind="text/html; charset=utf-8")
+        must_answer(web, "/other", 404, b"no such page\n")
+        for path in ("/", "/healthz", "/metrics", "/members.json", "/events", "/other"):
+            whole, head = web.get(path), web.get(path, "HEAD")
+            must(head.status == whole.status and head.body == b"", f"HEAD {path} is answered {head}")
+            same = lambda name: head.fields.get(name) == whole.fields.get(name)
+            must(all(map(same, ("content-type", "content-security-policy"))), f"HEAD {path} has other fields")
+            must_be_safe(head)
+    must(daemon.stop().status == 0, "the daemon ended otherwise")
+
+
+def the_page_and_its_policy(machine):
+    """The page has no outside resource, and the policy has the hashes of its script and its style."""
+    with WebServer(machine, f"{machine.folder}/nobody") as web:
+        reply = must_answer(web, "/", 200, kind="text/html; charset=utf-8")
+    text, policy = reply.body.decode(), reply.fields["content-security-policy"]
+    for tag, name in (("script", "script-src"), ("style", "style-src")):
+        found = re.findall(f"<{tag}>(.*?)</{tag}>", text, re.S)
+        must(len(found) == 1, f"{len(found)} texts in <{tag}>")
+        digest = base64.b64encode(hashlib.sha256(found[0].encode()).digest()).decode()
+        must(f"; {name} 'sha256-{digest}';" in policy, f"sha256-{digest} of <{tag}> isn't in {policy}")
+    outside = [it for it in re.findall(r"(?:https?:)?//[\w.]+", text) if it != "http://www.w3.org"]
+    must(not outside, f"the page names {outside}")
+    must(not re.search(r" (?:style|on\w+)=", text), "the page has a style or a script that its policy forbids")
+
+
+def a_verdict_is_shown(machine):
+    """A member that was judged is told as failed, with the number of the period."""
+    daemon = machine.started(members=[(2, "127.0.0.1:9")], k=0, rtt=1, period=3, tick_ms=20)
+    with WebServer(machine, daemon.control) as web:
+        failed = lambda: [it for it in json.loads(web.get("/members.json").body)["members"] if it["state"] == "failed"]
+        found = until(failed, "the verdict is told")
+        must(found == members_of(daemon)["members"], f"{found} is told")
+    must(daemon.stop().status == 0, "the daemon ended otherwise")
+
+
+def events_of(web, **fields):
+    reply = web.get("/events", **fields)
+    must(reply.body.startswith(b"retry: 2000\n\n"), f"the stream is {reply.body[:100]!r}")
+    return [(int(number), json.loads(text)) for number, text in EVENT.findall(reply.body.decode())]
+
+
+def but_for_time(events):
+    return [(number, {name: it for name, it in event.items() if name != "time"}) for number, event in events]
+
+
+def events_are_passed_on(machine):
+    """Each change once, with its number and its time; those that were seen aren't told again."""
+    daemon, path = watched(machine, members=MEMBERS, tick_ms=MINUTE)
+    with WebServer(machine, daemon.control, "--events", path) as web:
+        stats = lambda: b'\nswimd_watchers{member="1"} 1\n' in web.get("/metrics").body
+        until(stats, "it watches")
+        must(events_of(web) == [], f"{events_of(web)} is told of the table")
+        must(daemon.ask(b"remove 2\njoin 4 10.0.0.4:7000\n").endswith(b"\n"), "no answer")
+        until(lambda: len(events_of(web)) == 2, "two events are told")
+        gone, up = {"event": "gone", "id": 2}, {"event": "up", "id": 4, "peer": "10.0.0.4:7000"}
+        must(but_for_time(events_of(web)) == [(1, gone), (2, up)], f"{events_of(web)} is told")
+        must(all(it["time"].endswith("Z") for _, it in events_of(web)), f"{events_of(web)} has no time")
+        must(but_for_time(events_of(web, Last_Event_ID="1")) == [(2, up)], "what was seen is told again")
+        must(events_of(web, Last_Event_ID="2") == [], "what was seen is told again")
+        for other in ("3", "-1", "x", "18446744073709551616"):
+            must(len(events_of(web, Last_Event_ID=other)) == 2, f"{other} counts as seen")
+        must(daemon.stop().status == 0, "the daemon ended otherwise")
+        until(lambda: [it for _, it in events_of(web) if it["event"] == "ended"], "the end is told")
+        daemon.start()
+        until(lambda: [it for _, it in events_of(web) if it["event"] == "again"], "the next daemon is told")
+    must(daemon.stop().status == 0, "the daemon ended otherwise")
+
+
+def no_daemon_at_first(machine):
+    """It starts all the same, and finds the daemon once there is one, and the next one."""
+    daemon = machine.daemon(1, members=MEMBERS, tick_ms=MINUTE)
+    with WebServer(machine, daemon.control) as web:
+        for path in ("/healthz", "/metrics", "/members.json"):
+            must_answer(web, path, 503, b"no answer\n")
+        must_answer(web, "/", 200)
+        for _ in range(2):
+            daemon.start()
+            until(lambda: web.get("/healthz").status == 200, "the daemon is found", LIMIT + 1)
+            must(json.loads(web.get("/members.json").body) == members_of(daemon), "another table")
+            must(daemon.stop().status == 0, "the daemon ended otherwise")
+            must_answer(web, "/healthz", 503, b"no answer\n")
+
+
+def a_daemon_that_stands_still(machine):
+    """Its answer is waited for within a second, and then isn't asked for within another."""
+    daemon = machine.started(members=MEMBERS, tick_ms=MINUTE)
+    with WebServer(machine, daemon.control) as web:
+        must_answer(web, "/healthz", 200)
+        daemon.stand_still()
+        try:
+            for least, most in ((0.5, LIMIT), (0, 0.5), (0, 0.5)):
+                began = time.monotonic()
+                must_answer(web, "/members.json", 503, b"no answer\n")
+                took = time.monotonic() - began
+                must(least <= took <= most, f"an answer took {took:.2f} s")
+        finally:
+            daemon.go_on()
+        until(lambda: web.get("/healthz").status == 200, "the daemon is found again", LIMIT + 1)
+    must(daemon.stop().status == 0, "the daemon ended otherwise")
+
+
+def addresses(machine):
+    """A port in use is told, and so is an address that others reach; what is none is no word."""
+    control = f"{machine.folder}/nobody"
+
+    def ran(*words):
+        it = subprocess.run([machine.program, "web", *words], stdin=subprocess.DEVNULL, capture_output=True, timeout=20)
+        return it.stdout, first_line_of(it.stderr), it.returncode, it.stderr
+
+    with WebServer(machine, control) as web:
+        must(b" serves http://127.0.0.1:" in web.said, f"{web.said!r} is told")
+        at = f"{HOST}:{web.port}"
+        found = ran("--listen", at, "--control", control)
+        must(found[:3] == (b"", b"bind web\n", 5), f"a port in use: {found}")
+        must(f"  {at}: address in use\n".encode() in found[3], f"below it stands {found[3]!r}")
+    names = [word for number in range(9) for word in ("--name", f"n{number}")]
+    for words in (
+        ["--listen", "localhost:8946", "--control", control],
+        ["--listen", "127.0.0.1", "--control", control],
+        ["--listen", "127.0.0.1:0", "--control", control],
+        ["--listen", "127.0.0.1:08946", "--control", control],
+        ["--listen", "[::1]:8946", "--control", control],
+        ["--listen", at],
+        ["--control", control],
+        ["--listen", at, "--control", control, *names],
+        ["--listen", at, "--control", control, "more"],
+    ):
+        found = ran(*words)
+        must(found[:3] == (b"", b"usage\n", 2), f"{words}: {found}")
+        must(b"swimd web --listen 127.0.0.1:8946 --control PATH" in found[3], f"{words}: {found[3]!r}")
+    with WebServer(machine, control, *names[:-2], host="0.0.0.0") as web:
+        until(lambda: [web.hear(), web.said.endswith(b" reads the member table\n")][1], "a warning is told")
+        must(f" warning: whoever reaches 0.0.0.0:{web.port} ".encode() in web.said, f"{web.said!r} is told")
+        must(web.get("/", Host="n7").status == 200, "a name that was given isn't known")
+        must(web.get("/", Host="n8").status == 421, "a name that wasn't given is known")
+
+
+def shown(web):
+    """What the page's script shows, by node."""
+    words = ["node", f"{TOP}/tests/support/page_screen.js", f"http://{HOST}:{web.port}/"]
+    ran = subprocess.run(words, capture_output=True, timeout=60)
+    must(ran.returncode == 0 and not ran.stderr, f"node says {ran.stderr.decode()[-2_000:]}")
+    return json.loads(ran.stdout)
+
+
+def what_the_page_shows(machine):
+    """The members, the failed one first, the changes, the newest first, and counts; without a daemon the alarm."""
+    if not shutil.which("node"):
+        return leave_out("node is not on PATH, so the script of the page of swimd web isn't run")
+    daemon, path = watched(machine, members=[(2, "127.0.0.1:9"), (30, "127.0.0.1:9")], k=0, rtt=1, period=3, tick_ms=20)
+    with WebServer(machine, daemon.control, "--events", path) as web:
+        until(lambda: set(daemon.states().values()) == {"failed"}, "two verdicts")
+        must(daemon.ask(b"join 4 127.0.0.1:7\nremove 2\n").endswith(b"removed\n"), "a removal is refused")
+        until(lambda: daemon.states() == {4: "failed", 30: "failed"}, "a third verdict")
+        page, numbers = shown(web), {id: row.state.split(" ")[1] for id, row in daemon.table().items()}
+        rows = [[str(id), f"127.0.0.1:{7 if id == 4 else 9}", f"failed in period {it}"] for id, it in numbers.items()]
+        must(sorted(page["members"]) == sorted(rows), f"the members are shown as {page['members']}")
+        must(page["sum"] == "2 failed, 0 up", f"their sum is shown as {page['sum']}")
+        must(page["title"] == "(2 failed) Member 1\u2019s view of its group", f"the title is {page['title']}")
+        changes = [row[:2] for row in page["events"]][:3]
+        wanted = [["4", f"failed in period {numbers[4]}"], ["2", "removed"], ["4", "up at 127.0.0.1:7"]]
+        must(changes == wanted, f"the changes are shown as {changes}, and not as {wanted}")
+        must(["Verdicts", "3"] in page["counts"] and page["alarm"] == "", f"the page shows {page}")
+        must(daemon.stop().status == 0, "the daemon ended otherwise")
+        until(lambda: web.get("/healthz").status == 503, "nobody answers")
+        must(shown(web)["alarm"] == "The daemon doesn\u2019t answer.", f"the alarm is {shown(web)['alarm']!r}")
+
+
+def a_browser_shows_the_page(machine):
+    """The members, the failed one first, by Chromium."""
+    chromium = shutil.which("chromium")
+    if not chromium:
+        return leave_out("chromium is not on PATH, so no browser shows the page of swimd web")
+    daemon = machine.started(members=[(2, "127.0.0.1:9")], k=0, rtt=1, period=3, tick_ms=20)
+    until(lambda: daemon.states() == {2: "failed"}, "a verdict")
+    with WebServer(machine, daemon.control) as web:
+        words = ["--headless", "--no-sandbox", f"--user-data-dir={machine.folder}/chromium", "--virtual-time-budget=4000"]
+        shown = subprocess.run(
+            [chromium, *words, "--dump-dom", f"http://{HOST}:{web.port}/"], capture_output=True, timeout=60
+        ).stdout.decode()
+        must("1 failed" in shown and "failed in period" in shown, f"the page is shown as {shown[-2_000:]!r}")
+    return None if daemon.stop().status == 0 else "the daemon ended otherwise"
+
+
+PAGES = [
+    each_page,
+    the_page_and_its_policy,
+    a_verdict_is_shown,
+    events_are_passed_on,
+    no_daemon_at_first,
+    a_daemon_that_stands_still,
+    addresses,
+    what_the_page_shows,
+    a_browser_shows_the_page,
+]
