@@ -10,7 +10,7 @@ use Rattle.swim_recorder.specs.declared.reporters.Standing.{Standing}
 use Rattle.swim_metrics.specs.Following.{Follows, Measured, begun}
 use Rattle.swimd.specs.Booked.{AreCounted}
 use Rattle.swimd.specs.Totals.{no_life, totals_with}
-use Rattle.swimd.specs.declared.totals.Totals.{Totals}
+use Rattle.swimd.specs.declared.counting.totals.Totals.{Totals}
 
 both_again : (one other : ℕ) → both (both one other) 0 ≡ both one other
 both_again one other = omega arith

@@ -10,10 +10,10 @@ use Rattle.swim_metrics.specs.declared.hearings.LastHearing.{LastHearing}
 use Rattle.swim_metrics.specs.FailedFor.{failed_for}
 use Rattle.swim_metrics.specs.Following.{Follows, Measured, measures_of}
 use Rattle.swim_metrics.specs.LastHeard.{heard_at}
-use Rattle.swimd.specs.declared.bulletins.Counted.{Counted}
-use Rattle.swimd.specs.declared.happenings.Happening.{Happening}
-use Rattle.swimd.specs.declared.happenings.Happening.TheVariants.{Judged, Joined, JoinedAgain, Removed}
-use Rattle.swimd.specs.declared.totals.Totals.{Totals}
+use Rattle.swimd.specs.declared.telling.bulletins.Counted.{Counted}
+use Rattle.swimd.specs.declared.telling.happenings.Happening.{Happening}
+use Rattle.swimd.specs.declared.telling.happenings.Happening.TheVariants.{Judged, Joined, JoinedAgain, Removed}
+use Rattle.swimd.specs.declared.counting.totals.Totals.{Totals}
 use Rattle.swimd.specs.Totals.{totals_with}
 
 -- the receiver's seat, by which the daemon lets members join again

@@ -4,8 +4,8 @@ use Rattle.std.proofs.Common.{ap, ◌∙◌}
 use Rattle.swim_recorder.specs.Reports.{Report}
 use Rattle.swim_recorder.specs.Reports.Report.{Began, Called}
 use Rattle.swim_trail.specs.Noted.{map_more}
-use Rattle.swimd.specs.declared.chroniclers.Heard.{Heard}
-use Rattle.swimd.specs.declared.chroniclers.Heard.TheVariants as noted
+use Rattle.swimd.specs.declared.telling.chroniclers.Heard.{Heard}
+use Rattle.swimd.specs.declared.telling.chroniclers.Heard.TheVariants as noted
 
 -- what it noted
 abbrev pub Note : Type 0

@@ -3,8 +3,8 @@ use Rattle.std.specs.Prelude.{◌≡◌, ◌⊎◌, ℕ, List, codes, Option}
 use Rattle.swim_metrics.specs.declared.outside.FileFigures.{FileFigures}
 use Rattle.swim_metrics.specs.declared.outside.Outside.{Outside}
 use Rattle.swim_metrics.specs.Texts.{stats_text}
-use Rattle.swimd.specs.declared.counters.Facts.{Facts}
-use Rattle.swimd.specs.declared.counters.Figures.{Figures}
+use Rattle.swimd.specs.declared.counting.counters.Facts.{Facts}
+use Rattle.swimd.specs.declared.counting.counters.Figures.{Figures}
 
 -- beside the entries each count is reported as itself: those of the configuration, of the lives, of the datagrams that
 -- were thrown away, of the metrics' file and of the journal files

@@ -1,7 +1,7 @@
 -- What is counted of lives beside their calls.
 use Rattle.swim_work.specs.Ends.{both}
 use Rattle.swim_recorder.specs.declared.reporters.Standing.{Standing}
-use Rattle.swimd.specs.declared.totals.Totals.{Totals}
+use Rattle.swimd.specs.declared.counting.totals.Totals.{Totals}
 
 -- what was counted of lives that are over, and of one more that stands so
 abbrev pub totals_with : Totals → Standing → Totals

@@ -1,22 +1,26 @@
 //! A daemon: the lives of a configuration over real devices.
 
+pub(crate) mod crews;
+pub(crate) mod doors;
+pub(crate) mod lives;
+
 ghost use Rattle.std.specs.Prelude.{◌≡◌, []};
 ghost use Rattle.swim_keeper.specs.Notices.{Notices};
 ghost use Rattle.swimd.specs.Daemon.{Runs, Starts, outcome_of};
 ghost use Rattle.swim_commands.specs.Details.{Explains};
 
-use crate::checking::warn;
-use crate::clerks::Clerk;
-use crate::configurations::configuration;
-use crate::counters::Counters;
-use crate::crews::{Shared, leave};
-use crate::documents::Documents;
-use crate::doors::open_door;
-use crate::entrances::open_entrance;
-use crate::folders::Folder;
-use crate::lives::keep_lives;
-use crate::metrics_times::MetricsTimes;
-use crate::notices::{Announcer, Notice};
+use crate::commands::checking::warn;
+use crate::commands::configurations::configuration;
+use crate::commands::documents::Documents;
+use crate::counting::counters::Counters;
+use crate::counting::metrics_times::MetricsTimes;
+use crate::daemon::crews::{Shared, leave};
+use crate::daemon::doors::open_door;
+use crate::daemon::lives::keep_lives;
+use crate::journals::folders::Folder;
+use crate::telling::clerks::Clerk;
+use crate::telling::entrances::open_entrance;
+use crate::telling::notices::{Announcer, Notice};
 use jiff::Timestamp;
 use std::alloc::Global;
 use std::fs::File;

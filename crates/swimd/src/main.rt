@@ -5,48 +5,16 @@
 ghost use Rattle.std.specs.Prelude.{◌≡◌, [], IfErr};
 ghost use Rattle.swim_commands.specs.Details.{Explains};
 
-mod books;
-mod bulletins;
-mod checking;
-mod chroniclers;
-mod clerks;
-mod comments;
-mod configurations;
-mod counters;
-mod crews;
+mod commands;
+mod counting;
 mod daemon;
-mod disk_desks;
-mod disk_sheets;
-mod disk_workers;
-mod documents;
-mod doors;
-mod entrances;
-mod file_faults;
-mod folders;
-mod happenings;
-mod held_texts;
-mod journal_files;
-mod key_making;
-mod lives;
-mod metrics_desks;
-mod metrics_files;
-mod metrics_times;
-mod notices;
-mod program_commands;
-mod refusals;
-mod remarks;
-mod speakers;
-mod stacks;
-mod strangers;
-mod text_sinks;
-mod totals;
-mod web;
+mod journals;
+mod telling;
 
-use clerks::{Clerk, Desks, Log};
-use disk_workers::serve_disk;
-use documents::{Documents, SystemDocuments};
-use program_commands::Streams;
-use stacks::begin_on_own_stack;
+use commands::documents::{Documents, SystemDocuments};
+use commands::program_commands::Streams;
+use commands::stacks::begin_on_own_stack;
+use journals::disk_workers::serve_disk;
 use std::alloc::{AllocError, Global};
 use std::env;
 use std::fs::File;
@@ -64,6 +32,7 @@ use swim_streams::{
     TEXT_BYTES, Timely, TimelySink, shared,
 };
 use swim_text::{ReadSource, Sink, Source, WriteSink};
+use telling::clerks::{Clerk, Desks, Log};
 
 /// The program runs in a thread with a stack of its own. This one writes journal files meanwhile, others the metrics
 /// and those standard streams that are files, as they alone may wait for their disks.

@@ -1,0 +1,37 @@
+//! The configuration that a daemon runs with, in a file.
+
+ghost use Rattle.std.specs.Prelude.{◌≡◌, [], MatchResult};
+ghost use Rattle.swimd.specs.Daemon.{IsConfiguration, IsNoConfiguration};
+ghost use Rattle.swim_commands.specs.Details.{Explains};
+
+use crate::commands::documents::Documents;
+use arrayvec::ArrayVec;
+use std::alloc::Global;
+use swim_commands::{Details, Outcome};
+use swim_config::{Config, INPUT_BYTES, read_config};
+
+/// The configuration in the file of that path.
+pub fn configuration<X: Documents>(
+    alloc: Global,
+    documents: &mut X,
+    path: &str,
+    details: &mut Details,
+) -> Result<Config, Outcome>
+    requires { details.old ≡ [] }
+    ensures read { MatchResult result (IsConfiguration path.now (X.read documents.old) (X.read documents.new))
+        (IsNoConfiguration path.now (X.read documents.old) (X.read documents.new)) }
+    ensures details { MatchResult result (λ config. details.new ≡ []) (λ outcome. Explains outcome details.new) }
+{
+    let mut text = ArrayVec::<u8, INPUT_BYTES>::new();
+    if let Err(why) = documents.read_text(path, &mut text) {
+        details.add_of(path, why);
+        return Err(Outcome::Unread);
+    }
+    match read_config(alloc, text.as_slice()) {
+        Ok(config) => Ok(config),
+        Err(fault) => {
+            details.explain(alloc, text.as_slice(), fault);
+            Err(Outcome::Refused(fault))
+        }
+    }
+}

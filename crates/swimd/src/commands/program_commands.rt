@@ -1,0 +1,225 @@
+//! The commands of the program, with its standard streams handed in.
+
+ghost use Rattle.std.specs.Prelude.{◌≡◌, ◌++◌, [], codes, map, option_map};
+ghost use Rattle.swim_text.specs.Streams.{Puts, failures_if};
+ghost use Rattle.swimd.specs.Commands.{AsksWanted, Carried, Commanded, Helps, Told};
+ghost use Rattle.swim_commands.specs.Details.{Explains};
+ghost use Rattle.swim_commands.specs.Outcomes.{outcome_text};
+ghost use Rattle.swim_commands.specs.Words.{IsAsked};
+
+use crate::commands::checking::check;
+use crate::commands::documents::Documents;
+use crate::commands::key_making::make_key;
+use crate::commands::web::serve_web;
+use crate::daemon::{Launch, run};
+use crate::telling::clerks::Clerk;
+use std::alloc::Global;
+use std::fs::File;
+use std::net::Net;
+use std::random::RandomSource;
+use std::rt::{Clock, Files};
+use std::sync::Wait;
+use std::thread::Threads;
+use swim_commands::{
+    Asked, Details, Outcome, Request, Unasked, VERSION_LINE, ask_daemon, explain_words,
+    put_outcome, read_words, watch_daemon,
+};
+use swim_config::ConfigFault;
+use swim_streams::Timely;
+use swim_text::{ReadSource, Sink, Source};
+
+/// The streams of a command: standard input, files by their paths, standard output and standard error.
+#[derive(Drop)]
+pub struct Streams<'s, 'x, 'w, 'f, S, X, W, F> {
+    pub reader: &'s mut S,
+    pub documents: &'x mut X,
+    pub writer: &'w mut W,
+    pub faults: &'f mut F,
+}
+
+/// Does what the words after the program's name ask, and answers the status with which the program ends. The log is
+/// where a daemon's worker tells people what it threw away: a sink of its own, as those who tell the faults hold
+/// theirs. A daemon has the writer and the faults wait for no reader.
+pub fn command<
+    R: Files<File = File> + Net + Clock + RandomSource + Threads + Wait + Sync,
+    S: Source,
+    X: Documents,
+    W: Timely,
+    F: Timely,
+    G: Sink + Clerk + Drop,
+>(
+    rt: &R,
+    alloc: Global,
+    words: &[&str],
+    streams: &mut Streams<'_, '_, '_, '_, S, X, W, F>,
+    log: G,
+) -> u8
+    ensures same { (streams.new.reader.ghost_name ≡ streams.old.reader.ghost_name)
+        × (streams.new.documents.ghost_name ≡ streams.old.documents.ghost_name)
+        × (streams.new.writer.ghost_name ≡ streams.old.writer.ghost_name)
+        × (streams.new.faults.ghost_name ≡ streams.old.faults.ghost_name) }
+    ensures commanded { Commanded (IsAsked (map (λ word. word.now) words.now))
+        (record {
+          left = S.left streams.old.reader.now;
+          read = X.read streams.old.documents.now;
+          written = (W.written streams.old.writer.now, W.failures streams.old.writer.now);
+          faults = (F.written streams.old.faults.now, F.failures streams.old.faults.now);
+        })
+        (record {
+          left = S.left streams.new.reader.now;
+          read = X.read streams.new.documents.now;
+          written = (W.written streams.new.writer.now, W.failures streams.new.writer.now);
+          faults = (F.written streams.new.faults.now, F.failures streams.new.faults.now);
+        }) result }
+{
+    let mut details = Details::new();
+    let outcome = carry_out(rt, alloc, words, streams, log, &mut details);
+    tell_outcome(outcome, &details, streams.faults)
+}
+
+/// Does what the words ask, and answers how it ended.
+#[tactic(auto, using(crate::proofs::Done::wanted_done, crate::proofs::Explained::asked_explains, crate::proofs::Explained::helped_explains, crate::proofs::Explained::made_explains))]
+fn carry_out<
+    R: Files<File = File> + Net + Clock + RandomSource + Threads + Wait + Sync,
+    S: Source,
+    X: Documents,
+    W: Timely,
+    F: Timely,
+    G: Sink + Clerk + Drop,
+>(
+    rt: &R,
+    alloc: Global,
+    words: &[&str],
+    streams: &mut Streams<'_, '_, '_, '_, S, X, W, F>,
+    log: G,
+    details: &mut Details,
+) -> Outcome
+    requires { details.old ≡ [] }
+    ensures same { (streams.new.reader.ghost_name ≡ streams.old.reader.ghost_name)
+        × (streams.new.documents.ghost_name ≡ streams.old.documents.ghost_name)
+        × (streams.new.writer.ghost_name ≡ streams.old.writer.ghost_name)
+        × (streams.new.faults.ghost_name ≡ streams.old.faults.ghost_name) }
+    ensures done { Carried (IsAsked (map (λ word. word.now) words.now))
+        (record {
+          left = S.left streams.old.reader.now;
+          read = X.read streams.old.documents.now;
+          written = (W.written streams.old.writer.now, W.failures streams.old.writer.now);
+          faults = (F.written streams.old.faults.now, F.failures streams.old.faults.now);
+        })
+        (record {
+          left = S.left streams.new.reader.now;
+          read = X.read streams.new.documents.now;
+          written = (W.written streams.new.writer.now, W.failures streams.new.writer.now);
+          faults = (F.written streams.new.faults.now, F.failures streams.new.faults.now);
+        }) result }
+    ensures explains { Explains result details.new }
+{
+    match read_words(alloc, words) {
+        Ok(Asked::Check) => {
+            check(
+                alloc,
+                streams.reader,
+                streams.writer,
+                streams.faults,
+                details,
+            )
+        }
+        Ok(Asked::Run(path, is_quiet)) => {
+            let mut launch = Launch {
+                path,
+                is_quiet,
+                documents: &mut *streams.documents,
+            };
+            run(
+                rt,
+                alloc,
+                &mut launch,
+                streams.writer,
+                streams.faults,
+                log,
+                details,
+            )
+        }
+        Ok(Asked::Ask(request)) => {
+            ask_for(rt, &request, streams.reader, streams.writer, details)
+        }
+        Ok(Asked::Watch(path, is_json)) => {
+            watch_daemon(rt, alloc, path, is_json, streams.writer, details)
+        }
+        Ok(Asked::Web(request)) => serve_web(rt, alloc, &request, streams.faults, details),
+        Ok(Asked::MakeKey) => make_key(rt, streams.writer),
+        Ok(Asked::Help(text)) => help(text.as_bytes(), streams.writer),
+        Ok(Asked::Version) => version(streams.writer),
+        Err(Unasked::Usage) => explain_words(alloc, words, details),
+        Err(Unasked::NoMemory) => Outcome::Refused(ConfigFault::NoMemory),
+    }
+}
+
+/// Asks a daemon its line, or those of a reader.
+fn ask_for<R: Net + Clock, S: Source, W: Sink>(
+    rt: &R,
+    request: &Request<'_>,
+    reader: &mut S,
+    writer: &mut W,
+    details: &mut Details,
+) -> Outcome
+    ensures { AsksWanted (option_map (λ line. line.items) request.now.line) (S.left reader.old) (S.left reader.new)
+        (W.written writer.old) (W.written writer.new) result }
+{
+    let Request {
+        path,
+        line,
+        seconds,
+    } = request;
+    match line {
+        None => ask_daemon(rt, path, *seconds, reader, writer, details),
+        Some(line) => {
+            let mut line = ReadSource::new(line.as_slice());
+            ask_daemon(rt, path, *seconds, &mut line, writer, details)
+        }
+    }
+}
+
+/// Writes help.
+pub fn help<W: Sink>(text: &[u8], writer: &mut W) -> Outcome
+    ensures helps { Helps text.now (W.written writer.old) (W.written writer.new) result }
+    ensures sent { result ≡ Outcome.Helped → W.held writer.new ≡ 0 }
+{
+    if writer.put(text) && writer.flush() {
+        Outcome::Helped
+    } else {
+        Outcome::Unwritten
+    }
+}
+
+/// Writes the version.
+fn version<W: Sink>(writer: &mut W) -> Outcome
+    ensures helps { Helps (codes "swimd 1.0\n") (W.written writer.old) (W.written writer.new) result }
+    ensures sent { result ≡ Outcome.Helped → W.held writer.new ≡ 0 }
+{
+    help(VERSION_LINE, writer)
+}
+
+/// Tells an outcome, with what a person needs below it, and answers its status.
+pub fn tell_outcome<F: Sink>(outcome: Outcome, details: &Details, faults: &mut F) -> u8
+    requires { Explains outcome details.now }
+    ensures { Told outcome (F.written faults.old) (F.written faults.new) (F.failures faults.old)
+        (F.failures faults.new) result }
+{
+    let lines = details.as_slice();
+    let _is_put = put_told(faults, outcome, lines);
+    let _is_sent = faults.flush();
+    outcome.status()
+}
+
+/// Writes the line of an outcome, and then those below it, and answers whether the sink took all of them.
+#[tactic(auto, using(swim_text::specs::Streams::puts_then, swim_text::specs::Streams::puts_less))]
+fn put_told<F: Sink>(faults: &mut F, outcome: Outcome, lines: &[u8]) -> bool
+    ensures bytes { Puts (F.written faults.old) (F.written faults.new) (outcome_text outcome ++ lines.now) result }
+    ensures failures { F.failures faults.new ≡ failures_if (F.failures faults.old) result }
+{
+    if !put_outcome(faults, outcome) {
+        return false;
+    }
+    faults.put(lines)
+}

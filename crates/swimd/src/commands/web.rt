@@ -1,0 +1,122 @@
+//! Serving what a daemon answers, over HTTP.
+
+ghost use Rattle.std.specs.Prelude.{◌≡◌, []};
+ghost use Rattle.swim_keeper.specs.Notices.{Notices};
+ghost use Rattle.swim_commands.specs.Details.{Explains};
+ghost use Rattle.swimd.specs.Served.{ServesWeb};
+
+use crate::telling::notices::Notice;
+use mio::net::TcpListener;
+use std::alloc::{AllocError, Global};
+use std::io;
+use std::net::{Ipv4Addr, Net, SocketAddr, SocketAddrV4};
+use std::random::RandomSource;
+use std::rt::Clock;
+use std::sync::Wait;
+use swim_commands::{Details, Outcome, SocketDaemon, SocketEvents, WebRequest, words_why};
+use swim_config::ConfigFault;
+use swim_text::Sink;
+use swim_web::{Recent, Web, run};
+use swim_wire::Peer;
+
+/// The first octet of the addresses that only this machine reaches.
+const LOOPBACK: u8 = 127;
+
+/// Serves pages for good, unless the address can't be listened on or the system refuses something. Whatever comes in,
+/// the daemon is only asked for its table and its counts.
+#[tactic(auto, using(swim_keeper::specs::Notices::no_notices, crate::proofs::Explained::nothing_explains))]
+pub fn serve_web<R: Net + Clock + RandomSource + Wait, F: Sink>(
+    rt: &R,
+    alloc: Global,
+    request: &WebRequest<'_>,
+    faults: &mut F,
+    details: &mut Details,
+) -> Outcome
+    requires { details.old ≡ [] }
+    ensures serves { ServesWeb (F.written faults.old, F.failures faults.old)
+        (F.written faults.new, F.failures faults.new) result }
+    ensures explains { Explains result details.new }
+{
+    let mut listener = match listen(rt, request.listen) {
+        Ok(listener) => listener,
+        Err(fault) => {
+            details.add_of(request.listen.write().as_str(), words_why(&fault));
+            return Outcome::NoWeb;
+        }
+    };
+    let Ok(daemon) = SocketDaemon::of(rt, request.control) else {
+        return Outcome::WebOver;
+    };
+    let Ok(mut web) = web_over(alloc, request, daemon) else {
+        return Outcome::Refused(ConfigFault::NoMemory);
+    };
+    announce(rt, alloc, request.listen, faults);
+    let mut events = SocketEvents::of(rt, alloc, request.events);
+    match run(rt, alloc, &mut listener, &mut web, &mut events) {
+        Ok(()) | Err(_) => Outcome::WebOver,
+    }
+}
+
+/// Listens at an address.
+fn listen<R: Net>(rt: &R, peer: Peer) -> io::Result<TcpListener> {
+    let address = SocketAddrV4::new(Ipv4Addr::from_octets(peer.ip), peer.port);
+    TcpListener::bind(rt, SocketAddr::V4(address))
+}
+
+/// Returns what is served of a daemon.
+fn web_over<'r, 'p, R: Net + Clock>(
+    alloc: Global,
+    request: &WebRequest<'_>,
+    daemon: SocketDaemon<'r, 'p, R>,
+) -> Result<Web<SocketDaemon<'r, 'p, R>>, AllocError> {
+    let names = names(alloc, request)?;
+    Ok(Web {
+        alloc,
+        names,
+        recent: Recent::new(),
+        is_late: false,
+        daemon: Box::new(alloc, daemon)?,
+    })
+}
+
+/// Returns the names by which a request may call the host: the address, `localhost` with its port, and those that were
+/// given.
+fn names(alloc: Global, request: &WebRequest<'_>) -> Result<Vec<String>, AllocError> {
+    let address = request.listen.write();
+    let mut names = Vec::new(alloc);
+    names.push(format!(in alloc; "{}", address.as_str())?)?;
+    names.push(format!(in alloc; "localhost:{}", request.listen.port)?)?;
+    for name in request.names.as_slice() {
+        names.push(format!(in alloc; "{}", *name)?)?;
+    }
+    Ok(names)
+}
+
+/// Tells where pages are served, and warns if others than this machine may reach them.
+fn announce<R: Net + Clock, F: Sink>(rt: &R, alloc: Global, listen: Peer, faults: &mut F)
+    ensures { Notices (F.written faults.old, F.failures faults.old)
+        (F.written faults.new, F.failures faults.new) }
+{
+    tell_serving(rt, alloc, listen, faults);
+    warn_open(rt, alloc, listen, faults);
+}
+
+/// Tells where pages are served.
+#[tactic(auto, using(swim_keeper::specs::Notices::no_notices))]
+fn tell_serving<R: Net + Clock, F: Sink>(rt: &R, alloc: Global, listen: Peer, faults: &mut F)
+    ensures { Notices (F.written faults.old, F.failures faults.old)
+        (F.written faults.new, F.failures faults.new) }
+{
+    Notice::serves(rt, listen).tell_notice(rt, alloc, faults);
+}
+
+/// Warns if others than this machine may reach them.
+#[tactic(auto, using(swim_keeper::specs::Notices::no_notices))]
+fn warn_open<R: Net + Clock, F: Sink>(rt: &R, alloc: Global, listen: Peer, faults: &mut F)
+    ensures { Notices (F.written faults.old, F.failures faults.old)
+        (F.written faults.new, F.failures faults.new) }
+{
+    if listen.ip[0] != LOOPBACK {
+        Notice::is_open(rt, listen).tell_notice(rt, alloc, faults);
+    }
+}

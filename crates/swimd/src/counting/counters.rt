@@ -1,0 +1,148 @@
+//! What a daemon counts, as it is told to whoever asks for it, and in the metrics' file.
+
+ghost use Rattle.std.specs.Prelude.{◌≡◌, IfSome, codes};
+ghost use Rattle.swimd.specs.Figures.{IsOutside, IsStats};
+
+use crate::counting::text_sinks::TextSink;
+use crate::journals::remarks::Remarks;
+use crate::telling::bulletins::{Bulletin, Counted};
+use crate::telling::refusals::Refusals;
+use crate::telling::strangers::{StrangerCounts, Strangers};
+use std::sync::Wait;
+use swim_commands::VERSION;
+use swim_config::Config;
+use swim_control::StatsText;
+use swim_metrics::{FileFigures, Measures, Outside, put_stats};
+use swim_wire::Id;
+
+/// What the metrics tell of a configuration.
+#[derive(Clone, Copy)]
+struct Facts {
+    me: Id,
+    tick_ms: u32,
+    period: u32,
+    journal: u32,
+}
+
+impl Facts {
+    /// Those of this configuration.
+    fn of(config: &Config) -> Facts
+        ensures me { result.me ≡ config.now.opening.me }
+        ensures tick_ms { result.tick_ms ≡ config.now.tick_ms }
+        ensures period { result.period ≡ config.now.opening.period }
+        ensures journal { result.journal ≡ config.now.journal }
+    {
+        Facts {
+            me: config.opening.me(),
+            tick_ms: config.tick_ms,
+            period: config.opening.period(),
+            journal: config.journal,
+        }
+    }
+}
+
+/// Where all counts of a daemon stand, and what its journal file is to remark. Its threads share it.
+#[derive(Drop)]
+pub struct Counters {
+    pub bulletin: Bulletin,
+    pub strangers: Strangers,
+    pub refusals: Refusals,
+    pub remarks: Remarks,
+    facts: Facts,
+}
+
+impl Counters {
+    /// Nothing was counted yet.
+    pub fn new(config: &Config) -> Counters {
+        Counters {
+            bulletin: Bulletin::new(),
+            strangers: Strangers::new(),
+            refusals: Refusals::new(),
+            remarks: Remarks::new(),
+            facts: Facts::of(config),
+        }
+    }
+
+    /// What was counted by now, as it is told to an operator: lines, and a dot in the last one. Beside that, how journal
+    /// files stand, where lives have some.
+    pub fn stats<R: Wait>(&self, rt: &R, files: Option<FileFigures>) -> StatsText
+        ensures { IsStats self.now.facts files result.items }
+    {
+        let mut sink = TextSink::new();
+        if let Some(figures) = self.figures(rt, files) {
+            if put_stats(&mut sink, &figures.measures(), &figures.outside()) {
+                return sink.into_text();
+            }
+        }
+        no_stats()
+    }
+
+    /// What was counted by now, with how journal files stand. `None` before the first life.
+    pub fn figures<R: Wait>(&self, rt: &R, files: Option<FileFigures>) -> Option<Figures>
+        ensures facts { IfSome result (λ figures. figures.facts ≡ self.now.facts) }
+        ensures files { IfSome result (λ figures. figures.files ≡ files) }
+    {
+        Some(Figures {
+            counted: self.bulletin.counted(rt)?,
+            strangers: self.strangers.counts(),
+            unwritten: self.bulletin.unwritten(),
+            files,
+            facts: self.facts,
+        })
+    }
+}
+
+/// What was counted at a moment, with what is told of the configuration. It borrows nothing, so that another thread may
+/// be handed it.
+#[derive(Clone, Copy)]
+pub struct Figures {
+    counted: Counted,
+    strangers: StrangerCounts,
+    unwritten: u64,
+    files: Option<FileFigures>,
+    facts: Facts,
+}
+
+impl Figures {
+    /// What is told of entries.
+    pub fn measures(&self) -> Measures
+        ensures { result ≡ self.now.counted.measures }
+    {
+        self.counted.measures
+    }
+
+    /// What is told beside them.
+    pub fn outside(&self) -> Outside<'static>
+        ensures { IsOutside self.now result }
+    {
+        let (facts, counted) = (&self.facts, &self.counted);
+        Outside {
+            version: VERSION,
+            me: facts.me,
+            tick_ms: facts.tick_ms,
+            period: facts.period,
+            journal_limit: facts.journal,
+            behind: counted.behind,
+            unsent: counted.unsent,
+            wire: counted.wire,
+            refused: counted.refused,
+            forged: self.strangers.forged,
+            fenced: self.strangers.fenced,
+            watchers: counted.watchers,
+            lost_watchers: counted.lost_watchers,
+            knocks: counted.knocks,
+            own_joins: counted.own_joins,
+            unwritten: self.unwritten,
+            files: self.files,
+        }
+    }
+}
+
+/// Where nothing was counted yet: no lines, and a dot.
+fn no_stats() -> StatsText
+    ensures { result.items ≡ codes ".\n" }
+{
+    let mut text = StatsText::new();
+    let _is_added = text.try_extend_from_slice(b".\n");
+    text
+}

@@ -1,0 +1,107 @@
+//! What the worker that reads the journal hands to the worker at the door, who tells it to people: changes for the log,
+//! and what was counted. Neither waits for the other longer than it takes to copy it.
+
+use crate::telling::happenings::Happening;
+use arrayvec::ArrayVec;
+use std::mem;
+use std::sync::atomic::{AtomicU64, Ordering};
+use std::sync::{Mutex, Wait};
+use swim_metrics::Measures;
+
+/// How many changes wait to be told at most.
+const MOST_WAITING: usize = 128;
+
+/// Changes that wait to be told.
+pub type Waiting = ArrayVec<Happening, MOST_WAITING>;
+
+/// What was counted until now, over all lives.
+#[derive(Clone, Copy)]
+pub struct Counted {
+    /// Of the journals' entries.
+    pub measures: Measures,
+    /// Entries of this life that weren't read yet.
+    pub behind: u64,
+    /// Datagrams that couldn't be sent.
+    pub unsent: u64,
+    /// Datagrams that came and are no message.
+    pub wire: u64,
+    /// Calls that were refused for want of memory.
+    pub refused: u64,
+    /// Knocks at members that were judged.
+    pub knocks: u64,
+    /// How many watch.
+    pub watchers: u64,
+    /// How many of those who watched didn't keep up.
+    pub lost_watchers: u64,
+    /// Joins that the daemon made by itself.
+    pub own_joins: u64,
+}
+
+/// What stands on a bulletin.
+#[derive(Drop)]
+struct Sheet {
+    counted: Option<Counted>,
+    waiting: Waiting,
+    // Changes for which there was no room.
+    unsaid: u64,
+}
+
+/// A bulletin, which two threads share.
+#[derive(Drop)]
+pub struct Bulletin {
+    sheet: Mutex<Sheet>,
+    unwritten: AtomicU64,
+}
+
+impl Bulletin {
+    /// Nothing stands on it.
+    pub fn new() -> Bulletin {
+        Bulletin {
+            sheet: Mutex::new(Sheet {
+                counted: None,
+                waiting: ArrayVec::new(),
+                unsaid: 0,
+            }),
+            unwritten: AtomicU64::new(0),
+        }
+    }
+
+    /// Counts that the metrics couldn't be written to their file: how often before.
+    pub fn count_unwritten(&self) -> u64 {
+        self.unwritten.fetch_add(1, Ordering::SeqCst)
+    }
+
+    /// How often the metrics couldn't be written to their file.
+    pub fn unwritten(&self) -> u64 {
+        self.unwritten.load(Ordering::SeqCst)
+    }
+
+    /// Puts a change on it, if there is room.
+    pub fn add<R: Wait>(&self, rt: &R, happening: Happening) {
+        let mut sheet = self.sheet.lock(rt);
+        if sheet.waiting.try_push(happening).is_err() {
+            sheet.unsaid = sheet.unsaid.saturating_add(1);
+        }
+    }
+
+    /// Takes the changes off it, if there are some, and how many there was no room for.
+    pub fn take<R: Wait>(&self, rt: &R) -> Option<(Waiting, u64)> {
+        let mut sheet = self.sheet.lock(rt);
+        if sheet.waiting.is_empty() {
+            return None;
+        }
+        let waiting = mem::replace(&mut sheet.waiting, ArrayVec::new());
+        let unsaid = mem::replace(&mut sheet.unsaid, 0);
+        Some((waiting, unsaid))
+    }
+
+    /// Puts on it what was counted until now.
+    pub fn show<R: Wait>(&self, rt: &R, counted: Counted) {
+        self.sheet.lock(rt).counted = Some(counted);
+    }
+
+    /// What was counted until now, once a life has begun.
+    pub fn counted<R: Wait>(&self, rt: &R) -> Option<Counted> {
+        self.sheet.lock(rt).counted
+    }
+}
