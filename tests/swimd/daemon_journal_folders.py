@@ -2,8 +2,9 @@
 
 import os
 
-from tests.support.daemons import must
+from tests.support.daemons import must, until
 from tests.support.journals import in_one_folder, journals
+from tests.support.parts import content
 from tests.swimd.daemon_journals import MINUTE, filled
 
 
@@ -75,6 +76,72 @@ def what_is_no_file_stays(machine):
          f"there stay {[it[1:] for it in files]}")
 
 
+NOBODY = [(2, "127.0.0.1:9")]
+# A period takes a twentieth of a second, and at the end of its first who doesn't answer is judged.
+SOON = {"k": 0, "rtt": 1, "period": 3, "tick_ms": 20}
+
+
+def names_in(folder):
+    return sorted(os.listdir(folder)) if os.path.isdir(folder) else []
+
+
+def judging(machine, keep):
+    """A daemon in whose life a member was judged, and the name of its file, which is written by then."""
+    daemon = machine.started(1, members=NOBODY, journal_keep=keep, **SOON)
+    until(lambda: daemon.states() == {2: "failed"}, "a verdict")
+    file = journals(machine.journals, 1)[-1]
+    until(lambda: b" started judged 2 " in file.text, "the verdict is written")
+    return daemon, os.path.basename(file.path)
+
+
+def lives_with_verdicts_stay_longer(machine):
+    """However many lives without one follow, those of killed daemons too: their files are the same ones under a second
+    name. Of these the newest stay, as many as of all."""
+    judged, kept = f"{machine.journals}/judged", []
+    for _ in range(3):
+        daemon, name = judging(machine, 2)
+        kept = [*kept, name][-2:]
+        until(lambda: names_in(judged) == kept, f"{kept} stay, and not {names_in(judged)}")
+        must(os.path.samefile(f"{machine.journals}/{name}", f"{judged}/{name}"), f"{name} is another file there")
+        daemon.kill()
+    must(os.stat(judged).st_mode & 0o777 == 0o700, "the folder isn't its owner's alone")
+    for _ in range(17):
+        machine.started(1, members=NOBODY, journal_keep=2, tick_ms=MINUTE).kill()
+    files = [os.path.basename(it.path) for it in journals(machine.journals, 1)]
+    must(len(files) == 2 and not set(files) & set(kept), f"there stay {files}")
+    must(names_in(judged) == kept, f"of lives with verdicts there stay {names_in(judged)}, and not {kept}")
+    for name in kept:
+        must(b" started judged 2 " in content(f"{judged}/{name}"), f"{name} has no verdict")
+
+
+def a_verdict_that_came_last(machine):
+    """It is found in what is written at the end of a life, too; where all files stay they have no second names."""
+    judged = f"{machine.journals}/judged"
+    daemon, _ = judging(machine, 0)
+    daemon.stop()
+    must(names_in(judged) == [], f"where all stay there are {names_in(judged)}")
+    daemon, name = judging(machine, 1)
+    daemon.stop()
+    must(names_in(judged) == [name], f"there are {names_in(judged)}")
+
+
+def no_folder_for_verdicts(machine):
+    """Where it can't be made, the daemon goes on, and the file lies where it lay."""
+    judged = f"{machine.journals}/judged"
+    lies_in(machine, "judged", a_file)
+    daemon, name = judging(machine, 2)
+    must(daemon.stop().status == 0, "it ended otherwise")
+    must(content(judged) == b"kept" and name in names_in(machine.journals), "a file is gone")
+
+
 JOURNAL_FOLDERS = [
-    in_one_folder(it) for it in (the_newest_files_stay, sixteen_stay_by_themselves, what_is_no_file_stays)
+    in_one_folder(it)
+    for it in (
+        the_newest_files_stay,
+        sixteen_stay_by_themselves,
+        what_is_no_file_stays,
+        lives_with_verdicts_stay_longer,
+        a_verdict_that_came_last,
+        no_folder_for_verdicts,
+    )
 ]

@@ -10,6 +10,7 @@ mod new_files;
 mod old_files;
 mod pending;
 mod plain_files;
+mod verdicts;
 
 pub use backlogs::{Backlog, Draft, FileTask, MOST_FILES};
 pub use file_faults::FileFault;
@@ -19,3 +20,4 @@ pub use new_files::{DirPath, NewFile};
 pub use old_files::{FilePath, Stamp, path_of};
 pub use pending::{FILE_BYTES, Pending};
 pub use plain_files::{is_file, make_file};
+pub use verdicts::{VerdictSearch, tells_verdict};

@@ -4,6 +4,7 @@ use crate::old_files::{FilePath, Stamp, others_in, path_of, removed};
 use crate::plain_files::make_file;
 use arrayvec::ArrayString;
 use std::alloc::Global;
+use std::fmt::Write;
 use std::fs::File;
 use std::io::{self, ErrorKind};
 use std::rt::Files;
@@ -17,6 +18,9 @@ pub type DirPath = ArrayString<DIR_BYTES>;
 
 /// The mode of a journal file: its owner alone may read and write it.
 const OWNER_ALONE: u32 = 0o600;
+
+/// The mode of the folder of judged ones.
+const OWNERS_FOLDER: u32 = 0o700;
 
 /// How many seconds are tried for a file's name. A daemon that is started again and again takes one each time.
 const SECONDS_TRIED: u32 = 600;
@@ -60,10 +64,28 @@ impl NewFile {
 
     /// Removes the oldest files of this member beside it, where there are more than stay. What can't be removed stays.
     pub fn remove_old<R: Files<File = File>>(&self, rt: &R, alloc: Global) {
+        if self.keep != 0 {
+            self.remove_others(rt, alloc, self.dir.as_str());
+        }
+    }
+
+    /// Gives it a second name, since a member was judged in its life: the same in the folder `judged` beside it, which
+    /// is made where there is none, and where the newest stay as here, as many. Where all files stay, or the disk knows
+    /// no second names, it has none.
+    pub fn keep_judged<R: Files<File = File>>(&self, rt: &R, alloc: Global) {
         if self.keep == 0 {
             return;
         }
-        let dir = self.dir.as_str();
+        let dir = judged_in(self.dir.as_str());
+        let _is_made = rt.create_dir_with_mode(dir.as_str(), OWNERS_FOLDER);
+        let path = path_of(dir.as_str(), self.me, self.stamp);
+        if rt.hard_link(self.path().as_str(), path.as_str()).is_ok() {
+            self.remove_others(rt, alloc, dir.as_str());
+        }
+    }
+
+    /// Removes the oldest files of this member in a folder where it lies.
+    fn remove_others<R: Files<File = File>>(&self, rt: &R, alloc: Global, dir: &str) {
         let Ok(others) = others_in(rt, alloc, dir, self.me, self.stamp) else {
             return;
         };
@@ -71,4 +93,11 @@ impl NewFile {
             let _is_removed = rt.remove_file(path_of(dir, self.me, *stamp).as_str());
         }
     }
+}
+
+/// The folder beside a member's files where those of lives in which a member was judged have a second name.
+fn judged_in(dir: &str) -> FilePath {
+    let mut path = FilePath::new();
+    let _is_whole = write!(path, "{dir}/judged");
+    path
 }

@@ -1,6 +1,7 @@
 mod backlogs;
 mod files;
 mod names;
+mod verdicts;
 
 use std::fmt::Debug;
 use std::process::Abort;

@@ -9,7 +9,7 @@ use std::fs::{File, OpenFile};
 use std::io::Write;
 use std::rt::{Clock, Files};
 use std::sync::Wait;
-use swim_disk::{Draft, FILE_BYTES, FileFault, FilePath, FileTask, NewFile};
+use swim_disk::{Draft, FILE_BYTES, FileFault, FilePath, FileTask, NewFile, VerdictSearch};
 
 /// How many bytes are written at a time at most.
 const PAGE_BYTES: usize = 4_096;
@@ -26,6 +26,9 @@ struct OpenJournal {
     path: FilePath,
     file: Option<File>,
     fault: Option<FileFault>,
+    verdicts: VerdictSearch,
+    // As what it is named once more when a member was judged. `None` once it is.
+    unjudged: Option<NewFile>,
 }
 
 impl OpenJournal {
@@ -37,6 +40,8 @@ impl OpenJournal {
             path: FilePath::new(),
             file: None,
             fault: None,
+            verdicts: VerdictSearch::new(),
+            unjudged: None,
         }
     }
 
@@ -45,10 +50,13 @@ impl OpenJournal {
         let mut new = new;
         new.stamp.began = new.stamp.began.max(self.began);
         self.fault = None;
+        self.verdicts = VerdictSearch::new();
+        self.unjudged = None;
         match new.make(rt) {
             Ok(file) => {
                 self.began = new.stamp.began;
                 self.file = Some(file);
+                self.unjudged = Some(new);
             }
             Err(fault) => self.give_up(FileFault::Refused(fault.kind())),
         }
@@ -82,8 +90,21 @@ impl OpenJournal {
         let Some(file) = &mut self.file else {
             return;
         };
-        if let Err(fault) = file.write_all(text) {
-            self.give_up(FileFault::Refused(fault.kind()));
+        match file.write_all(text) {
+            Ok(()) => self.verdicts.read(text),
+            Err(fault) => self.give_up(FileFault::Refused(fault.kind())),
+        }
+    }
+
+    /// Gives the file its second name, once a verdict is written into it.
+    fn keep_judged<R: Files<File = File>>(&mut self, rt: &R, alloc: Global)
+        ensures fault { self.new.fault ≡ self.old.fault }
+    {
+        if !self.verdicts.is_found() {
+            return;
+        }
+        if let Some(new) = self.unjudged.take() {
+            new.keep_judged(rt, alloc);
         }
     }
 
@@ -145,6 +166,7 @@ fn serve_file<R: Files<File = File> + Clock + Wait>(
         FileTask::Write(count) => {
             open.write(&page[..count.min(page.len())]);
             desk.note(rt, open.number, open.path, open.fault);
+            open.keep_judged(rt, alloc);
         }
         FileTask::Finish(draft) => finish_file(rt, alloc, desk, open, draft, page),
     }
@@ -166,5 +188,6 @@ fn finish_file<R: Files<File = File> + Clock + Wait>(
     }
     open.write_rest(&mut draft, page);
     open.keep();
+    open.keep_judged(rt, alloc);
     desk.note_end(rt, draft, open.path, open.fault);
 }
