@@ -7,6 +7,7 @@ import re
 from tests.support.configurations import HOST
 from tests.support.daemons import must, until
 from tests.support.journals import journals
+from tests.support.journals import told as answers_in
 from tests.support.watchers import told_by
 from tests.swimd.daemon_groups import Answerer
 from tests.swimd.daemon_starting import ends_of_a_pipe, told_lines
@@ -74,6 +75,24 @@ def a_verdict_is_told(machine):
     must(told[0] == wanted[0], f"of a member that never answered it tells {told[0]}")
 
 
+def a_change_is_told_before_the_next_life(machine):
+    """Also where it was the last call of its life."""
+    were_last = []
+    for limit in range(4, 9):
+        values = {"k": 0, "rtt": 1, "period": 3, "journal": limit}
+        daemon = machine.started(members=[(2, "127.0.0.1:9")], **values)
+        until(lambda: daemon.states()[2] == "failed", "member 2 is judged")
+        must(daemon.stop().status == 0, "it ended otherwise")
+        files = journals(daemon.values["journal_dir"], daemon.id)
+        file = next(it for it in files if b" started judged 2 " in it.text)
+        were_last.append(answers_in(file.text)[-1].startswith("started judged 2 "))
+        lines = told_lines(daemon, daemon.told)
+        place = next(at for at, it in enumerate(lines) if it.startswith("judged 2 "))
+        later = [it for it in lines[:place] if it == f"life {file.life + 1} begins"]
+        must(not later, f"in life {file.life} of {limit} entries member 2 is judged, and {lines} is told")
+    must(any(were_last), "no verdict was the last call of its life")
+
+
 def a_quiet_daemon_tells_nothing(machine):
     daemon = machine.started(members=[(2, "10.0.0.2:7000")], k=0, how={"words": ["--quiet"]})
     must(daemon.ask(b"join 4 10.0.0.4:7000\n").startswith(b"joined "), "a join is refused")
@@ -125,6 +144,7 @@ def a_log_that_nobody_reads(machine):
 LOGS = [
     each_change_is_told,
     a_verdict_is_told,
+    a_change_is_told_before_the_next_life,
     a_quiet_daemon_tells_nothing,
     changes_go_on_over_lives,
     many_changes_at_once,

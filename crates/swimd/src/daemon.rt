@@ -287,7 +287,7 @@ fn live_shared<
         return Outcome::NoMemory;
     };
     let opening = config.opening;
-    let mut herald = Announcer::new(rt, alloc, is_quiet);
+    let mut herald = Announcer::new(rt, alloc, &counters.bulletin, is_quiet);
     let mut keeper = LifeKeeper {
         writer,
         notices: faults,

@@ -1,8 +1,15 @@
 //! What a log tells of the member table's changes, a line each.
 
+ghost use Rattle.swim_keeper.specs.Notices.{Notices};
+
+use crate::telling::bulletins::Bulletin;
 use crate::telling::notices::Notice;
+use std::alloc::Global;
 use std::fmt::Write;
+use std::net::Net;
 use std::rt::Clock;
+use std::sync::Wait;
+use swim_text::Sink;
 use swim_wire::{Id, Peer};
 
 /// A change of the member table, as the log tells it.
@@ -63,8 +70,55 @@ impl Happening {
     }
 }
 
+/// Tells the changes that wait on a bulletin.
+#[tactic(auto, using(swim_keeper::specs::Notices::no_notices))]
+pub fn tell_changes<R: Net + Clock, T: Wait, F: Sink>(
+    rt: &R,
+    waiter: &T,
+    alloc: Global,
+    bulletin: &Bulletin,
+    notices: &mut F,
+)
+    ensures { Notices (F.written notices.old, F.failures notices.old)
+        (F.written notices.new, F.failures notices.new) }
+{
+    if let Some((waiting, more)) = bulletin.take(waiter) {
+        tell_each(rt, alloc, waiting.as_slice(), more, notices);
+    }
+}
+
+/// Tells these changes, and how many more there were.
+#[tactic(auto, using(crate::proofs::Noticed::two_noticed))]
+fn tell_each<R: Net + Clock, F: Sink>(
+    rt: &R,
+    alloc: Global,
+    waiting: &[Happening],
+    more: u64,
+    notices: &mut F,
+)
+    ensures { Notices (F.written notices.old, F.failures notices.old)
+        (F.written notices.new, F.failures notices.new) }
+{
+    let [first, others @ ..] = waiting else {
+        return tell_unsaid(rt, alloc, more, notices);
+    };
+    first.notice(rt).tell_notice(rt, alloc, notices);
+    tell_each(rt, alloc, others, more, notices);
+}
+
+/// Tells how many changes have no line, if there are any.
+#[tactic(auto, using(swim_keeper::specs::Notices::no_notices))]
+fn tell_unsaid<R: Net + Clock, F: Sink>(rt: &R, alloc: Global, count: u64, notices: &mut F)
+    ensures { Notices (F.written notices.old, F.failures notices.old)
+        (F.written notices.new, F.failures notices.new) }
+{
+    if 0 < count {
+        unsaid(rt, count).tell_notice(rt, alloc, notices);
+    }
+}
+
 /// The line that says how many changes have none.
-pub fn unsaid<K: Clock>(clock: &K, count: u64) -> Notice {
+fn unsaid<K: Clock>(clock: &K, count: u64) -> Notice {
     let mut notice = Notice::begun(clock);
     let _is_added = write!(
         notice,

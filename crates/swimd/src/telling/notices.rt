@@ -7,6 +7,8 @@ ghost use Rattle.swim_keeper.specs.Notices.{Notices, line_text};
 ghost use Rattle.swim_trail.specs.Noted.{value_in};
 ghost use Rattle.swim_work.specs.Posts.{Grows};
 
+use crate::telling::bulletins::Bulletin;
+use crate::telling::happenings::tell_changes;
 use arrayvec::ArrayVec;
 use jiff::Timestamp;
 use std::alloc::Global;
@@ -15,6 +17,7 @@ use std::fmt::Write;
 use std::marker::Model;
 use std::net::Net;
 use std::rt::Clock;
+use std::sync::Wait;
 use swim_commands::{TEXT_BYTES, VERSION, add_printed};
 use swim_config::Config;
 use swim_keeper::Herald;
@@ -215,33 +218,36 @@ fn put_line<F: Sink>(line: &[u8], faults: &mut F)
     let _is_sent = faults.flush();
 }
 
-/// Who tells that a life begins, unless it is to be quiet. A contract sees of which lives it was told.
+/// Who tells that a life begins, and before that which changes of the life before it weren't told yet; nothing if it is to
+/// be quiet. A contract sees of which lives it was told.
 #[derive(Drop)]
 pub struct Announcer<'r, R> {
     rt: &'r R,
     alloc: Global,
+    bulletin: &'r Bulletin,
     is_quiet: bool,
     begun: Trail<u64>,
 }
 
 impl<'r, R> Announcer<'r, R> {
     /// One who tells it in lines with the time, or is quiet. It was told of no life yet.
-    pub fn new(rt: &'r R, alloc: Global, is_quiet: bool) -> Announcer<'r, R>
+    pub fn new(rt: &'r R, alloc: Global, bulletin: &'r Bulletin, is_quiet: bool) -> Announcer<'r, R>
         ensures { result.begun.items ≡ [] }
     {
         Announcer {
             rt,
             alloc,
+            bulletin,
             is_quiet,
             begun: Trail::new(),
         }
     }
 }
 
-impl<'r, R: Net + Clock> Herald for Announcer<'r, R> {
+impl<'r, R: Net + Clock + Wait> Herald for Announcer<'r, R> {
     ghost begun = { λ a. Some (map value_in a.begun.items) };
 
-    #[tactic(auto, using(swim_keeper::specs::Notices::no_notices, swim_trail::specs::Noted::map_more))]
+    #[tactic(auto, using(swim_keeper::specs::Notices::no_notices, swim_trail::specs::Noted::map_more, crate::proofs::Noticed::two_noticed))]
     fn begins<F: Sink>(&mut self, number: u64, notices: &mut F)
         ensures begun { Grows (Some (map value_in self.old.begun.items)) (Some (map value_in self.new.begun.items))
             (number ∷ []) }
@@ -250,6 +256,7 @@ impl<'r, R: Net + Clock> Herald for Announcer<'r, R> {
     {
         self.begun.note(&number, &[]);
         if !self.is_quiet {
+            tell_changes(self.rt, self.rt, self.alloc, self.bulletin, notices);
             Notice::begins(self.rt, number).tell_notice(self.rt, self.alloc, notices);
         }
     }

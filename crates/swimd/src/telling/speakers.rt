@@ -5,7 +5,7 @@ use crate::counting::counters::Counters;
 use crate::counting::metrics_times::MetricsTimes;
 use crate::journals::file_faults::words_for;
 use crate::telling::clerks::Clerk;
-use crate::telling::happenings::{Happening, unsaid};
+use crate::telling::happenings::tell_changes;
 use crate::telling::notices::Notice;
 use crate::telling::refusals::refused;
 use crate::telling::strangers::SharedThrown;
@@ -155,10 +155,8 @@ impl<'s, 'r, R: Files<File = File> + Net + Clock, G: Sink + Clerk + Drop> LogSpe
 
     /// Tells the changes of the member table that wait on the bulletin.
     fn tell_changes<W: Wait>(&mut self, rt: &W) {
-        let Some((waiting, more)) = self.counters.bulletin.take(rt) else {
-            return;
-        };
-        tell_each(self.rt, self.alloc, waiting.as_slice(), more, &mut self.log);
+        let bulletin = &self.counters.bulletin;
+        tell_changes(self.rt, rt, self.alloc, bulletin, &mut self.log);
     }
 
     /// Tells of the datagrams that were thrown away, if they are to be told.
@@ -221,21 +219,5 @@ impl<'s, 'r, R: Files<File = File> + Net + Clock, G: Sink + Clerk + Drop> Speake
     fn tell<W: Wait>(&mut self, rt: &W, turned_away: u64) {
         self.count_turned_away(turned_away);
         self.tell_what_is_due(rt);
-    }
-}
-
-/// Tells these changes, and how many more there were.
-fn tell_each<R: Net + Clock, G: Sink>(
-    rt: &R,
-    alloc: Global,
-    waiting: &[Happening],
-    more: u64,
-    log: &mut G,
-) {
-    for happening in waiting {
-        happening.notice(rt).tell_notice(rt, alloc, log);
-    }
-    if 0 < more {
-        unsaid(rt, more).tell_notice(rt, alloc, log);
     }
 }
