@@ -34,19 +34,13 @@ AreCounted (Some m) lives = Follows m lives
 -- what is told of the counts: of the entries, of the life that runs and of those before it, and of the daemon's own
 -- joins
 abbrev pub counted_of : Standing → Totals → ℕ → Measured → Counted
-counted_of life over own_joins m =
-    let all = totals_with over life in
-    record {
-      measures = measures_of m;
-      behind = life.metered.calls - life.read;
-      unsent = all.unsent;
-      wire = all.wire;
-      refused = all.refused;
-      knocks = all.knocks;
-      watchers = life.watchers;
-      lost_watchers = all.lost;
-      own_joins = own_joins;
-    }
+counted_of life over own_joins m = record {
+  measures = measures_of m;
+  behind = life.metered.calls - life.read;
+  totals = totals_with over life;
+  watchers = life.watchers;
+  own_joins = own_joins;
+}
 
 -- for how many periods a member is failed, if it is
 abbrev pub failed_by : Option Measured → ℕ → Option ℕ

@@ -15,14 +15,14 @@ pub record IsOutside (f : Figures) (out : Outside) : Type 0 where
   pub period : out.period ≡ f.facts.period
   pub journal_limit : out.journal_limit ≡ f.facts.journal
   pub behind : out.behind ≡ f.counted.behind
-  pub unsent : out.unsent ≡ f.counted.unsent
-  pub wire : out.wire ≡ f.counted.wire
-  pub refused : out.refused ≡ f.counted.refused
+  pub unsent : out.unsent ≡ f.counted.totals.unsent
+  pub wire : out.wire ≡ f.counted.totals.wire
+  pub refused : out.refused ≡ f.counted.totals.refused
   pub forged : out.forged ≡ f.strangers.forged
   pub fenced : out.fenced ≡ f.strangers.fenced
   pub watchers : out.watchers ≡ f.counted.watchers
-  pub lost_watchers : out.lost_watchers ≡ f.counted.lost_watchers
-  pub knocks : out.knocks ≡ f.counted.knocks
+  pub lost_watchers : out.lost_watchers ≡ f.counted.totals.lost
+  pub knocks : out.knocks ≡ f.counted.totals.knocks
   pub own_joins : out.own_joins ≡ f.counted.own_joins
   pub unwritten : out.unwritten ≡ f.unwritten
   pub files : out.files ≡ f.files

@@ -151,17 +151,12 @@ impl Book {
             ≡ option_map (counted_of self.now.standing self.now.over self.now.own_joins) self.now.metrics }
     {
         let now = &self.standing;
-        let all = self.over.with(self.standing);
         let metrics = self.metrics.as_ref()?;
         Some(Counted {
             measures: metrics.measures(),
             behind: now.metered.calls.saturating_sub(now.read),
-            unsent: all.unsent,
-            wire: all.wire,
-            refused: all.refused,
-            knocks: all.knocks,
+            totals: self.over.with(self.standing),
             watchers: now.watchers,
-            lost_watchers: all.lost,
             own_joins: self.own_joins,
         })
     }

@@ -116,6 +116,7 @@ impl Figures {
         ensures { IsOutside self.now result }
     {
         let (facts, counted) = (&self.facts, &self.counted);
+        let totals = &counted.totals;
         Outside {
             version: VERSION,
             me: facts.me,
@@ -123,14 +124,14 @@ impl Figures {
             period: facts.period,
             journal_limit: facts.journal,
             behind: counted.behind,
-            unsent: counted.unsent,
-            wire: counted.wire,
-            refused: counted.refused,
+            unsent: totals.unsent,
+            wire: totals.wire,
+            refused: totals.refused,
             forged: self.strangers.forged,
             fenced: self.strangers.fenced,
             watchers: counted.watchers,
-            lost_watchers: counted.lost_watchers,
-            knocks: counted.knocks,
+            lost_watchers: totals.lost,
+            knocks: totals.knocks,
             own_joins: counted.own_joins,
             unwritten: self.unwritten,
             files: self.files,

@@ -1,6 +1,7 @@
 //! What the worker that reads the journal hands to the worker at the door, who tells it to people: changes for the log,
 //! and what was counted. Neither waits for the other longer than it takes to copy it.
 
+use crate::counting::totals::Totals;
 use crate::telling::happenings::Happening;
 use arrayvec::ArrayVec;
 use std::mem;
@@ -21,18 +22,10 @@ pub struct Counted {
     pub measures: Measures,
     /// Entries of this life that weren't read yet.
     pub behind: u64,
-    /// Datagrams that couldn't be sent.
-    pub unsent: u64,
-    /// Datagrams that came and are no message.
-    pub wire: u64,
-    /// Calls that were refused for want of memory.
-    pub refused: u64,
-    /// Knocks at members that were judged.
-    pub knocks: u64,
+    /// Beside the entries, of all lives.
+    pub totals: Totals,
     /// How many watch.
     pub watchers: u64,
-    /// How many of those who watched didn't keep up.
-    pub lost_watchers: u64,
     /// Joins that the daemon made by itself.
     pub own_joins: u64,
 }
