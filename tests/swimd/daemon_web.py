@@ -13,12 +13,14 @@ from tests.support.daemons import must, until
 from tests.support.parts import TOP, leave_out
 from tests.support.sayings import first_line_of
 from tests.support.web_servers import WebServer
+from tests.swimd.daemon_metrics import FILES_NAMES, NAMES, parsed
 from tests.swimd.daemon_watchers import MINUTE, watched
 
 MEMBERS = [(2, "10.0.0.2:7000"), (30, "10.0.0.3:7000")]
 SAFE = {"x-content-type-options": "nosniff", "cache-control": "no-store", "allow": "GET, HEAD"}
 # The time that an answer of a daemon may take, and for which one that owes an answer isn't asked, with some room.
 LIMIT = 1.5
+NAMES_WITHOUT_FILES = {name: it for name, it in NAMES.items() if name not in FILES_NAMES}
 EVENT = re.compile(r"id: (\d+)\ndata: ([^\n]*)\n\n")
 
 
@@ -53,7 +55,8 @@ def each_page(machine):
         members = must_answer(web, "/members.json", 200, kind="application/json")
         must(json.loads(members.body) == members_of(daemon), f"the members are {members.body!r}")
         metrics = must_answer(web, "/metrics", 200, kind="text/plain; version=0.0.4; charset=utf-8")
-        names = lambda text: [line.split(b" ")[0] for line in text.split(b"\n")]
+        parsed(metrics.body.decode(), NAMES if "journal_dir" in daemon.values else NAMES_WITHOUT_FILES)
+        names = lambda text: [line.split(b" ")[0] for line in text.split(b"\n") if not line.startswith(b"#")]
         must(names(metrics.body + b".\n") == names(daemon.ask(b"stats\n")), f"the metrics are {metrics.body!r}")
         must_answer(web, "/events", 200, b"retry: 2000\n\n", "text/event-stream")
         must_answer(web, "/?at=1", 200, kind="text/html; charset=utf-8")

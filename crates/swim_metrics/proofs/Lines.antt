@@ -3,8 +3,8 @@ use Rattle.std.proofs.Common.{◌≡◌, ℕ, ◌≤◌, List, [], ◌∷◌, �
 use Rattle.std.proofs.Common.{length, map, refl, sym, ap, ◌∙◌, arith}
 use Rattle.swim_text.specs.TwoPuts.{first_and_others, others_of}
 use Rattle.swim_history.specs.Texts.{feed}
-use Rattle.swim_metrics.specs.declared.families.MetricKind.{MetricKind}
-use Rattle.swim_metrics.specs.declared.families.Metric.{Metric}
+use Rattle.swim_metrics.specs.declared.heads.MetricKind.{MetricKind}
+use Rattle.swim_metrics.specs.declared.heads.Metric.{Metric}
 use Rattle.swim_metrics.specs.declared.outside.Outside.{Outside}
 use Rattle.swim_metrics.specs.declared.wait_histograms.HistogramBucket.{HistogramBucket}
 use Rattle.swim_metrics.specs.declared.wait_histograms.Waits.{Waits}

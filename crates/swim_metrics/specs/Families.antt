@@ -7,11 +7,11 @@ use Rattle.swim_metrics.specs.declared.wait_histograms.HistogramBucket.{Histogra
 use Rattle.swim_metrics.specs.declared.wait_histograms.Waits.{Waits}
 use Rattle.swim_metrics.specs.declared.outside.Outside.{Outside}
 use Rattle.swim_metrics.specs.declared.outside.FileFigures.{FileFigures}
-use Rattle.swim_metrics.specs.declared.families.MetricKind.{MetricKind}
-use Rattle.swim_metrics.specs.declared.families.MetricKind.TheVariants.{Counter, Gauge, Histogram}
-use Rattle.swim_metrics.specs.declared.families.Metric.{Metric}
-use Rattle.swim_metrics.specs.declared.families.Metric.TheVariants as metrics
+use Rattle.swim_metrics.specs.declared.heads.MetricKind.{MetricKind}
+use Rattle.swim_metrics.specs.declared.heads.Metric.{Metric}
+use Rattle.swim_metrics.specs.declared.heads.Metric.TheVariants as metrics
 use Rattle.swim_metrics.specs.declared.measures.Measures.{Measures}
+use Rattle.swim_metrics.specs.Heads.{head_of}
 
 -- a value of a metric: what follows the metric's name, its labels behind the first, each with a comma in front, and the
 -- value
@@ -110,90 +110,48 @@ cut_in (Some files) = files.cut
 
 -- ---- the table
 
-abbrev pub family : MetricKind → List ℕ → List ℕ → List Sample → Family
-family kind name help samples = record { name = name; help = help; kind = kind; samples = samples }
+-- the values of a metric
+abbrev pub samples_by : Measures → Outside → Metric → List Sample
+samples_by m out metrics.Build = version_sample out.version.now
+samples_by m out metrics.Member = one out.me
+samples_by m out metrics.Members = state_samples m.up m.failed
+samples_by m out metrics.PeriodNumber = one m.number
+samples_by m out metrics.PeriodSeconds = one_time (out.tick_ms * out.period)
+samples_by m out metrics.Ticks = one m.counts.ticks
+samples_by m out metrics.PingsSent = one m.counts.pings_sent
+samples_by m out metrics.PingsHeard = one m.counts.pings_heard
+samples_by m out metrics.AcksHeard = ack_samples m.counts.heard_directly m.counts.heard_by_relay
+samples_by m out metrics.AsksSent = one m.counts.asks_sent
+samples_by m out metrics.RequestsServed = one m.counts.requests_served
+samples_by m out metrics.Dropped = dropped_samples m.counts.dropped
+samples_by m out metrics.Verdicts = one m.counts.verdicts
+samples_by m out metrics.Joins = one m.counts.joins
+samples_by m out metrics.OwnJoins = one out.own_joins
+samples_by m out metrics.Removals = one m.counts.removals
+samples_by m out metrics.Knocks = one out.knocks
+samples_by m out metrics.Lives = one m.counts.lives
+samples_by m out metrics.Entries = one m.counts.entries
+samples_by m out metrics.EntriesLimit = one out.journal_limit
+samples_by m out metrics.EntriesBehind = one out.behind
+samples_by m out metrics.Unsent = one out.unsent
+samples_by m out metrics.Wire = one out.wire
+samples_by m out metrics.Refused = one out.refused
+samples_by m out metrics.Forged = one out.forged
+samples_by m out metrics.Fenced = one out.fenced
+samples_by m out metrics.Watchers = one out.watchers
+samples_by m out metrics.LostWatchers = one out.lost_watchers
+samples_by m out metrics.Unwritten = one out.unwritten
+samples_by m out metrics.JournalFileOk = one (from_bool (is_ok out.files))
+samples_by m out metrics.JournalFilesCut = one (cut_in out.files)
+samples_by m out metrics.AckWait = wait_samples m.counts.waits
 
 abbrev pub family_of : Measures → Outside → Metric → Family
-family_of m out metrics.Build =
-    family Gauge (codes "swimd_build_info") (codes "The version of the daemon.") (version_sample out.version.now)
-family_of m out metrics.Member = family Gauge (codes "swimd_member_id") (codes "This member's id.") (one out.me)
-family_of m out metrics.Members =
-    family Gauge (codes "swimd_members") (codes "Other members that are known, by state.")
-    (state_samples m.up m.failed)
-family_of m out metrics.PeriodNumber =
-    family Gauge (codes "swimd_period_number") (codes "The number of the period that runs.") (one m.number)
-family_of m out metrics.PeriodSeconds =
-    family Gauge (codes "swimd_period_seconds") (codes "How long a period lasts.") (one_time (out.tick_ms * out.period))
-family_of m out metrics.Ticks =
-    family Counter (codes "swimd_ticks_total") (codes "Ticks of time that were taken.") (one m.counts.ticks)
-family_of m out metrics.PingsSent =
-    family Counter (codes "swimd_pings_sent_total") (codes "Pings sent, those for other members among them.")
-    (one m.counts.pings_sent)
-family_of m out metrics.PingsHeard =
-    family Counter (codes "swimd_pings_heard_total") (codes "Pings that came.") (one m.counts.pings_heard)
-family_of m out metrics.AcksHeard =
-    family Counter (codes "swimd_acks_heard_total") (codes "Acks of own probes that came in time, by who sent them.")
-    (ack_samples m.counts.heard_directly m.counts.heard_by_relay)
-family_of m out metrics.AsksSent =
-    family Counter (codes "swimd_asks_sent_total") (codes "Relays that were asked to ping a member.")
-    (one m.counts.asks_sent)
-family_of m out metrics.RequestsServed =
-    family Counter (codes "swimd_requests_served_total") (codes "Requests of others for which a member was pinged.")
-    (one m.counts.requests_served)
-family_of m out metrics.Dropped =
-    family Counter (codes "swimd_dropped_total") (codes "Messages that were dropped, by reason.")
-    (dropped_samples m.counts.dropped)
-family_of m out metrics.Verdicts =
-    family Counter (codes "swimd_verdicts_total") (codes "Members that were judged failed.") (one m.counts.verdicts)
-family_of m out metrics.Joins =
-    family Counter (codes "swimd_joins_total") (codes "Members that joined, or joined again.") (one m.counts.joins)
-family_of m out metrics.OwnJoins =
-    family Counter (codes "swimd_own_joins_total") (codes "Joins that the daemon made by itself.") (one out.own_joins)
-family_of m out metrics.Removals =
-    family Counter (codes "swimd_removals_total") (codes "Members that were removed.") (one m.counts.removals)
-family_of m out metrics.Knocks =
-    family Counter (codes "swimd_knocks_total") (codes "Pings sent to failed members beside the probes.")
-    (one out.knocks)
-family_of m out metrics.Lives =
-    family Counter (codes "swimd_lives_total") (codes "Lives that began, each with a journal of its own.")
-    (one m.counts.lives)
-family_of m out metrics.Entries =
-    family Gauge (codes "swimd_journal_entries") (codes "Entries of this life's journal.") (one m.counts.entries)
-family_of m out metrics.EntriesLimit =
-    family Gauge (codes "swimd_journal_entries_limit") (codes "The most entries of a journal.") (one out.journal_limit)
-family_of m out metrics.EntriesBehind =
-    family Gauge (codes "swimd_journal_entries_behind") (codes "Entries that are in none of these counts yet.")
-    (one out.behind)
-family_of m out metrics.Unsent =
-    family Counter (codes "swimd_unsent_total") (codes "Datagrams that could not be sent.") (one out.unsent)
-family_of m out metrics.Wire =
-    family Counter (codes "swimd_wire_total") (codes "Datagrams that came and are no message.") (one out.wire)
-family_of m out metrics.Refused =
-    family Counter (codes "swimd_refused_total") (codes "Calls that were refused for want of memory.")
-    (one out.refused)
-family_of m out metrics.Forged =
-    family Counter (codes "swimd_forged_total") (codes "Datagrams that came without a tag by a key of the group.")
-    (one out.forged)
-family_of m out metrics.Fenced =
-    family Counter (codes "swimd_fenced_total") (codes "Datagrams that came above the rate and were thrown away.")
-    (one out.fenced)
-family_of m out metrics.Watchers =
-    family Gauge (codes "swimd_watchers") (codes "Watchers of the member table now.") (one out.watchers)
-family_of m out metrics.LostWatchers =
-    family Counter (codes "swimd_lost_watchers_total") (codes "Watchers that did not keep up.") (one out.lost_watchers)
-family_of m out metrics.Unwritten =
-    family Counter (codes "swimd_metrics_unwritten_total")
-    (codes "Times that the metrics could not be written to their file.") (one out.unwritten)
-family_of m out metrics.JournalFileOk =
-    family Gauge (codes "swimd_journal_file_ok") (codes "Whether this life's journal file is whole so far.")
-    (one (from_bool (is_ok out.files)))
-family_of m out metrics.JournalFilesCut =
-    family Counter (codes "swimd_journal_files_cut_total") (codes "Lives without a whole journal file.")
-    (one (cut_in out.files))
-family_of m out metrics.AckWait =
-    family Histogram (codes "swimd_ack_wait_ticks")
-    (codes "Ticks from a probe to the first ack of it that came in time.")
-    (wait_samples m.counts.waits)
+family_of m out metric = record {
+  name = (head_of metric).name;
+  help = (head_of metric).help;
+  kind = (head_of metric).kind;
+  samples = samples_by m out metric;
+}
 
 -- those that are told also where lives have no journal files, in the order in which they are told
 abbrev pub without_files : List Metric

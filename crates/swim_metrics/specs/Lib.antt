@@ -3,8 +3,10 @@ pub mod Waiting
 pub mod Following
 pub mod LastHeard
 pub mod FailedFor
+pub mod Heads
 pub mod Families
 pub mod Told
 pub mod Texts
+pub mod Headed
 pub mod Naming
 pub mod Worked

@@ -1,9 +1,9 @@
 -- The texts that tell the metrics: Prometheus's exposition format, and the lines of `stats`.
 use Rattle.std.specs.Prelude.{ℕ, List, [], ◌∷◌, ◌++◌, codes, decimal}
 use Rattle.swim_history.specs.Texts.{feed}
-use Rattle.swim_metrics.specs.declared.families.MetricKind.{MetricKind}
-use Rattle.swim_metrics.specs.declared.families.MetricKind.TheVariants.{Counter, Gauge, Histogram}
-use Rattle.swim_metrics.specs.declared.families.Metric.{Metric}
+use Rattle.swim_metrics.specs.declared.heads.MetricKind.{MetricKind}
+use Rattle.swim_metrics.specs.declared.heads.MetricKind.TheVariants.{Counter, Gauge, Histogram}
+use Rattle.swim_metrics.specs.declared.heads.Metric.{Metric}
 use Rattle.swim_metrics.specs.declared.outside.Outside.{Outside}
 use Rattle.swim_metrics.specs.Families.{Family, Sample, family_of, told}
 use Rattle.swim_metrics.specs.declared.measures.Measures.{Measures}

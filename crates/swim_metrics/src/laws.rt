@@ -2,7 +2,7 @@
 
 ghost use Rattle.std.specs.Prelude.{◌≡◌, false, true, Contains};
 ghost use Rattle.std.specs.List.{list_all};
-ghost use Rattle.swim_metrics.specs.declared.families.Metric.{Metric};
+ghost use Rattle.swim_metrics.specs.declared.heads.Metric.{Metric};
 ghost use Rattle.swim_metrics.specs.declared.outside.Outside.{Outside};
 ghost use Rattle.swim_metrics.specs.Families.{all};
 ghost use Rattle.swim_metrics.specs.declared.measures.Measures.{Measures};

@@ -5,6 +5,8 @@ mod counting;
 mod dropped;
 mod entry_counts;
 mod families;
+mod headed;
+mod heads;
 mod hearings;
 pub mod laws;
 mod measures;
@@ -18,7 +20,8 @@ mod wait_histograms;
 
 pub use dropped::Dropped;
 pub use entry_counts::EntryCounts;
-pub use families::{ALL_METRICS, Metric, MetricKind};
+pub use headed::put_headed;
+pub use heads::{ALL_METRICS, Head, Metric, MetricKind};
 pub use hearings::{Hearings, LastHearing};
 pub use measures::Measures;
 pub use metric_texts::{put_exposition, put_stats};

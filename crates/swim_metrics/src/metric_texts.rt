@@ -6,7 +6,7 @@ ghost use Rattle.swim_metrics.specs.Families.{family_of, told};
 ghost use Rattle.swim_metrics.specs.Texts.{exposition_text, families_lines, families_text, family_lines, family_text};
 ghost use Rattle.swim_metrics.specs.Texts.{head_text, kind_text, samples_text, stats_text};
 
-use crate::families::{ALL_METRICS, Metric, MetricKind};
+use crate::heads::{ALL_METRICS, Metric, MetricKind};
 use crate::measures::Measures;
 use crate::outside::{FileFigures, Outside};
 use crate::samples::{Series, put_samples};
@@ -128,7 +128,12 @@ fn put_values<W: Sink>(
 }
 
 /// What a metric tells, and its type.
-fn put_head<'a, W: Sink>(writer: &mut W, name: &'a str, help: &'a str, kind: MetricKind) -> bool
+pub(crate) fn put_head<'a, W: Sink>(
+    writer: &mut W,
+    name: &'a str,
+    help: &'a str,
+    kind: MetricKind,
+) -> bool
     ensures bytes { Puts (W.written writer.old) (W.written writer.new) (head_text name.now help.now kind) result }
     ensures failures { W.failures writer.new ≡ failures_if (W.failures writer.old) result }
 {

@@ -11,6 +11,7 @@ use Rattle.http_server.specs.declared.response.Response.{Response}
 use Rattle.http_server.specs.Response.{IsResponse}
 use Rattle.swim_history.specs.Texts.{table_text}
 use Rattle.swim_history.specs.declared.rows.Row.{Row}
+use Rattle.swim_metrics.specs.Headed.{headed}
 use Rattle.swim_web.specs.Asking.{Asks, AsksNothing, Looked}
 use Rattle.swim_web.specs.Objects.{members_text}
 use Rattle.swim_web.specs.Pages.{page_asked}
@@ -63,10 +64,10 @@ abbrev pub samples_in : List ℕ → Option (List ℕ)
 samples_in answer =
     if bytes_eq (drop (length answer - 2) answer) (codes ".\n") then Some (take (length answer - 2) answer) else None
 
--- these samples; or there are none
+-- these samples, with what each metric tells and its type in front of its own; or there are none
 abbrev pub AreSamples : Option (List ℕ) → Response → Type 0
 AreSamples None r = IsUnanswered r
-AreSamples (Some samples) r = IsReply 200 kinds.Metrics samples r
+AreSamples (Some samples) r = IsReply 200 kinds.Metrics (headed samples) r
 
 -- the samples that the daemon told
 abbrev pub AreMetrics : Option (List ℕ) → Response → Type 0

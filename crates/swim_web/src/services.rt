@@ -2,6 +2,7 @@
 
 ghost use Rattle.std.specs.Prelude.{◌≡◌, Some, option_copied};
 ghost use Rattle.http_server.specs.Response.{IsBlank};
+ghost use Rattle.swim_metrics.specs.Headed.{headed};
 ghost use Rattle.swim_web.specs.Asking.{Asks, told_if};
 ghost use Rattle.swim_web.specs.Objects.{members_text};
 ghost use Rattle.swim_web.specs.Recent.{stream_text};
@@ -21,6 +22,7 @@ use http::{Request, StatusCode};
 use http_server::{Response, Service};
 use std::alloc::{AllocError, Global};
 use swim_history::Row;
+use swim_metrics::put_headed;
 use swim_text::Page as Text;
 
 /// Serves what a daemon answers.
@@ -82,7 +84,7 @@ fn serve_page<D: Daemon>(
 {
     match page {
         Page::Health => serve_health(daemon, is_late, response),
-        Page::Metrics => serve_metrics(daemon, is_late, response),
+        Page::Metrics => serve_metrics(alloc, daemon, is_late, response),
         Page::Members => serve_members(alloc, daemon, is_late, response),
         Page::Front => reply(response, StatusCode::OK, Kind::Html, FRONT_PAGE.as_bytes()),
         Page::Events(number) => reply_events(alloc, response, recent, number),
@@ -119,14 +121,19 @@ fn serve_health<D: Daemon>(daemon: &mut D, is_late: &mut bool, response: &mut Re
 }
 
 /// Answers the counts.
-fn serve_metrics<D: Daemon>(daemon: &mut D, is_late: &mut bool, response: &mut Response)
+fn serve_metrics<D: Daemon>(
+    alloc: Global,
+    daemon: &mut D,
+    is_late: &mut bool,
+    response: &mut Response,
+)
     requires { IsBlank response.old }
     ensures { Asks Question.Stats (record { asked = D.asked daemon.old; is_late = is_late.old })
         (record { asked = D.asked daemon.new; is_late = is_late.new }) (λ told. AreMetrics told response.new) }
 {
     let mut answer = Answer::new();
     let is_told = ask_once(daemon, is_late, Question::Stats, &mut answer);
-    reply_metrics(response, told(is_told, answer.as_slice()));
+    reply_metrics(alloc, response, told(is_told, answer.as_slice()));
 }
 
 /// Answers the member table.
@@ -164,24 +171,37 @@ fn reply_health(response: &mut Response, told: Option<&[u8]>)
 }
 
 /// Replies with the samples of an answer.
-fn reply_metrics(response: &mut Response, told: Option<&[u8]>)
+fn reply_metrics(alloc: Global, response: &mut Response, told: Option<&[u8]>)
     requires { IsBlank response.old }
     ensures { AreMetrics (option_copied told.entry) response.new }
 {
     match told {
-        Some(answer) => reply_samples(response, samples_of(answer)),
+        Some(answer) => reply_samples(alloc, response, samples_of(answer)),
         None => reply_unanswered(response),
     }
 }
 
 /// Replies with samples, or that there are none.
-fn reply_samples(response: &mut Response, samples: Option<&[u8]>)
+fn reply_samples(alloc: Global, response: &mut Response, samples: Option<&[u8]>)
     requires { IsBlank response.old }
     ensures { AreSamples (option_copied samples.entry) response.new }
 {
     match samples {
-        Some(samples) => reply(response, StatusCode::OK, Kind::Metrics, samples),
+        Some(samples) => reply_headed(alloc, response, samples),
         None => reply_unanswered(response),
+    }
+}
+
+/// Replies with samples, with what each metric tells and its type in front of its own.
+fn reply_headed(alloc: Global, response: &mut Response, samples: &[u8])
+    requires { IsBlank response.old }
+    ensures { IsReply 200 Kind.Metrics (headed samples.now) response.new }
+{
+    let mut text = Text::new(alloc);
+    if put_headed(&mut text, samples) {
+        reply(response, StatusCode::OK, Kind::Metrics, text.text());
+    } else {
+        response.status = StatusCode::INTERNAL_SERVER_ERROR;
     }
 }
 

@@ -149,7 +149,7 @@ fn asks_nothing_else(rt: HostRuntime) -> Result<(), Fail> {
 }
 
 #[test]
-fn tells_samples_alone(rt: HostRuntime) -> Result<(), Fail> {
+fn tells_samples_with_their_heads(rt: HostRuntime) -> Result<(), Fail> {
     let mut web = web_with(&rt, Some(b"swimd_ticks_total{member=\"1\"} 7\n.\n"))?;
     let request = "GET /metrics HTTP/1.1\r\nHost: swim:1\r\n\r\n";
     let sent = served(&rt, &mut web, request)?;
@@ -157,7 +157,8 @@ fn tells_samples_alone(rt: HostRuntime) -> Result<(), Fail> {
         &rt,
         sent.as_slice(),
         "HTTP/1.1 200 ",
-        b"\r\n\r\nswimd_ticks_total{member=\"1\"} 7\n",
+        b"\r\n\r\n# HELP swimd_ticks_total Ticks of time that were taken.\n# TYPE swimd_ticks_total counter\n\
+            swimd_ticks_total{member=\"1\"} 7\n",
     );
     let table = served(
         &rt,

@@ -1,6 +1,6 @@
 use Rattle.std.proofs.Common.{Contains, refl, arith}
-use Rattle.swim_metrics.specs.declared.families.Metric.{Metric}
-use Rattle.swim_metrics.specs.declared.families.Metric.TheVariants as metrics
+use Rattle.swim_metrics.specs.declared.heads.Metric.{Metric}
+use Rattle.swim_metrics.specs.declared.heads.Metric.TheVariants as metrics
 use Rattle.swim_metrics.specs.Families.{all}
 use Rattle.swim_metrics.proofs.laws.each_metric_is_told.Goals as goal
 

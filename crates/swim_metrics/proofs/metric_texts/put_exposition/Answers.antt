@@ -1,6 +1,6 @@
 use Rattle.std.proofs.Common.{List, subst}
 use Rattle.swim_text.specs.Streams.{Puts}
-use Rattle.swim_metrics.specs.declared.families.Metric.{Metric}
+use Rattle.swim_metrics.specs.declared.heads.Metric.{Metric}
 use Rattle.swim_metrics.specs.Texts.{families_text}
 use Rattle.swim_metrics.proofs.metric_texts.put_exposition.Goals as goal
 

@@ -1,6 +1,6 @@
 use Rattle.std.proofs.Common.{List, ◌++◌, codes, false, subst}
 use Rattle.swim_text.specs.Streams.{Puts, puts_less, puts_then}
-use Rattle.swim_metrics.specs.declared.families.Metric.{Metric}
+use Rattle.swim_metrics.specs.declared.heads.Metric.{Metric}
 use Rattle.swim_metrics.specs.Texts.{families_lines}
 use Rattle.swim_metrics.proofs.metric_texts.put_stats.Goals as goal
 
