@@ -18,8 +18,8 @@ UNIT = $(DESTDIR)$(PREFIX)/lib/systemd/system
 help:
 	@echo 'make run        plays examples/first.swim: by the proved swimsim where that was built, and else by its sources, as'
 	@echo '                they are before any proof, within a minute'
-	@echo 'make demo       shows a group of five at work, of which one is killed, and what their journal files tell of it; where'
-	@echo '                no proved programs were built, by their sources as they are, within three minutes'
+	@echo 'make demo       shows a group of five at work and its page; one of them is killed, and their journal files tell of it;'
+	@echo '                where no proved programs were built, by their sources as they are, within three minutes'
 	@echo 'make build      proves and builds swimsim and swimd if need be, which takes half an hour at first and says how far'
 	@echo '                it is, and prints where they lie'
 	@echo 'make check      for people at work: checks what changed since it was last proved here and what stands on it, with the'
