@@ -1,3 +1,4 @@
 pub mod Offered
 pub mod Slept
+pub mod Streamed
 pub mod Summing

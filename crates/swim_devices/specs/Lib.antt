@@ -2,4 +2,5 @@ pub mod Addresses
 pub mod Offers
 pub mod Pacing
 pub mod Places
+pub mod Streams
 pub mod Trails

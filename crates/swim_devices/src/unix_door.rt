@@ -2,6 +2,7 @@
 
 ghost use Rattle.std.specs.Prelude.{◌≡◌, [], ◌∷◌, ◌++◌, IfOk, Some, map};
 ghost use Rattle.swim_desk.specs.Doors.{is_fault};
+ghost use Rattle.swim_devices.specs.Streams.{IsNew, fresh_sink, fresh_source};
 
 use crate::receptions::{Arrival, Guest, Reception};
 use crate::unix_streams::{StreamSink, StreamSource};
@@ -93,7 +94,8 @@ impl<K: Clock + Drop> UnixDoor<K> {
     /// Asks the socket once who comes, and notes whether the answer is a fault. Nothing else notes anything.
     #[tactic(auto, using(swim_trail::specs::Noted::map_more))]
     fn knock(&mut self) -> Knock<StreamSource, StreamSink>
-        ensures { self.new ≡ self.old ++ is_fault result ∷ [] }
+        ensures noted { self.new ≡ self.old ++ is_fault result ∷ [] }
+        ensures fresh { IsNew result }
     {
         let knock = self.answer();
         self.faults.note(&is_fault(&knock), &[]);
@@ -102,7 +104,8 @@ impl<K: Clock + Drop> UnixDoor<K> {
 
     /// Who comes, as the socket answers it once.
     fn answer(&mut self) -> Knock<StreamSource, StreamSink>
-        ensures { self.new ≡ self.old }
+        ensures same { self.new ≡ self.old }
+        ensures fresh { IsNew result }
     {
         match self.reception.next() {
             Arrival::Came(guest) => match self.open(guest) {
@@ -116,7 +119,9 @@ impl<K: Clock + Drop> UnixDoor<K> {
     }
 
     /// A connection as it is served.
-    fn open(&self, guest: Guest) -> io::Result<(StreamSource, StreamSink)> {
+    fn open(&self, guest: Guest) -> io::Result<(StreamSource, StreamSink)>
+        ensures { IfOk result (λ ends. (ends.0 ≡ fresh_source) × (ends.1 ≡ fresh_sink)) }
+    {
         let Guest { stream, place } = guest;
         let other = stream.try_clone()?;
         watch(&self.poll, stream.as_raw_fd())?;
@@ -146,7 +151,8 @@ impl<K: Clock + Drop> Door for UnixDoor<K> {
     type Writer = StreamSink;
 
     fn next<R: Wait>(&mut self, _rt: &R) -> Knock<StreamSource, StreamSink>
-        ensures { self.new ≡ self.old ++ is_fault result ∷ [] }
+        ensures noted { self.new ≡ self.old ++ is_fault result ∷ [] }
+        ensures fresh { IsNew result }
     {
         self.knock()
     }

@@ -1,15 +1,17 @@
 -- What the ticker does in a life.
-use Rattle.std.specs.Prelude.{◌≡◌, ℕ, List, Option}
+use Rattle.std.specs.Prelude.{◌≡◌, ℕ, ◌<◌, List, Option, Some}
 use Rattle.swim_history.specs.declared.rows.Change.{Change}
 use Rattle.swim_history.specs.Setting.{Setting}
 use Rattle.swim_node.specs.Seats.{Seated}
+use Rattle.swim_work.specs.declared.counts.Why.{Why}
+use Rattle.swim_work.specs.declared.counts.Why.TheVariants.{JournalFull}
 use Rattle.swim_work.specs.declared.paces.Beat.{Beat}
 use Rattle.swim_work.specs.declared.workers.End.{End}
-use Rattle.swim_work.specs.Callers.{fresh_seat, nothing}
+use Rattle.swim_work.specs.Callers.{SendsOn, fresh_seat, nothing}
 use Rattle.swim_work.specs.Ends.{both}
-use Rattle.swim_work.specs.Posts.{HasSent, Posted, at_sender, starts_in}
+use Rattle.swim_work.specs.Posts.{AtSender, HasSent, Posted, at_sender, starts_in}
 use Rattle.swim_work.specs.Turns.{HasTicked}
-use Rattle.swim_ticker.specs.Knocking.{HasKnocked}
+use Rattle.swim_ticker.specs.Knocking.{AtKnocking, HasKnocked, KnocksAtStarts}
 
 -- what it owns: what its pace gave so far, its post, what the post of its knocks was handed so far, how many starts of
 -- a period there are for each knock, and how many knocks there were over all lives
@@ -37,3 +39,29 @@ pub record TicksLife {O : Type 0} (posted : O → Option (List Posted)) (o : Set
   pub knocked : HasKnocked o old.rejoin (starts_in seat.calls) seen old.knocked new.knocked knocks
   pub counted : new.knocks ≡ both old.knocks knocks
   pub same : new.rejoin ≡ old.rejoin
+
+-- ---- within a life
+
+-- what the ticker is at a moment of a life: its caller with its post, who knocks with the other post, how many starts
+-- of a period there are for each knock, and how many knocks there were in the lives before
+pub record AtTicker (O : Type 0) : Type 0 where
+  pub sender : AtSender O
+  pub knocking : AtKnocking
+  pub rejoin : ℕ
+  pub earlier : ℕ
+
+abbrev pub at_ticker : {O : Type 0} → AtSender O → AtKnocking → ℕ → ℕ → AtTicker O
+at_ticker sender knocking rejoin earlier =
+    record { sender = sender; knocking = knocking; rejoin = rejoin; earlier = earlier }
+
+-- some ticks later, and why it ends then, if it does: by now its post was handed the datagrams of the replies, and the
+-- other one the knocks at the starts that the calls began, if that was so before. It ends at a full journal only if its
+-- seat has met one
+pub record GoesOn {O : Type 0} (posted : O → Option (List Posted)) (o : Setting) (old : AtTicker O)
+    (end : Option Why) (new : AtTicker O) : Type 0 where
+  pub sent : SendsOn posted o old.sender new.sender
+  pub knocks : KnocksAtStarts o old.sender.seat.calls old.knocking new.sender.seat.calls new.knocking
+  pub number : new.sender.seat.number ≡ old.sender.seat.number
+  pub rejoin : new.rejoin ≡ old.rejoin
+  pub earlier : new.earlier ≡ old.earlier
+  pub full : end ≡ Some JournalFull → 0 < new.sender.seat.full

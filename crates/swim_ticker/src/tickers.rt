@@ -1,10 +1,10 @@
 //! The ticker: who gives a node its ticks. It reads the shared flag once a turn, and then asks its pace once.
 
-ghost use Rattle.std.specs.Prelude.{◌≡◌, ◌<◌, Some};
-ghost use Rattle.swim_work.specs.Callers.{SendsOn};
+ghost use Rattle.std.specs.Prelude.{◌≡◌};
 ghost use Rattle.swim_work.specs.Posts.{at_sender};
 ghost use Rattle.swim_work.specs.Turns.{HasTicked, IsTurn, TicksNext};
-ghost use Rattle.swim_ticker.specs.Knocking.{KnocksAtStarts, at_knocking};
+ghost use Rattle.swim_ticker.specs.Knocking.{at_knocking};
+ghost use Rattle.swim_ticker.specs.Ticking.{GoesOn, at_ticker};
 
 use crate::knocking::Knocking;
 use std::sync::Wait;
@@ -105,20 +105,15 @@ impl<'b, P: Pace + Drop, O: Post + Drop> Ticker<'b, P, O> {
         ensures ticked { HasTicked N.opening N.limit (P.beats self.old.pace) (P.beats self.new.pace)
             (at_sender ticking.old.caller.seat self.old.post ticking.old.caller.counts) result
             (at_sender ticking.new.caller.seat self.new.post ticking.new.caller.counts) }
-        ensures sent { SendsOn O.posted N.opening
-            (at_sender ticking.old.caller.seat self.old.post ticking.old.caller.counts)
-            (at_sender ticking.new.caller.seat self.new.post ticking.new.caller.counts) }
-        ensures knocks { KnocksAtStarts N.opening ticking.old.caller.seat.calls
-            (at_knocking ticking.old.knocking.knocker ticking.old.knocking.viewer
-            ticking.old.knocking.table.items ticking.old.knocking.number (O.posted self.old.knock_post)
-            ticking.old.knocking.knocks) ticking.new.caller.seat.calls
-            (at_knocking ticking.new.knocking.knocker ticking.new.knocking.viewer
-            ticking.new.knocking.table.items ticking.new.knocking.number (O.posted self.new.knock_post)
-            ticking.new.knocking.knocks) }
-        ensures number { ticking.new.caller.seat.number ≡ ticking.old.caller.seat.number }
-        ensures rejoin { self.new.rejoin ≡ self.old.rejoin }
-        ensures earlier { self.new.knocks ≡ self.old.knocks }
-        ensures full { result ≡ Some Why.JournalFull → 0 < ticking.new.caller.seat.full }
+        ensures goes_on { GoesOn O.posted N.opening
+            (at_ticker (at_sender ticking.old.caller.seat self.old.post ticking.old.caller.counts)
+            (at_knocking ticking.old.knocking.knocker ticking.old.knocking.viewer ticking.old.knocking.table.items
+            ticking.old.knocking.number (O.posted self.old.knock_post) ticking.old.knocking.knocks) self.old.rejoin
+            self.old.knocks) result
+            (at_ticker (at_sender ticking.new.caller.seat self.new.post ticking.new.caller.counts)
+            (at_knocking ticking.new.knocking.knocker ticking.new.knocking.viewer ticking.new.knocking.table.items
+            ticking.new.knocking.number (O.posted self.new.knock_post) ticking.new.knocking.knocks) self.new.rejoin
+            self.new.knocks) }
     {
         for _turn in rt.forever() {
             if over.load(Ordering::SeqCst) {
@@ -142,20 +137,15 @@ impl<'b, P: Pace + Drop, O: Post + Drop> Ticker<'b, P, O> {
         ensures turn { IsTurn (TicksNext N.opening N.limit) (P.beats self.old.pace) (P.beats self.new.pace)
             (at_sender ticking.old.caller.seat self.old.post ticking.old.caller.counts) result
             (at_sender ticking.new.caller.seat self.new.post ticking.new.caller.counts) }
-        ensures sent { SendsOn O.posted N.opening
-            (at_sender ticking.old.caller.seat self.old.post ticking.old.caller.counts)
-            (at_sender ticking.new.caller.seat self.new.post ticking.new.caller.counts) }
-        ensures knocks { KnocksAtStarts N.opening ticking.old.caller.seat.calls
-            (at_knocking ticking.old.knocking.knocker ticking.old.knocking.viewer
-            ticking.old.knocking.table.items ticking.old.knocking.number (O.posted self.old.knock_post)
-            ticking.old.knocking.knocks) ticking.new.caller.seat.calls
-            (at_knocking ticking.new.knocking.knocker ticking.new.knocking.viewer
-            ticking.new.knocking.table.items ticking.new.knocking.number (O.posted self.new.knock_post)
-            ticking.new.knocking.knocks) }
-        ensures number { ticking.new.caller.seat.number ≡ ticking.old.caller.seat.number }
-        ensures rejoin { self.new.rejoin ≡ self.old.rejoin }
-        ensures earlier { self.new.knocks ≡ self.old.knocks }
-        ensures full { result ≡ Some Why.JournalFull → 0 < ticking.new.caller.seat.full }
+        ensures goes_on { GoesOn O.posted N.opening
+            (at_ticker (at_sender ticking.old.caller.seat self.old.post ticking.old.caller.counts)
+            (at_knocking ticking.old.knocking.knocker ticking.old.knocking.viewer ticking.old.knocking.table.items
+            ticking.old.knocking.number (O.posted self.old.knock_post) ticking.old.knocking.knocks) self.old.rejoin
+            self.old.knocks) result
+            (at_ticker (at_sender ticking.new.caller.seat self.new.post ticking.new.caller.counts)
+            (at_knocking ticking.new.knocking.knocker ticking.new.knocking.viewer ticking.new.knocking.table.items
+            ticking.new.knocking.number (O.posted self.new.knock_post) ticking.new.knocking.knocks) self.new.rejoin
+            self.new.knocks) }
     {
         match self.pace.next(rt) {
             Beat::Tick => {

@@ -4,6 +4,7 @@
 
 ghost use Rattle.std.specs.Prelude.{◌≡◌, [], IfErr};
 ghost use Rattle.swim_commands.specs.Details.{Explains};
+ghost use Rattle.swimd.specs.Commands.{AreSame};
 
 mod commands;
 mod counting;
@@ -148,10 +149,7 @@ fn run_words<
     streams: &mut Streams<'_, '_, '_, '_, S, X, W, F>,
     log: G,
 ) -> u8
-    ensures { (streams.new.reader.ghost_name ≡ streams.old.reader.ghost_name)
-        × (streams.new.documents.ghost_name ≡ streams.old.documents.ghost_name)
-        × (streams.new.writer.ghost_name ≡ streams.old.writer.ghost_name)
-        × (streams.new.faults.ghost_name ≡ streams.old.faults.ghost_name) }
+    ensures { AreSame streams.old streams.new }
 {
     match words_in(alloc, texts) {
         Ok(words) => program_commands::command(rt, alloc, words.as_slice(), streams, log),

@@ -1,8 +1,8 @@
-use Rattle.std.proofs.Common.{◌≡◌, None}
-use Rattle.swim_work.specs.Callers.{SendsOn}
+use Rattle.std.proofs.Common.{None}
 use Rattle.swim_work.specs.Posts.{at_sender}
 use Rattle.swim_work.specs.Turns.{HasTicked}
-use Rattle.swim_ticker.specs.Knocking.{KnocksAtStarts, at_knocking}
+use Rattle.swim_ticker.specs.Knocking.{at_knocking}
+use Rattle.swim_ticker.specs.Ticking.{GoesOn, at_ticker}
 use Rattle.swim_ticker.proofs.tickers.Ticker.tick_on.Given as goal
 
 abbrev pub invariant-loop-turn : goal.invariant-loop-turn
@@ -11,16 +11,14 @@ invariant-loop-turn g l = record {
       (g.P.Pace.beats l.self.pace)
       (at_sender l.initial.ticking.caller.seat l.initial.self.post l.initial.ticking.caller.counts) None
       (at_sender l.ticking.caller.seat l.self.post l.ticking.caller.counts);
-  sent : SendsOn g.O.Post.posted g.N.Naming.opening
-      (at_sender l.initial.ticking.caller.seat l.initial.self.post l.initial.ticking.caller.counts)
-      (at_sender l.ticking.caller.seat l.self.post l.ticking.caller.counts);
-  knocks : KnocksAtStarts g.N.Naming.opening l.initial.ticking.caller.seat.calls
+  goes_on : GoesOn g.O.Post.posted g.N.Naming.opening
+      (at_ticker (at_sender l.initial.ticking.caller.seat l.initial.self.post l.initial.ticking.caller.counts)
       (at_knocking l.initial.ticking.knocking.knocker l.initial.ticking.knocking.viewer
       l.initial.ticking.knocking.table.items l.initial.ticking.knocking.number
-      (g.O.Post.posted l.initial.self.knock_post) l.initial.ticking.knocking.knocks) l.ticking.caller.seat.calls
+      (g.O.Post.posted l.initial.self.knock_post) l.initial.ticking.knocking.knocks) l.initial.self.rejoin
+      l.initial.self.knocks) None
+      (at_ticker (at_sender l.ticking.caller.seat l.self.post l.ticking.caller.counts)
       (at_knocking l.ticking.knocking.knocker l.ticking.knocking.viewer l.ticking.knocking.table.items
-      l.ticking.knocking.number (g.O.Post.posted l.self.knock_post) l.ticking.knocking.knocks);
-  number : l.ticking.caller.seat.number ≡ l.initial.ticking.caller.seat.number;
-  rejoin : l.self.rejoin ≡ l.initial.self.rejoin;
-  earlier : l.self.knocks ≡ l.initial.self.knocks;
+      l.ticking.knocking.number (g.O.Post.posted l.self.knock_post) l.ticking.knocking.knocks) l.self.rejoin
+      l.self.knocks);
 }

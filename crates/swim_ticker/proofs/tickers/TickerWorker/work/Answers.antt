@@ -19,6 +19,5 @@ returns-clause-works g c =
     c.new-2.result.knocks)
     (at_knocking ticking.knocking.knocker ticking.knocking.viewer ticking.knocking.table.items ticking.knocking.number
     (g.O.Post.posted new.knock_post) ticking.knocking.knocks)
-    (search rules) (search rules) c.new.ensures.counts (search rules) c.done.ensures.end (search rules) (search rules)
-    refl (c.new-2.ensures.knocking knocked) c.tick_on-why.ensures.ticked c.tick_on-why.ensures.sent
-    c.tick_on-why.ensures.knocks)
+    new.knocks (search rules) (search rules) c.new.ensures.counts c.done.ensures.end (search rules)
+    refl (c.new-2.ensures.knocking knocked) c.tick_on-why.ensures.ticked c.tick_on-why.ensures.goes_on)
