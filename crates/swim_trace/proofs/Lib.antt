@@ -1,3 +1,4 @@
 pub mod Keeping
+pub mod Reaches
 pub mod Relayed
 pub mod Rhythms

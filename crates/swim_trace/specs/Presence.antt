@@ -1,8 +1,10 @@
 -- Whether a member's clock went on while it was probed, by the pings of the initiator that came to it and by ticks.
-use Rattle.std.specs.Prelude.{ℕ, ◌+◌, ◌-◌, ◌*◌, ◌^◌, ◌==◌, List, [], ◌∷◌, Option, Some, None, min, nat_le}
-use Rattle.std.specs.Prelude.{if◌then◌else◌}
+use Rattle.std.specs.Prelude.{ℕ, zero, suc, ◌+◌, ◌-◌, ◌*◌, ◌^◌, ◌==◌, List, [], ◌∷◌, Option, Some, None, min, nat_le}
+use Rattle.std.specs.Prelude.{if◌then◌else◌, slice_get}
+use Rattle.std.specs.Option.{option_map}
 use Rattle.swim_trace.specs.declared.acts.ProbeName.{ProbeName}
 use Rattle.swim_trace.specs.declared.beats.Beat.{Beat}
+use Rattle.swim_trace.specs.declared.beats.Reach.{Reach}
 use Rattle.swim_trace.specs.declared.presences.Bracket.{Bracket}
 use Rattle.swim_trace.specs.declared.presences.Pace.{Pace}
 use Rattle.swim_trace.specs.declared.presences.Presence.{Presence}
@@ -19,6 +21,14 @@ bracket p before (b ∷ more) =
     if b.initiator == p.initiator
     then if nat_le p.number b.number then bracketed before (Some b) else bracket p (Some b) more
     else bracket p before more
+
+-- of pings that are kept, the one at a place, and the one before it, which is `before` at the first place
+abbrev pub beat_at : List Reach → ℕ → Option Beat
+beat_at kept place = option_map (λ r. r.beat) (slice_get kept place)
+
+abbrev pub beat_before : Option Beat → List Reach → ℕ → Option Beat
+beat_before before kept zero = before
+beat_before before kept (suc place) = beat_at kept place
 
 abbrev pub pace_of : Beat → ℕ → ℕ → Pace
 pace_of before had due = record { before = before; had = had; due = due }

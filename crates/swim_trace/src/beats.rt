@@ -1,11 +1,15 @@
 //! The pings by which a member was known to hear others, and how its clock went on between them.
 
-ghost use Rattle.std.specs.Prelude.{◌≡◌, ◌++◌, IfOk, OnOk, filter, length, reverse, take};
-ghost use Rattle.std.specs.Option.{option_to_list};
+ghost use Rattle.std.specs.Prelude.{◌≡◌, ◌++◌, ◌∷◌, [], ℕ, List, IfOk, OnOk, Some, filter, is_some, length, nat_eq};
+ghost use Rattle.std.specs.Prelude.{reverse, take, true};
+ghost use Rattle.std.specs.HashMap.{get};
+ghost use Rattle.swim_history.specs.declared.entries.Entry.{Entry};
 ghost use Rattle.swim_history.specs.Events.{is_ticking};
-ghost use Rattle.swim_trace.specs.Beats.{Follows, beat_in, is_from, is_own_ping, ticks_with};
+ghost use Rattle.swim_trace.specs.Beats.{Follows, beat_in, beats, greatest_of, is_from, is_own_ping, is_within};
+ghost use Rattle.swim_trace.specs.Beats.{kept_of, reach, ticks_with, with_beat};
 
 use std::alloc::{AllocError, Global};
+use std::collections::HashMap;
 use swim_history::{Call, Entry, Journal, Reply};
 use swim_wire::{Id, Kind, Message};
 
@@ -22,14 +26,34 @@ pub struct Beat {
     pub ticks: u64,
 }
 
-/// The pings that came to a member in its first entries, in order, and how many ticks these are.
-#[derive(Debug, Drop)]
+/// A ping, with the greatest number of it and of its initiator's pings before it. These rise, though a ping may come
+/// behind one that was sent later.
+#[derive(Clone, Copy, Debug, PartialEq, Eq)]
+pub(crate) struct Reach {
+    pub beat: Beat,
+    pub greatest: u64,
+}
+
+/// The pings that came to a member in its first entries, of each initiator in order, and how many ticks these are.
+#[derive(Drop)]
 pub struct Rhythm {
-    pub beats: Vec<Beat>,
-    pub ticks: u64,
+    alloc: Global,
+    beats: HashMap<u32, Vec<Reach>>,
+    ticks: u64,
 }
 
 impl Rhythm {
+    /// That of no entries.
+    pub fn new(alloc: Global) -> Rhythm
+        ensures { (me : ℕ) → Follows me [] result }
+    {
+        Rhythm {
+            alloc,
+            beats: HashMap::new(alloc),
+            ticks: 0,
+        }
+    }
+
     /// That of the first entries of a journal: so many, `confirmed`, or all that there are. `Err` only where memory was
     /// refused.
     pub fn of(alloc: Global, journal: &Journal, confirmed: u32) -> Result<Rhythm, AllocError>
@@ -37,10 +61,7 @@ impl Rhythm {
             (λ found. Follows journal.now.opening.me (reverse (take confirmed (reverse journal.now.past))) found) }
     {
         let me = journal.opening().me();
-        let mut found = Rhythm {
-            beats: Vec::new(alloc),
-            ticks: 0,
-        };
+        let mut found = Rhythm::new(alloc);
         for place in 0..confirmed.min(journal.len()) {
             if let Some(entry) = journal.entry(place) {
                 found.note(me, place, &entry)?;
@@ -51,23 +72,88 @@ impl Rhythm {
 
     /// How many pings came of that initiator in its periods behind the one of number `last`, up to `latest`.
     pub fn count_from(&self, initiator: Id, last: u64, latest: u64) -> usize
-        ensures { result ≡ length (filter (is_from initiator last latest) self.now.beats.items) }
+        ensures { (me : ℕ) (h : List Entry) → Follows me h self.now →
+            result ≡ length (filter (is_from initiator last latest) (beats me h)) }
     {
-        count_beats(self.beats.as_slice(), initiator, last, latest)
+        count_within(self.kept_of(initiator), last, latest)
+    }
+
+    /// How many ticks these entries have.
+    pub(crate) fn ticks(&self) -> u64
+        ensures { result ≡ self.now.ticks }
+    {
+        self.ticks
+    }
+
+    /// The pings of an initiator.
+    pub(crate) fn kept_of(&self, initiator: Id) -> &[Reach]
+        ensures { result.now ≡ kept_of initiator self.now }
+    {
+        match self.beats.get(&initiator.get()) {
+            Some(kept) => kept.as_slice(),
+            None => &[],
+        }
     }
 
     /// Goes one entry on, which stands at that place.
     fn note(&mut self, me: Id, place: u32, entry: &Entry) -> Result<(), AllocError>
-        ensures { OnOk result ((self.new.beats.items
-            ≡ self.old.beats.items ++ option_to_list (beat_in me place self.old.ticks entry.now.call))
-            × (self.new.ticks ≡ ticks_with self.old.ticks entry.now.call entry.now.reply)) }
+        ensures beats { OnOk result ((m : ℕ) → kept_of m self.new
+            ≡ with_beat m (beat_in me place self.old.ticks entry.now.call) (kept_of m self.old)) }
+        ensures ticks { OnOk result (self.new.ticks ≡ ticks_with self.old.ticks entry.now.call entry.now.reply) }
     {
         let ticks = self.ticks;
         if let Some(beat) = beat_in(me, place, ticks, &entry.call) {
-            self.beats.push(beat)?;
+            self.add(beat)?;
         }
         self.ticks = ticks_with(ticks, &entry.call, &entry.reply);
         Ok(())
+    }
+
+    /// Adds a ping behind those of the same initiator.
+    fn add(&mut self, beat: Beat) -> Result<(), AllocError>
+        ensures beats { OnOk result ((m : ℕ) → kept_of m self.new ≡ with_beat m (Some beat) (kept_of m self.old)) }
+        ensures ticks { OnOk result (self.new.ticks ≡ self.old.ticks) }
+    {
+        self.begin(beat.initiator)?;
+        if let Some(kept) = self.beats.get_mut(&beat.initiator.get()) {
+            add_beat(kept, beat)?;
+        }
+        Ok(())
+    }
+
+    /// From now on there is a list of the pings of that initiator.
+    fn begin(&mut self, initiator: Id) -> Result<(), AllocError>
+        ensures begun { OnOk result (is_some (get nat_eq self.new.beats initiator) ≡ true) }
+        ensures beats { OnOk result ((m : ℕ) → kept_of m self.new ≡ kept_of m self.old) }
+        ensures ticks { OnOk result (self.new.ticks ≡ self.old.ticks) }
+    {
+        if self.beats.contains_key(&initiator.get()) {
+            return Ok(());
+        }
+        let none = Vec::new(self.alloc);
+        self.beats.insert(initiator.get(), none)?;
+        Ok(())
+    }
+}
+
+/// Adds a ping behind others of the same initiator.
+fn add_beat(kept: &mut Vec<Reach>, beat: Beat) -> Result<(), AllocError>
+    ensures { OnOk result (kept.new.items ≡ kept.old.items ++ reach (greatest_of 0 kept.old.items) beat ∷ []) }
+{
+    let before = greatest_of(kept.as_slice());
+    let greatest = before.max(beat.number);
+    kept.push(Reach { beat, greatest })?;
+    Ok(())
+}
+
+/// The greatest number of these pings; 0 where there are none.
+#[tactic(auto, using(crate::proofs::Reaches::greatest_is_last, crate::proofs::Reaches::greatest_of_none))]
+fn greatest_of(kept: &[Reach]) -> u64
+    ensures { result ≡ greatest_of 0 kept.now }
+{
+    match kept.last() {
+        Some(last) => last.greatest,
+        None => 0,
     }
 }
 
@@ -115,22 +201,22 @@ fn is_ticking(call: &Call, reply: &Reply) -> bool
     }
 }
 
-/// How many of these pings are of that initiator, in these periods.
-fn count_beats(beats: &[Beat], initiator: Id, last: u64, latest: u64) -> usize
-    ensures { result ≡ length (filter (is_from initiator last latest) beats.now) }
+/// How many of these pings are of these periods.
+fn count_within(kept: &[Reach], last: u64, latest: u64) -> usize
+    ensures { result ≡ length (filter (is_within last latest) kept.now) }
 {
     let mut count = 0;
-    for beat in beats {
-        if is_from(initiator, last, latest, beat) {
+    for one in kept {
+        if is_within(last, latest, one) {
             count += 1;
         }
     }
     count
 }
 
-/// Whether a ping is of that initiator, in one of these periods.
-fn is_from(initiator: Id, last: u64, latest: u64, beat: &Beat) -> bool
-    ensures { result ≡ is_from initiator last latest beat.now }
+/// Whether a ping is of one of these periods.
+fn is_within(last: u64, latest: u64, one: &Reach) -> bool
+    ensures { result ≡ is_within last latest one.now }
 {
-    beat.initiator == initiator && last < beat.number && beat.number <= latest
+    last < one.beat.number && one.beat.number <= latest
 }

@@ -1,10 +1,15 @@
 //! Whether a member's clock went on while it was probed.
 
-ghost use Rattle.std.specs.Prelude.{◌≡◌, None};
-ghost use Rattle.swim_trace.specs.Presence.{bracket, due_from, pace_of, presence, until_end, until_ping};
+ghost use Rattle.std.specs.Prelude.{◌≡◌, ℕ, List, None};
+ghost use Rattle.swim_history.specs.Clock.{ticks as ticks_of};
+ghost use Rattle.swim_history.specs.declared.entries.Entry.{Entry};
+ghost use Rattle.swim_trace.specs.Beats.{Follows, beats, from_member, reaches};
+ghost use Rattle.swim_trace.specs.declared.beats.Beat.{Beat};
+ghost use Rattle.swim_trace.specs.Presence.{beat_at, beat_before, bracket, due_from, pace_of, presence, presence_by};
+ghost use Rattle.swim_trace.specs.Presence.{until_end, until_ping};
 
 use crate::acts::ProbeName;
-use crate::beats::{Beat, Rhythm};
+use crate::beats::{Beat, Reach, Rhythm};
 use swim_history::Opening;
 
 /// The pings of an initiator that came to a target round a probe: the last one of an earlier period, and the first one
@@ -41,42 +46,63 @@ pub enum Presence {
 }
 
 impl Rhythm {
-    /// Whether the clock of the member that this is of went on while that member probed it, whose opening this is.
+    /// Whether the clock of the member that this is of went on while that member probed it, whose opening this is. The
+    /// pings round the probe are found by a binary search.
     pub fn presence(&self, opening: &Opening, probe: &ProbeName) -> Presence
-        ensures { result ≡ presence opening.now.period opening.now.rtt probe.now self.now.beats.items self.now.ticks }
+        ensures { (me : ℕ) (h : List Entry) → Follows me h self.now →
+            result ≡ presence opening.now.period opening.now.rtt probe.now (beats me h) (ticks_of h) }
     {
-        let Bracket { before, after } = pings_round(self.beats.as_slice(), probe);
-        let Some(before) = before else {
-            return Presence::Unknown;
-        };
-        let period = u64::from(opening.period());
-        let timeout = u64::from(opening.rtt());
-        match after {
-            Some(after) => until_ping(period, timeout, &before, &after),
-            None => until_end(period, timeout, &before, probe.number, self.ticks),
-        }
+        let bracket = pings_round(self.kept_of(probe.initiator), probe);
+        presence_by(opening, probe, &bracket, self.ticks())
     }
 }
 
-/// The pings round a probe.
-fn pings_round(beats: &[Beat], probe: &ProbeName) -> Bracket
-    ensures { result ≡ bracket probe.now None beats.now }
+/// Whether a clock went on between the pings round a probe, or to the end of entries that have that many ticks.
+fn presence_by(opening: &Opening, probe: &ProbeName, bracket: &Bracket, ticks: u64) -> Presence
+    ensures { result ≡ presence_by opening.now.period opening.now.rtt probe.now bracket.now ticks }
 {
-    let mut before = None;
-    for beat in beats {
-        if beat.initiator == probe.initiator {
-            if beat.number >= probe.number {
-                return Bracket {
-                    before,
-                    after: Some(*beat),
-                };
-            }
-            before = Some(*beat);
-        }
+    let Some(before) = bracket.before else {
+        return Presence::Unknown;
+    };
+    let period = u64::from(opening.period());
+    let timeout = u64::from(opening.rtt());
+    match bracket.after {
+        Some(after) => until_ping(period, timeout, &before, &after),
+        None => until_end(period, timeout, &before, probe.number, ticks),
     }
+}
+
+/// The pings round a probe, among those of its initiator: the first whose greatest number so far isn't less is the first
+/// that isn't of an earlier period.
+fn pings_round(kept: &[Reach], probe: &ProbeName) -> Bracket
+    ensures { (all : List Beat) → kept.now ≡ reaches 0 (from_member probe.now.initiator all) →
+        result ≡ bracket probe.now None all }
+{
+    let number = probe.number;
+    let place = kept.partition_point(|reach| reach.greatest < number);
     Bracket {
-        before,
-        after: None,
+        before: beat_before(kept, place),
+        after: beat_at(kept, place),
+    }
+}
+
+/// The ping before a place, if there is one.
+fn beat_before(kept: &[Reach], place: usize) -> Option<Beat>
+    ensures { result ≡ beat_before None kept.now place }
+{
+    if place == 0 {
+        return None;
+    }
+    beat_at(kept, place - 1)
+}
+
+/// The ping at a place, if there is one.
+fn beat_at(kept: &[Reach], place: usize) -> Option<Beat>
+    ensures { result ≡ beat_at kept.now place }
+{
+    match kept.get(place) {
+        Some(reach) => Some(reach.beat),
+        None => None,
     }
 }
 

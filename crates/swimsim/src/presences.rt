@@ -127,9 +127,6 @@ fn has_ended(clock: &Clock) -> bool {
 fn rhythm_of(alloc: Global, account: &Account<'_>) -> Result<Rhythm, AllocError> {
     match &account.played.journal {
         Some(journal) => Rhythm::of(alloc, journal, account.confirmed()),
-        None => Ok(Rhythm {
-            beats: Vec::new(alloc),
-            ticks: 0,
-        }),
+        None => Ok(Rhythm::new(alloc)),
     }
 }

@@ -7,6 +7,9 @@ use Rattle.swim_trace.proofs.Rhythms.{one_more_follows}
 use Rattle.swim_trace.proofs.beats.Rhythm.of.Goals as goal
 use Rattle.swim_trace.proofs.beats.Rhythm.of.Goals.{in-Some+in_ok-note, in_default}
 
+pub loop-place-init : goal.loop-place-init
+loop-place-init c = c.new-found.ensures c.me-me.result
+
 pub loop-place-preserved : goal.loop-place-preserved
 loop-place-preserved c =
     let entries = reverse c.args.journal.now.past in
@@ -26,7 +29,7 @@ loop-place-preserved c =
           omega (arith, c.loop-place-test.true, c.min-place-end.ensures, c.len.type_inv) in
           rw (more, w.found-is)
           (one_more_follows c.me-me.result place h e c.loop-place.found w.note.new.self c.loop-place.invariant
-          counted few w.in_ok-note.ensures.0 w.in_ok-note.ensures.1)
+          counted few w.in_ok-note.ensures.beats w.in_ok-note.ensures.ticks)
       | in_default w ↦
           elim (slice_get_cases entries place).1 [
             | inl found ↦ absurd (cc (w.in_default.ensures, found.2))
