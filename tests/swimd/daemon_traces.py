@@ -16,15 +16,17 @@ NAMES = {PING: "ping", REQUEST: "ping-req", ACK: "ack"}
 ONE, LAST, COUNT = 1, 5, 5
 TIMES = {"k": 2, "rtt": 4, "period": 16, "tick_ms": 20}
 LINE = re.compile(r"  (ping|ping-req|ack) (\d+) -> (\d+): (.*)")
+# What becomes of a datagram that comes only when its initiator's next probe begins; others are lost, or aren't.
+LATE = "late"
 
 
 class Wires(threading.Thread):
-    """The sockets between daemons. `drops` is asked of each datagram whether it is lost, with its fields, who sent it
-    and to whom it goes."""
+    """The sockets between daemons. `drops` is asked of each datagram whether it is lost, or LATE, with its fields, who
+    sent it and to whom it goes."""
 
     def __init__(self, machine, ids, drops):
         super().__init__(daemon=True)
-        self.drops, self.ports, self.gone = drops, {}, []
+        self.drops, self.ports, self.gone, self.late = drops, {}, [], []
         self.sockets = {(a, b): machine.socket() for a in ids for b in ids if a != b}
         self.by_socket = {it: pair for pair, it in self.sockets.items()}
 
@@ -45,10 +47,20 @@ class Wires(threading.Thread):
     def forward(self, wire, text, source):
         a, b = self.by_socket[wire]
         sender, to = (a, b) if source[1] == self.ports[a] else (b, a)
-        is_lost = self.drops(fields(text), sender, to)
-        self.gone.append((fields(text), sender, to, is_lost))
-        if not is_lost:
+        fate = self.drops(fields(text), sender, to)
+        self.gone.append((fields(text), sender, to, fate))
+        if not fate:
             wire.sendto(text, (HOST, self.ports[to]))
+        if fate == LATE:
+            self.late.append((wire, text, to))
+        elif self.begins_later(*fields(text)):
+            for late, held, receiver in self.late:
+                late.sendto(held, (HOST, self.ports[receiver]))
+            self.late = []
+
+    def begins_later(self, kind, sender, initiator, *_):
+        """Whether a probe begins of the initiator of those that are late."""
+        return kind == PING and sender == initiator and initiator in {fields(it)[2] for _, it, _ in self.late}
 
 
 def group(machine, drops):
@@ -71,8 +83,8 @@ def group(machine, drops):
 
 def have_pinged(wires, ids):
     """Whether each pinged each other one, and was heard."""
-    pairs = {(sender, to) for (kind, _, initiator, *_), sender, to, lost in list(wires.gone)
-             if kind == PING and sender == initiator and not lost}
+    pairs = {(sender, to) for (kind, _, initiator, *_), sender, to, fate in list(wires.gone)
+             if kind == PING and sender == initiator and not fate}
     return len(pairs) == len(ids) * (len(ids) - 1)
 
 

@@ -8,6 +8,7 @@ import subprocess
 import tempfile
 
 from tests.support.datagrams import ACK, PING, REQUEST, datagram
+from tests.support.losses import LOSSES, name_of
 from tests.support.networks import Group, Known
 from tests.swimsim.cases import SECONDS, difference
 
@@ -68,9 +69,8 @@ def traced_by_random_losses(program):
 
 
 class Losing:
-    """A network that loses what a test names of the probe of one member in one period: `broken` has the ways, of a ping
-    or an ack of its own, or of a relay by its place among those that are asked, with how many steps later it comes if
-    it isn't lost."""
+    """A network that loses what a test names of the probe of one member in one period: `broken` has the names of the
+    ways (tests/support/losses.py), with how many steps later it comes if it isn't lost."""
 
     def __init__(self, broken, initiator=1, number=NUMBER):
         self.broken, self.initiator, self.number, self.relays = broken, initiator, number, []
@@ -80,57 +80,8 @@ class Losing:
             return [0]
         if one.leg.kind == REQUEST and one.leg.to not in self.relays:
             self.relays.append(one.leg.to)
-        later = self.broken.get(self.name(one), 0)
+        later = self.broken.get(name_of(one.leg, one.probe, self.relays), 0)
         return [] if later is None else [later]
-
-    def name(self, one):
-        """The name of a way, as `broken` has it."""
-        kind, sender, to = one.leg
-        initiator, target, _ = one.probe
-        if (kind, sender, to) in ((PING, initiator, target), (ACK, target, initiator)):
-            return ("ping" if kind == PING else "ack",)
-        relay = to if kind == REQUEST or sender == target else sender
-        names = {(REQUEST, to): "request", (PING, target): "ping", (ACK, relay): "ack", (ACK, initiator): "forwarded"}
-        return (names[(kind, to)], self.relays.index(relay))
-
-
-# A period has so many ticks: one less, and the ack would be in time.
-LATE = 8
-# What is lost or late of a probe, and what the last line tells of it: T is the target, and A and B are the relays.
-LOSSES = {
-    "the ping, and both requests": (
-        {("ping",): None, ("request", 0): None, ("request", 1): None},
-        "T was cut off: no ping reached it on 3 paths; lost ping 1 -> T; lost ping-req 1 -> A; lost ping-req 1 -> B",
-    ),
-    "the ack, and both requests": (
-        {("ack",): None, ("request", 0): None, ("request", 1): None},
-        "T was alive: it answered 1 ping of this probe; lost ack T -> 1; lost ping-req 1 -> A; lost ping-req 1 -> B",
-    ),
-    "the ping, and the pings of both relays": (
-        {("ping",): None, ("ping", 0): None, ("ping", 1): None},
-        "T was cut off: no ping reached it on 3 paths; lost ping 1 -> T; lost ping A -> T; lost ping B -> T",
-    ),
-    "the ping, and the acks to both relays": (
-        {("ping",): None, ("ack", 0): None, ("ack", 1): None},
-        "T was alive: it answered 2 pings of this probe; lost ping 1 -> T; lost ack T -> A; lost ack T -> B",
-    ),
-    "the ping, and the acks that both relays send on": (
-        {("ping",): None, ("forwarded", 0): None, ("forwarded", 1): None},
-        "T was alive: it answered 2 pings of this probe; lost ping 1 -> T; lost ack A -> 1; lost ack B -> 1",
-    ),
-    "the ack, and one of each relay": (
-        {("ack",): None, ("request", 0): None, ("forwarded", 1): None},
-        "T was alive: it answered 2 pings of this probe; lost ack T -> 1; lost ping-req 1 -> A; lost ack B -> 1",
-    ),
-    "the ack comes late, and both requests are lost": (
-        {("ack",): LATE, ("request", 0): None, ("request", 1): None},
-        "T was alive: it answered 1 ping of this probe; late ack T -> 1; lost ping-req 1 -> A; lost ping-req 1 -> B",
-    ),
-    "an ack that is sent on comes late": (
-        {("ack",): None, ("forwarded", 0): LATE, ("ping", 1): None},
-        "T was alive: it answered 2 pings of this probe; lost ack T -> 1; late ack A -> 1; lost ping B -> T",
-    ),
-}
 
 
 def traced_by_chosen_losses(program):
@@ -223,7 +174,8 @@ def traced_by_a_relay_that_is_down(program):
     class Ending(Losing):
         def __call__(self, group, one):
             later = super().__call__(group, one)
-            if later and one.probe[::2] == (self.initiator, self.number) and self.name(one) == ("request", 0):
+            is_of_probe = one.probe[::2] == (self.initiator, self.number)
+            if later and is_of_probe and name_of(one.leg, one.probe, self.relays) == ("request", 0):
                 group.dead.add(one.leg.to)
             return later
 
