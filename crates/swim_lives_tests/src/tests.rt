@@ -1,4 +1,5 @@
 mod crews;
+mod failing;
 mod files;
 mod gates;
 mod lives;

@@ -3,11 +3,13 @@
 mod doors;
 mod lines;
 mod paces;
+mod pads;
 mod posts;
 mod signals;
 
 pub use self::doors::{NoDoor, OneDoor};
 pub use self::lines::{PING, PingLine, line};
 pub use self::paces::{Never, StopPace, pace};
+pub use self::pads::{Pad, PadShelf};
 pub use self::posts::{ACK, AckPost, TakingPost, post};
-pub use self::signals::{Signals, TURNS, is_set, pause, set};
+pub use self::signals::{Failing, Signals, TURNS, is_set, pause, set};

@@ -1,8 +1,10 @@
 //! Doors to which nobody comes, or one operator.
 
-ghost use Rattle.std.specs.Prelude.{None};
+ghost use Rattle.std.specs.Prelude.{◌≡◌, None};
+ghost use Rattle.std.specs.Io.KnownBytes.{Keeps};
+ghost use Rattle.swim_text.specs.Streams.{Puts, failures_if};
 
-use super::signals::{Signals, TURNS, is_set, pause, set};
+use super::signals::{Failing, Signals, TURNS, is_set, pause, set};
 use arrayvec::ArrayVec;
 use std::rt::Clock;
 use std::sync::Wait;
@@ -40,7 +42,7 @@ impl<K: Clock + Drop> Door for NoDoor<K> {
     }
 }
 
-/// A door to which one operator comes.
+/// A door to which one operator comes, once it is open.
 #[derive(Drop)]
 pub struct OneDoor<'s, K: Clock + Copy + Drop> {
     /// What it waits by.
@@ -59,7 +61,10 @@ impl<'s, K: Clock + Copy + Drop> Door for OneDoor<'s, K> {
     type Writer = Answers<'s>;
 
     fn next<R: Wait>(&mut self, _rt: &R) -> Knock<TwoLines<'s>, Answers<'s>> {
-        if self.was_open {
+        if self.signals.fails(Failing::Door) {
+            return Knock::Fault;
+        }
+        if self.was_open || !is_set(&self.signals.is_open) {
             return Knock::Idle;
         }
         self.was_open = true;
@@ -72,6 +77,7 @@ impl<'s, K: Clock + Copy + Drop> Door for OneDoor<'s, K> {
         let answers = Answers {
             signals: self.signals,
             text: ArrayVec::new(),
+            failures: 0,
         };
         Knock::Conn(lines, answers)
     }
@@ -123,6 +129,10 @@ impl<'s> Source for TwoLines<'s> {
 impl<'s> Polled for TwoLines<'s> {
     fn look(&mut self) -> Look {
         self.looks = self.looks.saturating_add(1);
+        if self.signals.fails(Failing::Reader) {
+            set(&self.signals.is_broken);
+            return Look::Fault;
+        }
         if self.given == 0 {
             self.given = 1;
             self.ready = b"list\n";
@@ -146,23 +156,33 @@ impl<'s> Polled for TwoLines<'s> {
 pub struct Answers<'s> {
     signals: &'s Signals,
     text: ArrayVec<u8, 128>,
+    failures: u64,
 }
 
 impl<'s> Sink for Answers<'s> {
     ghost written = { λ answers. None };
 
-    ghost failures = { λ answers. 0 };
+    ghost failures = { λ answers. answers.failures };
 
     ghost held = { λ answers. 0 };
 
-    fn put(&mut self, text: &[u8]) -> bool {
-        for byte in text {
-            let _ = self.text.try_push(*byte);
+    fn put(&mut self, text: &[u8]) -> bool
+        ensures bytes { Puts None None text.now result }
+        ensures failures { self.new.failures ≡ failures_if self.old.failures result }
+    {
+        if self.signals.fails(Failing::Answers) {
+            set(&self.signals.is_broken);
+            self.failures = self.failures.saturating_add(1);
+            return false;
         }
+        keep(&mut self.text, text);
         true
     }
 
-    fn flush(&mut self) -> bool {
+    fn flush(&mut self) -> bool
+        ensures bytes { Keeps None None }
+        ensures failures { self.new.failures ≡ failures_if self.old.failures result }
+    {
         let text = self.text.as_slice();
         if *text == *LIST {
             set(&self.signals.is_listed);
@@ -171,5 +191,12 @@ impl<'s> Sink for Answers<'s> {
             set(&self.signals.is_stopping);
         }
         true
+    }
+}
+
+// Adds bytes, as far as there is room.
+fn keep(kept: &mut ArrayVec<u8, 128>, text: &[u8]) {
+    for byte in text {
+        let _ = kept.try_push(*byte);
     }
 }

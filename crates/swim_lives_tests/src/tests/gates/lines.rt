@@ -3,7 +3,7 @@
 ghost use Rattle.std.specs.Prelude.{◌≡◌, None};
 ghost use Rattle.swim_work.specs.Gates.{FitsInto};
 
-use super::signals::{Signals, TURNS, is_set, pause, set};
+use super::signals::{Failing, Signals, TURNS, is_set, pause, set};
 use crate::tests::members::at;
 use std::rt::Clock;
 use std::sync::Wait;
@@ -16,7 +16,7 @@ pub const PING: [u8; 24] = [
     0x53, 0x57, 1, 1, 0, 0, 0, 2, 0, 0, 0, 2, 0, 0, 0, 1, 0, 0, 0, 0, 0, 0, 0, 5,
 ];
 
-/// A line with one datagram, the ping, after so many faults, of which it tells the last. It holds the ping back until
+/// A line with one datagram, the ping, after so many faults, of which it tells the last. A later call may fail, too. It holds the ping back until
 /// the list was answered, and is idle before and after it.
 #[derive(Drop)]
 pub struct PingLine<'s, K: Clock + Drop> {
@@ -43,6 +43,9 @@ impl<'s, K: Clock + Drop> Line for PingLine<'s, K> {
             if turn == self.faults - 1 {
                 set(&self.signals.is_failing);
             }
+            return Got::Fault;
+        }
+        if self.signals.fails(Failing::Line) {
             return Got::Fault;
         }
         pause(&self.clock);

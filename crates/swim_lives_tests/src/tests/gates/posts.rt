@@ -2,7 +2,7 @@
 
 ghost use Rattle.std.specs.Prelude.{None};
 
-use super::signals::{Signals, set};
+use super::signals::{Failing, Signals, set};
 use crate::tests::members::at;
 use std::sync::Wait;
 use swim_wire::Peer;
@@ -13,7 +13,7 @@ pub const ACK: [u8; 24] = [
     0x53, 0x57, 1, 3, 0, 0, 0, 1, 0, 0, 0, 2, 0, 0, 0, 1, 0, 0, 0, 0, 0, 0, 0, 5,
 ];
 
-/// A post that tells that the ack was sent. Its sends succeed or fail.
+/// A post that tells that the ack was sent. Its sends succeed or fail, all of them or one.
 #[derive(Drop)]
 pub struct AckPost<'s> {
     /// What it tells.
@@ -36,7 +36,7 @@ impl<'s> Post for AckPost<'s> {
         if bytes == &ACK[..] && to == at(2) {
             set(&self.signals.is_acked);
         }
-        self.is_sending
+        self.is_sending && !self.signals.fails(Failing::Post)
     }
 }
 
