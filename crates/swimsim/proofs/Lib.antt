@@ -1,6 +1,6 @@
 pub mod CommandLine
 pub mod Digits
 pub mod Feeds
-pub mod Paths
+pub mod Sighted
 pub mod Unseen
 pub mod Worded

@@ -6,5 +6,6 @@ pub mod Verifying
 pub mod Examined
 pub mod VerdictTexts
 pub mod Sequences
+pub mod Sightings
 pub mod Telling
 pub mod WholeLines

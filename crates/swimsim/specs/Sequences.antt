@@ -1,13 +1,9 @@
--- What is seen of files, one after the other.
-use Rattle.std.specs.Prelude.{◌≡◌, ℕ, List, map, reverse}
+-- The status that files come to, one after the other.
+use Rattle.std.specs.Prelude.{◌≡◌, ℕ, List}
 use Rattle.swim_evidence.specs.declared.sequences.Seen.{Seen}
 use Rattle.swim_evidence.specs.declared.verdicts.Standing.{Standing}
 use Rattle.swim_evidence.specs.declared.verdicts.Standing.TheVariants.{Sound, Starved, Accused}
 use Rattle.swim_evidence.specs.Sequences.{IsWorst}
-
--- what is seen of the files of these paths, newest first
-abbrev pub seen_of : (List ℕ → Seen) → List (List ℕ) → List Seen
-seen_of files paths = reverse (map files paths)
 
 -- the status with which the program ends
 abbrev pub status_of : Standing → ℕ

@@ -61,7 +61,7 @@ use swim_script::{FaultKind, ScriptFault, Session};
 use swim_text::{ReadSource, Sink, WriteSink};
 use telling::WordTeller;
 use tracing::trace_files;
-use verifying::verify;
+use verifying::{FileExaminer, verify};
 
 /// The status where memory is refused before anything is played.
 const NO_MEMORY: u8 = 4;
@@ -121,7 +121,7 @@ fn obey(rt: &HostRuntime, options: &Options<'_>) -> Result<ExitCode> {
         return trace_files(rt, options);
     }
     if !options.verify.is_empty() {
-        return verify(rt, options.verify.as_slice());
+        return verify(&mut FileExaminer::new(rt), options.verify.as_slice());
     }
     Ok(match options.script {
         Some(path) if path != "-" => play_file(rt, path, options),

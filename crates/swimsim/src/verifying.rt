@@ -1,9 +1,9 @@
 //! Journal files that are verified, one after the other.
 
-ghost use Rattle.std.specs.Prelude.{◌≡◌, ◌↔◌, ℕ, List, Option, IfOk, IfSome, map};
-ghost use Rattle.swim_evidence.specs.declared.sequences.Seen.{Seen as SeenFile};
-ghost use Rattle.swim_evidence.specs.Sequences.{AreGood};
-ghost use Rattle.swimsim.specs.Sequences.{IsStatusOf, seen_of, status_of};
+ghost use Rattle.std.specs.Prelude.{◌≡◌, [], IfOk, map};
+ghost use Rattle.std.specs.Process.{exit_status};
+ghost use Rattle.swimsim.specs.Sequences.{status_of};
+ghost use Rattle.swimsim.specs.Sightings.{AreExamined, Examines, Sees, played_in, sighting_in};
 
 use crate::examining::{Played, play};
 use crate::reports::{Extent, Report};
@@ -14,34 +14,39 @@ use std::fmt;
 use std::io::{self, ErrorKind};
 use std::process::ExitCode;
 use swim_evidence::{Link, Seen, Sequence, Standing, Verdict};
+use swim_trail::{Remembered, Trail};
 
 /// Who plays journal files, and tells what they come to.
 pub trait Examiner {
-    // What is seen of the file of each path; `None` where that isn't known, as of files on a disk.
-    ghost seen: { Self → Option (List ℕ → SeenFile) };
+    ghost use Rattle.std.specs.Prelude.{List};
+    ghost use Rattle.swimsim.specs.Sightings.{Sighting};
+
+    // the files that it examined so far, oldest first
+    ghost examined: { Self → List Sighting };
 
     /// Plays the file of that path, and answers what is seen of it.
     fn examine(&mut self, path: &str) -> Seen
-        ensures seen { IfSome (seen self.old) (λ files. result ≡ files path.now) }
-        ensures files { seen self.new ≡ seen self.old };
+        ensures { Examines (examined self.old) path.now result (examined self.new) };
 
     /// Tells what the file that was played last comes to, which is that of this path, and how it stands to the one
     /// before it. `Err` where that can't be written.
     fn tell(&mut self, path: &str, before: &str, link: Link) -> Result<()>
-        ensures files { seen self.new ≡ seen self.old };
+        ensures { examined self.new ≡ examined self.old };
 }
 
 /// Verifies journal files, which are to be lives of a daemon in their order, and answers the status with which the
 /// program ends: 0 where nothing speaks against any of them; 4 where that isn't known, as memory was refused; else 1.
-#[tactic(auto)]
-pub fn verify_each<E: Examiner>(examiner: &mut E, paths: &[&str]) -> Result<u8>
-    // It is 0 exactly where each file is whole or cut, and begins a new start or goes on from what the one before left,
-    ensures good { IfOk result (λ status. IfSome (E.seen examiner.old) (λ files.
-        (status ≡ 0) ↔ AreGood (seen_of files (map (λ path. path.now) paths.now)))) }
+pub fn verify<E: Examiner>(examiner: &mut E, paths: &[&str]) -> Result<ExitCode>
+    ensures { IfOk result (λ code. AreExamined (E.examined examiner.old) (map (λ path. path.now) paths.now)
+        (E.examined examiner.new) (exit_status code)) }
+{
+    Ok(ExitCode::from(verify_each(examiner, paths)?))
+}
 
-    // and in any case that of the worst of what is found of the files and of their places.
-    ensures worst { IfOk result (λ status. IfSome (E.seen examiner.old) (λ files.
-        IsStatusOf (seen_of files (map (λ path. path.now) paths.now)) status)) }
+/// The number of that status.
+fn verify_each<E: Examiner>(examiner: &mut E, paths: &[&str]) -> Result<u8>
+    ensures { IfOk result (λ status. AreExamined (E.examined examiner.old) (map (λ path. path.now) paths.now)
+        (E.examined examiner.new) status) }
 {
     let mut sequence = Sequence::new();
     let mut before = "";
@@ -65,32 +70,57 @@ pub fn status_of(standing: Standing) -> u8
     }
 }
 
-/// Who plays files of the system.
+/// A file that was examined, which the proofs alone know: what was played of it, and what was seen.
 #[derive(Drop)]
-struct FileExaminer<'r> {
+struct Look {
+    played: Remembered<io::Result<Played>>,
+    seen: Remembered<Seen>,
+}
+
+/// Who plays files of the system. A contract sees which it examined, as `play` answered it.
+#[derive(Drop)]
+pub struct FileExaminer<'r> {
     rt: &'r HostRuntime,
     /// The file that was played last, or why it can't be read.
     played: Option<io::Result<Played>>,
+    examined: Trail<Look>,
 }
 
-/// Verifies the files of these paths, and tells what they come to on the standard streams.
-pub fn verify(rt: &HostRuntime, paths: &[&str]) -> Result<ExitCode> {
-    let mut examiner = FileExaminer { rt, played: None };
-    Ok(ExitCode::from(verify_each(&mut examiner, paths)?))
+impl<'r> FileExaminer<'r> {
+    /// It has examined nothing yet.
+    pub fn new(rt: &'r HostRuntime) -> FileExaminer<'r>
+        ensures { result.examined.items ≡ [] }
+    {
+        FileExaminer {
+            rt,
+            played: None,
+            examined: Trail::new(),
+        }
+    }
+}
+
+/// What is seen of a file that was played, or can't be read.
+fn seen_of(played: &io::Result<Played>) -> Seen
+    ensures { Sees (played_in played.now) result }
+{
+    match played {
+        Ok(played) => played.seen(),
+        Err(error) if error.kind() == ErrorKind::OutOfMemory => Seen::unread(Standing::Starved),
+        Err(_) => Seen::unread(Standing::Accused),
+    }
 }
 
 impl<'r> Examiner for FileExaminer<'r> {
-    ghost use Rattle.std.specs.Prelude.{None};
-
-    ghost seen = { λ e. None };
+    ghost examined = { λ e. map sighting_in e.examined.items };
 
     fn examine(&mut self, path: &str) -> Seen {
         let played = play(self.rt, path);
-        let seen = match &played {
-            Ok(played) => played.seen(),
-            Err(error) if error.kind() == ErrorKind::OutOfMemory => Seen::unread(Standing::Starved),
-            Err(_) => Seen::unread(Standing::Accused),
+        let seen = seen_of(&played);
+        let look = Look {
+            played: Remembered::of(&played),
+            seen: Remembered::of(&seen),
         };
+        self.examined.note(&look, path.as_bytes());
         self.played = Some(played);
         seen
     }
