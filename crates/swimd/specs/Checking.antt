@@ -1,5 +1,5 @@
 -- What checking a configuration does.
-use Rattle.std.specs.Prelude.{◌≡◌, ℕ, ◌<◌, Bool, true, false, List, length, Option, Some, None, Ok, Err}
+use Rattle.std.specs.Prelude.{◌≡◌, ℕ, ◌<◌, ◌≤◌, Bool, true, false, List, length, Option, Some, None, Ok, Err}
 use Rattle.std.specs.Io.KnownBytes.{Appends}
 use Rattle.swim_text.specs.Streams.{PutsFront}
 use Rattle.swim_keeper.specs.Endings.{TellsText, Written}
@@ -9,6 +9,7 @@ use Rattle.swim_config.specs.declared.config_fault.ConfigFault.TheVariants.{Size
 use Rattle.swim_commands.specs.declared.outcomes.Outcome.{Outcome}
 use Rattle.swim_commands.specs.declared.outcomes.Outcome.TheVariants.{Checked, Unread, Refused, Unwritten}
 use Rattle.swim_config.specs.Configuration.{config_of}
+use Rattle.swim_config.specs.Inputs.{IsReading}
 use Rattle.swim_config.specs.Reading.{OrNoMemory}
 use Rattle.swim_config.specs.Summary.{summary_text}
 use Rattle.swim_config.specs.Warnings.{warnings_text}
@@ -58,6 +59,10 @@ IsEndOfCheck outcome = ⊥
 abbrev pub ChecksKnown : Option (List ℕ) → Option (List ℕ) → Option (List ℕ) → Written → Written → Outcome → Type 0
 ChecksKnown (Some text) old new faults_old faults_new outcome = Checks text old new faults_old faults_new outcome
 ChecksKnown None old new faults_old faults_new outcome = IsEndOfCheck outcome
+
+-- so many bytes were taken of a configuration, and no others: one more than it may have, at the most
+abbrev pub TakesInput : Option (List ℕ) → Option (List ℕ) → Type 0
+TakesInput old new = (text : List ℕ) × IsReading old new text × (length text ≤ 65537)
 
 abbrev pub is_unread : Outcome → Bool
 is_unread Unread = true

@@ -2,7 +2,7 @@
 
 ghost use Rattle.std.specs.Prelude.{◌≡◌, not, []};
 ghost use Rattle.swim_text.specs.Streams.{failures_if};
-ghost use Rattle.swimd.specs.Checking.{ChecksKnown, Shows, Warned, is_unread, is_unwritten};
+ghost use Rattle.swimd.specs.Checking.{ChecksKnown, Shows, TakesInput, Warned, is_unread, is_unwritten};
 ghost use Rattle.swim_commands.specs.Details.{Explains};
 
 use arrayvec::ArrayVec;
@@ -23,6 +23,7 @@ pub fn check<S: Source, W: Sink, F: Sink>(
     requires { details.old ≡ [] }
     ensures checked { ChecksKnown (S.left reader.old) (W.written writer.old) (W.written writer.new)
         (F.written faults.old, F.failures faults.old) (F.written faults.new, F.failures faults.new) result }
+    ensures taken { TakesInput (S.left reader.old) (S.left reader.new) }
     ensures reads { S.failures reader.new ≡ failures_if (S.failures reader.old) (not (is_unread result)) }
     ensures writes { W.failures writer.new ≡ failures_if (W.failures writer.old) (not (is_unwritten result)) }
     ensures sent { result ≡ Outcome.Checked → W.held writer.new ≡ 0 }

@@ -15,3 +15,15 @@ returns-in-Err-clause-checked g c =
     (g.F.Sink.written c.args.faults.now, g.F.Sink.failures c.args.faults.now) c.read_input.new.text.items c.in-Err.fault
     c.if-not-read_input.ensures.bytes (rw c.as_slice.ensures.value at c.in-Err.ensures.value)
     (rw c.as_slice.ensures.value at c.in-Err.ensures.size)
+
+pub returns-then-not-read_input-clause-taken : goal.returns-then-not-read_input-clause-taken
+returns-then-not-read_input-clause-taken g c =
+    (c.read_input.new.text.items, c.if-not-read_input.ensures.taken, c.if-not-read_input.ensures.within)
+
+pub returns-in-Ok-clause-taken : goal.returns-in-Ok-clause-taken
+returns-in-Ok-clause-taken g c =
+    (c.read_input.new.text.items, c.if-not-read_input.ensures.taken, c.if-not-read_input.ensures.within)
+
+pub returns-in-Err-clause-taken : goal.returns-in-Err-clause-taken
+returns-in-Err-clause-taken g c =
+    (c.read_input.new.text.items, c.if-not-read_input.ensures.taken, c.if-not-read_input.ensures.within)
