@@ -12,14 +12,17 @@ HEX = "0123456789abcdefABCDEF"
 # One byte again and again, or nearly.
 PLAIN = ["0" * 64, "a5" * 32, "aA" * 32, "1" * 63 + "2"]
 PATHS = ["control", "events", "metrics", "journal_dir"]
-STRINGS = ["listen", "seed", "at", *PATHS]
+MODES = ["control_mode", "events_mode"]
+STRINGS = ["listen", "seed", "at", *PATHS, *MODES]
 # Keys that may be left out, with values.
 OPTIONAL = {"last": "0", "wire": "2", "keys": f"['{'0fA9' * 16}']", "journal_dir": "'files'", "journal_keep": "3"}
 OPTIONAL.update(fence="7", rejoin="3", events="'events'", metrics="'metrics'")
+OPTIONAL.update(control_mode="'0660'", events_mode='"0606"')
 # A brace that isn't closed in its line could be one of a newer TOML where the text around it is changed.
 PRINTABLE = "".join(map(chr, range(0x20, 0x7F))).replace("{", "")
 NUMBERS = [-(2**63), -1_000, -2, -1, -1, -1, 0, 1, 2, 3, 8, 9, 1000, 60_000, 60_001, 65_535, 65_536, 10**6, 10**6 + 1]
 NUMBERS += [LARGEST_ID, LARGEST_ID + 1, 2**63 - 1, 2**63, -(2**63) - 1]
+BAD_MODES = ["", "660", "0o660", "00660", "0680", "1660", "rw-rw----", "0660 ", " 0660", "0660\n", "-660", "06\u0661"]
 BAD_PEERS = ["", "1.2.3.4", "1.2.3:4", "1.2.3.4.5:6", "1.2.3.4:5:6", "1.2.3.4:0", "1.2.3.4:65536", "256.2.3.4:5"]
 BAD_PEERS += ["1.2.3.4:05", "01.2.3.4:5", "1.2.3.4: 5", "1.2.3.4:+5", "localhost:5", "[::1]:5", "\u0661.2.3.4:5"]
 BAD_PEERS += ["1.2.3.4:5\n"]
@@ -41,6 +44,9 @@ UNKNOWN = [
     "rejoins",
     "event",
     "metric",
+    "mode",
+    "control-mode",
+    "event_mode",
     "key",
     "keyz",
     "3",
@@ -131,6 +137,9 @@ class Config:
         if r.random() < 0.3:
             others = [texts[key] for key in ("control", "events", "metrics") if key in texts]
             texts["journal_dir"] = r.choice(others) if r.random() < 0.2 else path()
+        for key in MODES:
+            if r.random() < 0.2:
+                texts[key] = r.choice(["0600", "0660", "0666", "0000", "0777", "0640", "0124"])
         self.r = r
         self.top = [[key, number(r, it)] for key, it in values.items()] + [
             [key, text(r, it)] for key, it in texts.items()
@@ -204,6 +213,8 @@ def another(r, key):
     if key in PATHS:
         path = r.choice(["", "\t", "\x7f", "\u00e9", "x" * 100, "x" * 101, "a\nb", "\x00", "/tmp/\U0001f600"])
         return text(r, path)
+    if key in MODES:
+        return text(r, r.choice(BAD_MODES))
     if key == "seed":
         return text(r, bad_seed(r))
     if key == "keys":
@@ -305,6 +316,9 @@ def about_as_large_as_may_be(r):
 
 KINDS = [fine, of_one_fault, broken, of_one_fault, of_one_fault, broken, of_one_fault, of_one_fault]
 KINDS += [
+    of_one_fault,
+    of_one_fault,
+    of_one_fault,
     of_other_members,
     of_an_opening,
     of_one_fault,

@@ -23,6 +23,8 @@ TOP = [
     Key("control", "path", (), None, "the path of the control socket"),
     Key("events", "path", (), "", "the path of the events' socket, not that of control"),
     Key("metrics", "path", (), "", "the path of the metrics' file, not that of a socket"),
+    Key("control_mode", "mode", (), "0600", "the mode of the control socket"),
+    Key("events_mode", "mode", (), "0600", "the mode of the events' socket"),
     Key("k", "integer", (0, LARGEST_ID), None, "how many relays are asked, at most 8"),
     Key("rtt", "integer", (0, LARGEST_ID), None, "ticks for which a direct ack is waited for, at least 1"),
     Key("period", "integer", (0, LARGEST_ID), None, "ticks of a period, from three times rtt to 65535"),
@@ -46,6 +48,7 @@ BY_TEXT = {**{key.name: key for key in TOP}, **{f"member.{key.name}": key for ke
 FORMS = {
     "peer": "a string IP:PORT, as 10.0.0.1:7000",
     "path": "a string of 1 to 100 characters of ASCII that print",
+    "mode": "a string of a 0 and 3 octal digits, as 0660",
     "seed": "a string of 64 hexadecimal digits",
     "keys": "an array of 1 to 4 strings of 64 hexadecimal digits",
     "members": "an array of tables, each with id and at",

@@ -1,6 +1,7 @@
 """What `swimd check` has to write for a configuration, worked out apart from swimd: the text is read by Python's own
 TOML reader, and the rest by the rules of docs/FORMATS.md."""
 
+import hashlib
 import math
 import re
 import tomllib
@@ -95,6 +96,7 @@ def read_config(document):
     # Where keys are set, a last number that isn't given is the clock's, which nobody knows yet.
     config["last"] = None if config["keys"] and "last" not in top else config["last"]
     config["is_fence_given"], config["is_rejoin_given"] = "fence" in top, "rejoin" in top
+    config["modes_given"] = [key for key in ("control_mode", "events_mode") if key in top]
     if not isinstance(config["member"], list) or not all(isinstance(it, dict) for it in config["member"]):
         raise Fault("5 member")
     config["member"] = [member(it) for it in config["member"]]
@@ -174,6 +176,8 @@ def value(table, key, name):
         raise Fault(f"5 {name}")
     if key.kind == "path" and not re.fullmatch(r"[ -~]{1,100}", it):
         raise Fault(f"6 {name}")
+    if key.kind == "mode" and not re.fullmatch("0[0-7]{3}", it):
+        raise Fault(f"6 {name}")
     if key.kind == "seed" and not re.fullmatch("[0-9a-fA-F]{64}", it):
         raise Fault(f"8 {name}")
     if key.kind == "peer" and not is_peer(it):
@@ -228,10 +232,17 @@ def summary(config):
     numbers += f" fence {config['fence']}" if config["is_fence_given"] else ""
     numbers += f" rejoin {config['rejoin']}" if config["is_rejoin_given"] else ""
     files = config["journal_dir"] != ""
-    paths = [key for key in ("events", "metrics", "journal_dir") if config[key] != ""]
+    paths = [key for key in ("events", "metrics") if config[key] != ""]
+    paths += [*config["modes_given"], *["journal_dir"] * files]
     lines = [f"{key} {config[key]}" for key in ("id", "listen", "control", *paths)]
-    lines += [numbers, *[f"journal_keep {config['journal_keep']}"] * files, f"members {len(config['member'])}"]
+    lines += [numbers, *[f"journal_keep {config['journal_keep']}"] * files]
+    lines += [*(f"key {fingerprint(key)}" for key in config["keys"]), f"members {len(config['member'])}"]
     return "".join(f"{line}\n" for line in lines + [f"{id} {at}" for id, at in sorted(config["member"])])
+
+
+def fingerprint(key):
+    """By which people tell a key from others."""
+    return hashlib.sha256(bytes.fromhex(key)).hexdigest()[:8]
 
 
 def warnings(config):
@@ -260,6 +271,10 @@ def warnings(config):
         yield f"rtt is one tick of {config['tick_ms']} milliseconds, which is below 20"
     if k == 0 and len(members) > 2:
         yield f"k is 0, so that none of {len(members)} members is asked to relay"
+    if config["wire"] == 1 and k != 0:
+        yield "wire is 1, so that a relay that judged a member is no path to it"
+    if config["rejoin"] == 0 and members:
+        yield "rejoin is 0, so that only an operator's join brings a failed member back"
     if len(set(bytes.fromhex(config["seed"]))) == 1:
         yield "seed is one byte again and again, which anybody may guess"
     if any(len(set(bytes.fromhex(key))) == 1 for key in config["keys"]):

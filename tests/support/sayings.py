@@ -54,6 +54,11 @@ def but_for_notices(text):
     return NOTICE.sub(b"", text)
 
 
+def but_for_warnings(text):
+    """The same beside the warnings of its configuration alone."""
+    return re.sub(rb"(?m)^warning: [^\n]*\n", b"", text)
+
+
 def first_line_of(text):
     """The line that tells an outcome, without the lines below it that say more, and notices before it."""
     lines = but_for_notices(text).splitlines(keepends=True)

@@ -1,6 +1,7 @@
 """A daemon whose group has keys: what it sends and hears, what it throws away and tells of that, and where its period
 numbers begin. Tags are compared with Python's own HMAC."""
 
+import hashlib
 import re
 import shutil
 import subprocess
@@ -12,10 +13,11 @@ from tests.support.datagrams import ACK, PING, REQUEST, datagram, fields
 from tests.support.documents import tagged_example
 from tests.support.journals import journals, must_verify, told
 from tests.support.parts import leave_out
+from tests.support.sayings import but_for_warnings
 from tests.support.tags import FIRST, FORGERS, SECOND, STRANGE, THIRD, digest, forged, key_texts, sealed, sealing
 from tests.swimd.daemon_edges import refused
 from tests.swimd.daemon_groups import Answerer, must_be_quiet
-from tests.swimd.daemon_starting import told_lines
+from tests.swimd.daemon_starting import listens, told_lines
 
 MINUTE = 60_000
 # The first datagram that is thrown away is told within so many seconds.
@@ -187,7 +189,7 @@ def forgeries_leave_no_trace(machine):
         must_verify(machine.simulator, file)
         must(told(file.text) == ["sent"] * (markers + 1), f"the journal file has {file.text[-1_000:]!r}")
         if words:
-            must(daemon.told == b"", f"with {words} it tells {daemon.told!r}")
+            must(but_for_warnings(daemon.told) == b"", f"with {words} it tells {daemon.told!r}")
         else:
             found = refusals_told(daemon, daemon.told)
             must(len(found) == 1 and found[0][0] == address_of(other), f"of {len(sent)} forgeries it tells {found}")
@@ -324,8 +326,25 @@ def acks_of_an_earlier_run(machine):
             must(number <= begins + 2, f"it begins behind {begins}, and judges in period {number}")
 
 
+def fingerprints(ring):
+    """By which people tell keys apart: the first digits of the SHA-256 of each."""
+    return [hashlib.sha256(it).hexdigest()[:8] for it in ring]
+
+
+def a_start_tells_the_keys(machine):
+    """By their fingerprints, in order, in the line that tells that it listens; a daemon without keys tells none."""
+    for ring in ([], [FIRST], [SECOND, FIRST, THIRD]):
+        values = {"keys": key_texts(*ring)} if ring else {}
+        daemon = machine.started(1, tick_ms=MINUTE, **values)
+        must(daemon.stop().status == 0, "it ended otherwise")
+        words = ["", "keys", *fingerprints(ring)] if ring else [""]
+        lines = told_lines(daemon, daemon.told)
+        must(lines[0] == listens(daemon) + " ".join(words), f"it tells {lines}")
+        must(not any(it in daemon.told.decode() for it in key_texts(*ring)), f"it tells {daemon.told!r}")
+
+
 def check_tells_how_many(machine):
-    """`swimd check` says how many keys there are, and nothing of them."""
+    """`swimd check` says how many keys there are, and of each its fingerprint."""
     for ring in ([FIRST], [FIRST, SECOND, THIRD, STRANGE]):
         daemon = machine.daemon(1, keys=key_texts(*ring), last=7, wire=2)
         with open(daemon.file, "rb") as file:
@@ -333,6 +352,8 @@ def check_tells_how_many(machine):
         line = next((it for it in ran.stdout.splitlines() if it.startswith(b"k ")), b"")
         wanted = b"k 1 rtt 3 period 12 tick_ms 20 last 7 journal 1000000 wire 2 keys %d" % len(ring)
         must((ran.returncode, ran.stderr, line) == (0, b"", wanted), f"`check` says {ran!r}")
+        told = [it for it in ran.stdout.splitlines() if it.startswith(b"key ")]
+        must(told == [b"key %s" % it.encode() for it in fingerprints(ring)], f"`check` says {ran.stdout!r}")
         must(not any(it.encode() in ran.stdout for it in key_texts(*ring)), f"`check` says {ran.stdout!r}")
 
 
@@ -378,6 +399,7 @@ KEYS = [
     period_numbers_begin_at_the_clock,
     period_numbers_go_on_from_life_to_life,
     acks_of_an_earlier_run,
+    a_start_tells_the_keys,
     check_tells_how_many,
     keys_that_are_none,
     a_key_is_made,

@@ -8,6 +8,7 @@ from tests.support.configurations import HOST
 from tests.support.daemons import must, until
 from tests.support.journals import journals
 from tests.support.journals import told as answers_in
+from tests.support.sayings import but_for_warnings
 from tests.support.watchers import told_by
 from tests.swimd.daemon_groups import Answerer
 from tests.swimd.daemon_starting import ends_of_a_pipe, told_lines
@@ -97,7 +98,7 @@ def a_quiet_daemon_tells_nothing(machine):
     daemon = machine.started(members=[(2, "10.0.0.2:7000")], k=0, how={"words": ["--quiet"]})
     must(daemon.ask(b"join 4 10.0.0.4:7000\n").startswith(b"joined "), "a join is refused")
     until(lambda: daemon.states()[2] == "failed", "member 2 is judged")
-    must(daemon.stop().status == 0 and daemon.told == b"", f"it tells {daemon.told!r}")
+    must(daemon.stop().status == 0 and but_for_warnings(daemon.told) == b"", f"it tells {daemon.told!r}")
 
 
 def changes_go_on_over_lives(machine):

@@ -137,6 +137,8 @@ def warnings_for_a_small_pipe(machine):
     """Each asks for itself: those for which there is room are whole, and the daemon is served."""
     wanted = [b"warning: members %d and %d are at one address, 10.0.0.2:7000" % (it, it + 1)
               for it, _ in NEIGHBOURS[:-1]]
+    wanted.append(b"warning: wire is 1, so that a relay that judged a member is no path to it")
+    wanted.append(b"warning: rejoin is 0, so that only an operator's join brings a failed member back")
     wanted.append(b"warning: seed is one byte again and again, which anybody may guess")
     for size in (SMALL_PIPE, 4 * SMALL_PIPE):
         reading, writing = os.pipe()

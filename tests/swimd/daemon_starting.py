@@ -7,10 +7,11 @@ import os
 import re
 import socket
 import stat
+import subprocess
 import time
 
 from tests.support.daemons import SECONDS, must, until
-from tests.support.sayings import TIME, but_for_notices
+from tests.support.sayings import TIME, but_for_notices, but_for_warnings
 
 MINUTE = 60_000
 NOBODY = 65_534
@@ -21,14 +22,14 @@ LIVES = 30
 
 
 def refusal(daemon, **how):
-    """What it says on standard error, where it ends at once with status 5 or 1, and writes nothing on standard
-    output."""
+    """What it says on standard error beside warnings, where it ends at once with status 5 or 1, and writes nothing on
+    standard output."""
     daemon.launch(is_clean=False, **how)
     stdout, stderr = daemon.child.communicate(timeout=SECONDS)
     must(
         stdout == b"" and daemon.child.returncode in (1, 5), f"it ended {daemon.child.returncode}, and wrote {stdout!r}"
     )
-    return stderr
+    return but_for_warnings(stderr)
 
 
 def must_say(found, *lines):
@@ -82,8 +83,9 @@ def each_life_is_told(machine):
 
 def warnings_stand_before_a_start(machine):
     """Those of `check`, before the first notice, and where it is quiet, too: of one member and a period of three, a
-    round has five entries and two."""
+    round has five entries and two. No relay is asked, so it isn't warned of version 1."""
     warning = b"warning: journal 20 is shorter than three rounds, which take 21 entries\n"
+    warning += b"warning: rejoin is 0, so that only an operator's join brings a failed member back\n"
     for words in ([], ["--quiet"]):
         daemon = machine.started(how={"words": words}, members=[(2, "10.0.0.2:7000")], **{**SHORT, "tick_ms": MINUTE})
         must(daemon.stop().status == 0, "it ended otherwise")
@@ -302,8 +304,45 @@ def standard_error_that_takes_nothing(machine):
         must(file.read().count(b" begins\n") >= LIVES, "a file hasn't the lines of all lives")
 
 
+def modes_of_sockets(machine):
+    """Each socket has the mode that its key gives it, whatever the mask says and whether a stale one stood there; 0600
+    where none does."""
+    events = f"{machine.folder}/1.events"
+    for values, mask in (
+        ({}, 0o000),
+        ({"control_mode": "0660"}, 0o077),
+        ({"events_mode": "0606"}, 0o027),
+        ({"control_mode": "0620", "events_mode": "0777"}, 0o177),
+        ({"control_mode": "0600", "events_mode": "0600"}, 0o000),
+    ):
+        how = {"preexec_fn": lambda: os.umask(mask), "is_clean": False}
+        daemon = machine.started(1, how=how, tick_ms=MINUTE, events=events, **values)
+        wanted = [int(values.get(key, "0600"), 8) for key in ("control_mode", "events_mode")]
+        found = [stat.S_IMODE(os.stat(path).st_mode) for path in (daemon.control, events)]
+        must(found == wanted, f"with {values} and the mask {mask:o} the modes are {[f'{it:04o}' for it in found]}")
+        daemon.kill()
+
+
+def those_whom_a_mode_admits(machine):
+    """A member of the group asks where the mode lets it, and nobody else does."""
+    if os.getuid() != 0:
+        print("  not tried, since it needs other users than this one")
+        return
+    os.chmod(machine.folder, 0o755)
+    for mode, in_group, in_another in (("0600", 5, 5), ("0660", 0, 5), ("0620", 0, 5), ("0640", 5, 5), ("0606", 5, 0)):
+        daemon = machine.started(1, tick_ms=MINUTE, control_mode=mode)
+        for group, status in ((os.getgid(), in_group), (NOBODY, in_another)):
+            words = [machine.program, "ask", "--control", daemon.control, "list"]
+            as_nobody = {"user": NOBODY, "group": group, "extra_groups": []}
+            ran = subprocess.run(words, stdin=subprocess.DEVNULL, capture_output=True, timeout=SECONDS, **as_nobody)
+            must(ran.returncode == status, f"with the mode {mode} one of the group {group} is answered {ran!r}")
+        must(daemon.stop().status == 0, "it ended otherwise")
+
+
 STARTING = [
     a_start_is_told,
+    modes_of_sockets,
+    those_whom_a_mode_admits,
     each_life_is_told,
     warnings_stand_before_a_start,
     a_quiet_start,

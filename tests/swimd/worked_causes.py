@@ -5,8 +5,8 @@ expected and what stood there, and the warnings of what can't work. All is worke
 """
 
 from tests.swimd.worked_configs import ALONE, FULL, SEED, SUMMARY, SUMMARY_ALONE
-from tests.swimd.worked_configs import numbered_members, replaced, with_member, with_value
-from tests.swimd.worked_configs import LINES, with_keys
+from tests.swimd.worked_configs import LINES, REJOIN, WIRE, good, key_lines, numbered_members, replaced
+from tests.swimd.worked_configs import with_keys, with_member, with_value
 
 
 def caused(name, document, fault, *lines):
@@ -14,10 +14,6 @@ def caused(name, document, fault, *lines):
     return name, text, b"", "".join(
         f"{it}\n" for it in [f"configuration {fault}", *(f"  {it}" for it in lines)]
     ).encode(), 1
-
-
-def warned(name, document, stdout, *lines):
-    return name, document.encode(), stdout.encode(), "".join(f"warning: {it}\n" for it in lines).encode(), 0
 
 
 def texts():
@@ -42,6 +38,7 @@ def keys():
         fences="fence", fenc="fence", Fence="fence", fnece="fence", event="events", Events="events", evetns="events"
     )
     near.update(rejoins="rejoin", rejion="rejoin", Rejoin="rejoin")
+    near.update(control_mod="control_mode", event_mode="events_mode", mode="id")
     for name, known in near.items():
         found = f"found: {name}; the nearest known key: {known}"
         yield caused(f"`{name}`", with_keys(f"{name} = 1"), "3", found, f"line 1: {name} = 1")
@@ -108,6 +105,15 @@ def values():
     yield caused("many paths of events", with_keys("events = [\n]"), "5 events", path, "line 1: events = [")
     both = FULL.replace("k = 1\n", "k = 1\nevents = '/tmp/swimd.sock'\n")
     yield caused("events on the control socket", both, "6 events", path, "line 5: events = '/tmp/swimd.sock'")
+    form = "expected: a string of a 0 and 3 octal digits, as 0660"
+    for key, socket in (("control_mode", "the control socket"), ("events_mode", "the events' socket")):
+        mode = f"{form} (the mode of {socket})"
+        yield caused(f"no 0 of `{key}`", with_keys(f'{key} = "660"'), f"6 {key}", mode, f'line 1: {key} = "660"')
+        number = with_keys(f"\n{key} = 0o660 # a number")
+        yield caused(f"a number as `{key}`", number, f"5 {key}", mode, f"line 2: {key} = 0o660 # a number")
+        found = f"found: {key}; it stands below [[member]]: move it up"
+        below = f"{FULL}{key} = '0660'\n"
+        yield caused(f"`{key}` of a member", below, "3", found, f"line 18: {key} = '0660'")
     folder = "expected: a string of 1 to 100 characters of ASCII that print"
     folder += " (the folder of the journal files, not the path of another key)"
     yield caused("no folder", with_keys('journal_dir = ""'), "6 journal_dir", folder, 'line 1: journal_dir = ""')
@@ -253,8 +259,8 @@ def openings():
 def warnings():
     # a round of two members: 2 periods of 3 + 2 entries, and 2 entries for each
     short = "journal 41 is shorter than three rounds, which take 42 entries"
-    yield warned("a short journal", with_value("journal", "41"), SUMMARY.replace("journal 1000", "journal 41"), short)
-    yield warned(
+    yield good("a short journal", with_value("journal", "41"), SUMMARY.replace("journal 1000", "journal 41"), short)
+    yield good(
         "a journal of three rounds", with_value("journal", "42"), SUMMARY.replace("journal 1000", "journal 42")
     )
     told = lambda journal, fence: SUMMARY.replace("journal 1000", f"journal {journal} fence {fence}")
@@ -263,75 +269,98 @@ def warnings():
     )
     # three rounds of two members last six periods of 3 seconds
     flood = "journal {} is shorter than what a flood of {} datagrams a second adds in three rounds, {} entries"
-    yield warned("a journal of 18 seconds", fenced("18000", "1000"), told("18000", "1000"))
-    yield warned("an entry less", fenced("17999", "1000"), told("17999", "1000"), flood.format(17_999, 1_000, 18_000))
+    yield good("a journal of 18 seconds", fenced("18000", "1000"), told("18000", "1000"))
+    yield good("an entry less", fenced("17999", "1000"), told("17999", "1000"), flood.format(17_999, 1_000, 18_000))
     unsaid = SUMMARY.replace("journal 1000", "journal 17999")
-    yield warned("the same unsaid", with_value("journal", "17999"), unsaid)
-    yield warned("a fence of one", fenced("18", "1"), told("18", "1"), short.replace("41", "18"))
+    yield good("the same unsaid", with_value("journal", "17999"), unsaid)
+    yield good("a fence of one", fenced("18", "1"), told("18", "1"), short.replace("41", "18"))
     both = [short.replace("41", "17"), flood.format(17, 1, 18)]
-    yield warned("a fence of one, and an entry less", fenced("17", "1"), told("17", "1"), *both)
+    yield good("a fence of one, and an entry less", fenced("17", "1"), told("17", "1"), *both)
     # 6 periods of 3 ticks of 7 milliseconds, so 126 milliseconds, in which 15 datagrams a second are 1.89
     quick = lambda journal: fenced(journal, "15", with_value("tick_ms", "7"))
     quickly = lambda journal: told(journal, "15").replace("tick_ms 1000", "tick_ms 7")
     waits = ["rtt has 7 milliseconds, which is below 10", "rtt is one tick of 7 milliseconds, which is below 20"]
     few = [short.replace("41", "1"), flood.format(1, 15, 2)]
-    yield warned("a part of an entry", quick("1"), quickly("1"), *few, *waits)
-    yield warned("no part of an entry", quick("2"), quickly("2"), short.replace("41", "2"), *waits)
+    yield good("a part of an entry", quick("1"), quickly("1"), *few, *waits)
+    yield good("no part of an entry", quick("2"), quickly("2"), short.replace("41", "2"), *waits)
     alone = with_keys("fence = 4294967295", with_value("journal", "1", ALONE))
-    yield warned(
+    yield good(
         "a fence, and nobody is listed", alone, SUMMARY_ALONE.replace("journal 1000", "journal 1 fence 4294967295")
     )
     own = FULL.replace("10.0.0.3:7000", "10.0.0.1:7000")
     wanted = SUMMARY.replace("10.0.0.3:7000", "10.0.0.1:7000")
-    yield warned("its own address", own, wanted, "member 3 is at this member's own address, 10.0.0.1:7000")
+    yield good("its own address", own, wanted, "member 3 is at this member's own address, 10.0.0.1:7000")
     one = FULL.replace("10.0.0.3:7000", "10.0.0.2:7000")
     wanted = SUMMARY.replace("10.0.0.3:7000", "10.0.0.2:7000")
-    yield warned("one address", one, wanted, "members 3 and 2 are at one address, 10.0.0.2:7000")
+    yield good("one address", one, wanted, "members 3 and 2 are at one address, 10.0.0.2:7000")
     other_port = FULL.replace("10.0.0.3:7000", "10.0.0.2:7001")
-    yield warned("one IP, and two ports", other_port, SUMMARY.replace("10.0.0.3:7000", "10.0.0.2:7001"))
+    yield good("one IP, and two ports", other_port, SUMMARY.replace("10.0.0.3:7000", "10.0.0.2:7001"))
     few = "k 2 is greater than the members that could relay, 1"
-    yield warned("few relays", with_value("k", "2"), SUMMARY.replace("k 1 ", "k 2 "), few)
-    yield warned("nobody is listed", with_value("k", "8", ALONE), SUMMARY_ALONE.replace("k 1 ", "k 8 "))
+    yield good("few relays", with_value("k", "2"), SUMMARY.replace("k 1 ", "k 2 "), few)
+    yield good("nobody is listed", with_value("k", "8", ALONE), SUMMARY_ALONE.replace("k 1 ", "k 8 "))
     long = with_value("period", "1441", with_value("tick_ms", "60000", with_value("journal", "100000")))
     wanted = SUMMARY.replace(
         "period 3 tick_ms 1000 last 0 journal 1000", "period 1441 tick_ms 60000 last 0 journal 100000"
     )
-    yield warned("more than a day", long, wanted, "a period has 86460000 milliseconds, which is beyond a day")
-    yield warned("a day", long.replace("1441", "1440"), wanted.replace("1441", "1440"))
+    yield good("more than a day", long, wanted, "a period has 86460000 milliseconds, which is beyond a day")
+    yield good("a day", long.replace("1441", "1440"), wanted.replace("1441", "1440"))
     ticks = lambda rtt, tick_ms: with_value("rtt", rtt, with_value("period", "9", with_value("tick_ms", tick_ms)))
     numbers = lambda rtt, tick_ms: SUMMARY.replace(
         "rtt 1 period 3 tick_ms 1000", f"rtt {rtt} period 9 tick_ms {tick_ms}"
     )
     waits = "rtt has {} milliseconds, which is below 10"
-    yield warned("an rtt of nine milliseconds", ticks("3", "3"), numbers(3, 3), waits.format(9))
-    yield warned("an rtt of ten in two ticks", ticks("2", "5"), numbers(2, 5))
+    yield good("an rtt of nine milliseconds", ticks("3", "3"), numbers(3, 3), waits.format(9))
+    yield good("an rtt of ten in two ticks", ticks("2", "5"), numbers(2, 5))
     one = "rtt is one tick of {} milliseconds, which is below 20"
-    yield warned("one tick of 19", ticks("1", "19"), numbers(1, 19), one.format(19))
-    yield warned("one tick of 20", ticks("1", "20"), numbers(1, 20))
-    yield warned("one tick of nine", ticks("1", "9"), numbers(1, 9), waits.format(9), one.format(9))
+    yield good("one tick of 19", ticks("1", "19"), numbers(1, 19), one.format(19))
+    yield good("one tick of 20", ticks("1", "20"), numbers(1, 20))
+    yield good("one tick of nine", ticks("1", "9"), numbers(1, 9), waits.format(9), one.format(9))
     three = with_value("k", "0", ALONE) + numbered_members(2, 3)
     told_of = lambda count: SUMMARY_ALONE.replace("k 1 ", "k 0 ").replace("members 0", f"members {count}") + "".join(
         f"{id} 10.0.0.2:{id}\n" for id in range(2, 2 + count)
     )
     nobody = "k is 0, so that none of 3 members is asked to relay"
-    yield warned("three members and no relay", three, told_of(3), nobody)
-    yield warned("two", with_value("k", "0", ALONE) + numbered_members(2, 2), told_of(2))
+    yield good("three members and no relay", three, told_of(3), nobody)
+    yield good("two", with_value("k", "0", ALONE) + numbered_members(2, 2), told_of(2))
+    yield from verdicts()
     plain = with_value("seed", '"' + "a5" * 32 + '"')
-    yield warned("one byte", plain, SUMMARY, "seed is one byte again and again, which anybody may guess")
-    yield warned("one digit but the last", with_value("seed", '"' + "1" * 63 + '2"'), SUMMARY)
-    told = lambda count: SUMMARY.replace(" last 0 journal 1000", f" journal 1000 keys {count}")
+    yield good("one byte", plain, SUMMARY, "seed is one byte again and again, which anybody may guess")
+    yield good("one digit but the last", with_value("seed", '"' + "1" * 63 + '2"'), SUMMARY)
+    told = lambda *keys: SUMMARY.replace(
+        " last 0 journal 1000\n", f" journal 1000 keys {len(keys)}\n{key_lines(*keys)}"
+    )
     plain_key = "a key of the group is one byte again and again, which anybody may guess"
-    yield warned("a key of zeros", with_keys(f"keys = ['{'0' * 64}']"), told(1), plain_key)
-    yield warned("the second key", with_keys(f"keys = ['{SEED}', '{'aA' * 32}']"), told(2), plain_key)
-    yield warned("two such keys", with_keys(f"keys = ['{'00' * 32}', '{'11' * 32}']"), told(2), plain_key)
-    yield warned("a key of 16 bytes again", with_keys(f"keys = ['{'5c' * 16}{'5d' * 16}']"), told(1))
-    yield warned("one byte but the last", with_keys(f"keys = ['{'5c' * 31}5d']"), told(1))
+    yield good("a key of zeros", with_keys(f"keys = ['{'0' * 64}']"), told("0" * 64), plain_key)
+    yield good("the second key", with_keys(f"keys = ['{SEED}', '{'aA' * 32}']"), told(SEED, "aa" * 32), plain_key)
+    two = with_keys(f"keys = ['{'00' * 32}', '{'11' * 32}']")
+    yield good("two such keys", two, told("00" * 32, "11" * 32), plain_key)
+    yield good("a key of 16 bytes again", with_keys(f"keys = ['{'5c' * 16}{'5d' * 16}']"), told("5c" * 16 + "5d" * 16))
+    yield good("one byte but the last", with_keys(f"keys = ['{'5c' * 31}5d']"), told("5c" * 31 + "5d"))
     both = with_keys(f"keys = ['{'0' * 64}']", plain)
     plain_seed = "seed is one byte again and again, which anybody may guess"
-    yield warned("a seed and a key", both, told(1), plain_seed, plain_key)
+    yield good("a seed and a key", both, told("0" * 64), plain_seed, plain_key)
     folder = SUMMARY.replace("\nk 1 ", "\njournal_dir /tmp/swimd.sock/\nk 1 ")
     folder = folder.replace("\nmembers", "\njournal_keep 16\nmembers")
-    yield warned("a folder that is spelt otherwise", with_keys("journal_dir = '/tmp/swimd.sock/'"), folder)
+    yield good("a folder that is spelt otherwise", with_keys("journal_dir = '/tmp/swimd.sock/'"), folder)
+
+
+def verdicts():
+    """All warnings of a few configurations, word for word."""
+    said = lambda *lines: "".join(f"warning: {it}\n" for it in lines).encode()
+    told = lambda more, k="k 1 ", whole=SUMMARY: whole.replace("k 1 ", k).replace(
+        "journal 1000\n", f"journal 1000{more}\n"
+    ).encode()
+    for name, lines, numbers, wanted in (
+        ("neither", "# none", "", [WIRE, REJOIN]),
+        ("version 1 and no knocks", "wire = 1\nrejoin = 0", " rejoin 0", [WIRE, REJOIN]),
+        ("version 2", "wire = 2", " wire 2", [REJOIN]),
+        ("knocks", "rejoin = 1", " rejoin 1", [WIRE]),
+        ("both", "wire = 2\nrejoin = 3", " wire 2 rejoin 3", []),
+    ):
+        yield f"`wire` and `rejoin`: {name}", with_keys(lines).encode(), told(numbers), said(*wanted), 0
+    no_relays = with_value("k", "0")
+    yield "version 1 and no relays", no_relays.encode(), told("", "k 0 "), said(REJOIN), 0
+    yield "nobody to bring back", ALONE.encode(), told("", whole=SUMMARY_ALONE), said(WIRE), 0
 
 
 def worked_causes():

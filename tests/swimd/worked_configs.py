@@ -4,6 +4,7 @@
 BELOW, any lines may stand there that begin with two spaces; those of worked_causes.py are known.
 """
 
+import hashlib
 import re
 
 # Where this ends what is expected on standard error, any lines may stand that begin with two spaces.
@@ -40,6 +41,10 @@ members 2
 """
 ALONE = FULL.split("\n\n", 1)[0] + "\n"
 SUMMARY_ALONE = SUMMARY.split("members", 1)[0] + "members 0\n"
+WIRE = "wire is 1, so that a relay that judged a member is no path to it"
+REJOIN = "rejoin is 0, so that only an operator's join brings a failed member back"
+# How the warnings end that stand behind these.
+GUESSED = "which anybody may guess"
 LINES = {line.split(" = ")[0]: line for line in ALONE.splitlines()}
 
 
@@ -54,7 +59,17 @@ def is_as(found, wanted):
 
 
 def good(name, document, stdout, *warnings):
-    return name, document.encode(), stdout.encode(), "".join(f"warning: {it}\n" for it in warnings).encode(), 0
+    lines = with_unsaid(stdout, warnings)
+    return name, document.encode(), stdout.encode(), "".join(f"warning: {it}\n" for it in lines).encode(), 0
+
+
+def with_unsaid(stdout, warnings):
+    """These warnings, and in their place those of `wire` and `rejoin`, which most of these configurations leave out:
+    what the summary has to tell of the two, of `k` and of the members says whether they apply."""
+    unsaid = [WIRE] if "\nk 0 " not in stdout and " wire 2" not in stdout else []
+    unsaid += [REJOIN] if not re.search(" rejoin [1-9]|\nmembers 0\n", stdout) else []
+    guesses = [it for it in warnings if it.endswith(GUESSED)]
+    return [*(it for it in warnings if it not in guesses), *unsaid, *guesses]
 
 
 def bad(name, document, fault):
@@ -184,22 +199,35 @@ def versions():
     yield bad("a version of a member", FULL + "wire = 2\n", "3")
 
 
+def key_lines(*keys):
+    """The lines of the summary that tell these keys by their fingerprints."""
+    return "".join(f"key {hashlib.sha256(bytes.fromhex(it)).hexdigest()[:8]}\n" for it in keys)
+
+
 def group_keys():
-    """How many keys there are stands behind the version. Where the last number isn't given it is the clock's, and isn't
-    told."""
+    """How many keys there are stands behind the version, and their fingerprints before the members. Where the last
+    number isn't given it is the clock's, and isn't told."""
     one, other = "0123456789abcdefABCDEF9876543210" * 2, "f" * 63 + "e"
-    told = lambda keys, last="": with_summary(" last 0 journal 1000\n", f"{last} journal 1000{keys}\n")
-    yield good("a key", with_keys(f'keys = ["{one}"]'), told(" keys 1"))
+    told = lambda numbers, *keys: with_summary(" last 0 journal 1000\n", f"{numbers}\n{key_lines(*keys)}")
+    yield good("a key", with_keys(f'keys = ["{one}"]'), told(" journal 1000 keys 1", one))
     yield good(
         "two keys, and the last number",
         with_keys(f"keys = ['{one}', '{other}',]\nlast = 7"),
-        told(" keys 2", " last 7"),
+        told(" last 7 journal 1000 keys 2", one, other),
     )
-    yield good("a key, and the last number 0", with_keys(f'last = 0\nkeys = ["{one}"]'), told(" keys 1", " last 0"))
+    yield good(
+        "a key, and the last number 0",
+        with_keys(f'last = 0\nkeys = ["{one}"]'),
+        told(" last 0 journal 1000 keys 1", one),
+    )
+    # by sha256sum
+    known = with_summary(" last 0 journal 1000\n", " journal 1000 keys 2\nkey 8f0fcf6e\nkey c4032731\n")
+    yield good("fingerprints that are known", with_keys(f"keys = ['{one}', '{other}']"), known)
     lines = f'keys = [ # signs\n  "{other}",\n  # the old ones\n  "{one}", "{one}", """{other}"""\n]\nwire = 2'
-    yield good("four keys, and version 2", with_keys(lines), told(" wire 2 keys 4"))
-    files = told(" keys 1").replace("\nk 1 ", "\njournal_dir files\nk 1 ").replace(
-        "\nmembers", "\njournal_keep 16\nmembers"
+    four = told(" journal 1000 wire 2 keys 4", other, one, one, other)
+    yield good("four keys, and version 2", with_keys(lines), four)
+    files = told(" journal 1000 keys 1", one).replace("\nk 1 ", "\njournal_dir files\nk 1 ").replace(
+        "\nkey ", "\njournal_keep 16\nkey "
     )
     yield good("a key, and a folder", with_keys(f'journal_dir = "files"\nkeys = ["{one}"]'), files)
     for text in ("1", "true", f'"{one}"', "{}", "[1]", f'["{one}", 1]', f'[["{one}"]]', "[1, 2, 3, 4, 5]", '["", 1]'):
@@ -242,7 +270,7 @@ def fences():
         flood(4294967295, 77_309_411_310),
     )
     one = "0123456789abcdefABCDEF9876543210" * 2
-    among = with_summary(" last 0 journal 1000\n", " journal 1000 wire 2 keys 1 fence 7\n")
+    among = with_summary(" last 0 journal 1000\n", f" journal 1000 wire 2 keys 1 fence 7\n{key_lines(one)}")
     yield good("a fence, a key and version 2", with_keys(f'fence = 7\nkeys = ["{one}"]\nwire = 2'), among)
     files = told(" fence 7").replace("\nk 1 ", "\njournal_dir files\nk 1 ").replace(
         "\nmembers", "\njournal_keep 16\nmembers"

@@ -1,7 +1,9 @@
-"""Configurations with keys that may be left out: how often failed members are knocked at, and the paths of the events'
-socket and of the metrics' file. What is taken, where it stands in a summary, and faults, all worked out by hand."""
+"""Configurations with keys that may be left out: how often failed members are knocked at, the paths of the events'
+socket and of the metrics' file, and the modes of the sockets. What is taken, where it stands in a summary, and faults,
+all worked out by hand."""
 
-from tests.swimd.worked_configs import FULL, bad, good, with_keys, with_member, with_summary, with_value
+from tests.swimd.worked_configs import FULL, bad, good, key_lines
+from tests.swimd.worked_configs import with_keys, with_member, with_summary, with_value
 
 
 def rejoins():
@@ -14,7 +16,7 @@ def rejoins():
     for text in ("1_0", "0xa", "+10", "0b1010"):
         yield good(f"`rejoin` is {text}", with_keys(f"rejoin = {text}"), told(" rejoin 10"))
     one = "0123456789abcdefABCDEF9876543210" * 2
-    among = with_summary(" last 0 journal 1000\n", " journal 1000 wire 2 keys 1 fence 7 rejoin 3\n")
+    among = with_summary(" last 0 journal 1000\n", f" journal 1000 wire 2 keys 1 fence 7 rejoin 3\n{key_lines(one)}")
     document = with_keys(f'rejoin = 3\nfence = 7\nkeys = ["{one}"]\nwire = 2')
     yield good("knocks, a fence, a key and version 2", document, among)
     files = told(" rejoin 3").replace("\nk 1 ", "\njournal_dir files\nk 1 ").replace(
@@ -89,6 +91,37 @@ def metrics():
     yield bad("metrics of a member", FULL + 'metrics = "m"\n', "3")
 
 
+def modes():
+    """The modes of the sockets stand behind the paths of events and metrics, where they are given."""
+    told = lambda lines: with_summary("\nk 1 ", f"\n{lines}\nk 1 ")
+    for key in ("control_mode", "events_mode"):
+        for mode in ("0600", "0660", "0666", "0000", "0777", "0712"):
+            yield good(f"`{key}` is {mode}", with_keys(f'{key} = "{mode}"'), told(f"{key} {mode}"))
+        yield good(f"`{key}` by an escape", with_keys(f'{key} = "06\\u00340"'), told(f"{key} 0640"))
+        for text in ("660", "0660", "0o660", "true", "[]", "{}", "2020-01-01", '["0660"]'):
+            fault = "2" if text == "0660" else f"5 {key}"
+            yield bad(f"`{key}` is {text}", with_keys(f"{key} = {text}"), fault)
+        texts = ["", "660", "00660", "1660", "0680", "0668"]
+        texts += ["0o660", "rw-rw----", "0660 ", " 660", "066\\n", "066\u0660"]
+        for text in texts:
+            yield bad(f"`{key}` is {text!r} in quotes", with_keys(f'{key} = "{text}"'), f"6 {key}")
+        yield bad(f"`{key}` is a table", FULL + f"\n[{key}]\n", f"5 {key}")
+        yield bad(f"`{key}` twice", with_keys(f'{key} = "0600"\n{key} = "0600"'), "2")
+        yield bad(f"metrics before `{key}`", with_keys(f'{key} = ""\nmetrics = ""'), "6 metrics")
+        yield bad(f"`{key}` before k", with_keys(f'{key} = ""', with_value("k", "-1")), f"6 {key}")
+        yield bad(f"`{key}` of a member", FULL + f'{key} = "0600"\n', "3")
+    first = with_keys('events_mode = 1\ncontrol_mode = ""')
+    yield bad("the mode of control before that of events", first, "6 control_mode")
+    both = told("control_mode 0640\nevents_mode 0606")
+    yield good("both modes", with_keys('events_mode = "0606"\ncontrol_mode = "0640"'), both)
+    paths = told("events e\nmetrics m\ncontrol_mode 0640\nevents_mode 0606\njournal_dir files")
+    paths = paths.replace("\nmembers", "\njournal_keep 16\nmembers")
+    lines = "journal_dir = 'files'\nevents_mode = '0606'\nmetrics = 'm'\ncontrol_mode = '0640'\nevents = 'e'"
+    yield good("both modes, and all paths", with_keys(lines), paths)
+    for name in ("mode", "control-mode", "Control_mode", "event_mode", "metrics_mode", "control_modes"):
+        yield bad(f"`{name}`", with_keys(f'{name} = "0600"'), "3")
+
+
 def worked_options():
-    for part in (rejoins, events, metrics):
+    for part in (rejoins, events, metrics, modes):
         yield from part()

@@ -146,16 +146,32 @@ def the_example_of_swimsim_is_right(programs, _prefix):
 def the_summary_in_the_page_of_swimd_is_right(programs, _prefix):
     """It is that of the configuration which was worked out by hand."""
     found = re.search(rb"^\.RS\n(id .*?)^\.RE", content(f"{TOP}/man/swimd.1"), re.DOTALL | re.MULTILINE)
-    return played([programs["swimd"], "check"], FULL.encode(), found[1]) if found else ["its page has none"]
+    if not found:
+        return ["its page has none"]
+    ran = subprocess.run([programs["swimd"], "check"], input=FULL.encode(), capture_output=True, timeout=SECONDS)
+    return [] if (ran.stdout, ran.returncode) == (found[1], 0) else [f"it writes {ran.stdout!r}"]
+
+
+def drop_ins():
+    """The lines that docs/OPERATING.md has for a service, by the paths that it gives them."""
+    text = content(f"{TOP}/docs/OPERATING.md").decode()
+    for found in re.finditer(r"/(swimd\.service\.d/\w+\.conf)\b", text):
+        lines = re.search(r"(?m)(?:^    .*\n)+", text[found.end() :])
+        yield found[1], lines[0].replace("    ", "")
 
 
 def the_service_is_read_without_a_warning(programs, _prefix):
-    """A path of a service has no space in it."""
+    """With the lines that docs/OPERATING.md has for it, too. A path of a service has no space in it."""
     if not shutil.which("systemd-analyze"):
         leave_out("systemd-analyze is not on PATH, so the service was not read")
         return []
     with tempfile.TemporaryDirectory(prefix="swimd-install-") as prefix:
         said = make(programs, "install", PREFIX=prefix)
+        for name, lines in drop_ins():
+            path = f"{prefix}/lib/systemd/system/{name}"
+            os.makedirs(os.path.dirname(path), exist_ok=True)
+            with open(path, "w", encoding="utf-8") as file:
+                file.write(lines.replace("/usr/local", prefix))
         words = ["systemd-analyze", "verify", "--man=no", *(f"{prefix}/{it}" for it in SERVICES)]
         ran = subprocess.run(words, capture_output=True, text=True, timeout=SECONDS)
     return said + ([ran.stderr or "it is refused"] if ran.returncode or ran.stderr else [])

@@ -8,7 +8,7 @@ use Rattle.swim_history.specs.declared.openings.OpeningFault.TheVariants.{Relays
 use Rattle.swim_config.specs.declared.config_fault.ConfigFault.{ConfigFault}
 use Rattle.swim_config.specs.declared.config_fault.ConfigFault.TheVariants as faults
 use Rattle.swim_config.specs.declared.keys.ValueForm.{ValueForm}
-use Rattle.swim_config.specs.declared.keys.ValueForm.TheVariants.{Number, Peer, Path, Seed, Keys, Members}
+use Rattle.swim_config.specs.declared.keys.ValueForm.TheVariants.{Number, Peer, Path, Mode, Seed, Keys, Members}
 use Rattle.swim_config.specs.declared.keys.ConfigKey.{ConfigKey}
 use Rattle.swim_config.specs.declared.keys.ConfigKey.TheVariants as keys
 use Rattle.swim_config.specs.Configuration.{is_printing}
@@ -56,6 +56,7 @@ form_then (Number least most) rest =
     codes "an integer from " ++ (decimal least ++ (codes " to " ++ (decimal most ++ rest)))
 form_then Peer rest = codes "a string IP:PORT, as 10.0.0.1:7000" ++ rest
 form_then Path rest = codes "a string of 1 to 100 characters of ASCII that print" ++ rest
+form_then Mode rest = codes "a string of a 0 and 3 octal digits, as 0660" ++ rest
 form_then Seed rest = codes "a string of 64 hexadecimal digits" ++ rest
 form_then Keys rest = codes "an array of 1 to 4 strings of 64 hexadecimal digits" ++ rest
 form_then Members rest = codes "an array of tables, each with id and at" ++ rest

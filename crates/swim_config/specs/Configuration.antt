@@ -33,6 +33,7 @@ use Rattle.swim_config.specs.declared.config.JournalFiles.{JournalFiles}
 use Rattle.swim_config.specs.declared.config.Settings.{Settings}
 use Rattle.swim_config.specs.GroupKeys.{keys_at}
 use Rattle.swim_config.specs.Keys.{name_of, form_of, default_of, top_keys, member_keys}
+use Rattle.swim_config.specs.Modes.{modes_in}
 
 -- ---- keys
 
@@ -254,6 +255,7 @@ rejoin_in table = do
 unfoldable pub settings_in : Members → Result Settings ConfigFault
 settings_in table = do
   place ← place_in table
+  modes ← modes_in table
   times ← times_in table
   journal_settings ← journal_settings_in table
   version ← version_in table
@@ -263,6 +265,7 @@ settings_in table = do
   files ← files_in place table
   Ok (record {
     place = place;
+    modes = modes;
     times = times;
     journal_settings = journal_settings;
     version = version;
@@ -290,6 +293,7 @@ config_unless None s opening =
       control = s.place.control;
       events = s.place.events;
       metrics = s.place.metrics;
+      modes = s.modes;
       tick_ms = s.times.tick_ms;
       seed = s.journal_settings.seed;
       journal = s.journal_settings.journal;

@@ -19,7 +19,7 @@ use Rattle.swim_config.specs.Keys.{form_of, about_of}
 use Rattle.swim_config.specs.declared.config_fault.ConfigFault.{ConfigFault}
 use Rattle.swim_config.specs.declared.config_fault.ConfigFault.TheVariants as faults
 use Rattle.swim_config.specs.declared.keys.ValueForm.{ValueForm}
-use Rattle.swim_config.specs.declared.keys.ValueForm.TheVariants.{Number, Peer, Path, Seed, Keys, Members}
+use Rattle.swim_config.specs.declared.keys.ValueForm.TheVariants.{Number, Peer, Path, Mode, Seed, Keys, Members}
 use Rattle.swim_config.specs.declared.keys.ConfigKey.{ConfigKey}
 use Rattle.swim_config.specs.declared.keys.ConfigKey.TheVariants as keys
 
@@ -132,6 +132,8 @@ form_indented (Number least most) about fits prints = number_expected least most
 form_indented Peer about fits prints = words_expected (codes "a string IP:PORT, as 10.0.0.1:7000") about refl prints
 form_indented Path about fits prints =
     words_expected (codes "a string of 1 to 100 characters of ASCII that print") about refl prints
+form_indented Mode about fits prints =
+    words_expected (codes "a string of a 0 and 3 octal digits, as 0660") about refl prints
 form_indented Seed about fits prints = words_expected (codes "a string of 64 hexadecimal digits") about refl prints
 form_indented Keys about fits prints =
     words_expected (codes "an array of 1 to 4 strings of 64 hexadecimal digits") about refl prints

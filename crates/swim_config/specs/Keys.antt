@@ -1,7 +1,7 @@
 -- The keys of a configuration, as one table.
 use Rattle.std.specs.Prelude.{ℕ, Bool, true, false, List, [], ◌∷◌, Option, Some, None, codes}
 use Rattle.swim_config.specs.declared.keys.ValueForm.{ValueForm}
-use Rattle.swim_config.specs.declared.keys.ValueForm.TheVariants.{Number, Peer, Path, Seed, Keys, Members}
+use Rattle.swim_config.specs.declared.keys.ValueForm.TheVariants.{Number, Peer, Path, Mode, Seed, Keys, Members}
 use Rattle.swim_config.specs.declared.keys.ConfigKey.{ConfigKey}
 use Rattle.swim_config.specs.declared.keys.ConfigKey.TheVariants as keys
 
@@ -27,6 +27,8 @@ entry_of keys.Listen = required (codes "listen") Peer (codes "where its datagram
 entry_of keys.Control = required (codes "control") Path (codes "the path of the control socket")
 entry_of keys.Events = required (codes "events") Path (codes "the path of the events' socket, not that of control")
 entry_of keys.Metrics = required (codes "metrics") Path (codes "the path of the metrics' file, not that of a socket")
+entry_of keys.ControlMode = required (codes "control_mode") Mode (codes "the mode of the control socket")
+entry_of keys.EventsMode = required (codes "events_mode") Mode (codes "the mode of the events' socket")
 entry_of keys.K =
     record {
       name = codes "k";
@@ -92,9 +94,9 @@ entry_of keys.MemberAt = required (codes "at") Peer (codes "where another member
 -- the keys of a configuration, and those of a member, in the order in which their faults are told
 abbrev pub top_keys : List ConfigKey
 top_keys =
-    keys.Id ∷ keys.Listen ∷ keys.Control ∷ keys.Events ∷ keys.Metrics ∷ keys.K ∷ keys.Rtt ∷ keys.Period ∷ keys.TickMs ∷
-    keys.Seed ∷ keys.Journal ∷ keys.Last ∷ keys.Wire ∷ keys.Keys ∷ keys.Fence ∷ keys.Rejoin ∷ keys.JournalDir ∷
-    keys.JournalKeep ∷ keys.Member ∷ []
+    keys.Id ∷ keys.Listen ∷ keys.Control ∷ keys.Events ∷ keys.Metrics ∷ keys.ControlMode ∷ keys.EventsMode ∷ keys.K ∷
+    keys.Rtt ∷ keys.Period ∷ keys.TickMs ∷ keys.Seed ∷ keys.Journal ∷ keys.Last ∷ keys.Wire ∷ keys.Keys ∷ keys.Fence ∷
+    keys.Rejoin ∷ keys.JournalDir ∷ keys.JournalKeep ∷ keys.Member ∷ []
 
 abbrev pub member_keys : List ConfigKey
 member_keys = keys.MemberId ∷ keys.MemberAt ∷ []

@@ -2,11 +2,13 @@ pub mod Beginnings
 pub mod Causes
 pub mod Configuration
 pub mod FaultTexts
+pub mod Fingerprints
 pub mod GroupKeys
 pub mod Hiding
 pub mod Indented
 pub mod Inputs
 pub mod Keys
+pub mod Modes
 pub mod Reading
 pub mod Summary
 pub mod Warnings

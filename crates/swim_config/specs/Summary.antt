@@ -1,11 +1,13 @@
 -- The summary of a configuration.
-use Rattle.std.specs.Prelude.{ℕ, List, [], ◌∷◌, ◌++◌, length, Option, Some, None, if◌then◌else◌, codes, decimal}
+use Rattle.std.specs.Prelude.{ℕ, ◌/◌, ◌%◌, List, [], ◌∷◌, ◌++◌, length, Option, Some, None, if◌then◌else◌}
+use Rattle.std.specs.Prelude.{codes, decimal}
 use Rattle.swim_wire.specs.Address.{address_text}
 use Rattle.swim_history.specs.Changes.{ascending}
 use Rattle.swim_history.specs.declared.rows.Row.{Row}
 use Rattle.swim_config.specs.declared.config.Config.{Config}
 use Rattle.swim_config.specs.declared.keys.ConfigKey.{ConfigKey}
 use Rattle.swim_config.specs.Configuration.{number_of}
+use Rattle.swim_config.specs.Fingerprints.{fingerprint_of}
 use Rattle.swim_config.specs.Keys.{begins_line, name_of, number_keys}
 
 -- ---- numbers
@@ -25,6 +27,17 @@ told_text config key = number_text key (number_of key config)
 abbrev pub numbers_text : Config → List ConfigKey → List ℕ
 numbers_text config [] = []
 numbers_text config (key ∷ others) = told_text config key ++ numbers_text config others
+
+-- ---- keys of the group
+
+-- the line of a key, which tells its fingerprint
+abbrev pub key_line : List ℕ → List ℕ
+key_line key = codes "\nkey " ++ fingerprint_of key
+
+-- those of all keys, in the order written
+abbrev pub keys_text : List (List ℕ) → List ℕ
+keys_text [] = []
+keys_text (key ∷ keys) = key_line key ++ keys_text keys
 
 -- ---- members
 
@@ -61,17 +74,37 @@ path_text words (Some path) = words ++ path
 abbrev pub telling_text : Config → List ℕ
 telling_text config = path_text (codes "\nevents ") config.events ++ path_text (codes "\nmetrics ") config.metrics
 
+-- the mode of a socket, if it is given: a 0, and an octal digit each of its owner, of its group and of others
+abbrev pub digits_text : List ℕ → ℕ → ℕ → ℕ → List ℕ
+digits_text words owner group others = words ++ (decimal owner ++ (decimal group ++ decimal others))
+
+abbrev pub mode_text : List ℕ → Option ℕ → List ℕ
+mode_text words None = []
+mode_text words (Some mode) = digits_text words (mode / 64) (mode / 8 % 8) (mode % 8)
+
+-- who may use the sockets
+abbrev pub modes_text : Config → List ℕ
+modes_text config =
+    mode_text (codes "\ncontrol_mode 0") config.modes.control ++ mode_text (codes "\nevents_mode 0") config.modes.events
+
 -- and where the journal files are made
+abbrev pub modes_and_dir_text : Config → List ℕ
+modes_and_dir_text config = modes_text config ++ path_text (codes "\njournal_dir ") config.files.dir
+
 abbrev pub paths_text : Config → List ℕ
-paths_text config = telling_text config ++ path_text (codes "\njournal_dir ") config.files.dir
+paths_text config = telling_text config ++ modes_and_dir_text config
 
 -- all of that
 abbrev pub place_text : Config → List ℕ
 place_text config = own_text config ++ paths_text config
 
+-- the keys of the group, and what follows
+abbrev pub keys_and_members_text : Config → List ℕ
+keys_and_members_text config = keys_text config.keys.items ++ all_members_text config.opening.rows
+
 -- the numbers, and what follows
 abbrev pub numbers_and_members_text : Config → List ℕ
-numbers_and_members_text config = numbers_text config number_keys ++ all_members_text config.opening.rows
+numbers_and_members_text config = numbers_text config number_keys ++ keys_and_members_text config
 
 abbrev pub summary_text : Config → List ℕ
 summary_text config = place_text config ++ numbers_and_members_text config

@@ -1,10 +1,12 @@
 -- What a configuration allows and can't work, as it is warned of.
-use Rattle.std.specs.Prelude.{ℕ, ◌+◌, ◌*◌, ◌-◌, ◌/◌, ◌^◌, min, Bool, ◌&&◌, ◌==◌, nat_lt, nat_le, List, [], ◌∷◌, ◌++◌}
-use Rattle.std.specs.Prelude.{length}
+use Rattle.std.specs.Prelude.{ℕ, ◌+◌, ◌*◌, ◌-◌, ◌/◌, ◌^◌, min, Bool, true, false, ◌&&◌, ◌==◌, nat_lt, nat_le, List}
+use Rattle.std.specs.Prelude.{[], ◌∷◌, ◌++◌, length}
 use Rattle.std.specs.Prelude.{slice_index, if◌then◌else◌, codes, decimal}
 use Rattle.std.specs.List.{list_all, list_any}
 use Rattle.std.specs.Str.{bytes_eq}
 use Rattle.swim_wire.specs.Address.{Address, address_text}
+use Rattle.swim_wire.specs.declared.messages.Version.{Version}
+use Rattle.swim_wire.specs.declared.messages.Version.TheVariants.{One, Two}
 use Rattle.swim_history.specs.Setting.{Setting}
 use Rattle.swim_history.specs.declared.rows.Row.{Row}
 use Rattle.swim_config.specs.declared.config.Config.{Config}
@@ -163,11 +165,37 @@ ticks_and_relays_text config =
 abbrev pub waits_text : Config → List ℕ
 waits_text config = short_rtt_text (rtt_ms config) ++ ticks_and_relays_text config
 
+-- ---- verdicts
+
+abbrev pub is_first : Version → Bool
+is_first One = true
+is_first Two = false
+
+-- a ping-req of version 1 names the target by its id alone: a relay that judged it sends no ping
+abbrev pub first_wire_text : Version → ℕ → List ℕ
+first_wire_text version relays =
+    text_if (is_first version && nat_lt 0 relays)
+    (codes "warning: wire is 1, so that a relay that judged a member is no path to it\n")
+
+-- members are listed, and none is knocked at
+abbrev pub no_return_text : ℕ → ℕ → List ℕ
+no_return_text rejoin members =
+    text_if (rejoin == 0 && nat_lt 0 members)
+    (codes "warning: rejoin is 0, so that only an operator's join brings a failed member back\n")
+
+abbrev pub verdicts_text : Config → List ℕ
+verdicts_text config =
+    first_wire_text config.opening.version config.opening.k ++ no_return_text config.rejoin (length config.opening.rows)
+
 -- ---- all of them
+
+-- of verdicts, and what follows
+abbrev pub verdicts_and_guesses_text : Config → List ℕ
+verdicts_and_guesses_text config = verdicts_text config ++ guesses_text config
 
 -- of waits, and what follows
 abbrev pub waits_and_guesses_text : Config → List ℕ
-waits_and_guesses_text config = waits_text config ++ guesses_text config
+waits_and_guesses_text config = waits_text config ++ verdicts_and_guesses_text config
 
 -- of the period, and what follows
 abbrev pub times_text : Config → List ℕ

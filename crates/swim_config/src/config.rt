@@ -13,6 +13,7 @@ ghost use Rattle.swim_config.specs.Configuration.{version_in};
 use crate::config_fault::ConfigFault;
 use crate::group_keys::{GroupKeys, take_keys};
 use crate::keys::ConfigKey;
+use crate::modes::{SocketModes, take_modes};
 use crate::paths::{take_dir, take_events, take_metrics};
 use crate::socket_path::SocketPath;
 use crate::values::{
@@ -33,6 +34,8 @@ pub struct Config {
     pub events: Option<SocketPath>,
     /// The path of the file where metrics are told, if they are; that of neither socket.
     pub metrics: Option<SocketPath>,
+    /// Who may use the sockets.
+    pub modes: SocketModes,
     /// How long a tick lasts, in milliseconds: 1 to 60000.
     pub tick_ms: u32,
     /// The seed of the draws.
@@ -118,6 +121,7 @@ pub struct JournalFiles {
 #[derive(Drop)]
 pub struct Settings {
     pub place: OwnPlace,
+    pub modes: SocketModes,
     pub times: Times,
     pub journal_settings: JournalSettings,
     /// The version of its own pings and ping-reqs.
@@ -220,6 +224,7 @@ pub fn take_settings(table: &Table) -> Result<Settings, ConfigFault>
     ensures { result ≡ settings_in (table_view table.now) }
 {
     let place = take_place(table)?;
+    let modes = take_modes(table)?;
     let times = take_times(table)?;
     let journal_settings = take_journal_settings(table)?;
     let version = take_version(table)?;
@@ -229,6 +234,7 @@ pub fn take_settings(table: &Table) -> Result<Settings, ConfigFault>
     let files = take_files(table, &place)?;
     Ok(Settings {
         place,
+        modes,
         times,
         journal_settings,
         version,
@@ -341,6 +347,7 @@ pub fn config_with(settings: Settings, members: &[(Id, Peer)]) -> Result<Config,
 {
     let Settings {
         place,
+        modes,
         times,
         journal_settings,
         version,
@@ -366,6 +373,7 @@ pub fn config_with(settings: Settings, members: &[(Id, Peer)]) -> Result<Config,
             control: place.control,
             events: place.events,
             metrics: place.metrics,
+            modes,
             tick_ms: times.tick_ms,
             seed,
             journal: journal_settings.journal,

@@ -2,15 +2,18 @@
 
 ghost use Rattle.std.specs.Prelude.{◌≡◌, ◌++◌, length};
 ghost use Rattle.swim_text.specs.Streams.{Puts, failures_if};
-ghost use Rattle.swim_config.specs.Summary.{all_members_text, count_text, mark_of, member_text, members_text};
-ghost use Rattle.swim_config.specs.Summary.{number_text};
+ghost use Rattle.swim_config.specs.Summary.{all_members_text, count_text, digits_text, key_line};
+ghost use Rattle.swim_config.specs.Summary.{keys_and_members_text, keys_text, mark_of, member_text, members_text};
+ghost use Rattle.swim_config.specs.Summary.{mode_text, modes_and_dir_text, modes_text, number_text};
 ghost use Rattle.swim_config.specs.Summary.{numbers_and_members_text, numbers_text, own_text, path_text, paths_text};
 ghost use Rattle.swim_config.specs.Summary.{place_text, summary_text, telling_text, told_text};
 
 use crate::config::Config;
+use crate::fingerprints::fingerprint;
 use crate::keys::{ConfigKey, NUMBER_KEYS};
 use crate::socket_path::SocketPath;
 use swim_history::{Opening, Row, table_of};
+use swim_keys::GroupKey;
 use swim_text::Sink;
 use swim_wire::{Piece, put_pieces};
 
@@ -25,7 +28,8 @@ pub fn summary<W: Sink>(config: &Config, writer: &mut W) -> bool
     put_numbers_and_members(writer, config)
 }
 
-/// Who this member is, where it listens, where events and metrics are told, and where its journal files are made.
+/// Who this member is, where it listens, where events and metrics are told, who may use its sockets, and where its
+/// journal files are made.
 fn put_place<W: Sink>(writer: &mut W, config: &Config) -> bool
     ensures bytes { Puts (W.written writer.old) (W.written writer.new) (place_text config.now) result }
     ensures failures { W.failures writer.new ≡ failures_if (W.failures writer.old) result }
@@ -52,7 +56,7 @@ fn put_own<W: Sink>(writer: &mut W, config: &Config) -> bool
     put_pieces(writer, &pieces)
 }
 
-/// Where events and metrics are told, and where the journal files are made.
+/// Where events and metrics are told, who may use the sockets, and where the journal files are made.
 fn put_paths<W: Sink>(writer: &mut W, config: &Config) -> bool
     ensures bytes { Puts (W.written writer.old) (W.written writer.new) (paths_text config.now) result }
     ensures failures { W.failures writer.new ≡ failures_if (W.failures writer.old) result }
@@ -60,7 +64,60 @@ fn put_paths<W: Sink>(writer: &mut W, config: &Config) -> bool
     if !put_telling(writer, config) {
         return false;
     }
+    put_modes_and_dir(writer, config)
+}
+
+/// Who may use the sockets, and where the journal files are made.
+fn put_modes_and_dir<W: Sink>(writer: &mut W, config: &Config) -> bool
+    ensures bytes { Puts (W.written writer.old) (W.written writer.new) (modes_and_dir_text config.now) result }
+    ensures failures { W.failures writer.new ≡ failures_if (W.failures writer.old) result }
+{
+    if !put_modes(writer, config) {
+        return false;
+    }
     put_path(writer, b"\njournal_dir ", &config.files.dir)
+}
+
+/// Who may use the sockets.
+fn put_modes<W: Sink>(writer: &mut W, config: &Config) -> bool
+    ensures bytes { Puts (W.written writer.old) (W.written writer.new) (modes_text config.now) result }
+    ensures failures { W.failures writer.new ≡ failures_if (W.failures writer.old) result }
+{
+    if !put_mode(writer, b"\ncontrol_mode 0", config.modes.control) {
+        return false;
+    }
+    put_mode(writer, b"\nevents_mode 0", config.modes.events)
+}
+
+/// A mode that may be left out, behind these words and a 0.
+fn put_mode<W: Sink>(writer: &mut W, words: &[u8], mode: Option<u32>) -> bool
+    ensures bytes { Puts (W.written writer.old) (W.written writer.new) (mode_text words.now mode) result }
+    ensures failures { W.failures writer.new ≡ failures_if (W.failures writer.old) result }
+{
+    let Some(mode) = mode else {
+        return writer.put(b"");
+    };
+    put_digits(
+        writer,
+        words,
+        u64::from(mode / 64),
+        u64::from(mode / 8 % 8),
+        u64::from(mode % 8),
+    )
+}
+
+fn put_digits<W: Sink>(writer: &mut W, words: &[u8], owner: u64, group: u64, others: u64) -> bool
+    ensures bytes { Puts (W.written writer.old) (W.written writer.new)
+        (digits_text words.now owner group others) result }
+    ensures failures { W.failures writer.new ≡ failures_if (W.failures writer.old) result }
+{
+    let pieces = [
+        Piece::Text(words),
+        Piece::Number(owner),
+        Piece::Number(group),
+        Piece::Number(others),
+    ];
+    put_pieces(writer, &pieces)
 }
 
 /// Where events are told, and where metrics are.
@@ -100,7 +157,7 @@ fn put_numbers_and_members<W: Sink>(writer: &mut W, config: &Config) -> bool
     if !put_numbers(writer, config, &NUMBER_KEYS) {
         return false;
     }
-    put_all_members(writer, &config.opening)
+    put_keys_and_members(writer, config)
 }
 
 /// The numbers of these keys, as far as they have some.
@@ -146,6 +203,40 @@ fn mark_of(key: ConfigKey) -> &'static [u8]
     ensures { result.now ≡ mark_of key }
 {
     if key.begins_line() { b"\n" } else { b" " }
+}
+
+/// The keys of the group by their fingerprints, and what follows.
+fn put_keys_and_members<W: Sink>(writer: &mut W, config: &Config) -> bool
+    ensures bytes { Puts (W.written writer.old) (W.written writer.new) (keys_and_members_text config.now) result }
+    ensures failures { W.failures writer.new ≡ failures_if (W.failures writer.old) result }
+{
+    if !put_keys(writer, config.keys.as_slice()) {
+        return false;
+    }
+    put_all_members(writer, &config.opening)
+}
+
+/// A line for each of these keys.
+fn put_keys<W: Sink>(writer: &mut W, keys: &[GroupKey]) -> bool
+    ensures bytes { Puts (W.written writer.old) (W.written writer.new) (keys_text keys.now) result }
+    ensures failures { W.failures writer.new ≡ failures_if (W.failures writer.old) result }
+{
+    let [first, others @ ..] = keys else {
+        return writer.put(b"");
+    };
+    if !put_key_line(writer, first) {
+        return false;
+    }
+    put_keys(writer, others)
+}
+
+/// The line of a key.
+fn put_key_line<W: Sink>(writer: &mut W, key: &GroupKey) -> bool
+    ensures bytes { Puts (W.written writer.old) (W.written writer.new) (key_line key.now) result }
+    ensures failures { W.failures writer.new ≡ failures_if (W.failures writer.old) result }
+{
+    let digits = fingerprint(key);
+    put_words(writer, b"\nkey ", digits.as_slice())
 }
 
 /// How many members there are, and a line for each, ascending by id.

@@ -49,6 +49,11 @@ fn put_form<W: Sink>(writer: &mut W, form: ValueForm, about: &[u8]) -> bool
             b"a string of 1 to 100 characters of ASCII that print",
             about,
         ),
+        ValueForm::Mode => put_text(
+            writer,
+            b"a string of a 0 and 3 octal digits, as 0660",
+            about,
+        ),
         ValueForm::Seed => put_text(writer, b"a string of 64 hexadecimal digits", about),
         ValueForm::Keys => put_text(
             writer,

@@ -17,6 +17,10 @@ pub enum ConfigKey {
     Events,
     /// The path of the file where metrics are told.
     Metrics,
+    /// Who may use the control socket.
+    ControlMode,
+    /// Who may use the events' socket.
+    EventsMode,
     /// How many relays are asked.
     K,
     /// For how many ticks a direct ack is waited for.
@@ -60,6 +64,8 @@ pub enum ValueForm {
     Peer,
     /// A string that is a path.
     Path,
+    /// A string that is the mode of a socket.
+    Mode,
     /// A string that is a seed.
     Seed,
     /// An array of 1 to 4 strings, each a key of the group.
@@ -84,12 +90,14 @@ struct KeyEntry {
 }
 
 /// The keys of a configuration, in the order in which their faults are told.
-pub const TOP_KEYS: [ConfigKey; 19] = [
+pub const TOP_KEYS: [ConfigKey; 21] = [
     ConfigKey::Id,
     ConfigKey::Listen,
     ConfigKey::Control,
     ConfigKey::Events,
     ConfigKey::Metrics,
+    ConfigKey::ControlMode,
+    ConfigKey::EventsMode,
     ConfigKey::K,
     ConfigKey::Rtt,
     ConfigKey::Period,
@@ -150,6 +158,16 @@ impl ConfigKey {
                 "metrics",
                 ValueForm::Path,
                 "the path of the metrics' file, not that of a socket",
+            ),
+            ConfigKey::ControlMode => required(
+                "control_mode",
+                ValueForm::Mode,
+                "the mode of the control socket",
+            ),
+            ConfigKey::EventsMode => required(
+                "events_mode",
+                ValueForm::Mode,
+                "the mode of the events' socket",
             ),
             ConfigKey::K => KeyEntry {
                 name: "k",

@@ -11,11 +11,13 @@ ghost use Rattle.swim_config.specs.Warnings.{period_ms, period_text, relays_and_
 ghost use Rattle.swim_config.specs.Warnings.{relays_text};
 ghost use Rattle.swim_config.specs.Warnings.{shared_address_text, shared_addresses_text, shared_and_more_text};
 ghost use Rattle.swim_config.specs.Warnings.{shared_line};
-ghost use Rattle.swim_config.specs.Warnings.{short_journal_text, three_rounds, times_text, waits_and_guesses_text};
+ghost use Rattle.swim_config.specs.Warnings.{short_journal_text, three_rounds, times_text};
+ghost use Rattle.swim_config.specs.Warnings.{verdicts_and_guesses_text, waits_and_guesses_text};
 ghost use Rattle.swim_config.specs.Warnings.{warnings_text};
 
 use crate::config::Config;
 use crate::guesses::put_guesses;
+use crate::verdicts::put_verdicts;
 use crate::waits::put_waits;
 use swim_history::{Opening, Row};
 use swim_text::Sink;
@@ -97,6 +99,17 @@ fn put_waits_and_guesses<W: Sink>(writer: &mut W, config: &Config) -> bool
     ensures failures { W.failures writer.new ≡ failures_if (W.failures writer.old) result }
 {
     if !put_waits(writer, config) {
+        return false;
+    }
+    put_verdicts_and_guesses(writer, config)
+}
+
+/// What a verdict takes away, and what anybody may guess.
+fn put_verdicts_and_guesses<W: Sink>(writer: &mut W, config: &Config) -> bool
+    ensures bytes { Puts (W.written writer.old) (W.written writer.new) (verdicts_and_guesses_text config.now) result }
+    ensures failures { W.failures writer.new ≡ failures_if (W.failures writer.old) result }
+{
+    if !put_verdicts(writer, config) {
         return false;
     }
     put_guesses(writer, config)

@@ -5,6 +5,7 @@ mod events;
 mod fences;
 mod hiding;
 mod keys;
+mod modes;
 mod paths;
 mod refusals;
 mod rejoins;

@@ -177,18 +177,11 @@ fn start<
             return Outcome::NoListen;
         }
     };
-    let entrance = match open_entrance(rt, alloc, &config.events, faults, details) {
+    let entrance = match open_entrance(rt, alloc, config, faults, details) {
         Ok(entrance) => entrance,
         Err(outcome) => return outcome,
     };
-    let door = match open_door(
-        rt,
-        alloc,
-        config.control.as_str(),
-        entrance.descriptors(),
-        faults,
-        details,
-    ) {
+    let door = match open_door(rt, alloc, config, entrance.descriptors(), faults, details) {
         Ok(door) => door,
         Err(outcome) => return outcome,
     };

@@ -13,7 +13,7 @@ mod journals;
 mod telling;
 
 use commands::documents::{Documents, SystemDocuments};
-use commands::program_commands::Streams;
+use commands::program_commands::{self, Streams};
 use commands::stacks::begin_on_own_stack;
 use journals::disk_workers::serve_disk;
 use std::alloc::{AllocError, Global};

@@ -1,6 +1,6 @@
 //! Causes below the lines of faults, and warnings.
 
-use super::alone::{assert_warnings, behind};
+use super::alone::{ALONE, assert_warnings, behind, joined};
 use super::assert_same;
 use std::alloc::Global;
 use std::process::Abort;
@@ -36,6 +36,8 @@ warning: member 2 is at this member's own address, 10.0.0.1:7000
 warning: members 4 and 3 are at one address, 10.0.0.4:7000
 warning: k 3 is greater than the members that could relay, 2
 warning: a period has 90000000 milliseconds, which is beyond a day
+warning: wire is 1, so that a relay that judged a member is no path to it
+warning: rejoin is 0, so that only an operator's join brings a failed member back
 warning: seed is one byte again and again, which anybody may guess
 ";
 
@@ -82,6 +84,33 @@ fn warns_of_all(rt: HostRuntime) {
 }
 
 #[test]
+fn warns_of_version_1_where_relays_are_asked(rt: HostRuntime) -> Result<(), Fail> {
+    let wire = "warning: wire is 1, so that a relay that judged a member is no path to it\n";
+    for (lines, warning) in [("", wire), ("wire = 1\n", wire), ("wire = 2\n", "")] {
+        let document = behind(rt.alloc(), lines)?;
+        assert_warnings(&rt, rt.alloc(), document.as_str(), warning);
+        let nobody = document.as_str().replace(rt.alloc(), "\nk = 1", "\nk = 0")?;
+        assert_warnings(&rt, rt.alloc(), nobody.as_str(), "");
+    }
+    Ok(())
+}
+
+#[test]
+fn warns_of_no_knocks_where_members_are_listed(rt: HostRuntime) -> Result<(), Fail> {
+    let rejoin =
+        "warning: rejoin is 0, so that only an operator's join brings a failed member back\n";
+    for (lines, warning) in [("", rejoin), ("rejoin = 0\n", rejoin), ("rejoin = 1\n", "")] {
+        let alone = joined(rt.alloc(), &["wire = 2\n", lines, ALONE])?;
+        assert_warnings(&rt, rt.alloc(), alone.as_str(), "");
+        let member = "[[member]]\nid = 2\nat = \"10.0.0.2:7000\"\n";
+        let document = joined(rt.alloc(), &[alone.as_str(), member])?;
+        let nobody = document.as_str().replace(rt.alloc(), "\nk = 1", "\nk = 0")?;
+        assert_warnings(&rt, rt.alloc(), nobody.as_str(), warning);
+    }
+    Ok(())
+}
+
+#[test]
 fn warns_of_a_key_of_one_byte(rt: HostRuntime) -> Result<(), Fail> {
     let plain =
         "warning: a key of the group is one byte again and again, which anybody may guess\n";
@@ -100,7 +129,7 @@ fn warns_of_a_key_of_one_byte(rt: HostRuntime) -> Result<(), Fail> {
             plain,
         ),
     ] {
-        let document = behind(rt.alloc(), lines)?;
+        let document = joined(rt.alloc(), &["wire = 2\n", lines, ALONE])?;
         assert_warnings(&rt, rt.alloc(), document.as_str(), warning);
     }
     Ok(())

@@ -60,10 +60,10 @@ fn another_fence_is_a_fault(rt: HostRuntime) -> Result<(), Fail> {
     Ok(())
 }
 
-/// The configuration behind these lines, with a member. It asks no relay.
+/// The configuration behind these lines, with a member, which is brought back. It asks no relay.
 fn with_a_member(alloc: Global, lines: &str) -> Result<String, Fail> {
     let member = "[[member]]\nid = 2\nat = \"10.0.0.2:7000\"\n";
-    let document = joined(alloc, &[lines, ALONE, member])?;
+    let document = joined(alloc, &["rejoin = 1\n", lines, ALONE, member])?;
     Ok(document.as_str().replace(alloc, "\nk = 1", "\nk = 0")?)
 }
 

@@ -7,7 +7,8 @@ use super::{assert_same, assert_same_at};
 use std::alloc::Global;
 use std::process::Abort;
 use std::test::Fail;
-use swim_config::Config;
+use swim_config::{Config, fingerprint};
+use swim_keys::GroupKey;
 
 /// A key, and the same with other digits in front.
 const FIRST: &str = "00112233445566778899aabbccddeeffFFEEDDCCBBAA99887766554433221100";
@@ -63,17 +64,17 @@ fn assert_key<R: Abort>(rt: &R, bytes: &[u8; 32], first: u8) {
 }
 
 #[test]
-fn a_summary_tells_how_many_keys_there_are(rt: HostRuntime) -> Result<(), Fail> {
+fn a_summary_tells_how_many_keys_there_are_and_which(rt: HostRuntime) -> Result<(), Fail> {
     for (lines, numbers) in [
         ("", " last 0 journal 1000"),
-        ("keys = [\"<1>\"]\n", " journal 1000 keys 1"),
+        ("keys = [\"<1>\"]\n", " journal 1000 keys 1\nkey ef49150b"),
         (
             "keys = [\"<2>\",\n  \"<1>\", # the old one\n]\n",
-            " journal 1000 keys 2",
+            " journal 1000 keys 2\nkey f4ac81e2\nkey ef49150b",
         ),
         (
             "keys = [\"<1>\",\"<2>\",\"<1>\",\"<2>\"]\nwire = 2\nlast = 7\n",
-            " last 7 journal 1000 wire 2 keys 4",
+            " last 7 journal 1000 wire 2 keys 4\nkey ef49150b\nkey f4ac81e2\nkey ef49150b\nkey f4ac81e2",
         ),
     ] {
         let document = behind(rt.alloc(), lines)?;
@@ -82,6 +83,17 @@ fn a_summary_tells_how_many_keys_there_are(rt: HostRuntime) -> Result<(), Fail> 
         assert_summary(&rt, rt.alloc(), &config, wanted.as_str());
     }
     Ok(())
+}
+
+/// The fingerprints are the front of what `sha256sum` says of the keys' bytes.
+#[test]
+fn a_fingerprint_tells_one_key_from_another(rt: HostRuntime) {
+    for (text, wanted) in [(FIRST, b"ef49150b"), (SECOND, b"f4ac81e2")] {
+        match GroupKey::read(text.as_bytes()) {
+            Ok(key) => assert_same_at(&rt, text, &fingerprint(&key), wanted),
+            Err(_) => panic!(rt; "a key: {text}"),
+        }
+    }
 }
 
 #[test]

@@ -4,7 +4,7 @@ ghost use Rattle.std.specs.Prelude.{◌≡◌, IfErr, IfOk};
 ghost use Rattle.swim_keeper.specs.Notices.{Notices};
 ghost use Rattle.swimd.specs.Daemon.{IsNoDoor};
 
-use crate::telling::entrances::tell_socket;
+use crate::telling::entrances::{opened, tell_socket};
 use crate::telling::notices::Notice;
 use std::alloc::Global;
 use std::fs::File;
@@ -12,16 +12,17 @@ use std::io::ErrorKind;
 use std::net::Net;
 use std::rt::{Clock, Files};
 use swim_commands::{Details, Outcome};
+use swim_config::Config;
 use swim_devices::{Place, SystemRemover, UnixDoor};
 use swim_text::Sink;
 
-/// The door at the path of the control socket, from which a stale socket is removed, or why there is none. So many
-/// descriptors are kept for others than operators.
+/// The door at the path of a configuration's control socket, from which a stale socket is removed, or why there is
+/// none. It has the mode that the configuration gives it. So many descriptors are kept for others than operators.
 #[tactic(auto, using(swim_keeper::specs::Notices::no_notices))]
 pub fn open_door<'r, R: Files<File = File> + Net + Clock, F: Sink>(
     rt: &'r R,
     alloc: Global,
-    path: &str,
+    config: &Config,
     others: usize,
     faults: &mut F,
     details: &mut Details,
@@ -31,12 +32,14 @@ pub fn open_door<'r, R: Files<File = File> + Net + Clock, F: Sink>(
     ensures notices { Notices (F.written faults.old, F.failures faults.old)
         (F.written faults.new, F.failures faults.new) }
 {
+    let path = config.control.as_str();
     let mut remover = SystemRemover {};
     let place = Place::take(rt, &mut remover, path);
     if place.is_cleared() {
         Notice::removed(rt, path).tell_notice(rt, alloc, faults);
     }
-    match UnixDoor::bind(rt, alloc, rt, path, others) {
+    let bound = UnixDoor::bind(rt, alloc, rt, path, others);
+    match opened(rt, path, config.modes.control, bound) {
         Ok(door) => Ok(door),
         Err(fault) if fault.kind() == ErrorKind::OutOfMemory => Err(Outcome::NoMemory),
         Err(fault) => {

@@ -6,12 +6,13 @@ ghost use Rattle.swimd.specs.Daemon.{IsNoEntrance};
 
 use crate::telling::notices::Notice;
 use std::alloc::Global;
-use std::fs::File;
-use std::io;
+use std::fs::{File, Permissions};
 use std::net::Net;
+use std::os::unix::fs::PermissionsExt;
 use std::rt::{Clock, Files};
+use std::{fs, io};
 use swim_commands::{Details, Outcome, words_why};
-use swim_config::SocketPath;
+use swim_config::{Config, SocketPath};
 use swim_devices::{Place, Sight, SystemRemover, UnixEntrance};
 use swim_events::{Event, Gallery, Outlet};
 use swim_text::Sink;
@@ -31,13 +32,13 @@ pub fn pause_ms(events: &Option<SocketPath>) -> u32 {
     }
 }
 
-/// The entrance at the path of the events' socket, from which a stale socket is removed, or why there is none. Where no
-/// path is given it is closed.
+/// The entrance at the path of a configuration's events' socket, from which a stale socket is removed, or why there is
+/// none. It has the mode that the configuration gives it. Where no path is given it is closed.
 #[tactic(auto, using(swim_keeper::specs::Notices::no_notices))]
 pub fn open_entrance<'r, R: Files<File = File> + Net + Clock, F: Sink>(
     rt: &'r R,
     alloc: Global,
-    events: &Option<SocketPath>,
+    config: &Config,
     faults: &mut F,
     details: &mut Details,
 ) -> Result<UnixEntrance<&'r R>, Outcome>
@@ -46,18 +47,20 @@ pub fn open_entrance<'r, R: Files<File = File> + Net + Clock, F: Sink>(
     ensures notices { Notices (F.written faults.old, F.failures faults.old)
         (F.written faults.new, F.failures faults.new) }
 {
-    match events {
+    let mode = config.modes.events;
+    match &config.events {
         None => Ok(UnixEntrance::closed(rt)),
-        Some(path) => bind_entrance(rt, alloc, path.as_str(), faults, details),
+        Some(path) => bind_entrance(rt, alloc, path.as_str(), mode, faults, details),
     }
 }
 
-/// The entrance at a path, from which a stale socket is removed.
+/// The entrance at a path, from which a stale socket is removed, with this mode.
 #[tactic(auto, using(swim_keeper::specs::Notices::no_notices))]
 fn bind_entrance<'r, R: Files<File = File> + Net + Clock, F: Sink>(
     rt: &'r R,
     alloc: Global,
     path: &str,
+    mode: Option<u32>,
     faults: &mut F,
     details: &mut Details,
 ) -> Result<UnixEntrance<&'r R>, Outcome>
@@ -71,13 +74,27 @@ fn bind_entrance<'r, R: Files<File = File> + Net + Clock, F: Sink>(
     if place.is_cleared() {
         Notice::removed(rt, path).tell_notice(rt, alloc, faults);
     }
-    match UnixEntrance::bind(rt, alloc, rt, path) {
+    match opened(rt, path, mode, UnixEntrance::bind(rt, alloc, rt, path)) {
         Ok(entrance) => Ok(entrance),
         Err(fault) => {
             tell_socket(path, &fault, place.sight(), details);
             Err(Outcome::NoEvents)
         }
     }
+}
+
+/// What was bound at a path, once its socket has this mode, if one is given. Until then it is its owner's alone.
+pub fn opened<R: Files, T: Drop>(
+    rt: &R,
+    path: &str,
+    mode: Option<u32>,
+    bound: io::Result<T>,
+) -> io::Result<T> {
+    let bound = bound?;
+    if let Some(mode) = mode {
+        fs::set_permissions(rt, path, Permissions::from_mode(mode))?;
+    }
+    Ok(bound)
 }
 
 /// Tells why a socket can't be bound at a path, and what stands there.

@@ -19,8 +19,9 @@ use std::net::Net;
 use std::rt::Clock;
 use std::sync::Wait;
 use swim_commands::{TEXT_BYTES, VERSION, add_printed};
-use swim_config::Config;
+use swim_config::{Config, fingerprint};
 use swim_keeper::Herald;
+use swim_keys::GroupKey;
 use swim_streams::{STANDARD_ERROR, is_taken};
 use swim_text::Sink;
 use swim_trail::Trail;
@@ -79,7 +80,8 @@ impl Notice {
         notice
     }
 
-    /// That a daemon of this configuration listens: what it is, and the period in milliseconds.
+    /// That a daemon of this configuration listens: what it is, the period in milliseconds, and the fingerprints of the
+    /// group's keys, if it has some.
     pub fn listens<K: Clock>(clock: &K, config: &Config) -> Notice {
         let opening = &config.opening;
         let address = config.listen.write();
@@ -95,7 +97,19 @@ impl Notice {
             opening.rows().len(),
             period_ms
         );
+        notice.add_keys(config.keys.as_slice());
         notice
+    }
+
+    /// Adds the fingerprints of these keys, in their order.
+    fn add_keys(&mut self, keys: &[GroupKey]) {
+        if !keys.is_empty() {
+            add_printed(&mut self.text, b" keys");
+        }
+        for key in keys {
+            add_printed(&mut self.text, b" ");
+            add_printed(&mut self.text, &fingerprint(key));
+        }
     }
 
     /// That a journal file isn't whole, and why.

@@ -6,6 +6,9 @@ returns-in-Peer-clause-bytes g c = rw c.in-Peer.is c.put_text.ensures.bytes
 pub returns-in-Path-clause-bytes : goal.returns-in-Path-clause-bytes
 returns-in-Path-clause-bytes g c = rw c.in-Path.is c.put_text-in-Path.ensures.bytes
 
+pub returns-in-Mode-clause-bytes : goal.returns-in-Mode-clause-bytes
+returns-in-Mode-clause-bytes g c = rw c.in-Mode.is c.put_text-in-Mode.ensures.bytes
+
 pub returns-in-Seed-clause-bytes : goal.returns-in-Seed-clause-bytes
 returns-in-Seed-clause-bytes g c = rw c.in-Seed.is c.put_text-in-Seed.ensures.bytes
 
