@@ -1,3 +1,4 @@
+pub mod HeadedLines
 pub mod Counted
 pub mod Sendings
 pub mod Buckets
