@@ -1,6 +1,6 @@
 //! The two ends of a connection of the control socket. Neither waits: the stream has to be one that doesn't.
 
-ghost use Rattle.std.specs.Prelude.{◌≡◌, ◌⊎◌, ◌<◌, ◌≤◌, [], ◌∷◌, ◌++◌, true, false, length, take, drop, None, Some};
+ghost use Rattle.std.specs.Prelude.{◌≡◌, ◌<◌, ◌≤◌, [], ◌∷◌, ◌++◌, true, false, length, take, drop, None, Some};
 ghost use Rattle.std.specs.Io.KnownBytes.{Keeps};
 ghost use Rattle.swim_text.specs.Streams.{Gives, Puts, failures_then, failures_if};
 ghost use Rattle.swim_text.specs.Polled.{Looks};
