@@ -7,7 +7,8 @@ from tests.support.parts import TOP, content
 CODE = re.compile(r"^```python\n(.*?)^```$", re.MULTILINE | re.DOTALL)
 ROWS = {"key": 7, "text": 6, "HMAC": 6, "datagram": 2}
 TAGGED = re.compile("\n".join(rf"^    {name} {{{spaces}}}([0-9a-f]+)$" for name, spaces in ROWS.items()), re.MULTILINE)
-TABLES = re.compile(r"^    swimd ask .* list \| (awk '.*')$", re.MULTILINE)
+TABLES = re.compile(r"^    (swimd ask .* --toml)$", re.MULTILINE)
+NAMES = re.compile(r"^\| `(fault|refused|joined) [FWP]` \| (.*) \|$", re.MULTILINE)
 TAGGING = re.compile(r"^    (printf [^\n]*\|\n {8}openssl [^\n]*)$", re.MULTILINE)
 
 
@@ -18,9 +19,16 @@ def code_in(document):
 
 
 def tables_of_members():
-    """The command of docs/OPERATING.md for a shell that makes tables of a configuration of the answer to `list`."""
+    """The command of docs/OPERATING.md that writes the member table as tables of a configuration."""
     (command,) = TABLES.findall(content(f"{TOP}/docs/OPERATING.md").decode())
     return command
+
+
+def names_of_answers(heading="Words of swimd"):
+    """The names of what answers tell by a number, by their word and that number, as docs/FORMATS.md has them below a
+    heading."""
+    text = content(f"{TOP}/docs/FORMATS.md").decode().split(f"\n## {heading}\n")[1].split("\n## ")[0]
+    return {word: dict(it.split(" ", 1) for it in names.split(", ")) for word, names in NAMES.findall(text)}
 
 
 def tagged_example():

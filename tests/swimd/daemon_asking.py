@@ -8,7 +8,7 @@ import time
 from contextlib import contextmanager
 
 from tests.support.daemons import SECONDS, come, must, until
-from tests.support.documents import tables_of_members
+from tests.support.documents import names_of_answers, tables_of_members
 from tests.swimd.daemon_lines import LISTED, MINUTE, quiet
 
 # How long a limit of one second may take on a machine that has much to do.
@@ -63,16 +63,62 @@ def a_line_of_words(machine):
     must(daemon.stop().entries == 0, "it made entries")
 
 
+def a_path_of_the_environment(machine):
+    """Without `--control` the daemon is asked whose control socket SWIMD_CONTROL names."""
+    daemon, other = quiet(machine), machine.started(9, tick_ms=MINUTE)
+    surroundings = {**os.environ, "SWIMD_CONTROL": daemon.control}
+    for words in (["list"], ["--timeout", "1", "list"]):
+        must_be(ran(daemon.program, "ask", *words, env=surroundings), (LISTED, b"", 0), f"without a path, {words}")
+    must_be(ran(daemon.program, "ask", env=surroundings, input=b"list\n"), (LISTED, b"", 0), "a line of standard input")
+    it = ran(daemon.program, "ask", "--control", other.control, "list", env=surroundings)
+    must_be(it, (b".\n", b"", 0), "a path beside that")
+
+
+def answers_with_names(machine):
+    """With `--explain` the names of docs/FORMATS.md stand behind the numbers of answers, and else they are the same."""
+    daemon = quiet(machine)
+    names = names_of_answers()
+    lines = [
+        b"no", b"join 0 1.2.3.4:5", b"join 6", b"list ", b"join 5 10.0.0.5:7000", b"join 5 10.0.0.5:7000", b"remove 9",
+        b"join 1 1.2.3.4:5", b"remove 5", b"gap 2", b"list",
+    ]
+    told = [
+        *(f"fault {it} {names['fault'][it]}" for it in "2345"),
+        *(f"refused {it} {names['refused'][it]}" for it in "241"), "removed", "gap none",
+    ]
+    out, err, status = asked(daemon, "--explain", input=b"".join(it + b"\n" for it in lines) + b"lis")
+    found = out.decode().split("\n")
+    place = found.pop(4)
+    must(re.fullmatch(rf"joined \d+ {names['joined']['P']}", place), f"a join is told {place!r}")
+    last = [*LISTED.decode().split("\n")[:-1], f"fault 6 {names['fault']['6']}", ""]
+    must_be(found, [*told, *last], "what is explained")
+    must_be((err, status), (b"", 3), "faults among what is explained")
+    must_be(asked(daemon, "--explain", "a" * 129)[0], f"fault 1 {names['fault']['1']}\n".encode(), "a long line")
+    must_be(asked(daemon, "--explain", "list"), (LISTED, b"", 0), "a list")
+    stats, plain = (asked(daemon, *it, "stats")[0] for it in (["--explain"], []))
+    first = lambda text: [it.split(b" ")[0] for it in text.split(b"\n")]
+    must_be(first(stats), first(plain), "counts")
+    must_be(asked(daemon, "--explain", "stop"), (b"stopping\n", b"", 0), "a stop")
+    must(daemon.ended().status == 0, "it ended otherwise")
+    must(names["refused"] == names_of_answers("Words of swimsim")["refused"], "swimsim has other names")
+
+
 def a_list_as_a_configuration(machine):
-    """The command of OPERATING makes tables of the answer to `list`, with which a daemon knows these members."""
+    """`ask list --toml` writes tables, with which a daemon knows the same members, and OPERATING has it so."""
     members = [(2, "10.0.0.2:7000"), (17, "10.0.0.17:7017")]
     daemon, other = machine.started(members=members, tick_ms=MINUTE), machine.daemon(1, tick_ms=MINUTE)
     listed, _, _ = asked(daemon, "list")
-    made = subprocess.run(["sh", "-c", tables_of_members()], input=listed, capture_output=True, timeout=SECONDS)
+    wanted = b"".join(f'[[member]]\nid = {id}\nat = "{at}"\n'.encode() for id, at in members)
+    must_be(asked(daemon, "list", "--toml"), (wanted, b"", 0), "the tables")
+    must_be(asked(daemon, "--explain", "--toml", "list"), (wanted, b"", 0), "the tables, explained")
+    words = tables_of_members().split(" ")
+    must(words[:3] == ["swimd", "ask", "--control"] and words[4:] == ["list", "--toml"], f"OPERATING has {words}")
     with open(other.file, "ab") as file:
-        file.write(made.stdout)
+        file.write(wanted)
     other.start()
     must_be(asked(other, "list"), (listed, b"", 0), "a daemon of those tables")
+    other.stop()
+    must_be(asked(machine.started(5, tick_ms=MINUTE), "list", "--toml"), (b"", b"", 0), "a daemon that knows nobody")
 
 
 def no_second_line(machine):
@@ -83,9 +129,9 @@ def no_second_line(machine):
     ]
     wrong += [["--timeout", it, "stop"] for it in ("-1", "1.5", "+1", "01", "", "x", "1s", "99999999999999999999")]
     wrong += [["--timeout"], ["--quiet", "stop"], ["--control", daemon.control, "stop"], ["-stop"]]
+    wrong += [["--toml", "stop"], ["--toml"], ["--toml", "list", "stop"], ["--toml", "--explain", "stop"]]
     for words in wrong:
         must_be_refused(asked(daemon, *words), words)
-    must_be_refused(ran(daemon.program, "ask", "stop"), "no path")
     must(daemon.stop().status == 0, "it ended otherwise")
 
 
@@ -278,6 +324,8 @@ def help_and_version(machine):
 
 ASKING = [
     a_line_of_words,
+    a_path_of_the_environment,
+    answers_with_names,
     a_list_as_a_configuration,
     no_second_line,
     statuses_of_answers,

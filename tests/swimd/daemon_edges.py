@@ -201,12 +201,21 @@ def refused(program, words, wanted, **streams):
 def words_that_are_refused(machine):
     daemon = machine.daemon(1)
     usage = (b"usage\n", 2)
-    for words in (["run"], ["run", "--config"], ["run", daemon.file], ["run", "--config", daemon.file, "x"], ["ask"]):
+    for words in (["run"], ["run", "--config"], ["run", daemon.file, "x"], ["run", "--config", daemon.file, "x"]):
         refused(machine.program, words, usage)
     for words in (
-        ["ask", "--control"], ["ask", daemon.control], ["run", "--control", daemon.file], ["--config", daemon.file]
+        ["ask", "--control"], ["watch", daemon.control], ["run", "--control", daemon.file], ["--config", daemon.file]
     ):
         refused(machine.program, words, usage)
+
+
+def a_file_without_an_option(machine):
+    """`run FILE` runs the daemon of that file, as `run --config FILE` does."""
+    daemon = machine.daemon(1, members=[(2, "10.0.0.2:7000")], tick_ms=MINUTE)
+    streams = {"stdin": subprocess.DEVNULL, "stdout": subprocess.PIPE, "stderr": subprocess.PIPE}
+    daemon.child = subprocess.Popen([daemon.program, "run", daemon.file], **streams, bufsize=0)
+    must(daemon.ready().states() == {2: "up"}, "it knows others")
+    must(daemon.stop().status == 0, "it ended otherwise")
 
 
 def files_that_are_refused(machine):
@@ -318,6 +327,7 @@ EDGES = [
     an_idle_daemon_sleeps,
     stop_ends_it_soon,
     words_that_are_refused,
+    a_file_without_an_option,
     files_that_are_refused,
     a_file_that_comes_in_pieces,
     sockets_that_cannot_be_bound,

@@ -61,6 +61,20 @@ def against(machine, name, serve, *words, **streams):
         server.close()
 
 
+def answers_that_are_no_tables(machine):
+    """With `--toml` what is no member table is passed on as it is, and the status says so."""
+    for answer in (b"closed\n", b"fault 2\n", b"2 10.0.0.2 up\n.\n", b'2 "\n.\n', b"0 10.0.0.2:7000 up\n.\n", b"..\n"):
+
+        def telling(server, connection, answer=answer):
+            if server.take(connection):
+                connection.sendall(answer)
+
+        found, lines, _ = against(machine, "telling", telling, "list", "--toml")
+        must_be(found, (answer, b"", 3), f"{answer} as tables")
+        must_be(lines, [b"list\n"], f"what one is asked who answers {answer}")
+        os.remove(f"{machine.folder}/telling.sock")
+
+
 def servers_that_answer_badly(machine):
     """No answer that isn't whole is passed on, nothing is asked twice, and nothing hangs."""
 
@@ -179,6 +193,7 @@ def stops_that_are_not_answered(machine):
 
 
 IMPOSTORS = [
+    answers_that_are_no_tables,
     servers_that_answer_badly,
     answers_that_do_not_come,
     one_limit_for_both,

@@ -1,5 +1,5 @@
-"""What `swimd ask` and `swimd watch` show of what others say at a path: to a terminal nothing that steers it, to
-anything else every byte."""
+"""What a terminal is shown, and what is told who types at one. Of what others say at a path `swimd ask` and `swimd
+watch` show a terminal nothing that steers it, and anything else every byte."""
 
 import os
 import pty
@@ -9,6 +9,8 @@ import time
 
 from tests.swimd.daemon_asking import must_be, ran
 from tests.swimd.daemon_impostors import Server
+from tests.swimd.daemon_lines import LISTED, quiet
+from tests.swimd.worked_configs import FULL, SUMMARY
 
 # A title, a bell, a byte 0, one of two bytes, a return, a delete; and what stands for each of these.
 STEERING = b"a\x1b]0;b\x07c\0d\xc3\xa9e\rf\x7fg~ h\n"
@@ -51,6 +53,49 @@ def answers_that_steer(machine):
         server.close()
 
 
+def answers_with_names(machine):
+    """A terminal gets the names of what answers tell by a number, and a pipe the answers alone."""
+    daemon = quiet(machine)
+    words = ["ask", "--control", daemon.control, "remove", "9"]
+    must_be(on_a_terminal(machine.program, *words, lines=1), b"refused 4 unknown\n", "to a terminal")
+    must_be(ran(machine.program, *words), (b"refused 4\n", b"", 3), "to a pipe")
+    words = ["ask", "--control", daemon.control, "list"]
+    must_be(on_a_terminal(machine.program, *words, lines=3), LISTED, "a list to a terminal")
+
+
+def typed(program, *words):
+    """What is told who types the configuration at a terminal, before anything is typed; and what is written then."""
+    ours, theirs = pty.openpty()
+    pipes = {"stdin": theirs, "stdout": subprocess.PIPE, "stderr": subprocess.PIPE}
+    with subprocess.Popen([program, *words], **pipes, bufsize=0) as child:
+        os.close(theirs)
+        try:
+            told = child.stderr.readline()
+            os.write(ours, FULL.encode() + b"\x04")
+            out, more = child.communicate(timeout=AT_ONCE)
+        finally:
+            child.kill()
+            os.close(ours)
+    return told, out, more
+
+
+def a_configuration_that_is_typed(machine):
+    """Who starts it at a terminal is told what it waits for; from a pipe nothing is told, and of a file neither."""
+    told = b"swimd waits for a configuration on standard input, up to its end; swimd --help tells its commands\n"
+    for words in ([], ["check"]):
+        must_be(typed(machine.program, *words), (told, SUMMARY.encode(), b""), f"{words} at a terminal")
+        must_be(ran(machine.program, *words, input=FULL.encode()), (SUMMARY.encode(), b"", 0), f"{words} at a pipe")
+    path = f"{machine.folder}/full.toml"
+    with open(path, "w", encoding="utf-8") as file:
+        file.write(FULL)
+    ours, theirs = pty.openpty()
+    try:
+        must_be(ran(machine.program, "check", path, stdin=theirs), (SUMMARY.encode(), b"", 0), "a file at a terminal")
+    finally:
+        os.close(ours)
+        os.close(theirs)
+
+
 def events_that_steer(machine):
     """Lines of events with such bytes."""
 
@@ -75,4 +120,4 @@ def events_that_steer(machine):
         server.close()
 
 
-SCREENS = [answers_that_steer, events_that_steer]
+SCREENS = [answers_that_steer, answers_with_names, a_configuration_that_is_typed, events_that_steer]

@@ -17,12 +17,13 @@ USAGE = b"usage\n"
 
 
 class Watch:
-    """A `swimd watch` that runs, and what it wrote."""
+    """A `swimd watch` that runs, and what it wrote. Its path is named by a word, or by the environment."""
 
-    def __init__(self, machine, path, *words):
+    def __init__(self, machine, path, *words, is_word=True):
         pipes = {"stdin": subprocess.DEVNULL, "stdout": subprocess.PIPE, "stderr": subprocess.PIPE}
+        named, surroundings = (["--events", path], None) if is_word else ([], {**os.environ, "SWIMD_EVENTS": path})
         self.child, self.text = subprocess.Popen(
-            [machine.program, "watch", "--events", path, *words], **pipes, bufsize=0
+            [machine.program, "watch", *named, *words], **pipes, env=surroundings, bufsize=0
         ), b""
         machine.watches = [*getattr(machine, "watches", []), self.child]
 
@@ -153,10 +154,13 @@ def watch_ends(machine):
         ),
         f"{ran!r}",
     )
-    for words in ([], ["--events"], [path], ["--events", path, "more"], ["--events", path, "--quiet"], ["--json"]):
+    for words in (["--events"], [path], ["--events", path, "more"], ["--events", path, "--quiet"]):
         ran = run(*words)
         must((ran.returncode, ran.stdout, first_line_of(ran.stderr)) == (2, b"", USAGE), f"with {words} it is {ran!r}")
     daemon, path = watched(machine, tick_ms=MINUTE)
+    usual = Watch(machine, path, is_word=False)
+    usual.must_write(".")
+    usual.end()
     watch = Watch(machine, path)
     watch.must_write(".")
     watch.child.stdout.close()

@@ -7,7 +7,8 @@ use Rattle.std.proofs.lemmas.List.Folds.{list_any-append}
 use Rattle.std.specs.List.{flat_map}
 use Rattle.std.specs.Io.KnownBytes.{Appends, Consumes}
 use Rattle.swim_text.specs.Streams.{appends_both, appends_none, keeps_self}
-use Rattle.swim_commands.specs.Answers.{is_refusal, is_stopping}
+use Rattle.swim_commands.specs.Answers.{is_stopping}
+use Rattle.swim_commands.specs.Forms.{is_unmet, shown}
 use Rattle.swim_commands.specs.Asking.{Asker, Asking, EndsInStop, Exchange, Grows, HasAsked, IsDone, IsStopped}
 use Rattle.swim_commands.specs.Asking.{Passes, Reads, Sent, asked_so, bytes_of, has_refusal}
 use Rattle.swim_commands.specs.Asking.{sent, stopped_so}
@@ -15,6 +16,7 @@ use Rattle.swim_commands.proofs.ControlLines.{all_taken}
 use Rattle.swim_commands.specs.declared.askers.Came.{Came}
 use Rattle.swim_commands.specs.declared.askers.Came.TheVariants as came
 use Rattle.swim_commands.specs.declared.control_lines.NextLine.TheVariants.{Line, Over, Fault}
+use Rattle.swim_commands.specs.declared.forms.Form.{Form}
 use Rattle.swim_commands.specs.declared.outcomes.Outcome.{Outcome}
 use Rattle.swim_commands.specs.declared.outcomes.Outcome.TheVariants as outcomes
 use Rattle.swim_commands.specs.declared.outcomes.Outcome.TheVariants.{AskRefused, AskTimeout, Unanswered, AskUnwritten}
@@ -48,13 +50,13 @@ grows_both (Some x) (Some y) None xs ys p q = absurd q
 grows_both (Some x) (Some y) (Some z) xs ys p q = q ∙ ap (λ l. l ++ ys) p ∙ append_assoc x xs ys
 
 -- lines were asked, and this is known of their answers
-pub record Going (old new : Asker) (refused : Bool) : Type 0 where
+pub record Going (form : Form) (old new : Asker) (refused : Bool) : Type 0 where
   pub exchanges : List Exchange
-  pub asked : HasAsked exchanges old new
-  pub refused_is : has_refusal exchanges ≡ refused
+  pub asked : HasAsked form exchanges old new
+  pub refused_is : has_refusal form exchanges ≡ refused
 
-pub none_asked : (o : Asker) → Going o o false
-none_asked o = record {
+pub none_asked : (form : Form) (o : Asker) → Going form o o false
+none_asked form o = record {
   exchanges = [];
   asked = record {
     read = consumes_none o.left;
@@ -65,40 +67,45 @@ none_asked o = record {
 }
 
 -- one exchange more
-more_asked : (exchanges : List Exchange) (e : Exchange) (o m n : Asker) → HasAsked exchanges o m →
-    Consumes m.left n.left (bytes_of e.line) → Appends m.written n.written e.answer →
-    Grows m.asked n.asked (sent e ∷ []) → HasAsked (exchanges ++ e ∷ []) o n
-more_asked exchanges e o m n has read wrote asked = record {
+more_asked : (form : Form) (exchanges : List Exchange) (e : Exchange) (o m n : Asker) → HasAsked form exchanges o m →
+    Consumes m.left n.left (bytes_of e.line) → Appends m.written n.written (shown form e.answer) →
+    Grows m.asked n.asked (sent e ∷ []) → HasAsked form (exchanges ++ e ∷ []) o n
+more_asked form exchanges e o m n has read wrote asked = record {
   read = rw (flat_map-append (λ (x : Exchange). bytes_of x.line) exchanges (e ∷ []), append-nil (bytes_of e.line))
       (consumes_both o.left m.left n.left _ (bytes_of e.line) has.read read);
-  wrote = rw (flat_map-append (λ (x : Exchange). x.answer) exchanges (e ∷ []), append-nil e.answer)
-      (appends_both o.written m.written n.written _ e.answer has.wrote wrote);
+  wrote = rw (
+    flat_map-append (λ (x : Exchange). shown form x.answer) exchanges (e ∷ []),
+    append-nil (shown form e.answer),
+  )
+      (appends_both o.written m.written n.written _ (shown form e.answer) has.wrote wrote);
   asked = rw (map-append sent exchanges (e ∷ []))
       (grows_both o.asked m.asked n.asked _ (sent e ∷ []) has.asked asked);
 }
 
 -- what a line that was answered whole came to
-pub record OneMore (old new : Asker) (refused : Bool) (answer : List ℕ) : Type 0 where
+pub record OneMore (form : Form) (old new : Asker) (refused : Bool) (answer : List ℕ) : Type 0 where
   pub before : List Exchange
   pub last : Exchange
-  pub asked : HasAsked (before ++ last ∷ []) old new
-  pub refused_is : has_refusal (before ++ last ∷ []) ≡ refused
+  pub asked : HasAsked form (before ++ last ∷ []) old new
+  pub refused_is : has_refusal form (before ++ last ∷ []) ≡ refused
   pub answer_is : last.answer ≡ answer
 
-pub one_more_asked : (o : Asker) (l1 l2 w1 w2 : Option (List ℕ)) (a1 a2 : Option (List Sent)) (line answer : List ℕ)
-    (refused more : Bool) → Going o (record { left = l1; written = w1; asked = a1 }) refused → Reads Line l1 l2 line →
-    Passes line (Ok tt) answer w1 w2 a1 a2 → more ≡ (refused || is_refusal answer) →
-    OneMore o (record { left = l2; written = w2; asked = a2 }) more answer
-one_more_asked o l1 l2 w1 w2 a1 a2 line answer refused more going (input, taken, sent_is) (whole, wrote, asked) e =
+pub one_more_asked : (form : Form) (o : Asker) (l1 l2 w1 w2 : Option (List ℕ)) (a1 a2 : Option (List Sent))
+    (line answer : List ℕ) (refused more : Bool) →
+    Going form o (record { left = l1; written = w1; asked = a1 }) refused →
+    Reads Line l1 l2 line →
+    Passes form line (Ok tt) answer w1 w2 a1 a2 → more ≡ (refused || is_unmet form answer) →
+    OneMore form o (record { left = l2; written = w2; asked = a2 }) more answer
+one_more_asked form o l1 l2 w1 w2 a1 a2 line answer refused more going (input, taken, sent_is) (whole, wrote, asked) e =
     let last : Exchange = record { line = input; answer = answer; whole = rw (← sent_is) whole } in
     record {
       before = going.exchanges;
       last = last;
-      asked = more_asked going.exchanges last o (record { left = l1; written = w1; asked = a1 })
+      asked = more_asked form going.exchanges last o (record { left = l1; written = w1; asked = a1 })
           (record { left = l2; written = w2; asked = a2 }) going.asked taken.taken wrote (rw (← sent_is) asked);
-      refused_is = list_any-append (λ (x : Exchange). is_refusal x.answer) going.exchanges (last ∷ [])
-          ∙ last_of (has_refusal going.exchanges) (is_refusal answer) ∙
-          ap (λ b. b || is_refusal answer) going.refused_is ∙ sym e;
+      refused_is = list_any-append (λ (x : Exchange). is_unmet form x.answer) going.exchanges (last ∷ [])
+          ∙ last_of (has_refusal form going.exchanges) (is_unmet form answer) ∙
+          ap (λ b. b || is_unmet form answer) going.refused_is ∙ sym e;
       answer_is = refl;
     }
   where
@@ -107,21 +114,23 @@ one_more_asked o l1 l2 w1 w2 a1 a2 line answer refused more going (input, taken,
     last_of false true = refl
     last_of false false = refl
 
-pub goes_on : (o n : Asker) (refused : Bool) (answer : List ℕ) → OneMore o n refused answer → Going o n refused
-goes_on o n refused answer more =
+pub goes_on : (form : Form) (o n : Asker) (refused : Bool) (answer : List ℕ) →
+    OneMore form o n refused answer → Going form o n refused
+goes_on form o n refused answer more =
     record { exchanges = more.before ++ more.last ∷ []; asked = more.asked; refused_is = more.refused_is }
 
 -- the ends
 
-done_so : (o n : Asker) (refused : Bool) → IsDone refused o n → Asking o n (asked_so refused)
-done_so o n true done = done
-done_so o n false done = done
+done_so : (form : Form) (o n : Asker) (refused : Bool) → IsDone form refused o n → Asking form o n (asked_so refused)
+done_so form o n true done = done
+done_so form o n false done = done
 
-pub ends_asked : (o : Asker) (l1 l2 w1 : Option (List ℕ)) (a1 : Option (List Sent)) (line : List ℕ) (refused : Bool) →
-    Going o (record { left = l1; written = w1; asked = a1 }) refused → Reads Over l1 l2 line →
-    Asking o (record { left = l2; written = w1; asked = a1 }) (asked_so refused)
-ends_asked o l1 l2 w1 a1 line refused going (over, none) =
-    done_so o (record { left = l2; written = w1; asked = a1 }) refused (record {
+pub ends_asked : (form : Form) (o : Asker) (l1 l2 w1 : Option (List ℕ)) (a1 : Option (List Sent)) (line : List ℕ)
+    (refused : Bool) →
+    Going form o (record { left = l1; written = w1; asked = a1 }) refused → Reads Over l1 l2 line →
+    Asking form o (record { left = l2; written = w1; asked = a1 }) (asked_so refused)
+ends_asked form o l1 l2 w1 a1 line refused going (over, none) =
+    done_so form o (record { left = l2; written = w1; asked = a1 }) refused (record {
       exchanges = going.exchanges;
       asked = record {
         read = rw (← append-nil (flat_map (λ (x : Exchange). bytes_of x.line) going.exchanges))
@@ -133,42 +142,46 @@ ends_asked o l1 l2 w1 a1 line refused going (over, none) =
       whole = inl (all_taken o.left l1 _ going.asked.read over);
     })
 
-pub ends_unread : (o : Asker) (l1 l2 w1 : Option (List ℕ)) (a1 : Option (List Sent)) (line : List ℕ) (refused : Bool) →
-    Going o (record { left = l1; written = w1; asked = a1 }) refused → Reads Fault l1 l2 line →
-    Asking o (record { left = l2; written = w1; asked = a1 }) AskUnread
-ends_unread o l1 l2 w1 a1 line refused going part = record {
+pub ends_unread : (form : Form) (o : Asker) (l1 l2 w1 : Option (List ℕ)) (a1 : Option (List Sent)) (line : List ℕ)
+    (refused : Bool) →
+    Going form o (record { left = l1; written = w1; asked = a1 }) refused → Reads Fault l1 l2 line →
+    Asking form o (record { left = l2; written = w1; asked = a1 }) AskUnread
+ends_unread form o l1 l2 w1 a1 line refused going part = record {
   exchanges = going.exchanges;
   mid = record { left = l1; written = w1; asked = a1 };
   asked = going.asked;
   last = record { taken = part; kept = keeps_self w1; asked = grows_none a1 };
 }
 
-pub ends_spent : (o n : Asker) (refused : Bool) → Going o n refused → Asking o n AskUnread
-ends_spent o n refused going = record {
+pub ends_spent : (form : Form) (o n : Asker) (refused : Bool) → Going form o n refused → Asking form o n AskUnread
+ends_spent form o n refused going = record {
   exchanges = going.exchanges;
   mid = n;
   asked = going.asked;
   last = record { taken = ([], consumes_none n.left, refl); kept = keeps_self n.written; asked = grows_none n.asked };
 }
 
-pub ends_broken : (o : Asker) (l1 l2 w1 w2 : Option (List ℕ)) (a1 a2 : Option (List Sent)) (line answer : List ℕ)
-    (refused : Bool) (outcome : Outcome) → Going o (record { left = l1; written = w1; asked = a1 }) refused →
-    Reads Line l1 l2 line → Passes line (Err outcome) answer w1 w2 a1 a2 →
-    Asking o (record { left = l2; written = w2; asked = a2 }) outcome
-ends_broken o l1 l2 w1 w2 a1 a2 line answer refused AskTimeout going (input, taken, sent_is) (kept, asked) =
+pub ends_broken : (form : Form) (o : Asker) (l1 l2 w1 w2 : Option (List ℕ)) (a1 a2 : Option (List Sent))
+    (line answer : List ℕ) (refused : Bool) (outcome : Outcome) →
+    Going form o (record { left = l1; written = w1; asked = a1 }) refused →
+    Reads Line l1 l2 line → Passes form line (Err outcome) answer w1 w2 a1 a2 →
+    Asking form o (record { left = l2; written = w2; asked = a2 }) outcome
+ends_broken form o l1 l2 w1 w2 a1 a2 line answer refused AskTimeout going (input, taken, sent_is) (kept, asked) =
     inl (record {
       exchanges = going.exchanges;
       mid = record { left = l1; written = w1; asked = a1 };
       asked = going.asked;
       last = record { line = input; answer = answer; taken = taken; asked = rw (← sent_is) asked; kept = kept };
     })
-ends_broken o l1 l2 w1 w2 a1 a2 line answer refused Unanswered going (input, taken, sent_is) (kept, asked) = record {
-  exchanges = going.exchanges;
-  mid = record { left = l1; written = w1; asked = a1 };
-  asked = going.asked;
-  last = record { line = input; answer = answer; taken = taken; asked = rw (← sent_is) asked; kept = kept };
-}
-ends_broken o l1 l2 w1 w2 a1 a2 line answer refused AskUnwritten going (input, taken, sent_is) (whole, wrote, asked) =
+ends_broken form o l1 l2 w1 w2 a1 a2 line answer refused Unanswered going (input, taken, sent_is)
+    (kept, asked) = record {
+      exchanges = going.exchanges;
+      mid = record { left = l1; written = w1; asked = a1 };
+      asked = going.asked;
+      last = record { line = input; answer = answer; taken = taken; asked = rw (← sent_is) asked; kept = kept };
+    }
+ends_broken form o l1 l2 w1 w2 a1 a2 line answer refused AskUnwritten going (input, taken, sent_is)
+    (whole, wrote, asked) =
     record {
       exchanges = going.exchanges;
       mid = record { left = l1; written = w1; asked = a1 };
@@ -180,32 +193,33 @@ ends_broken o l1 l2 w1 w2 a1 a2 line answer refused AskUnwritten going (input, t
         wrote = wrote;
       };
     }
-ends_broken o l1 l2 w1 w2 a1 a2 line answer refused Checked going reads passes = absurd passes
-ends_broken o l1 l2 w1 w2 a1 a2 line answer refused Stopped going reads passes = absurd passes
-ends_broken o l1 l2 w1 w2 a1 a2 line answer refused outcomes.Asked going reads passes = absurd passes
-ends_broken o l1 l2 w1 w2 a1 a2 line answer refused AskRefused going reads passes = absurd passes
-ends_broken o l1 l2 w1 w2 a1 a2 line answer refused AskUnread going reads passes = absurd passes
-ends_broken o l1 l2 w1 w2 a1 a2 line answer refused Helped going reads passes = absurd passes
-ends_broken o l1 l2 w1 w2 a1 a2 line answer refused Usage going reads passes = absurd passes
-ends_broken o l1 l2 w1 w2 a1 a2 line answer refused Unread going reads passes = absurd passes
-ends_broken o l1 l2 w1 w2 a1 a2 line answer refused (Refused fault) going reads passes = absurd passes
-ends_broken o l1 l2 w1 w2 a1 a2 line answer refused Unwritten going reads passes = absurd passes
-ends_broken o l1 l2 w1 w2 a1 a2 line answer refused NoListen going reads passes = absurd passes
-ends_broken o l1 l2 w1 w2 a1 a2 line answer refused NoControl going reads passes = absurd passes
-ends_broken o l1 l2 w1 w2 a1 a2 line answer refused NoMemory going reads passes = absurd passes
-ends_broken o l1 l2 w1 w2 a1 a2 line answer refused Socket going reads passes = absurd passes
-ends_broken o l1 l2 w1 w2 a1 a2 line answer refused NoPlace going reads passes = absurd passes
-ends_broken o l1 l2 w1 w2 a1 a2 line answer refused NoDaemon going reads passes = absurd passes
-ends_broken o l1 l2 w1 w2 a1 a2 line answer refused NoRandom going reads passes = absurd passes
-ends_broken o l1 l2 w1 w2 a1 a2 line answer refused NoEvents going reads passes = absurd passes
-ends_broken o l1 l2 w1 w2 a1 a2 line answer refused NoTeller going reads passes = absurd passes
-ends_broken o l1 l2 w1 w2 a1 a2 line answer refused WatchUnwritten going reads passes = absurd passes
-ends_broken o l1 l2 w1 w2 a1 a2 line answer refused NoWeb going reads passes = absurd passes
-ends_broken o l1 l2 w1 w2 a1 a2 line answer refused WebOver going reads passes = absurd passes
+ends_broken form o l1 l2 w1 w2 a1 a2 line answer refused Checked going reads passes = absurd passes
+ends_broken form o l1 l2 w1 w2 a1 a2 line answer refused Stopped going reads passes = absurd passes
+ends_broken form o l1 l2 w1 w2 a1 a2 line answer refused outcomes.Asked going reads passes = absurd passes
+ends_broken form o l1 l2 w1 w2 a1 a2 line answer refused AskRefused going reads passes = absurd passes
+ends_broken form o l1 l2 w1 w2 a1 a2 line answer refused AskUnread going reads passes = absurd passes
+ends_broken form o l1 l2 w1 w2 a1 a2 line answer refused Helped going reads passes = absurd passes
+ends_broken form o l1 l2 w1 w2 a1 a2 line answer refused Usage going reads passes = absurd passes
+ends_broken form o l1 l2 w1 w2 a1 a2 line answer refused Unread going reads passes = absurd passes
+ends_broken form o l1 l2 w1 w2 a1 a2 line answer refused (Refused fault) going reads passes = absurd passes
+ends_broken form o l1 l2 w1 w2 a1 a2 line answer refused Unwritten going reads passes = absurd passes
+ends_broken form o l1 l2 w1 w2 a1 a2 line answer refused NoListen going reads passes = absurd passes
+ends_broken form o l1 l2 w1 w2 a1 a2 line answer refused NoControl going reads passes = absurd passes
+ends_broken form o l1 l2 w1 w2 a1 a2 line answer refused NoMemory going reads passes = absurd passes
+ends_broken form o l1 l2 w1 w2 a1 a2 line answer refused Socket going reads passes = absurd passes
+ends_broken form o l1 l2 w1 w2 a1 a2 line answer refused NoPlace going reads passes = absurd passes
+ends_broken form o l1 l2 w1 w2 a1 a2 line answer refused NoDaemon going reads passes = absurd passes
+ends_broken form o l1 l2 w1 w2 a1 a2 line answer refused NoRandom going reads passes = absurd passes
+ends_broken form o l1 l2 w1 w2 a1 a2 line answer refused NoEvents going reads passes = absurd passes
+ends_broken form o l1 l2 w1 w2 a1 a2 line answer refused NoTeller going reads passes = absurd passes
+ends_broken form o l1 l2 w1 w2 a1 a2 line answer refused WatchUnwritten going reads passes = absurd passes
+ends_broken form o l1 l2 w1 w2 a1 a2 line answer refused NoWeb going reads passes = absurd passes
+ends_broken form o l1 l2 w1 w2 a1 a2 line answer refused WebOver going reads passes = absurd passes
 
-stop_of : (o n : Asker) (refused : Bool) (answer : List ℕ) → OneMore o n refused answer → is_stopping answer ≡ true →
-    IsDone refused o n × IsStopped o n
-stop_of o n refused answer more is = (
+stop_of : (form : Form) (o n : Asker) (refused : Bool) (answer : List ℕ) →
+    OneMore form o n refused answer → is_stopping answer ≡ true →
+    IsDone form refused o n × IsStopped form o n
+stop_of form o n refused answer more is = (
   record {
     exchanges = more.before ++ more.last ∷ [];
     asked = more.asked;
@@ -218,16 +232,17 @@ stop_of o n refused answer more is = (
     last : EndsInStop (more.before ++ more.last ∷ [])
     last = (more.before, more.last, refl, ap is_stopping more.answer_is ∙ is)
 
-pub ends_stopped : (o : Asker) (l w : Option (List ℕ)) (a a' : Option (List Sent)) (refused : Bool) (answer : List ℕ)
-    (met : Came)
-    → OneMore o (record { left = l; written = w; asked = a }) refused answer → is_stopping answer ≡ true → a' ≡ a →
-    Asking o (record { left = l; written = w; asked = a' }) (stopped_so met refused)
-ends_stopped o l w a a' refused answer met more is same = rw same (by met (stop_of o _ refused answer more is))
+pub ends_stopped : (form : Form) (o : Asker) (l w : Option (List ℕ)) (a a' : Option (List Sent)) (refused : Bool)
+    (answer : List ℕ) (met : Came)
+    → OneMore form o (record { left = l; written = w; asked = a }) refused answer → is_stopping answer ≡ true → a' ≡ a →
+    Asking form o (record { left = l; written = w; asked = a' }) (stopped_so met refused)
+ends_stopped form o l w a a' refused answer met more is same =
+    rw same (by met (stop_of form o _ refused answer more is))
   where
     n : Asker
     n = record { left = l; written = w; asked = a }
 
-    by : (c : Came) → IsDone refused o n × IsStopped o n → Asking o n (stopped_so c refused)
+    by : (c : Came) → IsDone form refused o n × IsStopped form o n → Asking form o n (stopped_so c refused)
     by came.Late ends = inr ends.1
-    by came.Answer ends = done_so o n refused ends.0
-    by came.Nothing ends = done_so o n refused ends.0
+    by came.Answer ends = done_so form o n refused ends.0
+    by came.Nothing ends = done_so form o n refused ends.0

@@ -3,3 +3,4 @@ pub mod Exchanges
 pub mod Given
 pub mod Indented
 pub mod Lines
+pub mod Tables

@@ -10,11 +10,13 @@ use Rattle.swim_commands.specs.declared.askers.Came.{Came}
 use Rattle.swim_commands.specs.declared.askers.Came.TheVariants as came
 use Rattle.swim_commands.specs.declared.control_lines.NextLine.{NextLine}
 use Rattle.swim_commands.specs.declared.control_lines.NextLine.TheVariants.{Line, Over, Fault}
+use Rattle.swim_commands.specs.declared.forms.Form.{Form}
 use Rattle.swim_commands.specs.declared.outcomes.Outcome.{Outcome}
 use Rattle.swim_commands.specs.declared.outcomes.Outcome.TheVariants.{Asked, AskRefused, AskTimeout}
 use Rattle.swim_commands.specs.declared.outcomes.Outcome.TheVariants.{Unanswered, AskUnwritten}
 use Rattle.swim_commands.specs.declared.outcomes.Outcome.TheVariants.{AskUnread, NoDaemon}
-use Rattle.swim_commands.specs.Answers.{is_answer_to, is_refusal, is_stopping}
+use Rattle.swim_commands.specs.Answers.{is_answer_to, is_stopping}
+use Rattle.swim_commands.specs.Forms.{is_unmet, shown}
 
 -- ---- lines
 
@@ -92,15 +94,16 @@ pub record Asker : Type 0 where
   pub written : Option (List ℕ)
   pub asked : Option (List Sent)
 
--- line after line was read and sent, once each and in order, and the answers to them were written, and nothing else
-pub record HasAsked (exchanges : List Exchange) (old new : Asker) : Type 0 where
+-- line after line was read and sent, once each and in order, and the answers to them were written in this form, and
+-- nothing else
+pub record HasAsked (form : Form) (exchanges : List Exchange) (old new : Asker) : Type 0 where
   pub read : Consumes old.left new.left (flat_map (λ e. bytes_of e.line) exchanges)
-  pub wrote : Appends old.written new.written (flat_map (λ e. e.answer) exchanges)
+  pub wrote : Appends old.written new.written (flat_map (λ e. shown form e.answer) exchanges)
   pub asked : Grows old.asked new.asked (map sent exchanges)
 
--- an answer says that something was not done
-abbrev pub has_refusal : List Exchange → Bool
-has_refusal exchanges = list_any (λ e. is_refusal e.answer) exchanges
+-- an answer says that something was not done, or isn't what its form is made of
+abbrev pub has_refusal : Form → List Exchange → Bool
+has_refusal form exchanges = list_any (λ e. is_unmet form e.answer) exchanges
 
 -- the last answer says that the daemon stops
 abbrev pub EndsInStop : List Exchange → Type 0
@@ -108,17 +111,17 @@ EndsInStop exchanges = (before : List Exchange) × (last : Exchange) × (exchang
     × (is_stopping last.answer ≡ true)
 
 -- all lines of the input were asked, or those up to a `stop`, and an answer was a refusal, or none was
-pub record IsDone (refused : Bool) (old new : Asker) : Type 0 where
+pub record IsDone (form : Form) (refused : Bool) (old new : Asker) : Type 0 where
   pub exchanges : List Exchange
-  pub asked : HasAsked exchanges old new
-  pub refused_is : has_refusal exchanges ≡ refused
+  pub asked : HasAsked form exchanges old new
+  pub refused_is : has_refusal form exchanges ≡ refused
   pub whole : IsAll old.left (flat_map (λ e. bytes_of e.line) exchanges) ⊎ EndsInStop exchanges
 
 -- lines were asked, and then this became of one more
-pub record IsBroken (Last : Asker → Asker → Type 0) (old new : Asker) : Type 0 where
+pub record IsBroken (form : Form) (Last : Asker → Asker → Type 0) (old new : Asker) : Type 0 where
   pub exchanges : List Exchange
   pub mid : Asker
-  pub asked : HasAsked exchanges old mid
+  pub asked : HasAsked form exchanges old mid
   pub last : Last mid new
 
 -- a line was sent, of which this came, and nothing was written
@@ -130,11 +133,11 @@ pub record Misses (met : Came) (old new : Asker) : Type 0 where
   pub kept : Keeps old.written new.written
 
 -- a line was answered, and not all of the answer could be written
-pub record Loses (old new : Asker) : Type 0 where
+pub record Loses (form : Form) (old new : Asker) : Type 0 where
   pub exchange : Exchange
   pub taken : TakesLine exchange.line old.left new.left
   pub asked : Grows old.asked new.asked (sent exchange ∷ [])
-  pub wrote : PutsFront old.written new.written exchange.answer
+  pub wrote : PutsFront old.written new.written (shown form exchange.answer)
 
 -- the input could not be read on
 pub record IsUnread (old new : Asker) : Type 0 where
@@ -143,48 +146,47 @@ pub record IsUnread (old new : Asker) : Type 0 where
   pub asked : Grows old.asked new.asked []
 
 -- all lines were asked, up to a `stop` whose end did not come in time
-pub record IsStopped (old new : Asker) : Type 0 where
+pub record IsStopped (form : Form) (old new : Asker) : Type 0 where
   pub exchanges : List Exchange
-  pub asked : HasAsked exchanges old new
+  pub asked : HasAsked form exchanges old new
   pub last : EndsInStop exchanges
 
--- how asking the lines of an input ends
-abbrev pub Asking : Asker → Asker → Outcome → Type 0
-Asking old new Asked = IsDone false old new
-Asking old new AskRefused = IsDone true old new
-Asking old new AskTimeout = IsBroken (Misses came.Late) old new ⊎ IsStopped old new
-Asking old new Unanswered = IsBroken (Misses came.Nothing) old new
-Asking old new AskUnwritten = IsBroken Loses old new
-Asking old new AskUnread = IsBroken IsUnread old new
-Asking old new outcome = ⊥
+-- how asking the lines of an input ends, whose answers are written in this form
+abbrev pub Asking : Form → Asker → Asker → Outcome → Type 0
+Asking form old new Asked = IsDone form false old new
+Asking form old new AskRefused = IsDone form true old new
+Asking form old new AskTimeout = IsBroken form (Misses came.Late) old new ⊎ IsStopped form old new
+Asking form old new Unanswered = IsBroken form (Misses came.Nothing) old new
+Asking form old new AskUnwritten = IsBroken form (Loses form) old new
+Asking form old new AskUnread = IsBroken form IsUnread old new
+Asking form old new outcome = ⊥
 
 -- what asking the daemon at a path does, of which nobody knows what it was asked: where there is none, or it lets
--- nobody
--- in, nothing is read and nothing is written
-abbrev pub Asks : Option (List ℕ) → Option (List ℕ) → Option (List ℕ) → Option (List ℕ) → Outcome → Type 0
-Asks left_old left_new old new NoDaemon = (left_new ≡ left_old) × (new ≡ old)
-Asks left_old left_new old new AskTimeout =
+-- nobody in, nothing is read and nothing is written
+abbrev pub Asks : Form → Option (List ℕ) → Option (List ℕ) → Option (List ℕ) → Option (List ℕ) → Outcome → Type 0
+Asks form left_old left_new old new NoDaemon = (left_new ≡ left_old) × (new ≡ old)
+Asks form left_old left_new old new AskTimeout =
     ((left_new ≡ left_old) × (new ≡ old))
-    ⊎ Asking (record { left = left_old; written = old; asked = None })
+    ⊎ Asking form (record { left = left_old; written = old; asked = None })
     (record { left = left_new; written = new; asked = None }) AskTimeout
-Asks left_old left_new old new outcome =
-    Asking (record { left = left_old; written = old; asked = None })
+Asks form left_old left_new old new outcome =
+    Asking form (record { left = left_old; written = old; asked = None })
     (record { left = left_new; written = new; asked = None }) outcome
 
--- what asking one line and passing its answer on does
-abbrev pub Passes : List ℕ → Result (Unit {0}) Outcome → List ℕ → Option (List ℕ) → Option (List ℕ)
+-- what asking one line and passing its answer on in a form does
+abbrev pub Passes : Form → List ℕ → Result (Unit {0}) Outcome → List ℕ → Option (List ℕ) → Option (List ℕ)
     → Option (List Sent) → Option (List Sent) → Type 0
-Passes line (Ok done) answer old new asked_old asked_new =
-    (is_answer_to line answer ≡ true) × Appends old new answer
+Passes form line (Ok done) answer old new asked_old asked_new =
+    (is_answer_to line answer ≡ true) × Appends old new (shown form answer)
     × Grows asked_old asked_new (record { line = line; came = came.Answer; answer = answer } ∷ [])
-Passes line (Err AskTimeout) answer old new asked_old asked_new =
+Passes form line (Err AskTimeout) answer old new asked_old asked_new =
     Keeps old new × Grows asked_old asked_new (record { line = line; came = came.Late; answer = answer } ∷ [])
-Passes line (Err Unanswered) answer old new asked_old asked_new =
+Passes form line (Err Unanswered) answer old new asked_old asked_new =
     Keeps old new × Grows asked_old asked_new (record { line = line; came = came.Nothing; answer = answer } ∷ [])
-Passes line (Err AskUnwritten) answer old new asked_old asked_new =
-    (is_answer_to line answer ≡ true) × PutsFront old new answer
+Passes form line (Err AskUnwritten) answer old new asked_old asked_new =
+    (is_answer_to line answer ≡ true) × PutsFront old new (shown form answer)
     × Grows asked_old asked_new (record { line = line; came = came.Answer; answer = answer } ∷ [])
-Passes line (Err outcome) answer old new asked_old asked_new = ⊥
+Passes form line (Err outcome) answer old new asked_old asked_new = ⊥
 
 -- how asking ends where each line was answered
 abbrev pub asked_so : Bool → Outcome

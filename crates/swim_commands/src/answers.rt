@@ -46,7 +46,7 @@ pub fn is_stop(line: &[u8]) -> bool
 
 /// Whether nothing is left but what stands behind the last line feed.
 #[tactic(auto, using(crate::proofs::Lines::over_is))]
-fn is_over(lines: &mut Words<'_>) -> bool
+pub(crate) fn is_over(lines: &mut Words<'_>) -> bool
     ensures { result ≡ is_over lines.old }
 {
     match lines.next() {

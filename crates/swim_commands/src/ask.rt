@@ -3,11 +3,13 @@
 ghost use Rattle.std.specs.Prelude.{◌≡◌, ◌||◌};
 ghost use Rattle.swim_text.specs.Streams.{Puts};
 ghost use Rattle.swim_commands.specs.Asking.{Asking, Asks, Passes, asked_so, stopped_so};
+ghost use Rattle.swim_commands.specs.Forms.{shown};
 
-use crate::answers::{ControlAnswer, is_refusal, is_stopping};
+use crate::answers::{ControlAnswer, is_stopping};
 use crate::askers::{Asker, Came};
 use crate::control_lines::{ControlLine, NextLine, read_line};
 use crate::details::{Details, words_of};
+use crate::forms::{Form, is_unmet, put_shown};
 use crate::outcomes::Outcome;
 use crate::sockets::ControlSocket;
 use std::io::ErrorKind;
@@ -15,19 +17,22 @@ use std::net::Net;
 use std::rt::Clock;
 use swim_text::{Sink, Source};
 
-/// Asks the daemon at a path the lines of an input, and writes its answers, each of which may take so many seconds.
+/// Asks the daemon at a path the lines of an input, and writes its answers in a form. Each of them may take so many
+/// seconds.
 pub fn ask_daemon<R: Net + Clock, S: Source, W: Sink>(
     rt: &R,
     path: &str,
     seconds: u64,
+    form: Form,
     reader: &mut S,
     writer: &mut W,
     details: &mut Details,
 ) -> Outcome
-    ensures { Asks (S.left reader.old) (S.left reader.new) (W.written writer.old) (W.written writer.new) result }
+    ensures { Asks form (S.left reader.old) (S.left reader.new) (W.written writer.old) (W.written writer.new)
+        result }
 {
     match ControlSocket::open(rt, path, seconds) {
-        Ok(mut socket) => ask_lines(reader, &mut socket, writer),
+        Ok(mut socket) => ask_lines(form, reader, &mut socket, writer),
         Err(fault) if fault.kind() == ErrorKind::TimedOut => Outcome::AskTimeout,
         Err(fault) => {
             details.add_of(path, words_of(fault.kind()));
@@ -39,8 +44,13 @@ pub fn ask_daemon<R: Net + Clock, S: Source, W: Sink>(
 /// Asks line after line, and passes on the answer to each before the next is read, up to the end of the input, to an
 /// answer that doesn't come, or to the end of who is asked.
 #[tactic(auto, using(crate::proofs::Exchanges::none_asked, crate::proofs::Exchanges::one_more_asked, crate::proofs::Exchanges::goes_on, crate::proofs::Exchanges::ends_asked, crate::proofs::Exchanges::ends_unread, crate::proofs::Exchanges::ends_spent, crate::proofs::Exchanges::ends_broken, crate::proofs::Exchanges::ends_stopped))]
-fn ask_lines<S: Source, A: Asker, W: Sink>(reader: &mut S, asker: &mut A, writer: &mut W) -> Outcome
-    ensures { Asking
+fn ask_lines<S: Source, A: Asker, W: Sink>(
+    form: Form,
+    reader: &mut S,
+    asker: &mut A,
+    writer: &mut W,
+) -> Outcome
+    ensures { Asking form
         (record { left = S.left reader.old; written = W.written writer.old; asked = A.asked asker.old })
         (record { left = S.left reader.new; written = W.written writer.new; asked = A.asked asker.new }) result }
 {
@@ -53,10 +63,10 @@ fn ask_lines<S: Source, A: Asker, W: Sink>(reader: &mut S, asker: &mut A, writer
             NextLine::Over => return asked(is_refused),
             NextLine::Fault => return Outcome::AskUnread,
         }
-        if let Err(outcome) = pass(line.as_slice(), asker, &mut answer, writer) {
+        if let Err(outcome) = pass(form, line.as_slice(), asker, &mut answer, writer) {
             return outcome;
         }
-        is_refused = is_either(is_refused, is_refusal(answer.as_slice()));
+        is_refused = is_either(is_refused, is_unmet(form, answer.as_slice()));
         if is_stopping(answer.as_slice()) {
             return stopped(asker.leave(), is_refused);
         }
@@ -64,14 +74,15 @@ fn ask_lines<S: Source, A: Asker, W: Sink>(reader: &mut S, asker: &mut A, writer
     Outcome::AskUnread
 }
 
-/// Asks a line, and passes its answer on.
+/// Asks a line, and passes its answer on in a form.
 fn pass<A: Asker, W: Sink>(
+    form: Form,
     line: &[u8],
     asker: &mut A,
     answer: &mut ControlAnswer,
     writer: &mut W,
 ) -> Result<(), Outcome>
-    ensures { Passes line.now result answer.new.items (W.written writer.old) (W.written writer.new)
+    ensures { Passes form line.now result answer.new.items (W.written writer.old) (W.written writer.new)
         (A.asked asker.old) (A.asked asker.new) }
 {
     match asker.ask(line, answer) {
@@ -79,18 +90,18 @@ fn pass<A: Asker, W: Sink>(
         Came::Late => return Err(Outcome::AskTimeout),
         Came::Nothing => return Err(Outcome::Unanswered),
     }
-    if !put_answer(answer.as_slice(), writer) {
+    if !put_answer(form, answer.as_slice(), writer) {
         return Err(Outcome::AskUnwritten);
     }
     Ok(())
 }
 
-/// Writes an answer, and hands it on. Whether all of it was taken.
+/// Writes an answer in a form, and hands it on. Whether all of it was taken.
 #[tactic(auto, using(swim_streams::proofs::Taken::put_and_flushed))]
-fn put_answer<W: Sink>(answer: &[u8], writer: &mut W) -> bool
-    ensures { Puts (W.written writer.old) (W.written writer.new) answer.now result }
+fn put_answer<W: Sink>(form: Form, answer: &[u8], writer: &mut W) -> bool
+    ensures { Puts (W.written writer.old) (W.written writer.new) (shown form answer.now) result }
 {
-    if !writer.put(answer) {
+    if !put_shown(form, answer, writer) {
         return false;
     }
     writer.flush()

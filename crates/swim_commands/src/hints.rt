@@ -2,9 +2,13 @@
 
 ghost use Rattle.std.specs.Prelude.{◌≡◌};
 
+use crate::ask_words::{line_in, seconds_in};
 use crate::details::Details;
+use crate::options::path_in;
 use crate::outcomes::Outcome;
-use crate::words::{have_feed, program};
+use crate::surroundings::Surroundings;
+use crate::words::program;
+use clap::ArgMatches;
 use std::alloc::Global;
 
 /// How many lines are told of what `clap` says. However long they are, there is room for one more behind them.
@@ -13,11 +17,17 @@ const MOST_LINES: u32 = 4;
 /// What stands before a line that works.
 const WORKS: &str = "a line that works";
 
-/// The outcome of words that ask nothing. What is wrong with them is told in the details, and a line that works.
-pub fn explain_words(alloc: Global, words: &[&str], details: &mut Details) -> Outcome
+/// The outcome of words that ask nothing in these surroundings. What is wrong with them is told in the details, and a
+/// line that works.
+pub fn explain_words<'a>(
+    alloc: Global,
+    words: &'a [&'a str],
+    around: Surroundings<'a>,
+    details: &mut Details,
+) -> Outcome
     ensures { result ≡ Outcome.Usage }
 {
-    add_fault(alloc, words, details);
+    add_fault(alloc, words, around, details);
     details.add_of(WORKS, line_that_works(words));
     Outcome::Usage
 }
@@ -33,12 +43,17 @@ pub fn explain_no_text(details: &mut Details) -> Outcome
 
 /// Adds what `clap` says of the words, which names the one that it didn't understand and the nearest; nothing where
 /// memory is refused.
-fn add_fault(alloc: Global, words: &[&str], details: &mut Details) {
+fn add_fault<'a>(
+    alloc: Global,
+    words: &'a [&'a str],
+    around: Surroundings<'a>,
+    details: &mut Details,
+) {
     let Ok(program) = program(alloc) else {
         return;
     };
     match program.try_get_matches_from(words) {
-        Ok(_) => details.add(words_of_range(words)),
+        Ok(matches) => details.add(words_of_range(&matches, around)),
         Err(error) => {
             if let Ok(text) = format!(in alloc; "{error}") {
                 add_lines(text.as_str(), details);
@@ -60,13 +75,27 @@ fn add_lines(text: &str, details: &mut Details) {
 }
 
 /// What is wrong with words that `clap` takes.
-fn words_of_range(words: &[&str]) -> &'static str {
-    if first_of(words) == "web" {
-        "--listen takes an address, as 127.0.0.1:8946, and --name stands there eight times at most"
-    } else if have_feed(words) {
+fn words_of_range<'a>(matches: &ArgMatches<'a>, around: Surroundings<'a>) -> &'static str {
+    match matches.subcommand() {
+        Some(("web", _)) => {
+            "--listen takes an address, as 127.0.0.1:8946, and --name stands there eight times at most"
+        }
+        Some(("ask", given)) => words_of_request(given, around),
+        Some(("watch", _)) => "SWIMD_EVENTS is no text in UTF-8; --events <PATH> takes its place",
+        _ => "run takes one FILE, as the last word or as --config <FILE>",
+    }
+}
+
+/// What is wrong with the words of `ask`.
+fn words_of_request<'a>(given: &ArgMatches<'a>, around: Surroundings<'a>) -> &'static str {
+    if line_in(given).is_none() {
         "a word has a line feed, which would make two lines of one"
-    } else {
+    } else if seconds_in(given).is_none() {
         "--timeout takes a number of seconds, 1 to 86400"
+    } else if path_in(given, "control", around.control).is_none() {
+        "SWIMD_CONTROL is no text in UTF-8; --control <PATH> takes its place"
+    } else {
+        "--toml writes the answer to one line, list"
     }
 }
 

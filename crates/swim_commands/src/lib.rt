@@ -4,13 +4,20 @@
 
 mod answers;
 mod ask;
+mod ask_words;
 mod askers;
 mod control_lines;
 mod details;
 mod event_sockets;
+mod file_words;
+mod forms;
 mod hints;
+mod member_tables;
+mod names;
+mod options;
 mod outcomes;
 mod sockets;
+mod surroundings;
 mod watch;
 mod web_daemons;
 mod web_events;
@@ -18,11 +25,14 @@ mod web_words;
 mod words;
 
 pub use ask::ask_daemon;
+pub use ask_words::{Request, has_feed};
 pub use details::{Details, TEXT_BYTES, add_printed, words_of, words_why};
+pub use forms::Form;
 pub use hints::{explain_no_text, explain_words};
 pub use outcomes::{Outcome, put_outcome};
+pub use surroundings::Surroundings;
 pub use watch::watch_daemon;
 pub use web_daemons::SocketDaemon;
 pub use web_events::SocketEvents;
 pub use web_words::WebRequest;
-pub use words::{Asked, Request, Unasked, VERSION, VERSION_LINE, has_feed, read_words};
+pub use words::{Asked, Unasked, VERSION, VERSION_LINE, read_words};

@@ -7,7 +7,8 @@ ghost use Rattle.clap.specs.Walk.{rows_of, rule_of};
 ghost use Rattle.clap.specs.declared.builder.command.Command.TheViews.{out-Command};
 ghost use Rattle.swim_commands.specs.Words.{names_in, names_of, option_rule, repeated_rule, wanted, web_app, web_in};
 
-use crate::words::{Asked, needed};
+use crate::options::needed;
+use crate::words::Asked;
 use arrayvec::ArrayVec;
 use clap::{Arg, ArgAction, ArgMatches, Command};
 use std::alloc::{AllocError, Global};

@@ -1,5 +1,5 @@
 -- What checking does with the bytes that were read.
-use Rattle.std.proofs.Common.{◌≡◌, ℕ, ◌<◌, ◌≤◌, true, List, length, take, Option, Some, None, Result, Ok, Err}
+use Rattle.std.proofs.Common.{◌≡◌, ℕ, ◌<◌, ◌≤◌, true, not, List, length, take, Option, Some, None, Result, Ok, Err}
 use Rattle.std.proofs.Common.{refl, sym, ap, ◌∙◌, arith, ltb, inl, inr}
 use Rattle.std.proofs.lemmas.Bool.{cases_Bool, ltb-true, lt-ltb, ltb-false}
 use Rattle.std.proofs.lemmas.List.{take_all, length-take}
@@ -16,11 +16,14 @@ use Rattle.swim_commands.specs.declared.outcomes.Outcome.TheVariants.{NoEvents, 
 use Rattle.swim_commands.specs.declared.outcomes.Outcome.TheVariants.{NoWeb, WebOver}
 use Rattle.swim_commands.specs.declared.outcomes.Outcome.TheVariants.{AskRefused, AskTimeout, Unanswered, AskUnwritten}
 use Rattle.swim_commands.specs.declared.outcomes.Outcome.TheVariants.{AskUnread, Helped}
-use Rattle.swimd.specs.Checking.{ChecksKnown, Shows}
+use Rattle.swimd.specs.Checking.{ChecksKnown, Shows, is_unwritten}
+use Rattle.swimd.specs.Daemon.{IsNoConfiguration}
+use Rattle.swimd.specs.Documents.{Document}
 use Rattle.swim_config.specs.Configuration.{config_of}
 use Rattle.swim_config.specs.Inputs.{IsRead}
 use Rattle.swim_config.specs.Reading.{OrNoMemory}
 use Rattle.swim_keeper.specs.Endings.{Written}
+use Rattle.swim_text.specs.Streams.{failures_if}
 
 -- of a text that is too large, the first bytes tell as much
 pub config_of_first : (text : List ℕ) → config_of (take 65537 text) ≡ config_of text
@@ -118,3 +121,34 @@ told (Some text) written faults items fault read is size =
       is = rw (← same) is;
       size = λ (large : 65536 < length text). let e = size (rw read (large_read text large)) in cc;
     }
+
+-- ---- a file
+
+-- without a configuration no write failed
+pub none_unwritten : (path : List ℕ) (old new : Option (List Document)) (outcome : Outcome) (n : ℕ) →
+    IsNoConfiguration path old new outcome → n ≡ failures_if n (not (is_unwritten outcome))
+none_unwritten path old new Unread n is = refl
+none_unwritten path old new (Refused fault) n is = refl
+none_unwritten path old new Checked n is = absurd is
+none_unwritten path old new Stopped n is = absurd is
+none_unwritten path old new Asked n is = absurd is
+none_unwritten path old new AskRefused n is = absurd is
+none_unwritten path old new AskTimeout n is = absurd is
+none_unwritten path old new Unanswered n is = absurd is
+none_unwritten path old new AskUnwritten n is = absurd is
+none_unwritten path old new AskUnread n is = absurd is
+none_unwritten path old new Helped n is = absurd is
+none_unwritten path old new NoRandom n is = absurd is
+none_unwritten path old new Usage n is = absurd is
+none_unwritten path old new Unwritten n is = absurd is
+none_unwritten path old new NoListen n is = absurd is
+none_unwritten path old new NoControl n is = absurd is
+none_unwritten path old new NoEvents n is = absurd is
+none_unwritten path old new NoMemory n is = absurd is
+none_unwritten path old new Socket n is = absurd is
+none_unwritten path old new NoPlace n is = absurd is
+none_unwritten path old new NoDaemon n is = absurd is
+none_unwritten path old new NoTeller n is = absurd is
+none_unwritten path old new WatchUnwritten n is = absurd is
+none_unwritten path old new NoWeb n is = absurd is
+none_unwritten path old new WebOver n is = absurd is

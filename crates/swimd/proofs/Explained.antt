@@ -3,6 +3,7 @@ use Rattle.std.proofs.Common.{◌≡◌, ℕ, List, [], Option, Some, None, refl
 use Rattle.swim_config.specs.declared.config.Config.{Config}
 use Rattle.swim_config.specs.declared.config_fault.ConfigFault.{ConfigFault}
 use Rattle.swim_keeper.specs.Endings.{Written}
+use Rattle.swim_commands.specs.declared.forms.Form.{Form}
 use Rattle.swim_commands.specs.declared.outcomes.Outcome.{Outcome}
 use Rattle.swim_commands.specs.declared.outcomes.Outcome.TheVariants.{Checked, Stopped, Asked, Usage, Unread, Refused}
 use Rattle.swim_commands.specs.declared.outcomes.Outcome.TheVariants.{Unwritten}
@@ -76,14 +77,14 @@ made_explains old new outcome details makes =
     ])
 
 -- a daemon was asked
-asks_explains : (left_old left_new old new : Option (List ℕ)) (outcome : Outcome) (details : List ℕ) →
-    Asks left_old left_new old new outcome → Explains outcome details
-asks_explains left_old left_new old new outcome details asks =
-    explains_if outcome details (λ fault is. absurd (subst (Asks left_old left_new old new) is asks))
+asks_explains : (form : Form) (left_old left_new old new : Option (List ℕ)) (outcome : Outcome) (details : List ℕ) →
+    Asks form left_old left_new old new outcome → Explains outcome details
+asks_explains form left_old left_new old new outcome details asks =
+    explains_if outcome details (λ fault is. absurd (subst (Asks form left_old left_new old new) is asks))
 
-pub asked_explains : (line left_old left_new old new : Option (List ℕ)) (outcome : Outcome) (details : List ℕ) →
-    AsksWanted line left_old left_new old new outcome → Explains outcome details
-asked_explains None left_old left_new old new outcome details asks =
-    asks_explains left_old left_new old new outcome details asks
-asked_explains (Some line) left_old left_new old new outcome details asks =
-    asks_explains (Some line) asks.1.0 old new outcome details asks.1.1
+pub asked_explains : (form : Form) (line left_old left_new old new : Option (List ℕ)) (outcome : Outcome)
+    (details : List ℕ) → AsksWanted form line left_old left_new old new outcome → Explains outcome details
+asked_explains form None left_old left_new old new outcome details asks =
+    asks_explains form left_old left_new old new outcome details asks
+asked_explains form (Some line) left_old left_new old new outcome details asks =
+    asks_explains form (Some line) asks.1.0 old new outcome details asks.1.1

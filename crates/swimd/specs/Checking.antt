@@ -1,5 +1,5 @@
 -- What checking a configuration does.
-use Rattle.std.specs.Prelude.{◌≡◌, ℕ, ◌<◌, ◌≤◌, Bool, true, false, List, length, Option, Some, None, Ok, Err}
+use Rattle.std.specs.Prelude.{◌≡◌, ℕ, ◌<◌, ◌≤◌, Bool, true, false, List, length, Option, Some, None, Ok, Err, codes}
 use Rattle.std.specs.Io.KnownBytes.{Appends}
 use Rattle.swim_text.specs.Streams.{PutsFront}
 use Rattle.swim_keeper.specs.Endings.{TellsText, Written}
@@ -71,3 +71,18 @@ is_unread outcome = false
 abbrev pub is_unwritten : Outcome → Bool
 is_unwritten Unwritten = true
 is_unwritten outcome = false
+
+-- people were told that a configuration is waited for, as far as standard error took it
+abbrev pub waits_text : List ℕ
+waits_text =
+    codes "swimd waits for a configuration on standard input, up to its end; swimd --help tells its commands\n"
+
+abbrev pub Prompts : Bool → Written → Written → Type 0
+Prompts true old new = TellsText waits_text old new
+Prompts false old new = new ≡ old
+
+-- standard input was checked, and before that people who type it were told so
+abbrev pub ChecksTyped : Bool → Option (List ℕ) → Option (List ℕ) → Option (List ℕ) → Written → Written → Outcome →
+    Type 0
+ChecksTyped is_prompted left old new faults_old faults_new outcome =
+    (between : Written) × Prompts is_prompted faults_old between × ChecksKnown left old new between faults_new outcome

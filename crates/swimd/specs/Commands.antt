@@ -5,17 +5,19 @@ use Rattle.hex.specs.Hex.{encode_lower}
 use Rattle.swim_text.specs.Streams.{Puts, PutsFront, failures_if}
 use Rattle.swim_keeper.specs.Endings.{Written}
 use Rattle.swim_config.specs.declared.config_fault.ConfigFault.TheVariants.{NoMemory}
+use Rattle.swim_commands.specs.declared.forms.Form.{Form}
 use Rattle.swim_commands.specs.declared.outcomes.Outcome.{Outcome}
 use Rattle.swim_commands.specs.declared.outcomes.Outcome.TheVariants.{Usage, Refused, Helped, Unwritten, NoRandom}
 use Rattle.swim_commands.specs.Asking.{Asks}
-use Rattle.swimd.specs.Checking.{ChecksKnown, is_unwritten}
+use Rattle.swimd.specs.CheckedFiles.{ChecksFile}
+use Rattle.swimd.specs.Checking.{ChecksTyped, is_unwritten}
 use Rattle.swimd.specs.Daemon.{Runs}
 use Rattle.swim_config.specs.Causes.{AreIndented}
 use Rattle.swim_commands.specs.Details.{Explains}
 use Rattle.swim_commands.specs.Outcomes.{outcome_text, status_of}
 use Rattle.swimd.specs.Served.{ServesWeb}
 use Rattle.swim_commands.specs.Watched.{WatchesDaemon}
-use Rattle.swim_commands.specs.Words.{Wanted, Check, Run, Ask, Watch, Web, MakeKey, Help, Version}
+use Rattle.swim_commands.specs.Words.{Wanted, Check, CheckFile, Run, Ask, Watch, Web, MakeKey, Help, Version}
 use Rattle.swimd.specs.Documents.{Document}
 use Rattle.swimd.specs.declared.commands.program_commands.Streams.{Streams as Handed}
 
@@ -33,13 +35,13 @@ pub record Told (outcome : Outcome) (old new : Option (List ℕ)) (failed_old fa
   pub failed : failed_new ≡ failures_if (failures_if failed_old done) sent
   pub is : status ≡ status_of outcome
 
--- the daemon at a path was asked: the line that the words make, and standard input was let be, or the lines of that
-abbrev pub AsksWanted : Option (List ℕ) → Option (List ℕ) → Option (List ℕ) → Option (List ℕ) → Option (List ℕ) →
-    Outcome →
-    Type 0
-AsksWanted None left_old left_new old new outcome = Asks left_old left_new old new outcome
-AsksWanted (Some line) left_old left_new old new outcome =
-    (left_new ≡ left_old) × ((rest : Option (List ℕ)) × Asks (Some line) rest old new outcome)
+-- the daemon at a path was asked: the line that the words make, and standard input was let be, or the lines of that;
+-- its answers were written in this form
+abbrev pub AsksWanted : Form → Option (List ℕ) → Option (List ℕ) → Option (List ℕ) → Option (List ℕ) →
+    Option (List ℕ) → Outcome → Type 0
+AsksWanted form None left_old left_new old new outcome = Asks form left_old left_new old new outcome
+AsksWanted form (Some line) left_old left_new old new outcome =
+    (left_new ≡ left_old) × ((rest : Option (List ℕ)) × Asks form (Some line) rest old new outcome)
 
 -- a text was written on standard output, or a front of it
 abbrev pub Helps : List ℕ → Option (List ℕ) → Option (List ℕ) → Outcome → Type 0
@@ -102,13 +104,16 @@ LetsBe old new = (new.left ≡ old.left) × (new.read ≡ old.read) × (new.faul
 -- what is done where the words ask this, and how it ends
 abbrev pub DoesWanted : Option Wanted → Streams → Streams → Outcome → Type 0
 DoesWanted None old new outcome = (outcome ≡ Usage) × (new ≡ old)
-DoesWanted (Some Check) old new outcome =
-    ChecksKnown old.left old.written.0 new.written.0 old.faults new.faults outcome
+DoesWanted (Some (Check is_prompted)) old new outcome =
+    ChecksTyped is_prompted old.left old.written.0 new.written.0 old.faults new.faults outcome
     × (new.written.1 ≡ failures_if old.written.1 (not (is_unwritten outcome))) × (new.read ≡ old.read)
+DoesWanted (Some (CheckFile file)) old new outcome =
+    ChecksFile file old.read new.read old.written.0 new.written.0 old.faults new.faults outcome
+    × (new.written.1 ≡ failures_if old.written.1 (not (is_unwritten outcome))) × (new.left ≡ old.left)
 DoesWanted (Some (Run file is_quiet)) old new outcome =
     (new.left ≡ old.left) × Runs file old.read new.read old.written new.written old.faults new.faults outcome
-DoesWanted (Some (Ask path line seconds)) old new outcome =
-    AsksWanted line old.left new.left old.written.0 new.written.0 outcome × (new.read ≡ old.read)
+DoesWanted (Some (Ask path line seconds form)) old new outcome =
+    AsksWanted form line old.left new.left old.written.0 new.written.0 outcome × (new.read ≡ old.read)
     × (new.faults ≡ old.faults)
 DoesWanted (Some (Watch path is_json)) old new outcome =
     WatchesDaemon is_json old.written.0 new.written.0 outcome × LetsBe old new

@@ -1,4 +1,5 @@
 pub mod Booked
+pub mod CheckedFiles
 pub mod Checking
 pub mod Chronicled
 pub mod Commands

@@ -3,6 +3,7 @@
 pub(crate) mod checking;
 pub(crate) mod configurations;
 pub(crate) mod documents;
+pub(crate) mod given;
 pub(crate) mod key_making;
 pub(crate) mod program_commands;
 pub(crate) mod stacks;

@@ -2,8 +2,7 @@
 //! questions to a daemon that runs (`ask`, `watch`, `web`), and new keys (`key`).
 #![tactic(auto)]
 
-ghost use Rattle.std.specs.Prelude.{◌≡◌, [], IfErr};
-ghost use Rattle.swim_commands.specs.Details.{Explains};
+ghost use Rattle.std.specs.Prelude.{◌≡◌};
 ghost use Rattle.swimd.specs.Commands.{AreSame};
 
 mod commands;
@@ -13,20 +12,20 @@ mod journals;
 mod telling;
 
 use commands::documents::{Documents, SystemDocuments};
+use commands::given::{take_given, words_in};
 use commands::program_commands::{self, Streams};
 use commands::stacks::begin_on_own_stack;
 use journals::disk_workers::serve_disk;
-use std::alloc::{AllocError, Global};
-use std::env;
+use std::alloc::Global;
 use std::fs::File;
-use std::io::{ErrorKind, IsTerminal, Write};
+use std::io::{IsTerminal, Write};
 use std::net::Net;
 use std::process::ExitCode;
 use std::random::RandomSource;
 use std::rt::{Clock, Files};
 use std::sync::{Arc, Wait};
 use std::thread::{JoinHandle, Threads};
-use swim_commands::{Details, Outcome, explain_no_text};
+use swim_commands::{Details, Outcome, Surroundings};
 use swim_config::ConfigFault;
 use swim_streams::{
     DeskStream, STANDARD_ERROR, STANDARD_OUTPUT, ScreenSink, StreamDesk, StreamDesks, StreamDoor,
@@ -112,15 +111,16 @@ fn run_program<R: Files<File = File> + Net + Clock + RandomSource + Threads + Wa
     let log = Log::new(log, desks);
     let mut documents = SystemDocuments::new(rt);
     let mut details = Details::new();
-    match words_given(&host, &mut details) {
-        Ok(texts) => {
+    match take_given(&host, &mut details) {
+        Ok(given) => {
             let mut streams = Streams {
                 reader: &mut reader,
                 documents: &mut documents,
                 writer: &mut writer,
                 faults: &mut faults,
             };
-            run_words(rt, alloc, texts.as_slice(), &mut streams, log)
+            let around = given.surroundings(host.stdin().is_terminal(), is_terminal);
+            run_words(rt, alloc, given.texts(), around, &mut streams, log)
         }
         Err(outcome) => program_commands::tell_outcome(outcome, &details, &mut faults),
     }
@@ -134,7 +134,7 @@ fn desks(alloc: Global) -> Option<(Desks, Desks, Desks)> {
     Some((ours, theirs, written))
 }
 
-/// Does what the words of these texts ask. The status with which the program ends.
+/// Does what the words of these texts ask in these surroundings. The status with which the program ends.
 fn run_words<
     R: Files<File = File> + Net + Clock + RandomSource + Threads + Wait + Sync,
     S: Source,
@@ -146,13 +146,14 @@ fn run_words<
     rt: &R,
     alloc: Global,
     texts: &[String],
+    around: Surroundings<'_>,
     streams: &mut Streams<'_, '_, '_, '_, S, X, W, F>,
     log: G,
 ) -> u8
     ensures { AreSame streams.old streams.new }
 {
     match words_in(alloc, texts) {
-        Ok(words) => program_commands::command(rt, alloc, words.as_slice(), streams, log),
+        Ok(words) => program_commands::command(rt, alloc, words.as_slice(), around, streams, log),
         Err(_) => tell_no_memory(streams.faults),
     }
 }
@@ -164,31 +165,4 @@ fn tell_no_memory<F: Sink>(faults: &mut F) -> u8 {
         &Details::new(),
         faults,
     )
-}
-
-/// The program's name and the words after it. One that is no UTF-8 asks nothing, which is told in the details.
-#[tactic(auto, using(crate::proofs::Explained::nothing_explains))]
-fn words_given(rt: &HostRuntime, details: &mut Details) -> Result<Vec<String>, Outcome>
-    requires { details.old ≡ [] }
-    ensures { IfErr result (λ outcome. Explains outcome details.new) }
-{
-    let no_memory = Outcome::Refused(ConfigFault::NoMemory);
-    let texts = match env::args(rt) {
-        Ok(texts) => texts,
-        Err(fault) if fault.kind() == ErrorKind::OutOfMemory => return Err(no_memory),
-        Err(_) => return Err(explain_no_text(details)),
-    };
-    match texts.collect(rt.alloc()) {
-        Ok(words) => Ok(words),
-        Err(_) => Err(no_memory),
-    }
-}
-
-/// The words after the program's name.
-fn words_in(alloc: Global, texts: &[String]) -> Result<Vec<&str>, AllocError> {
-    let mut words = Vec::new(alloc);
-    for text in texts.iter().skip(1) {
-        words.push(text.as_str())?;
-    }
-    Ok(words)
 }

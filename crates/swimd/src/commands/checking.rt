@@ -2,14 +2,75 @@
 
 ghost use Rattle.std.specs.Prelude.{◌≡◌, not, []};
 ghost use Rattle.swim_text.specs.Streams.{failures_if};
-ghost use Rattle.swimd.specs.Checking.{ChecksKnown, Shows, TakesInput, Warned, is_unread, is_unwritten};
+ghost use Rattle.swimd.specs.CheckedFiles.{ChecksFile};
+ghost use Rattle.swimd.specs.Checking.{ChecksKnown, ChecksTyped, Prompts, Shows, TakesInput, Warned, is_unread};
+ghost use Rattle.swimd.specs.Checking.{is_unwritten};
 ghost use Rattle.swim_commands.specs.Details.{Explains};
 
+use crate::commands::configurations::configuration;
+use crate::commands::documents::Documents;
 use arrayvec::ArrayVec;
 use std::alloc::Global;
 use swim_commands::{Details, Outcome};
 use swim_config::{Config, INPUT_BYTES, put_warnings, read_config, read_input, summary};
 use swim_text::{Sink, Source};
+
+/// What people are told who type a configuration.
+const WAITS: &[u8] =
+    b"swimd waits for a configuration on standard input, up to its end; swimd --help tells its commands\n";
+
+/// Checks the configuration on standard input. If people type it, they are told first that it is waited for.
+pub fn check_typed<S: Source, W: Sink, F: Sink>(
+    alloc: Global,
+    is_prompted: bool,
+    reader: &mut S,
+    writer: &mut W,
+    faults: &mut F,
+    details: &mut Details,
+) -> Outcome
+    requires { details.old ≡ [] }
+    ensures checked { ChecksTyped is_prompted (S.left reader.old) (W.written writer.old) (W.written writer.new)
+        (F.written faults.old, F.failures faults.old) (F.written faults.new, F.failures faults.new) result }
+    ensures writes { W.failures writer.new ≡ failures_if (W.failures writer.old) (not (is_unwritten result)) }
+    ensures explains { Explains result details.new }
+{
+    prompt(is_prompted, faults);
+    check(alloc, reader, writer, faults, details)
+}
+
+/// Tells people that a configuration is waited for, if they are to be told.
+fn prompt<F: Sink>(is_prompted: bool, faults: &mut F)
+    ensures { Prompts is_prompted (F.written faults.old, F.failures faults.old)
+        (F.written faults.new, F.failures faults.new) }
+{
+    if is_prompted {
+        let _is_put = faults.put(WAITS);
+        let _is_sent = faults.flush();
+    }
+}
+
+/// Checks the configuration in the file of that path.
+#[tactic(auto, using(crate::proofs::Checked::none_unwritten, crate::proofs::Explained::shown_explains))]
+pub fn check_file<X: Documents, W: Sink, F: Sink>(
+    alloc: Global,
+    path: &str,
+    documents: &mut X,
+    writer: &mut W,
+    faults: &mut F,
+    details: &mut Details,
+) -> Outcome
+    requires { details.old ≡ [] }
+    ensures checked { ChecksFile path.now (X.read documents.old) (X.read documents.new)
+        (W.written writer.old) (W.written writer.new)
+        (F.written faults.old, F.failures faults.old) (F.written faults.new, F.failures faults.new) result }
+    ensures writes { W.failures writer.new ≡ failures_if (W.failures writer.old) (not (is_unwritten result)) }
+    ensures explains { Explains result details.new }
+{
+    match configuration(alloc, documents, path, details) {
+        Ok(config) => show(&config, writer, faults),
+        Err(outcome) => outcome,
+    }
+}
 
 /// Reads a configuration, and writes its summary, and then what it warns of. What stands below the line of a fault is
 /// told in the details.

@@ -5,9 +5,9 @@ ghost use Rattle.swim_text.specs.Streams.{Puts, failures_if};
 ghost use Rattle.swimd.specs.Commands.{AreSame, AsksWanted, Carried, Commanded, Helps, Told, streams_by, wrote};
 ghost use Rattle.swim_commands.specs.Details.{Explains};
 ghost use Rattle.swim_commands.specs.Outcomes.{outcome_text};
-ghost use Rattle.swim_commands.specs.Words.{IsAsked};
+ghost use Rattle.swim_commands.specs.Words.{IsAsked, around_of};
 
-use crate::commands::checking::check;
+use crate::commands::checking::{check_file, check_typed};
 use crate::commands::documents::Documents;
 use crate::commands::key_making::make_key;
 use crate::commands::web::serve_web;
@@ -21,8 +21,8 @@ use std::rt::{Clock, Files};
 use std::sync::Wait;
 use std::thread::Threads;
 use swim_commands::{
-    Asked, Details, Outcome, Request, Unasked, VERSION_LINE, ask_daemon, explain_words,
-    put_outcome, read_words, watch_daemon,
+    Asked, Details, Outcome, Request, Surroundings, Unasked, VERSION_LINE, ask_daemon,
+    explain_words, put_outcome, read_words, watch_daemon,
 };
 use swim_config::ConfigFault;
 use swim_streams::Timely;
@@ -37,9 +37,9 @@ pub struct Streams<'s, 'x, 'w, 'f, S, X, W, F> {
     pub faults: &'f mut F,
 }
 
-/// Does what the words after the program's name ask, and answers the status with which the program ends. The log is
-/// where a daemon's worker tells people what it threw away: a sink of its own, as those who tell the faults hold
-/// theirs. A daemon has the writer and the faults wait for no reader.
+/// Does what the words after the program's name ask in these surroundings, and answers the status with which the
+/// program ends. The log is where a daemon's worker tells people what it threw away: a sink of its own, as those who
+/// tell the faults hold theirs. A daemon has the writer and the faults wait for no reader.
 pub fn command<
     R: Files<File = File> + Net + Clock + RandomSource + Threads + Wait + Sync,
     S: Source,
@@ -51,16 +51,17 @@ pub fn command<
     rt: &R,
     alloc: Global,
     words: &[&str],
+    around: Surroundings<'_>,
     streams: &mut Streams<'_, '_, '_, '_, S, X, W, F>,
     log: G,
 ) -> u8
     ensures same { AreSame streams.old streams.new }
-    ensures commanded { Commanded (IsAsked (map (λ word. word.now) words.now))
+    ensures commanded { Commanded (IsAsked (around_of around.entry) (map (λ word. word.now) words.now))
         (streams_by S.left X.read (wrote W.written W.failures) (wrote F.written F.failures) streams.old)
         (streams_by S.left X.read (wrote W.written W.failures) (wrote F.written F.failures) streams.new) result }
 {
     let mut details = Details::new();
-    let outcome = carry_out(rt, alloc, words, streams, log, &mut details);
+    let outcome = carry_out(rt, alloc, words, around, streams, log, &mut details);
     tell_outcome(outcome, &details, streams.faults)
 }
 
@@ -77,22 +78,34 @@ fn carry_out<
     rt: &R,
     alloc: Global,
     words: &[&str],
+    around: Surroundings<'_>,
     streams: &mut Streams<'_, '_, '_, '_, S, X, W, F>,
     log: G,
     details: &mut Details,
 ) -> Outcome
     requires { details.old ≡ [] }
     ensures same { AreSame streams.old streams.new }
-    ensures done { Carried (IsAsked (map (λ word. word.now) words.now))
+    ensures done { Carried (IsAsked (around_of around.entry) (map (λ word. word.now) words.now))
         (streams_by S.left X.read (wrote W.written W.failures) (wrote F.written F.failures) streams.old)
         (streams_by S.left X.read (wrote W.written W.failures) (wrote F.written F.failures) streams.new) result }
     ensures explains { Explains result details.new }
 {
-    match read_words(alloc, words) {
-        Ok(Asked::Check) => {
-            check(
+    match read_words(alloc, words, around) {
+        Ok(Asked::Check(is_prompted)) => {
+            check_typed(
                 alloc,
+                is_prompted,
                 streams.reader,
+                streams.writer,
+                streams.faults,
+                details,
+            )
+        }
+        Ok(Asked::CheckFile(path)) => {
+            check_file(
+                alloc,
+                path,
+                streams.documents,
                 streams.writer,
                 streams.faults,
                 details,
@@ -124,7 +137,7 @@ fn carry_out<
         Ok(Asked::MakeKey) => make_key(rt, streams.writer),
         Ok(Asked::Help(text)) => help(text.as_bytes(), streams.writer),
         Ok(Asked::Version) => version(streams.writer),
-        Err(Unasked::Usage) => explain_words(alloc, words, details),
+        Err(Unasked::Usage) => explain_words(alloc, words, around, details),
         Err(Unasked::NoMemory) => Outcome::Refused(ConfigFault::NoMemory),
     }
 }
@@ -137,19 +150,21 @@ fn ask_for<R: Net + Clock, S: Source, W: Sink>(
     writer: &mut W,
     details: &mut Details,
 ) -> Outcome
-    ensures { AsksWanted (option_map (λ line. line.items) request.now.line) (S.left reader.old) (S.left reader.new)
+    ensures { AsksWanted request.now.form (option_map (λ line. line.items) request.now.line)
+        (S.left reader.old) (S.left reader.new)
         (W.written writer.old) (W.written writer.new) result }
 {
     let Request {
         path,
         line,
         seconds,
+        form,
     } = request;
     match line {
-        None => ask_daemon(rt, path, *seconds, reader, writer, details),
+        None => ask_daemon(rt, path, *seconds, *form, reader, writer, details),
         Some(line) => {
             let mut line = ReadSource::new(line.as_slice());
-            ask_daemon(rt, path, *seconds, &mut line, writer, details)
+            ask_daemon(rt, path, *seconds, *form, &mut line, writer, details)
         }
     }
 }

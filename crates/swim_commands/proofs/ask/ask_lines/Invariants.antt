@@ -3,7 +3,7 @@ use Rattle.swim_commands.proofs.ask.ask_lines.Given as goal
 
 abbrev pub invariant-loop-turn : goal.invariant-loop-turn
 invariant-loop-turn g l =
-    Going
+    Going l.fn.form
     (record {
       left = g.S.Source.left l.initial.reader;
       written = g.W.Sink.written l.initial.writer;

@@ -1,11 +1,11 @@
 use Rattle.std.proofs.Common.{◌≡◌, ap, ap₂, ◌∙◌, codes}
 use Rattle.std.proofs.lemmas.Result.{IfOk-weaker}
 use Rattle.clap.specs.Simple.{App, app_of, new_shape, shape_of, with_subcommand}
-use Rattle.swim_commands.specs.Words.{ask_app, program_alone, run_app, watch_app, web_app}
+use Rattle.swim_commands.specs.Words.{ask_app, check_app, program_alone, run_app, watch_app, web_app}
 use Rattle.swim_commands.proofs.words.program.Goals as goal
 
 abbrev with_check : App
-with_check = with_subcommand program_alone (new_shape (codes "check"))
+with_check = with_subcommand program_alone check_app.top
 
 abbrev with_run : App
 with_run = with_subcommand with_check run_app.top
@@ -21,8 +21,8 @@ with_web = with_subcommand with_watch web_app.top
 
 pub returns : goal.returns
 returns c =
-    let check_is : shape_of c.check_command.result ≡ new_shape (codes "check") =
-    ap (λ (a : App). a.top) c.check_command.ensures.app in
+    let check_is : shape_of c.in_ok-check_command.field-0 ≡ check_app.top =
+    ap (λ (a : App). a.top) c.in_ok-check_command.ensures.app in
     let run_is : shape_of c.in_ok-run_command.field-0 ≡ run_app.top =
     ap (λ (a : App). a.top) c.in_ok-run_command.ensures.app in
     let ask_is : shape_of c.in_ok-ask_command.field-0 ≡ ask_app.top =
@@ -34,7 +34,7 @@ returns c =
     let key_is : shape_of c.key_command.result ≡ new_shape (codes "key") =
     ap (λ (a : App). a.top) c.key_command.ensures.app in
     let checks_is : app_of c.in_ok-checking.checking ≡ with_check =
-    c.in_ok-checking.ensures.shape c.check_command.ensures.local ∙
+    c.in_ok-checking.ensures.shape c.in_ok-check_command.ensures.local ∙
     ap₂ with_subcommand c.in_ok-alone.ensures check_is in
     let runs_is : app_of c.in_ok-running.running ≡ with_run =
     c.in_ok-running.ensures.shape c.in_ok-run_command.ensures.local ∙ ap₂ with_subcommand checks_is run_is in

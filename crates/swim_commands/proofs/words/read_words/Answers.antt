@@ -11,7 +11,8 @@ use Rattle.std.specs.Result.{MatchResult}
 use Rattle.swim_commands.specs.declared.words.Asked.{Asked}
 use Rattle.swim_commands.specs.declared.words.Unasked.{Unasked}
 use Rattle.swim_commands.specs.declared.words.Unasked.TheVariants.{Usage, NoMemory}
-use Rattle.swim_commands.specs.Words.{program, answer_to, asked_in, unasked_by, wanted, IsAsked, IsAskedBy, Wanted}
+use Rattle.swim_commands.specs.Words.{program, answer_to, around_of, asked_in, unasked_by, wanted, Around, IsAsked}
+use Rattle.swim_commands.specs.Words.{IsAskedBy, Wanted}
 use Rattle.swim_commands.proofs.words.read_words.Goals as goal
 
 -- what was found is told, and usage where nothing was
@@ -22,25 +23,27 @@ found (Some a) r Is same is = rw same is
 found None r Is same is = rw same (inr is)
 
 -- where there are no faults, what was met is asked
-met_is : (kinds : Kinds) (met : Option (Text × List Row)) (asked : Option Wanted) → kinds ≡ [] → asked ≡ asked_in met →
-    IsAskedBy kinds met asked
-met_is kinds met asked none is = rw none is
+met_is : (around : Around) (kinds : Kinds) (met : Option (Text × List Row)) (asked : Option Wanted) → kinds ≡ [] →
+    asked ≡ asked_in around met → IsAskedBy around kinds met asked
+met_is around kinds met asked none is = rw none is
 
 -- an error tells one of the faults
-told : (kind : ErrorKind) (kinds : Kinds) (met : Option (Text × List Row)) (r : Result Asked Unasked) →
+told : (around : Around) (kind : ErrorKind) (kinds : Kinds) (met : Option (Text × List Row))
+    (r : Result Asked Unasked) →
     (kind ≡ OutOfMemory) ⊎ IsAmong kind kinds →
     MatchResult r (λ a. answer_to kind ≡ Some (wanted a))
     (λ unasked. (unasked ≡ NoMemory) ⊎ ((unasked ≡ unasked_by kind) × (answer_to kind ≡ None))) →
-    MatchResult r (λ a. IsAskedBy kinds met (Some (wanted a)))
-    (λ unasked. (unasked ≡ NoMemory) ⊎ IsAskedBy kinds met None)
-told kind [] met (Ok a) (inl memory) is = absurd (let e = sym (ap answer_to memory) ∙ is in cc)
-told kind (first ∷ kinds) met (Ok a) (inl memory) is = absurd (let e = sym (ap answer_to memory) ∙ is in cc)
-told kind [] met (Err u) (inl memory) is = elim is [ inl none ↦ inl none | inr by ↦ inl (by.0 ∙ ap unasked_by memory) ]
-told kind (first ∷ kinds) met (Err u) (inl memory) is =
+    MatchResult r (λ a. IsAskedBy around kinds met (Some (wanted a)))
+    (λ unasked. (unasked ≡ NoMemory) ⊎ IsAskedBy around kinds met None)
+told around kind [] met (Ok a) (inl memory) is = absurd (let e = sym (ap answer_to memory) ∙ is in cc)
+told around kind (first ∷ kinds) met (Ok a) (inl memory) is = absurd (let e = sym (ap answer_to memory) ∙ is in cc)
+told around kind [] met (Err u) (inl memory) is =
     elim is [ inl none ↦ inl none | inr by ↦ inl (by.0 ∙ ap unasked_by memory) ]
-told kind [] met r (inr among) is = absurd among
-told kind (first ∷ kinds) met (Ok a) (inr among) is = (kind, among, sym is)
-told kind (first ∷ kinds) met (Err u) (inr among) is =
+told around kind (first ∷ kinds) met (Err u) (inl memory) is =
+    elim is [ inl none ↦ inl none | inr by ↦ inl (by.0 ∙ ap unasked_by memory) ]
+told around kind [] met r (inr among) is = absurd among
+told around kind (first ∷ kinds) met (Ok a) (inr among) is = (kind, among, sym is)
+told around kind (first ∷ kinds) met (Err u) (inr among) is =
     elim is [ inl none ↦ inl none | inr by ↦ inr (kind, among, sym by.1) ]
 
 pub returns-in-Ok-try_get_matches_from : goal.returns-in-Ok-try_get_matches_from
@@ -50,8 +53,9 @@ returns-in-Ok-try_get_matches_from c =
     ap (λ (a : App). subcommand_of a words) c.in-Ok.ensures in
     let none : fault_of program words ≡ [] = ap (λ (a : App). fault_of a words) (sym c.in-Ok.ensures) ∙
     c.in-Ok-try_get_matches_from.ensures.kinds (ap is_simple_and_free c.in-Ok.ensures) in
-    found c.asked_in.result c.ok_or.result (IsAsked words) c.ok_or.ensures.value
-    (met_is (fault_of program words) (subcommand_of program words) _ none (c.asked_in.ensures ∙ ap asked_in met))
+    found c.asked_in.result c.ok_or.result (IsAsked (around_of c.args.around) words) c.ok_or.ensures.value
+    (met_is (around_of c.args.around) (fault_of program words) (subcommand_of program words) _ none
+    (c.asked_in.ensures ∙ ap (asked_in (around_of c.args.around)) met))
 
 pub returns-in-Err : goal.returns-in-Err
 returns-in-Err c =
@@ -59,4 +63,5 @@ returns-in-Err c =
     let has = c.in-Err.ensures.kinds (ap is_simple_and_free c.in-Ok.ensures) in
     let same : fault_of (app_of c.in-Ok.program) words ≡ fault_of program words =
     ap (λ (a : App). fault_of a words) c.in-Ok.ensures in
-    told _ (fault_of program words) (subcommand_of program words) c.answered.result (rw same at has) c.answered.ensures
+    told (around_of c.args.around) _ (fault_of program words) (subcommand_of program words) c.answered.result
+    (rw same at has) c.answered.ensures

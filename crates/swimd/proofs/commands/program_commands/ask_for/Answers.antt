@@ -5,14 +5,15 @@ use Rattle.swimd.proofs.commands.program_commands.ask_for.Goals as goal
 
 pub returns-in-Some : goal.returns-in-Some
 returns-in-Some g c =
-    subst (λ line. AsksWanted (option_map (λ line. line.items) line) (g.S.Source.left c.args.reader.now)
+    subst (λ line. AsksWanted c.args.request.now.form (option_map (λ line. line.items) line)
+    (g.S.Source.left c.args.reader.now)
     (g.S.Source.left c.args.reader.now)
     (g.W.Sink.written c.args.writer.now) (g.W.Sink.written c.ask_daemon-in-Some.new.writer) c.ask_daemon-in-Some.result)
     (sym c.in-Some.is) (
       refl,
       (
         Some (c.ask_daemon-in-Some.new.reader.buffered ++ c.ask_daemon-in-Some.new.reader.reader.now),
-        subst (λ text. Asks (Some text)
+        subst (λ text. Asks c.args.request.now.form (Some text)
             (Some (c.ask_daemon-in-Some.new.reader.buffered ++ c.ask_daemon-in-Some.new.reader.reader.now))
             (g.W.Sink.written c.args.writer.now) (g.W.Sink.written c.ask_daemon-in-Some.new.writer)
             c.ask_daemon-in-Some.result)

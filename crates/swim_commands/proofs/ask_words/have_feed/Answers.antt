@@ -1,6 +1,6 @@
 use Rattle.std.proofs.Common.{sym, ◌∙◌}
 use Rattle.swim_commands.proofs.Lines.{none_more, one_found}
-use Rattle.swim_commands.proofs.words.have_feed.Goals as goal
+use Rattle.swim_commands.proofs.ask_words.have_feed.Goals as goal
 
 pub returns-then-has_feed : goal.returns-then-has_feed
 returns-then-has_feed c =
