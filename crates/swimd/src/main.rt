@@ -136,6 +136,7 @@ fn desks(alloc: Global) -> Option<(Desks, Desks, Desks)> {
 
 /// Does what the words of these texts ask in these surroundings. The status with which the program ends.
 fn run_words<
+    'a,
     R: Files<File = File> + Net + Clock + RandomSource + Threads + Wait + Sync,
     S: Source,
     X: Documents,
@@ -145,8 +146,8 @@ fn run_words<
 >(
     rt: &R,
     alloc: Global,
-    texts: &[String],
-    around: Surroundings<'_>,
+    texts: &'a [String],
+    around: Surroundings<'a>,
     streams: &mut Streams<'_, '_, '_, '_, S, X, W, F>,
     log: G,
 ) -> u8

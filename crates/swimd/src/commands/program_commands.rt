@@ -41,6 +41,7 @@ pub struct Streams<'s, 'x, 'w, 'f, S, X, W, F> {
 /// program ends. The log is where a daemon's worker tells people what it threw away: a sink of its own, as those who
 /// tell the faults hold theirs. A daemon has the writer and the faults wait for no reader.
 pub fn command<
+    'a,
     R: Files<File = File> + Net + Clock + RandomSource + Threads + Wait + Sync,
     S: Source,
     X: Documents,
@@ -50,8 +51,8 @@ pub fn command<
 >(
     rt: &R,
     alloc: Global,
-    words: &[&str],
-    around: Surroundings<'_>,
+    words: &'a [&'a str],
+    around: Surroundings<'a>,
     streams: &mut Streams<'_, '_, '_, '_, S, X, W, F>,
     log: G,
 ) -> u8
@@ -68,6 +69,7 @@ pub fn command<
 /// Does what the words ask, and answers how it ended.
 #[tactic(auto, using(crate::proofs::Done::wanted_done, crate::proofs::Explained::asked_explains, crate::proofs::Explained::helped_explains, crate::proofs::Explained::made_explains))]
 fn carry_out<
+    'a,
     R: Files<File = File> + Net + Clock + RandomSource + Threads + Wait + Sync,
     S: Source,
     X: Documents,
@@ -77,8 +79,8 @@ fn carry_out<
 >(
     rt: &R,
     alloc: Global,
-    words: &[&str],
-    around: Surroundings<'_>,
+    words: &'a [&'a str],
+    around: Surroundings<'a>,
     streams: &mut Streams<'_, '_, '_, '_, S, X, W, F>,
     log: G,
     details: &mut Details,
