@@ -9,8 +9,8 @@ use Rattle.swim_metrics.proofs.headed.+put_behind.Goals as goal
 
 pub returns-in_default-clause-bytes : goal.returns-in_default-clause-bytes
 returns-in_default-clause-bytes g t c =
-    subst (λ (text : List ℕ). Puts (g.W.Sink.written c.args.writer.now) (g.W.Sink.written c.put-in_default.new.self) text
-    c.put-in_default.result) (no_line c.args.most c.args.before c.args.lines.now c.in_default.ensures)
+    subst (λ (text : List ℕ). Puts (g.W.Sink.written c.args.writer.now) (g.W.Sink.written c.put-in_default.new.self)
+    text c.put-in_default.result) (no_line c.args.most c.args.before c.args.lines.now c.in_default.ensures)
     c.put-in_default.ensures.bytes
 
 pub returns-then-not-put_one-clause-bytes : goal.returns-then-not-put_one-clause-bytes

@@ -18,10 +18,11 @@ returns c = λ beats kept_is.
     let p = c.args.probe.now in
     let kept = c.args.kept.now in
     let test = λ (r : Reach). nat_lt r.greatest p.number in
-    let rise : IsNonDecreasingBy (λ (r : Reach). r.greatest) kept = subst (λ (l : List Reach). IsNonDecreasingBy (λ (r : Reach). r.greatest) l)
-    (sym kept_is) (reaches_rise 0 (from_member p.initiator beats)) in
+    let rise : IsNonDecreasingBy (λ (r : Reach). r.greatest) kept =
+    subst (λ (l : List Reach). IsNonDecreasingBy (λ (r : Reach). r.greatest) l) (sym kept_is) (reaches_rise 0 (from_member p.initiator beats)) in
     let point = IsPartitionPoint-from_clause test kept _ c.partition_point-place.ensures.partitioned
     (IsPartitionedBy-ltb (λ (r : Reach). r.greatest) kept p.number rise) (λ a r q k. search rules) in
-    let place : prefix_len test kept ≡ c.partition_point-place.result = prefix_len_is test kept c.partition_point-place.result no_reach
-    c.partition_point-place.ensures.bound (λ k l. point.0 k no_reach (omega arith) l) (λ l. point.1 _ no_reach (omega arith) l) in
+    let place : prefix_len test kept ≡ c.partition_point-place.result =
+    prefix_len_is test kept c.partition_point-place.result no_reach c.partition_point-place.ensures.bound
+    (λ k l. point.0 k no_reach (omega arith) l) (λ l. point.1 _ no_reach (omega arith) l) in
     rw (c.beat_before.ensures, c.beat_at.ensures, sym place, kept_is) (bracket_found p beats None 0 (omega arith))
