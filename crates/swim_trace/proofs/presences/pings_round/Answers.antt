@@ -18,8 +18,8 @@ returns c = λ beats kept_is.
     let p = c.args.probe.now in
     let kept = c.args.kept.now in
     let test = λ (r : Reach). nat_lt r.greatest p.number in
-    let rise : IsNonDecreasingBy (λ (r : Reach). r.greatest) kept =
-    subst (λ (l : List Reach). IsNonDecreasingBy (λ (r : Reach). r.greatest) l) (sym kept_is) (reaches_rise 0 (from_member p.initiator beats)) in
+    let goes : List Reach → Type 0 = λ l. IsNonDecreasingBy (λ (r : Reach). r.greatest) l in
+    let rise : goes kept = subst goes (sym kept_is) (reaches_rise 0 (from_member p.initiator beats)) in
     let point = IsPartitionPoint-from_clause test kept _ c.partition_point-place.ensures.partitioned
     (IsPartitionedBy-ltb (λ (r : Reach). r.greatest) kept p.number rise) (λ a r q k. search rules) in
     let place : prefix_len test kept ≡ c.partition_point-place.result =
