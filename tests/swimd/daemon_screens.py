@@ -10,7 +10,7 @@ import time
 from tests.swimd.daemon_asking import must_be, ran
 from tests.swimd.daemon_impostors import Server
 from tests.swimd.daemon_lines import LISTED, quiet
-from tests.swimd.worked_configs import FULL, SUMMARY
+from tests.swimd.worked_configs import FULL, SUMMARY, WARNED
 
 # A title, a bell, a byte 0, one of two bytes, a return, a delete; and what stands for each of these.
 STEERING = b"a\x1b]0;b\x07c\0d\xc3\xa9e\rf\x7fg~ h\n"
@@ -53,7 +53,7 @@ def answers_that_steer(machine):
         server.close()
 
 
-def answers_with_names(machine):
+def names_on_a_terminal(machine):
     """A terminal gets the names of what answers tell by a number, and a pipe the answers alone."""
     daemon = quiet(machine)
     words = ["ask", "--control", daemon.control, "remove", "9"]
@@ -83,14 +83,14 @@ def a_configuration_that_is_typed(machine):
     """Who starts it at a terminal is told what it waits for; from a pipe nothing is told, and of a file neither."""
     told = b"swimd waits for a configuration on standard input, up to its end; swimd --help tells its commands\n"
     for words in ([], ["check"]):
-        must_be(typed(machine.program, *words), (told, SUMMARY.encode(), b""), f"{words} at a terminal")
-        must_be(ran(machine.program, *words, input=FULL.encode()), (SUMMARY.encode(), b"", 0), f"{words} at a pipe")
+        must_be(typed(machine.program, *words), (told, SUMMARY.encode(), WARNED), f"{words} at a terminal")
+        must_be(ran(machine.program, *words, input=FULL.encode()), (SUMMARY.encode(), WARNED, 0), f"{words} at a pipe")
     path = f"{machine.folder}/full.toml"
     with open(path, "w", encoding="utf-8") as file:
         file.write(FULL)
     ours, theirs = pty.openpty()
     try:
-        must_be(ran(machine.program, "check", path, stdin=theirs), (SUMMARY.encode(), b"", 0), "a file at a terminal")
+        must_be(ran(machine.program, "check", path, stdin=theirs), (SUMMARY.encode(), WARNED, 0), "a file at a terminal")
     finally:
         os.close(ours)
         os.close(theirs)
@@ -120,4 +120,4 @@ def events_that_steer(machine):
         server.close()
 
 
-SCREENS = [answers_that_steer, answers_with_names, a_configuration_that_is_typed, events_that_steer]
+SCREENS = [answers_that_steer, names_on_a_terminal, a_configuration_that_is_typed, events_that_steer]

@@ -43,6 +43,8 @@ ALONE = FULL.split("\n\n", 1)[0] + "\n"
 SUMMARY_ALONE = SUMMARY.split("members", 1)[0] + "members 0\n"
 WIRE = "wire is 1, so that a relay that judged a member is no path to it"
 REJOIN = "rejoin is 0, so that only an operator's join brings a failed member back"
+# What the configuration FULL is warned of.
+WARNED = f"warning: {WIRE}\nwarning: {REJOIN}\n".encode()
 # How the warnings end that stand behind these.
 GUESSED = "which anybody may guess"
 LINES = {line.split(" = ")[0]: line for line in ALONE.splitlines()}
