@@ -3,11 +3,19 @@ use Rattle.std.proofs.Common.{◌≡◌, ℕ, Bool, true, false, List, [], ◌�
 use Rattle.std.proofs.Common.{append_assoc, append-nil, inr, Result, Ok, Err}
 use Rattle.std.specs.Prelude.{OnOk, OnErr, codes}
 use Rattle.std.specs.List.{flat_map}
+use Rattle.std.proofs.lemmas.Grind.{flat_map-append}
 use Rattle.swim_text.specs.Streams.{Puts}
 use Rattle.swim_journal.specs.Comments.{EndsLine, IsCommented, MayComment, without_comments}
 use Rattle.swim_journal.proofs.Commenting.{both_grow, comment_grows, same_without}
-use Rattle.swim_devices.specs.Trails.{bytes_in, bytes_more}
-use Rattle.swimd.specs.HeldTexts.{AtText, Takes, all_of}
+use Rattle.swimd.specs.HeldTexts.{AtText, Takes, all_of, bytes_in}
+
+-- what was noted, once one more text was
+pub bytes_more : {A : Type 0} (old new : List (A × List ℕ)) (a : A) (text : List ℕ) → new ≡ old ++ (a, text) ∷ [] →
+    flat_map bytes_in new ≡ flat_map bytes_in old ++ text
+bytes_more old new a text is =
+    ap (flat_map bytes_in) is
+    ∙ flat_map-append bytes_in old ((a, text) ∷ [])
+    ∙ ap (λ more. flat_map bytes_in old ++ more) (append-nil text)
 
 pub text_grows : {A : Type 0} (handed held held' text : List ℕ) (old new : List (A × List ℕ)) (a : A) →
     IsCommented (handed ++ held) (flat_map bytes_in old) → held' ≡ held ++ text → new ≡ old ++ (a, text) ∷ [] →

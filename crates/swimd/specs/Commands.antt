@@ -19,7 +19,6 @@ use Rattle.swimd.specs.Served.{ServesWeb}
 use Rattle.swim_commands.specs.Watched.{WatchesDaemon}
 use Rattle.swim_commands.specs.Words.{Wanted, Check, CheckFile, Run, Ask, Watch, Web, MakeKey, Help, Version}
 use Rattle.swimd.specs.Documents.{Document}
-use Rattle.swimd.specs.declared.commands.program_commands.Streams.{Streams as Handed}
 
 -- an outcome was told on standard error, with details below it, as far as it took the text, and by the status; failed
 -- writes
@@ -76,26 +75,6 @@ pub record Streams : Type 0 where
   pub read : Option (List Document)
   pub written : Written
   pub faults : Written
-
--- what is known of a sink: the bytes that it took, and how many writes failed
-abbrev pub wrote : {W : Type 0} → (W → Option (List ℕ)) → (W → ℕ) → W → Written
-wrote written failures sink = (written sink, failures sink)
-
--- the same of all streams that a command was handed
-abbrev pub streams_by : {S X W F : Type 0} → (S → Option (List ℕ)) → (X → Option (List Document)) → (W → Written) →
-    (F → Written) → Handed S X W F → Streams
-streams_by left read written faults streams = record {
-  left = left streams.reader.now;
-  read = read streams.documents.now;
-  written = written streams.writer.now;
-  faults = faults streams.faults.now;
-}
-
--- they are lent as before
-abbrev pub AreSame : {S X W F : Type 0} → Handed S X W F → Handed S X W F → Type 0
-AreSame old new =
-    (new.reader.ghost_name ≡ old.reader.ghost_name) × (new.documents.ghost_name ≡ old.documents.ghost_name)
-    × (new.writer.ghost_name ≡ old.writer.ghost_name) × (new.faults.ghost_name ≡ old.faults.ghost_name)
 
 -- nothing was read, and nothing written on standard error
 abbrev pub LetsBe : Streams → Streams → Type 0

@@ -16,3 +16,7 @@ all_of t = t.handed ++ t.held
 abbrev pub Takes : AtText → AtText → List ℕ → Bool → Type 0
 Takes old new text true = (new.taken ≡ old.taken ++ text) × (all_of new ≡ all_of old ++ text)
 Takes old new text false = (new.taken ≡ old.taken) × (all_of new ≡ all_of old)
+
+-- what was noted: bytes
+abbrev pub bytes_in : {A : Type 0} → A × List ℕ → List ℕ
+bytes_in i = i.1

@@ -5,6 +5,5 @@ pub(crate) mod counters;
 pub(crate) mod metrics_desks;
 pub(crate) mod metrics_files;
 pub(crate) mod metrics_times;
-pub(crate) mod noted_sinks;
 pub(crate) mod text_sinks;
 pub(crate) mod totals;

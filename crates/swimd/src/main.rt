@@ -3,7 +3,6 @@
 #![tactic(auto)]
 
 ghost use Rattle.std.specs.Prelude.{◌≡◌};
-ghost use Rattle.swimd.specs.Commands.{AreSame};
 
 mod commands;
 mod counting;
@@ -151,7 +150,10 @@ fn run_words<
     streams: &mut Streams<'_, '_, '_, '_, S, X, W, F>,
     log: G,
 ) -> u8
-    ensures { AreSame streams.old streams.new }
+    ensures { (streams.new.reader.ghost_name ≡ streams.old.reader.ghost_name)
+        × (streams.new.documents.ghost_name ≡ streams.old.documents.ghost_name)
+        × (streams.new.writer.ghost_name ≡ streams.old.writer.ghost_name)
+        × (streams.new.faults.ghost_name ≡ streams.old.faults.ghost_name) }
 {
     match words_in(alloc, texts) {
         Ok(words) => program_commands::command(rt, alloc, words.as_slice(), around, streams, log),

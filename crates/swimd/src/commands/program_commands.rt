@@ -2,7 +2,7 @@
 
 ghost use Rattle.std.specs.Prelude.{◌≡◌, ◌++◌, [], codes, map, option_map};
 ghost use Rattle.swim_text.specs.Streams.{Puts, failures_if};
-ghost use Rattle.swimd.specs.Commands.{AreSame, AsksWanted, Carried, Commanded, Helps, Told, streams_by, wrote};
+ghost use Rattle.swimd.specs.Commands.{AsksWanted, Carried, Commanded, Helps, Told};
 ghost use Rattle.swim_commands.specs.Details.{Explains};
 ghost use Rattle.swim_commands.specs.Outcomes.{outcome_text};
 ghost use Rattle.swim_commands.specs.Words.{IsAsked, around_of};
@@ -56,10 +56,23 @@ pub fn command<
     streams: &mut Streams<'_, '_, '_, '_, S, X, W, F>,
     log: G,
 ) -> u8
-    ensures same { AreSame streams.old streams.new }
+    ensures same { (streams.new.reader.ghost_name ≡ streams.old.reader.ghost_name)
+        × (streams.new.documents.ghost_name ≡ streams.old.documents.ghost_name)
+        × (streams.new.writer.ghost_name ≡ streams.old.writer.ghost_name)
+        × (streams.new.faults.ghost_name ≡ streams.old.faults.ghost_name) }
     ensures commanded { Commanded (IsAsked (around_of around.entry) (map (λ word. word.now) words.now))
-        (streams_by S.left X.read (wrote W.written W.failures) (wrote F.written F.failures) streams.old)
-        (streams_by S.left X.read (wrote W.written W.failures) (wrote F.written F.failures) streams.new) result }
+        (record {
+          left = S.left streams.old.reader.now;
+          read = X.read streams.old.documents.now;
+          written = (W.written streams.old.writer.now, W.failures streams.old.writer.now);
+          faults = (F.written streams.old.faults.now, F.failures streams.old.faults.now);
+        })
+        (record {
+          left = S.left streams.new.reader.now;
+          read = X.read streams.new.documents.now;
+          written = (W.written streams.new.writer.now, W.failures streams.new.writer.now);
+          faults = (F.written streams.new.faults.now, F.failures streams.new.faults.now);
+        }) result }
 {
     let mut details = Details::new();
     let outcome = carry_out(rt, alloc, words, around, streams, log, &mut details);
@@ -86,10 +99,23 @@ fn carry_out<
     details: &mut Details,
 ) -> Outcome
     requires { details.old ≡ [] }
-    ensures same { AreSame streams.old streams.new }
+    ensures same { (streams.new.reader.ghost_name ≡ streams.old.reader.ghost_name)
+        × (streams.new.documents.ghost_name ≡ streams.old.documents.ghost_name)
+        × (streams.new.writer.ghost_name ≡ streams.old.writer.ghost_name)
+        × (streams.new.faults.ghost_name ≡ streams.old.faults.ghost_name) }
     ensures done { Carried (IsAsked (around_of around.entry) (map (λ word. word.now) words.now))
-        (streams_by S.left X.read (wrote W.written W.failures) (wrote F.written F.failures) streams.old)
-        (streams_by S.left X.read (wrote W.written W.failures) (wrote F.written F.failures) streams.new) result }
+        (record {
+          left = S.left streams.old.reader.now;
+          read = X.read streams.old.documents.now;
+          written = (W.written streams.old.writer.now, W.failures streams.old.writer.now);
+          faults = (F.written streams.old.faults.now, F.failures streams.old.faults.now);
+        })
+        (record {
+          left = S.left streams.new.reader.now;
+          read = X.read streams.new.documents.now;
+          written = (W.written streams.new.writer.now, W.failures streams.new.writer.now);
+          faults = (F.written streams.new.faults.now, F.failures streams.new.faults.now);
+        }) result }
     ensures explains { Explains result details.new }
 {
     match read_words(alloc, words, around) {

@@ -28,8 +28,7 @@ pub struct HeldText {
 impl Model for HeldText {
     ghost use Rattle.std.specs.Prelude.{◌++◌, flat_map};
     ghost use Rattle.swim_journal.specs.Comments.{IsCommented};
-    ghost use Rattle.swim_devices.specs.Trails.{bytes_in};
-    ghost use Rattle.swimd.specs.HeldTexts.{AtText};
+    ghost use Rattle.swimd.specs.HeldTexts.{AtText, bytes_in};
 
     ghost Value = { AtText };
 

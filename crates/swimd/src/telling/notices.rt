@@ -97,19 +97,26 @@ impl Notice {
             opening.rows().len(),
             period_ms
         );
+        if !config.keys.as_slice().is_empty() {
+            let _is_added = notice.write_str(" keys");
+        }
         notice.add_keys(config.keys.as_slice());
         notice
     }
 
-    /// Adds the fingerprints of these keys, in their order.
+    /// Adds the fingerprints of these keys, in their order, each behind a space.
     fn add_keys(&mut self, keys: &[GroupKey]) {
-        if !keys.is_empty() {
-            add_printed(&mut self.text, b" keys");
-        }
-        for key in keys {
-            add_printed(&mut self.text, b" ");
-            add_printed(&mut self.text, &fingerprint(key));
-        }
+        let [first, others @ ..] = keys else {
+            return;
+        };
+        self.add_key(first);
+        self.add_keys(others);
+    }
+
+    /// Adds the fingerprint of a key, behind a space.
+    fn add_key(&mut self, key: &GroupKey) {
+        add_printed(&mut self.text, b" ");
+        add_printed(&mut self.text, &fingerprint(key));
     }
 
     /// That a journal file isn't whole, and why.

@@ -4,7 +4,7 @@ use Rattle.swimd.proofs.commands.program_commands.carry_out.Goals as goal
 
 pub returns-in-Ok-Run-clause-done : goal.returns-in-Ok-Run-clause-done
 returns-in-Ok-Run-clause-done g c =
-    let runs = rw c.in-Ok-Run.field-0-is at c.run.ensures.runs in
+    let runs = c.run.ensures.runs in
     inl (record {
       wanted = Some (Run c.in-Ok-Run.path.now c.in-Ok-Run.is_quiet);
       asked = rw c.in-Ok-Run.field-0-is at c.in-Ok-Run.ensures;
@@ -13,7 +13,7 @@ returns-in-Ok-Run-clause-done g c =
 
 pub returns-in-Ok-Watch-clause-done : goal.returns-in-Ok-Watch-clause-done
 returns-in-Ok-Watch-clause-done g c =
-    let watched = rw c.in-Ok-Watch.field-0-is at c.watch_daemon.ensures.watches in
+    let watched = c.watch_daemon.ensures.watches in
     inl (record {
       wanted = Some (Watch c.in-Ok-Watch.path.now c.in-Ok-Watch.is_json);
       asked = rw c.in-Ok-Watch.field-0-is at c.in-Ok-Watch.ensures;
