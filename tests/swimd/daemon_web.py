@@ -54,6 +54,7 @@ def each_page(machine):
         must_answer(web, "/healthz", 200, b"ok\n", "text/plain; charset=utf-8")
         members = must_answer(web, "/members.json", 200, kind="application/json")
         must(json.loads(members.body) == members_of(daemon), f"the members are {members.body!r}")
+        until(lambda: daemon.ask(b"stats\n") != b".\n", "something is counted")
         metrics = must_answer(web, "/metrics", 200, kind="text/plain; version=0.0.4; charset=utf-8")
         parsed(metrics.body.decode(), NAMES if "journal_dir" in daemon.values else NAMES_WITHOUT_FILES)
         names = lambda text: [line.split(b" ")[0] for line in text.split(b"\n") if not line.startswith(b"#")]
