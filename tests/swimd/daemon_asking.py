@@ -95,6 +95,7 @@ def answers_with_names(machine):
     must_be((err, status), (b"", 3), "faults among what is explained")
     must_be(asked(daemon, "--explain", "a" * 129)[0], f"fault 1 {names['fault']['1']}\n".encode(), "a long line")
     must_be(asked(daemon, "--explain", "list"), (LISTED, b"", 0), "a list")
+    until(lambda: asked(daemon, "stats")[0] != b".\n", "something is counted")
     stats, plain = (asked(daemon, *it, "stats")[0] for it in (["--explain"], []))
     first = lambda text: [it.split(b" ")[0] for it in text.split(b"\n")]
     must_be(first(stats), first(plain), "counts")

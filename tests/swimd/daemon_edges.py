@@ -211,7 +211,7 @@ def words_that_are_refused(machine):
 
 def a_file_without_an_option(machine):
     """`run FILE` runs the daemon of that file, as `run --config FILE` does."""
-    daemon = machine.daemon(1, members=[(2, "10.0.0.2:7000")], tick_ms=MINUTE)
+    daemon = machine.daemon(1, members=[(2, "10.0.0.2:7000")], tick_ms=MINUTE, journal_dir=None)
     streams = {"stdin": subprocess.DEVNULL, "stdout": subprocess.PIPE, "stderr": subprocess.PIPE}
     daemon.child = subprocess.Popen([daemon.program, "run", daemon.file], **streams, bufsize=0)
     must(daemon.ready().states() == {2: "up"}, "it knows others")

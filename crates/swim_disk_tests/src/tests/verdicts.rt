@@ -31,10 +31,10 @@ fn a_text_is_looked_through(rt: HostRuntime) {
     let end = text.len() - b"\ntick\n".len();
     for size in 1..=text.len() {
         let mut search = VerdictSearch::new();
-        let mut count = 0;
+        let mut count = 0usize;
         for piece in text.chunks(size) {
             search.read(piece);
-            count += piece.len();
+            count = count.saturating_add(piece.len());
             assert!(rt; search.is_found() == (end < count));
         }
     }
