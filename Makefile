@@ -24,7 +24,7 @@ help:
 	@echo '                it is, and prints where they lie'
 	@echo 'make check      for people at work: checks what changed since it was last proved here and what stands on it, with the'
 	@echo '                tests of those, and runs the short parts of tests/; it takes what was proved before as it is'
-	@echo 'make test       rt ci (every proof and test), and the parts of tests/ that run the built programs, in some 50 minutes'
+	@echo 'make test       rt ci (every proof and test), and the parts of tests/ that run the built programs, in some 40 minutes'
 	@echo '                with four processors; tests/all --list names them, and tests/all --only NAME runs one'
 	@echo 'make edits      tries wrong bodies, each of which the prover has to refuse: half an hour behind a make test'
 	@echo 'make compare    runs swimsim and tests/reference on random scripts, and swimd on random configurations and'
@@ -75,7 +75,8 @@ install:
 	install -m 644 man/swimsim.1 man/swimd.1 '$(MAN)'; \
 	install -m 644 examples/*.swim examples/*.stdout '$(DOC)/swimsim/examples'; \
 	install -m 644 examples/*.toml '$(DOC)/swimd/examples'; \
-	install -m 644 docs/OPERATING.md docs/CHECKING.md docs/FORMATS.md docs/PROTOCOL.md docs/healing.svg '$(DOC)/swimd'; \
+	install -m 644 docs/OPERATING.md docs/CHECKING.md docs/FORMATS.md docs/PROTOCOL.md docs/healing.svg docs/trace.svg \
+		'$(DOC)/swimd'; \
 	for unit in swimd.service swimd-web.service; do \
 		sed 's|/usr/local/bin/|$(PREFIX)/bin/|' "contrib/$$unit" > '$(UNIT)'"/$$unit"; \
 		chmod 644 '$(UNIT)'"/$$unit"; \

@@ -17,9 +17,10 @@ class Member:
         self.file = open(path, "w", encoding="ascii")
         self.child = subprocess.Popen([program], stdin=subprocess.PIPE, stdout=subprocess.PIPE, text=True)
         rows = "".join(f"row {it} 10.0.0.{it}:7000\n" for it in range(1, MEMBERS + 1) if it != id)
-        head, seed = HEAD.format(id=id, period=PERIOD, entries=entries) + rows, f"seed {id:064x}"
-        self.child.stdin.write(f"{head}{seed}\n")
-        self.file.write(f"journal 1\n{head}{seed} 0\n")
+        # As a journal file it may be longer than a script.
+        head = f"journal 1\n{HEAD.format(id=id, period=PERIOD, entries=entries)}{rows}seed {id:064x} 0\n"
+        for it in (self.child.stdin, self.file):
+            it.write(head)
 
     def tell(self, lines):
         """Tells it calls, as many as its file has room for, and answers the last answer."""

@@ -18,6 +18,7 @@ AS_EVER, NO_MEMORY, NOT_KEPT, NOT_BEGUN = (
     "as ever", "a call without memory", "a line that isn't kept", "nothing was done"
 )
 NOT_COMPARED, CUT = "an answer that isn't compared", "a journal that is cut"
+UNHELD = "a connection without memory for its answers"
 PASSED = b"\ntest result: ok\n"
 PASSED_REFUSED = b"a call was refused\n" + PASSED
 MEMORY = re.compile(rb"line (\d+): memory\n")
@@ -232,8 +233,8 @@ def answered(daemon, text):
 
 
 def asked(daemon, peer):
-    """What a daemon answers to a ping, and then to control lines. None as the first where no ack comes. Where the
-    connection is closed at once, the next one is served."""
+    """What a daemon answers to a ping, and then to control lines, and what it answered to them on a connection before
+    that it closed. None as the first where no ack comes."""
     peer.settimeout(1)
     peer.sendto(datagram(PING, 9, 9, 1, 1), daemon.address)
     try:
@@ -241,8 +242,10 @@ def asked(daemon, peer):
     except OSError:
         ack = None
     text = b"join 3 10.0.0.3:7000\nlist\nremove 3\nlist\nstop\n"
-    lines = answered(daemon, text) or answered(daemon, text)
-    return ack, lines.decode().splitlines()
+    front, answer = b"", answered(daemon, text)
+    if not answer.endswith(b"stopping\n"):
+        front, answer = answer, answered(daemon, text)
+    return ack, answer.decode().splitlines(), front
 
 
 def lines_wanted(join, remove):
@@ -277,7 +280,26 @@ def must_not_begin(ran):
     return ran.status == 4 and ran.stderr in (b"no memory\n", b"no place\n") and ran.stdout in lines
 
 
-def goes_on(ran, ack, lines, number, machine):
+def goes_on_behind(ran, ack, lines, front, number, machine):
+    """A connection had no memory for its answers: it was closed behind a front of them. The next one is served. What
+    the first one asked before was done, and so was the call whose answer is lost."""
+    two, three = "2 10.0.0.2:7000 up", "3 10.0.0.3:7000 up"
+    behind = "\n".join(["", two, three, ".", "removed", two, ".", "stopping", ""]).encode()
+    is_front = any((b"joined %d%b" % (place, behind)).startswith(front) for place in (0, 1))
+    told = front.count(b"joined") + front.count(b"removed")
+    for made in {told, min(told + 1, 2)}:
+        first = r"refused 2" if made == 1 else r"joined [01]"
+        is_as_ever = re.fullmatch(first, lines[0]) and lines[1:] == [two, three, ".", "removed", two, ".", "stopping"]
+        closing = f"ended stopped entries {3 + made} judged 0 unsent 0 wire 0 refused 0\n".encode()
+        is_told = is_front and is_as_ever and ack is not None and ran == (closing, b"", 0)
+        if is_told and (not machine.simulator or is_written(machine, 3 + made, False)):
+            return UNHELD, []
+    return UNHELD, [f"request {number}: {ack}, {front!r}, {lines}, {ran}"]
+
+
+def goes_on(ran, ack, lines, front, number, machine):
+    if front or lines[:1] == ["refused 2"]:
+        return goes_on_behind(ran, ack, lines, front, number, machine)
     join = "no memory" if lines[0] == "no memory" else "joined N"
     remove = "no memory" if "no memory" in lines[1:] else "removed"
     lost = [ack is None, join == "no memory", remove == "no memory"].count(True)

@@ -13,11 +13,13 @@ WHY_THROWN = rb"have no tag by one of our keys, forged|come faster than the fenc
 THROWN_AWAY = rb"datagrams from [\d.]+:\d+ (?:" + WHY_THROWN + rb") \d+"
 CHANGES = rb"judged \d+ in period \d+(?:, last heard in period \d+)?|joined \d+ at [\d.]+:\d+"
 CHANGES += rb"|joined \d+ again, after \d+ periods|\d+ changes more, too many at once to tell each"
+ODD = rb"\d+ at [\d.]+:\d+ pings and isn't listed|\d+ is this member, and [\d.]+:\d+ speaks as \d+, too"
+ODD += rb"|\d+ is heard from [\d.]+:\d+, its row has [\d.]+:\d+|\d+ was heard by relays alone for \d+ rounds"
 FILES = rb"(?:journal|metrics) [^\n]*: [^\n]*"
 TURNED_AWAY = rb"connections are turned away, as too few descriptors are left, refused \d+"
 STARTS = rb"swimd [\d.]+ listens [^\n]*|life \d+ begins|removed [^\n]*"
 FEWER = rb"told \d+ lines fewer on standard output"
-NOTICES = b"|".join([STARTS, CHANGES, FILES, THROWN_AWAY, TURNED_AWAY, FEWER])
+NOTICES = b"|".join([STARTS, CHANGES, ODD, FILES, THROWN_AWAY, TURNED_AWAY, FEWER])
 NOTICE = re.compile(rb"warning: [^\n]*\n|" + TIME + rb" (?:" + NOTICES + rb")\n")
 
 

@@ -1,6 +1,7 @@
 """Which journal files of daemons stay in their folder, and what else that lies there does."""
 
 import os
+import time
 
 from tests.support.daemons import must, until
 from tests.support.journals import in_one_folder, journals
@@ -79,6 +80,8 @@ def what_is_no_file_stays(machine):
 NOBODY = [(2, "127.0.0.1:9")]
 # A period takes a twentieth of a second, and at the end of its first who doesn't answer is judged.
 SOON = {"k": 0, "rtt": 1, "period": 3, "tick_ms": 20}
+# A daemon starts within so many.
+MOST_SECONDS = 60
 
 
 def names_in(folder):
@@ -125,6 +128,19 @@ def a_verdict_that_came_last(machine):
     must(names_in(judged) == [name], f"there are {names_in(judged)}")
 
 
+def a_second_name_is_taken(machine):
+    """A file is named by no second that a second name has, so that it can have one."""
+    judged, now = f"{machine.journals}/judged", int(time.time())
+    os.mkdir(judged)
+    for seconds in range(now - 1, now + MOST_SECONDS):
+        a_file(f"{judged}/1-{seconds}-0.swim")
+    daemon, name = judging(machine, 2 * MOST_SECONDS)
+    wanted = f"1-{now + MOST_SECONDS}-0.swim"
+    must(name == wanted, f"it is named {name}, and not {wanted}")
+    until(lambda: name in names_in(judged), "its second name")
+    daemon.stop()
+
+
 def no_folder_for_verdicts(machine):
     """Where it can't be made, the daemon goes on, and the file lies where it lay."""
     judged = f"{machine.journals}/judged"
@@ -142,6 +158,7 @@ JOURNAL_FOLDERS = [
         what_is_no_file_stays,
         lives_with_verdicts_stay_longer,
         a_verdict_that_came_last,
+        a_second_name_is_taken,
         no_folder_for_verdicts,
     )
 ]

@@ -21,32 +21,43 @@ MINUTE = 60_000
 # The file is written as soon as a life has begun, and then every ten seconds.
 AT_ONCE, PAUSE = 2, 10
 BOUNDS = [2**it for it in range(16)]
+MEMBER_COUNTS = ["acks_total target", "acks_total relay", "verdicts_total", "asked_total"]
 REASONS = ["not_for_me", "borrowed", "about_me", "unlisted", "table_full", "stray", "no_request"]
 GAUGES = [
-    "build_info", "member_id", "members", "period_number", "period_seconds", "journal_entries", "journal_entries_limit",
-    "journal_entries_behind", "watchers", "journal_file_ok",
+    "build_info", "member_id", "members", "period_number", "period_seconds", "tick_seconds", "journal_entries",
+    "journal_entries_limit", "journal_entries_behind", "watchers", "member_up", "member_heard_period", "journal_file_ok",
 ]
 COUNTERS = [
-    "ticks", "pings_sent", "pings_heard", "acks_heard", "asks_sent", "requests_served", "dropped", "verdicts", "joins",
+    "ticks", "pings_sent", "pings_heard", "acks_heard", "acks_late", "odd_senders", "asks_sent", "requests_served", "dropped", "verdicts", "joins",
     "own_joins", "removals", "knocks", "lives", "unsent", "wire", "refused", "forged", "fenced", "lost_watchers",
-    "metrics_unwritten", "journal_files_cut",
+    "metrics_unwritten", "member_acks", "member_verdicts", "member_asked", "journal_files_cut",
 ]
 NAMES = {
     **{f"swimd_{it}": "gauge" for it in GAUGES},
     **{f"swimd_{it}_total": "counter" for it in COUNTERS},
     "swimd_ack_wait_ticks": "histogram",
 }
+# A page tells nothing of a family without samples.
+OF_MEMBERS = [it for it in NAMES if it.startswith("swimd_member_") and it != "swimd_member_id"]
 # Those of journal files, which a daemon has none of that writes none.
 FILES_NAMES = ["swimd_journal_file_ok", "swimd_journal_files_cut_total"]
 SAMPLE = re.compile(
-    r'(?P<name>[a-z_]+)\{member="(?P<member>\d+)"(?:,[a-z]+="(?P<label>(?:[^"\\]|\\["\\n])*)")?\} (?P<value>[0-9.]+)'
+    r'(?P<name>[a-z_]+)\{member="(?P<member>\d+)"(?:,id="(?P<id>\d+)")?'
+    r'(?:,[a-z]+="(?P<label>(?:[^"\\]|\\["\\n])*)")?\} (?P<value>[0-9.]+)'
 )
 ENTRY = re.compile(r"= \d+ (.*)")
 
 
-def parsed(text, names=NAMES):
+def key_of(found):
+    """The name of a sample, and its label; of a member, its id and then its label, if it has one."""
+    labels = [it for it in (found["id"], found["label"]) if it is not None]
+    return found["name"], " ".join(labels) or None
+
+
+def parsed(text, names=NAMES, bare=()):
     """The samples of a text in the exposition format, by name and label. Each family stands together, behind what it
-    tells and its type, and once, and these are all families. All samples are of one member."""
+    tells and its type, and once, and these are all families; but these bare ones may be left out. All samples are of one
+    member."""
     samples, family, seen, last_line, members = {}, None, {}, text[-1:], set()
     must(last_line == "\n", f"the text ends with {last_line!r}")
     for line in text.split("\n")[:-1]:
@@ -62,10 +73,11 @@ def parsed(text, names=NAMES):
             must(found and family in seen, f"no sample is {line!r}")
             suffixes = ["_bucket", "_sum", "_count"] if seen[family] == "histogram" else [""]
             must(found["name"] in [family + it for it in suffixes], f"among those of {family} stands {line!r}")
-            must((found["name"], found["label"]) not in samples, f"twice stands {line!r}")
-            samples[found["name"], found["label"]] = float(found["value"])
+            must(key_of(found) not in samples, f"twice stands {line!r}")
+            samples[key_of(found)] = float(found["value"])
             members.add(int(found["member"]))
-    must(seen == names, f"the families are {seen}")
+    wanted = {name: kind for name, kind in names.items() if name in seen or name not in bare}
+    must(seen == wanted, f"the families are {seen}")
     must(members == {samples["swimd_member_id", None]}, f"they are samples of {members}")
     return samples
 
@@ -77,7 +89,7 @@ def stats_of(daemon):
     must(lines[-2:] == [".", ""], f"`stats` ends with {lines[-2:]}")
     found = [SAMPLE.fullmatch(it) for it in lines[:-2]]
     must(all(it and it["member"] == str(daemon.id) for it in found), f"`stats` says {lines}")
-    return {(it["name"], it["label"]): float(it["value"]) for it in found}
+    return {key_of(it): float(it["value"]) for it in found}
 
 
 def counted(machine, id=1, **values):
@@ -101,7 +113,9 @@ class Journal:
     """What the journal files of a daemon say of each count, read without any code of the daemon's."""
 
     def __init__(self, daemon):
-        self.counts, self.waits, self.entries = Counter(), [], 0
+        self.counts, self.waits, self.entries, self.number = Counter(), [], 0, 0
+        # Of each member of the table its figures, by what they are called.
+        self.members = {}
         self.files = journals(daemon.values["journal_dir"], daemon.id)
         for file in self.files:
             self.read_life(file.text.decode().split("\n"))
@@ -109,12 +123,23 @@ class Journal:
     def read_life(self, lines):
         self.counts["lives"] += 1
         self.entries, self.waited, self.was_heard, call = 0, 0, False, ""
+        table = {}
         for line in lines:
-            entry = ENTRY.fullmatch(line)
+            entry, words = ENTRY.fullmatch(line), line.split(" ")
+            if words[0] == "open":
+                self.number = int(words[5])
+            elif words[0] == "row":
+                table[int(words[1])] = "up" if len(words) == 3 else "failed"
+            elif words[0] == "seed":
+                self.members = {id: self.figures(id, state) for id, state in table.items()}
             if entry:
                 self.read_entry(call, entry[1])
             elif line and line.split(" ")[0] in ("tick", "hear", "join", "remove"):
                 call = line
+
+    def figures(self, id, state):
+        """What was counted of a member until now, in this state. Nothing was of one that isn't in the table."""
+        return {**self.members.get(id, dict.fromkeys(MEMBER_COUNTS, 0)), "up": int(state == "up")}
 
     def read_entry(self, call, answer):
         words, said = call.split(" "), answer.split(" ")
@@ -124,14 +149,18 @@ class Journal:
             self.read_tick(said)
         elif words[0] == "join" and said[0] == "joined":
             self.counts["joins"] += 1
+            self.members[int(words[1])] = self.figures(int(words[1]), "up")
         elif said[0] == "removed":
             self.counts["removals"] += 1
+            del self.members[int(words[1])]
         elif kind == PING:
             self.counts["pings_heard"] += 1
         if said[0] == "dropped":
             self.counts[REASONS[int(said[1]) - 1]] += 1
+            is_stray = REASONS[int(said[1]) - 1] == "stray"
+            self.counts["late"] += is_stray and fields(bytes.fromhex(words[2]))[4] < self.number
         elif said[0] == "heard":
-            self.read_ack(*fields(bytes.fromhex(words[2]))[1:4])
+            self.read_ack(*fields(bytes.fromhex(words[2]))[1:5])
         elif said[0] == "sent" and kind not in (PING, ACK):
             self.counts["requests_served"] += 1
             self.counts["pings_sent"] += 1
@@ -140,14 +169,22 @@ class Journal:
         self.counts["ticks"] += said[0] != "refused"
         self.waited += said[0] != "refused"
         if said[0] == "started":
-            self.waited, self.was_heard = 0, False
+            self.waited, self.was_heard, self.number = 0, False, self.number + 1
             self.counts["verdicts"] += said[2] != "-"
             self.counts["pings_sent"] += said[4] != "-"
+            if said[2] != "-":
+                judged = self.members[int(said[2])]
+                judged["up"], judged["verdicts_total"] = 0, judged["verdicts_total"] + 1
         elif said[0] == "asked" and said[4] != "-":
             self.counts["asks_sent"] += len(said[4].split(","))
+            for id in said[4].split(","):
+                self.members[int(id)]["asked_total"] += 1
 
-    def read_ack(self, sender, _, target):
-        self.counts["target" if sender == target else "relay"] += 1
+    def read_ack(self, sender, _, target, number):
+        source = "target" if sender == target else "relay"
+        self.counts[source] += 1
+        self.members[target][f"acks_total {source}"] += 1
+        self.members[target]["heard_period"] = number
         if not self.was_heard:
             self.waits.append(self.waited)
         self.was_heard = True
@@ -161,6 +198,14 @@ def must_be_counted(samples, daemon, **others):
     )}
     wanted |= {("swimd_dropped_total", it): journal.counts[it] for it in REASONS}
     wanted |= {("swimd_acks_heard_total", it): journal.counts[it] for it in ("target", "relay")}
+    wanted["swimd_acks_late_total", None] = journal.counts["late"]
+    for id, figures in journal.members.items():
+        for name, value in figures.items():
+            name, _, label = name.partition(" ")
+            wanted[f"swimd_member_{name}", f"{id} {label}".strip()] = value
+    told = {key: value for key, value in samples.items() if key[0].startswith("swimd_member_") and key[1]}
+    of_members = {key: value for key, value in wanted.items() if key[0].startswith("swimd_member_")}
+    must(told == of_members, f"of members it tells {told}, and not {of_members}")
     waits = journal.waits
     wanted |= {("swimd_ack_wait_ticks_bucket", str(it)): sum(wait <= it for wait in waits) for it in BOUNDS}
     wanted["swimd_ack_wait_ticks_bucket", "+Inf"] = wanted["swimd_ack_wait_ticks_count", None] = len(waits)
@@ -191,7 +236,7 @@ def metrics_of_a_group(machine):
         samples = written(it.values["metrics"])
         must_be_counted(
             samples, it, unsent_total=closing.unsent, wire_total=0, refused_total=0, forged_total=0, fenced_total=0,
-            period_seconds=0.24, journal_entries_limit=1_000_000, journal_entries_behind=0, watchers=0,
+            period_seconds=0.24, tick_seconds=0.02, journal_entries_limit=1_000_000, journal_entries_behind=0, watchers=0,
         )
         must(samples["swimd_build_info", "1.0"] == 1, f"it says {samples}")
     must(samples["swimd_verdicts_total", None] == 1, f"the second one says {samples}")

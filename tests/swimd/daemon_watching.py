@@ -115,10 +115,15 @@ def watch_finds_the_next_daemon(machine):
     daemon, path = watched(machine, tick_ms=MINUTE)
     watch, other = Watch(machine, path), Watch(machine, path, "--json")
     lines = ["."]
-    watch.must_write(*lines)
+
+    def both_must_write():
+        watch.must_write(*lines)
+        until(lambda: len(other.lines) >= len(lines), "JSON has as many lines")
+
+    both_must_write()
     must(daemon.stop().status == 0, "it ended otherwise")
     lines.append("ended")
-    watch.must_write(*lines)
+    both_must_write()
     daemon.members = [(7, "10.0.0.7:7000")]
     daemon.write()
     daemon.start()
@@ -126,11 +131,12 @@ def watch_finds_the_next_daemon(machine):
     lines += ["again", "up 7 10.0.0.7:7000", "."]
     watch.must_write(*lines)
     must(time.monotonic() - began < FOUND_AGAIN, "it took longer to find the next daemon")
+    # Who hasn't found it before it is killed is told nothing of it.
+    both_must_write()
     daemon.kill()
     daemon.start()
     lines += ["again", "up 7 10.0.0.7:7000", "."]
-    watch.must_write(*lines)
-    until(lambda: len(other.lines) >= len(lines), "JSON has as many lines")
+    both_must_write()
     events = [json.loads(it)["event"] for it in other.lines]
     must(
         events == ["table_ends", "ended", "again", "up", "table_ends", "again", "up", "table_ends"],

@@ -3,6 +3,7 @@
 import base64
 import hashlib
 import json
+import os
 import re
 import shutil
 import subprocess
@@ -10,10 +11,11 @@ import time
 
 from tests.support.configurations import HOST
 from tests.support.daemons import must, until
+from tests.support.journals import journals
 from tests.support.parts import TOP, leave_out
 from tests.support.sayings import first_line_of
 from tests.support.web_servers import WebServer
-from tests.swimd.daemon_metrics import FILES_NAMES, NAMES, parsed
+from tests.swimd.daemon_metrics import FILES_NAMES, NAMES, OF_MEMBERS, parsed
 from tests.swimd.daemon_watchers import MINUTE, watched
 
 MEMBERS = [(2, "10.0.0.2:7000"), (30, "10.0.0.3:7000")]
@@ -56,7 +58,8 @@ def each_page(machine):
         must(json.loads(members.body) == members_of(daemon), f"the members are {members.body!r}")
         until(lambda: daemon.ask(b"stats\n") != b".\n", "something is counted")
         metrics = must_answer(web, "/metrics", 200, kind="text/plain; version=0.0.4; charset=utf-8")
-        parsed(metrics.body.decode(), NAMES if "journal_dir" in daemon.values else NAMES_WITHOUT_FILES)
+        families = NAMES if "journal_dir" in daemon.values else NAMES_WITHOUT_FILES
+        parsed(metrics.body.decode(), families, OF_MEMBERS)
         names = lambda text: [line.split(b" ")[0] for line in text.split(b"\n") if not line.startswith(b"#")]
         must(names(metrics.body + b".\n") == names(daemon.ask(b"stats\n")), f"the metrics are {metrics.body!r}")
         must_answer(web, "/events", 200, b"retry: 2000\n\n", "text/event-stream")
@@ -94,6 +97,63 @@ def a_verdict_is_shown(machine):
         found = until(failed, "the verdict is told")
         must(found == members_of(daemon)["members"], f"{found} is told")
     must(daemon.stop().status == 0, "the daemon ended otherwise")
+
+
+def judged_and_ended(machine, *words):
+    """A daemon that judged member 2 and ended, its journal file, and the number of the period."""
+    daemon = machine.started(members=[(2, "127.0.0.1:9")], k=0, rtt=1, period=3, tick_ms=20)
+    found = until(lambda: [it for it in daemon.table().values() if it.state.startswith("failed")], "it judges")
+    must(daemon.stop().status == 0, "the daemon ended otherwise")
+    (file,) = journals(daemon.values["journal_dir"], 1)
+    return daemon, file, int(found[0].state.split(" ")[1])
+
+
+def lines_on(machine, path, number):
+    """The lines of `swimsim --verify` on the verdict of a period."""
+    ran = subprocess.run([machine.simulator, "--verify", path], capture_output=True, timeout=20)
+    found = [it for it in ran.stdout.decode().splitlines() if it.startswith(f"judged 2 in period {number}: ")]
+    must(len(found) == 1, f"{path} is verified as {ran.stdout!r}")
+    return found[0], ran.stderr.decode()
+
+
+def a_verdict_is_explained(machine):
+    """A page says of a verdict what `swimsim --verify` does, and where the file isn't verified, that. No other path
+    shows a verdict."""
+    daemon, file, number = judged_and_ended(machine)
+    folder = os.path.dirname(file.path)
+    with WebServer(machine, daemon.control, "--journals", folder) as web:
+        page = must_answer(web, f"/verdicts/2/{number}", 200, kind="text/html; charset=utf-8")
+        must_be_safe(page)
+        text, (line, _) = page.body.decode(), lines_on(machine, file.path, number)
+        for part in (f"<pre>{line}\n", f"<code>{file.path}</code>", "The file is verified, and whole.", "<svg "):
+            must(part in text, f"{part} isn't in the page {text[:2_000]}")
+        must(f"\nswimsim --timeline run.svg --around 2 {file.path}\n" in text, "the page has another command")
+        must("<script" not in text, "the page has a script")
+        for other in (f"/verdicts/2/{number + 1}", f"/verdicts/3/{number}"):
+            must_answer(web, other, 404, b"no such verdict\n")
+        for other in (f"/verdicts/02/{number}", f"/verdicts/2/{number}/", "/verdicts/2", "/verdicts/2/x"):
+            must_answer(web, other, 404, b"no such page\n")
+    with WebServer(machine, daemon.control) as web:
+        must_answer(web, f"/verdicts/2/{number}", 404, b"no such verdict\n")
+
+
+def a_verdict_in_other_folders(machine):
+    """The newest file is shown; one with a fault is shown as that, and one in the folder of verdicts if there is no
+    other."""
+    daemon, file, number = judged_and_ended(machine)
+    folder, judged = f"{machine.folder}/<&>", f"{machine.folder}/<&>/judged"
+    os.makedirs(judged)
+    shutil.copy(file.path, f"{judged}/1-5-0.swim")
+    with WebServer(machine, daemon.control, "--journals", folder) as web:
+        page = must_answer(web, f"/verdicts/2/{number}", 200)
+        must(b"/&lt;&amp;>/judged/1-5-0.swim</code>" in page.body, f"the page is {page.body[:2_000]!r}")
+        shutil.copy(file.path, f"{folder}/1-9-9.swim")
+        with open(f"{folder}/1-10-0.swim", "wb") as changed:
+            changed.write(file.text + b"tick\n= 1 else\n")
+        page = must_answer(web, f"/verdicts/2/{number}", 200)
+        _, said = lines_on(machine, f"{folder}/1-10-0.swim", number)
+        what = said.removeprefix(f"swimsim: {folder}/1-10-0.swim: ").removesuffix("\n")
+        must(f"This file is not verified: {what}." in page.body.decode(), f"{what} isn't in {page.body[:2_000]!r}")
 
 
 def events_of(web, **fields):
@@ -249,6 +309,8 @@ PAGES = [
     each_page,
     the_page_and_its_policy,
     a_verdict_is_shown,
+    a_verdict_is_explained,
+    a_verdict_in_other_folders,
     events_are_passed_on,
     no_daemon_at_first,
     a_daemon_that_stands_still,

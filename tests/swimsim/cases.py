@@ -39,8 +39,9 @@ def content(path, missing=None):
 
 
 def kept_scripts(folder):
-    """The scripts of a folder. An expected text without its script is a fault too."""
-    stems = sorted({os.path.splitext(name)[0] for name in os.listdir(folder) if not name.endswith(".toml")})
+    """The scripts of a folder, without those of folders in it. An expected text without its script is a fault too."""
+    names = [it.name for it in os.scandir(folder) if it.is_file() and not it.name.endswith(".toml")]
+    stems = sorted({os.path.splitext(name)[0] for name in names})
     if not stems:
         raise BadCase(f"{folder} holds no script")
     for stem in stems:

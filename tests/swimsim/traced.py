@@ -294,7 +294,7 @@ def traced_as_json(program):
 def traced_beside_other_words(program):
     """Words that don't go together, and numbers that can't be one, are refused before anything is read."""
     tries = [["--judged", "3"], ["--period", "3"], ["--json"], ["--trace"], ["--trace", "a", "--verify", "a"],
-             ["--decode", "--trace", "a"], ["--trace", "a", "--explain"], ["--trace", "a", "--timeline", "b"],
+             ["--decode", "--trace", "a"], ["--trace", "a", "--explain"], ["--trace", "a", "--force"],
              ["--verify", "a", "--judged", "3"], ["--judged", "0", "--trace", "a"], ["--period", "0", "--trace", "a"],
              ["--judged", "4294967296", "--trace", "a"], ["--period", "18446744073709551616", "--trace", "a"]]
     said = []

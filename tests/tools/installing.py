@@ -14,9 +14,9 @@ from tests.swimd.worked_configs import FULL
 
 SECONDS = 60
 SERVICES = {f"lib/systemd/system/{name}": f"{TOP}/contrib/{name}" for name in ("swimd.service", "swimd-web.service")}
-DOCUMENTS = ["OPERATING.md", "CHECKING.md", "FORMATS.md", "PROTOCOL.md", "healing.svg"]
+DOCUMENTS = ["OPERATING.md", "CHECKING.md", "FORMATS.md", "PROTOCOL.md", "healing.svg", "trace.svg"]
 # Files that the examples in documents make.
-MADE = ["run.svg"]
+MADE = ["run.svg", "probe.svg"]
 # A document that another one names, as one that lies beside it.
 NAMED = re.compile(r"(?<![/\w])(\w+\.(?:md|svg))\b")
 
@@ -41,7 +41,7 @@ def origins(programs):
     for name, program in programs.items():
         yield f"bin/{name}", program, 0o755
         yield f"share/man/man1/{name}.1", f"{TOP}/man/{name}.1", 0o644
-    for name in os.listdir(f"{TOP}/examples"):
+    for name in (it.name for it in os.scandir(f"{TOP}/examples") if it.is_file()):
         owner = "swimd" if name.endswith(".toml") else "swimsim"
         yield f"share/doc/{owner}/examples/{name}", f"{TOP}/examples/{name}", 0o644
     for name in DOCUMENTS:

@@ -3,4 +3,5 @@ pub mod Exchanges
 pub mod Given
 pub mod Indented
 pub mod Lines
+pub mod Shelved
 pub mod Tables

@@ -6,3 +6,4 @@ pub mod Outcomes
 pub mod Watched
 pub mod Words
 pub mod Worked
+pub mod Shelves

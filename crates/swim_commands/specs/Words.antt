@@ -34,7 +34,8 @@ pub data Wanted : Type 0 where
   Run : (file : List ℕ) → (is_quiet : Bool) → Wanted
   Ask : (path : List ℕ) → (line : Option (List ℕ)) → (seconds : ℕ) → (form : Form) → Wanted
   Watch : (path : List ℕ) → (is_json : Bool) → Wanted
-  Web : (listen : Address) → (control : List ℕ) → (events : Option (List ℕ)) → (names : List (List ℕ)) → Wanted
+  Web : (listen : Address) → (control : List ℕ) → (events : Option (List ℕ)) → (journals : Option (List ℕ)) →
+      (names : List (List ℕ)) → Wanted
   MakeKey : Wanted
   Help : Wanted
   Version : Wanted
@@ -48,6 +49,7 @@ wanted (asked.Ask request) =
 wanted (asked.Watch path is_json) = Watch path.now is_json
 wanted (asked.Web request) =
     Web request.listen request.control.now (option_map (λ path. path.now) request.events)
+    (option_map (λ path. path.now) request.journals)
     (map (λ name. name.now) request.names.items)
 wanted asked.MakeKey = MakeKey
 wanted (asked.Help text) = Help
@@ -95,8 +97,9 @@ abbrev pub watch_app : App
 watch_app = with_rule (with_rule (new_app (codes "watch")) (option_rule (codes "events"))) (flag_rule (codes "json"))
 
 abbrev pub web_app : App
-web_app = with_rule (with_rule (with_rule (with_rule (new_app (codes "web")) (needed_rule (codes "listen")))
-    (needed_rule (codes "control"))) (option_rule (codes "events"))) (repeated_rule (codes "name"))
+web_app = with_rule (with_rule (with_rule (with_rule (with_rule (new_app (codes "web")) (needed_rule (codes "listen")))
+    (needed_rule (codes "control"))) (option_rule (codes "events"))) (repeated_rule (codes "name")))
+    (option_rule (codes "journals"))
 
 -- the program: the words are those after its name, and each command has a version
 abbrev pub program_alone : App
@@ -221,8 +224,8 @@ abbrev pub names_in : List Row → Option (List Text)
 names_in rows = option_map_or names_of (all_of (codes "name") rows) (Some [])
 
 abbrev pub web_by : Address → List Row → Option Wanted
-web_by listen rows = option_and_then (λ control. option_map (Web listen control (first_of (codes "events") rows))
-    (names_in rows)) (first_of (codes "control") rows)
+web_by listen rows = option_and_then (λ control. option_map (Web listen control (first_of (codes "events") rows)
+    (first_of (codes "journals") rows)) (names_in rows)) (first_of (codes "control") rows)
 
 abbrev pub web_in : List Row → Option Wanted
 web_in rows = option_and_then (λ text. option_and_then (λ listen. web_by listen rows) (address_of text))

@@ -7,8 +7,8 @@ ghost use Rattle.swim_commands.specs.Answers.{is_stopping};
 use arrayvec::ArrayVec;
 use swim_text::Words;
 
-/// Room for an answer. The longest, a table of 128 rows of at most 61 bytes, has less than 8,000.
-const ANSWER_BYTES: usize = 16_384;
+/// Room for an answer. The longest, counts of 128 members, has at most 73,728.
+const ANSWER_BYTES: usize = 73_728;
 
 /// The answer of a daemon that stops.
 pub const STOPPING: &[u8] = b"stopping\n";

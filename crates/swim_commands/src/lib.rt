@@ -21,6 +21,7 @@ mod surroundings;
 mod watch;
 mod web_daemons;
 mod web_events;
+mod web_shelves;
 mod web_words;
 mod words;
 
@@ -34,5 +35,6 @@ pub use surroundings::Surroundings;
 pub use watch::watch_daemon;
 pub use web_daemons::SocketDaemon;
 pub use web_events::SocketEvents;
+pub use web_shelves::FileShelf;
 pub use web_words::WebRequest;
 pub use words::{Asked, Unasked, VERSION, VERSION_LINE, read_words};

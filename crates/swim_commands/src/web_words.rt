@@ -29,6 +29,8 @@ pub struct WebRequest<'a> {
     pub control: &'a str,
     /// The path of its events' socket, if changes are passed on.
     pub events: Option<&'a str>,
+    /// The folder of its journal files, if verdicts are shown.
+    pub journals: Option<&'a str>,
     /// Further names by which a request may call the host.
     pub names: HostNames<'a>,
 }
@@ -55,7 +57,8 @@ pub(crate) fn web_command<'a>(alloc: Global) -> Result<Command<'a>, AllocError>
             "The path of the daemon's control socket",
         ))?
         .arg(events(alloc))?
-        .arg(names(alloc))
+        .arg(names(alloc))?
+        .arg(journals(alloc))
 }
 
 /// The option with the path of the events' socket.
@@ -68,6 +71,18 @@ fn events<'a>(alloc: Global) -> Arg<'a>
         .value_name("PATH")
         .action(ArgAction::Set)
         .help("The path of the daemon's events' socket, whose changes are passed on")
+}
+
+/// The option with the folder of journal files.
+fn journals<'a>(alloc: Global) -> Arg<'a>
+    ensures rule { rule_of result ≡ option_rule (codes "journals") }
+    ensures local { result.global ≡ false }
+{
+    Arg::new(alloc, "journals")
+        .long("journals")
+        .value_name("DIR")
+        .action(ArgAction::Set)
+        .help("The folder of the daemon's journal files, by which its verdicts are explained")
 }
 
 /// The option with a name of the host.
@@ -92,10 +107,12 @@ pub(crate) fn web_in<'a>(given: &ArgMatches<'a>) -> Option<Asked<'a>>
     let control = given.get_str("control")?;
     let names = names_in(given)?;
     let events = given.get_str("events");
+    let journals = given.get_str("journals");
     Some(Asked::Web(WebRequest {
         listen,
         control,
         events,
+        journals,
         names,
     }))
 }

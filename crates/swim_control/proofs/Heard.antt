@@ -10,7 +10,7 @@ use Rattle.swim_control.specs.declared.connections.Close.TheVariants as closes
 use Rattle.swim_control.specs.declared.connections.Stand.{Stand}
 use Rattle.swim_control.specs.declared.connections.Stand.TheVariants.{Idle, Busy, Ended, Closed}
 use Rattle.swim_control.specs.declared.serving.Served.{Served}
-use Rattle.swim_control.specs.Connections.{Answers, HandsOn, ReadsOn, Turns, TakesTurn, kept_at, newcomer}
+use Rattle.swim_control.specs.Connections.{Answers, HandsOn, ReadsOn, Turns, kept_at, newcomer}
 use Rattle.swim_control.specs.Desks.{Told}
 use Rattle.swim_control.specs.Serving.{CourseKnown, IsServedKnown}
 use Rattle.swim_control.specs.Talks.{Talk, Talks}
@@ -164,11 +164,11 @@ heard_still b log after t same i serves =
 
 -- those that are left, and the one that had its turn, if it stays
 after_turn : {S : Type 0} (asks : S → DeskCommand → Told → S → Type 0) (now count : ℕ) (stand : Stand)
-    (first then_so : Talk) (others talks : List Talk) (desk after : S) →
+    (first then_so : Talk) (others talks closed gone : List Talk) (desk after : S) →
     Turns asks now stand first then_so desk after → talks ≡ others ++ kept_at stand then_so →
-    HearsOn asks stand (record { talks = first ∷ others; count = count }) (record { talks = talks; count = count })
-    desk after
-after_turn asks now count stand first then_so others talks desk after turn are b start log leads all =
+    HearsOn asks stand (record { talks = first ∷ others; count = count; closed = closed })
+    (record { talks = talks; count = count; closed = gone }) desk after
+after_turn asks now count stand first then_so others talks closed gone desk after turn are b start log leads all =
     let o = turned_heard asks start desk after b log now stand first then_so leads all.heard.0 turn in
     let kept = all_kept stand o in (
       o.more,
@@ -225,27 +225,32 @@ after_turn asks now count stand first then_so others talks desk after turn are b
       by (Closed why) is ends = tt
 
 pub hears_on : {S : Type 0} (asks : S → DeskCommand → Told → S → Type 0) (now : ℕ) (stand : Stand) (old new : Talks)
-    (desk after : S) →
-    TakesTurn asks now stand old.talks new.talks desk after → new.count ≡ old.count →
-    HearsOn asks stand old new desk after
-hears_on asks now stand old new desk after t count =
-    subst (λ (talks : List Talk). HearsOn asks stand (record { talks = talks; count = old.count }) new desk after)
-    (sym t.was)
-    (subst (λ (n : ℕ). HearsOn asks stand (record { talks = t.first ∷ t.others; count = old.count })
-    (record { talks = new.talks; count = n }) desk after) (sym count)
-    (after_turn asks now old.count stand t.first t.then_so t.others new.talks desk after t.turn t.are))
+    (desk after : S) (first then_so : Talk) (others : List Talk) → old.talks ≡ first ∷ others →
+    Turns asks now stand first then_so desk after → new.talks ≡ others ++ kept_at stand then_so →
+    new.count ≡ old.count → HearsOn asks stand old new desk after
+hears_on asks now stand old new desk after first then_so others was turn are count =
+    subst (λ (talks : List Talk).
+    HearsOn asks stand (record { talks = talks; count = old.count; closed = old.closed }) new desk after) (sym was)
+    (subst (λ (n : ℕ). HearsOn asks stand
+    (record { talks = first ∷ others; count = old.count; closed = old.closed })
+    (record { talks = new.talks; count = n; closed = new.closed }) desk after) (sym count)
+    (after_turn asks now old.count stand first then_so others new.talks old.closed new.closed desk after turn are))
 
 -- one that comes has a number of its own, and has asked nothing
-no_calls : (count : ℕ) (log : List Called) → AllByRecursion (λ (c : Called). c.by < count) log → calls_by count log ≡ []
+pub no_calls : (count : ℕ) (log : List Called) → AllByRecursion (λ (c : Called). c.by < count) log →
+    calls_by count log ≡ []
 no_calls count [] called = refl
 no_calls count (c ∷ log) called =
     let apart : c.by ≢ count = λ same. absurd (omega (arith, same, called.0)) in
     rw (ne_eqb c.by count apart) (no_calls count log called.1)
 
-pub newcomer_heard : (old new : Talks) (left written : Option (List ℕ)) (now : ℕ) →
-    new ≡ record { talks = old.talks ++ newcomer old.count left written now ∷ []; count = old.count + 1 } →
-    HearsNewcomer old left written new
-newcomer_heard old new left written now is b log text before all = subst (AreHeard b log) (sym is) (record {
+pub newcomer_heard : (old new : Talks) (left given written : Option (List ℕ)) (now : ℕ) →
+    new ≡ record {
+      talks = old.talks ++ newcomer old.count left given written now ∷ [];
+      count = old.count + 1;
+      closed = old.closed;
+    } → HearsNewcomer old left written new
+newcomer_heard old new left given written now is b log text before all = subst (AreHeard b log) (sym is) (record {
   heard = all_more (IsHeard b log) old.talks (t ∷ []) all.heard (heard, tt);
   apart = apart_more old.talks t all.apart
       (all_still (λ (u : Talk). u.id < old.count) (λ (u : Talk). u.id ≢ old.count) old.talks
@@ -258,7 +263,7 @@ newcomer_heard old new left written now is b log text before all = subst (AreHea
 })
   where
     t : Talk
-    t = newcomer old.count left written now
+    t = newcomer old.count left given written now
 
     heard : IsHeard b log t
     heard serves = (left, 1048576, course, none_taken left [] 128 1048576 refl) where

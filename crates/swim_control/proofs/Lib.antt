@@ -1,5 +1,6 @@
 pub mod Courses
 pub mod CourseEnds
+pub mod Given
 pub mod Heard
 pub mod Known
 pub mod Steps

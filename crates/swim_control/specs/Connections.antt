@@ -1,7 +1,7 @@
 -- Connections that are served side by side, none of which is waited for: what a turn of one does. Moments are in
 -- milliseconds.
 use Rattle.std.specs.Prelude.{◌≡◌, ℕ, ◌+◌, ◌<◌, ◌≤◌, true, false, ◌⊎◌, List, [], ◌∷◌, ◌++◌, Option, Some, None}
-use Rattle.std.specs.Io.KnownBytes.{Keeps}
+use Rattle.std.specs.Io.KnownBytes.{Keeps, append_known}
 use Rattle.swim_text.specs.declared.short_lines.LineEnd.{LineEnd}
 use Rattle.swim_text.specs.ShortLines.{Advances}
 use Rattle.swim_control.specs.declared.desks.DeskCommand.{DeskCommand}
@@ -10,7 +10,7 @@ use Rattle.swim_control.specs.declared.connections.Stand.{Stand}
 use Rattle.swim_control.specs.declared.connections.Stand.TheVariants.{Idle, Busy, Ended, Closed}
 use Rattle.swim_control.specs.declared.serving.Served.{Served}
 use Rattle.swim_control.specs.Desks.{Told}
-use Rattle.swim_control.specs.Talks.{Talk}
+use Rattle.swim_control.specs.Talks.{Talk, Talks}
 use Rattle.swim_control.specs.Turns.{Meets}
 
 -- an answer waits to be taken
@@ -41,6 +41,7 @@ ReadsOn old new =
     × Keeps old.written new.written
     × (new ≡ record old {
       left = new.left;
+      given = new.given;
       part = new.part;
       reads = new.reads;
       written = new.written;
@@ -60,6 +61,7 @@ pub record Answers {S : Type 0} (asks : S → DeskCommand → Told → S → Typ
   pub sent : Keeps put new.written
   pub rest : new ≡ record old {
     left = new.left;
+    given = new.given;
     part = [];
     reads = new.reads;
     written = new.written;
@@ -82,28 +84,49 @@ Turns asks now (Closed (closes.Served end)) old new desk after =
 Turns asks now (Closed closes.Silent) old new desk after = (after ≡ desk) × ReadsOn old new × (old.since + 60000 ≤ now)
 Turns asks now (Closed closes.Untaken) old new desk after = (after ≡ desk) × Hands now (Closed closes.Untaken) old new
 
+-- a connection that has these bytes left, and no more
+abbrev pub with_left : List ℕ → Talk → Talk
+with_left bytes t = record t { left = Some bytes }
+
+-- in the turn the connection gave some bytes more, and the turn is that of one which has just these left: it takes all
+-- of them
+abbrev pub TurnsOnGiven : {S : Type 0} → (S → DeskCommand → Told → S → Type 0) → ℕ → Stand → Talk → Talk → S → S →
+    Type 0
+TurnsOnGiven asks now stand old new desk after =
+    (bytes : List ℕ) × (new.given ≡ append_known old.given bytes)
+    × Turns asks now stand (with_left bytes old) (with_left [] new) desk after
+
 -- a connection stays unless it was closed
 abbrev pub kept_at : Stand → Talk → List Talk
 kept_at (Closed why) t = []
 kept_at stand t = t ∷ []
 
+-- it is noted as one that was
+abbrev pub closed_with : Stand → Talk → List Talk → List Talk
+closed_with (Closed why) t closed = closed ++ t ∷ []
+closed_with stand t closed = closed
+
 -- the first connection has its turn, and is the last from then on, unless it was closed
 pub record TakesTurn {S : Type 0} (asks : S → DeskCommand → Told → S → Type 0) (now : ℕ) (stand : Stand)
-    (old new : List Talk) (desk after : S) : Type 0 where
+    (old new : Talks) (desk after : S) : Type 0 where
   pub first : Talk
   pub others : List Talk
-  pub was : old ≡ first ∷ others
+  pub was : old.talks ≡ first ∷ others
   pub then_so : Talk
   pub turn : Turns asks now stand first then_so desk after
-  pub are : new ≡ others ++ kept_at stand then_so
+  pub given : TurnsOnGiven asks now stand first then_so desk after
+  pub are : new.talks ≡ others ++ kept_at stand then_so
+  pub closed : new.closed ≡ closed_with stand then_so old.closed
 
 -- a connection that has just come
-abbrev pub newcomer : ℕ → Option (List ℕ) → Option (List ℕ) → ℕ → Talk
-newcomer id left written now = record {
+abbrev pub newcomer : ℕ → Option (List ℕ) → Option (List ℕ) → Option (List ℕ) → ℕ → Talk
+newcomer id left given written now = record {
   id = id;
   left = left;
+  given = given;
   part = [];
   reads = 1048576;
+  old = written;
   written = written;
   since = now;
   is_taken = true;

@@ -2,7 +2,7 @@
 
 ghost use Rattle.std.specs.Prelude.{◌≡◌, ◌↔◌, ◌⊎◌, ◌+◌, ◌<◌, ◌≤◌, [], IsTrue, box_value, Some, None, true};
 ghost use Rattle.std.specs.Io.KnownBytes.{Keeps};
-ghost use Rattle.swim_control.specs.Connections.{Hands, Turns, IsWaiting};
+ghost use Rattle.swim_control.specs.Connections.{Hands, Turns, TurnsOnGiven, IsWaiting};
 
 use crate::commands::LINE_BYTES;
 use crate::desks::Desk;
@@ -13,6 +13,7 @@ use std::alloc::Global;
 use std::marker::Model;
 use std::sync::Wait;
 use swim_text::{Met, Polled, Sink, read_on};
+use swim_trail::Remembered;
 
 /// How many milliseconds a connection may send no whole line.
 pub const MOST_SILENT_MS: u64 = 60_000;
@@ -53,6 +54,7 @@ pub(crate) struct Connection<S: Polled + Drop, W: Sink + Drop> {
     id: u64,
     reader: Box<S>,
     writer: Box<W>,
+    came: Remembered<W>,
     line: ArrayVec<u8, LINE_BYTES>,
     reads: u32,
     since: u64,
@@ -71,8 +73,10 @@ impl<S: Polled + Drop, W: Sink + Drop> Model for Connection<S, W> {
     ghost view = { λ c. record {
       id = c.id;
       left = S.left (box_value c.reader);
+      given = S.given (box_value c.reader);
       part = c.line.items;
       reads = c.reads;
+      old = W.written c.came.value;
       written = W.written (box_value c.writer);
       since = c.since;
       is_taken = c.is_taken;
@@ -86,18 +90,22 @@ impl<S: Polled + Drop, W: Sink + Drop> Connection<S, W> {
         ensures { result ≡ record {
           id = id;
           left = S.left (box_value reader);
+          given = S.given (box_value reader);
           part = [];
           reads = 1048576;
+          old = W.written (box_value writer);
           written = W.written (box_value writer);
           since = now;
           is_taken = true;
           end = None;
         } }
     {
+        let came = Remembered::of(&*writer);
         Connection {
             id,
             reader,
             writer,
+            came,
             line: ArrayVec::new(),
             reads: READS,
             since: now,
@@ -108,6 +116,7 @@ impl<S: Polled + Drop, W: Sink + Drop> Connection<S, W> {
     }
 
     /// A turn at this moment: an answer that waits is handed on, or a line read on in and answered where it ended.
+    #[tactic(auto, using(crate::proofs::Given::hands_given, crate::proofs::Given::closed_given, crate::proofs::Given::waits_given, crate::proofs::Given::answered_given))]
     pub(crate) fn turn<R: Wait, D: Desk>(
         &mut self,
         rt: &R,
@@ -115,7 +124,8 @@ impl<S: Polled + Drop, W: Sink + Drop> Connection<S, W> {
         now: u64,
         desk: &mut D,
     ) -> Stand
-        ensures { Turns D.asks now result self.old self.new desk.old desk.new }
+        ensures turns { Turns D.asks now result self.old self.new desk.old desk.new }
+        ensures given { TurnsOnGiven D.asks now result self.old self.new desk.old desk.new }
     {
         if !self.is_taken {
             return self.hand_on(now);

@@ -24,8 +24,8 @@ pub enum DeskCommand {
     Stats,
 }
 
-/// How many bytes a text of counts has at most.
-pub const STATS_BYTES: usize = 8192;
+/// How many bytes a text of counts has at most: some 80 lines of the node, and at most 499 bytes of each of 128 members.
+pub const STATS_BYTES: usize = 73_728;
 
 /// A text of counts: lines, and a dot in the last one.
 pub type StatsText = ArrayVec<u8, STATS_BYTES>;

@@ -13,34 +13,40 @@ use std::collections::VecDeque;
 use std::marker::Model;
 use std::sync::Wait;
 use swim_text::{Polled, Sink};
+use swim_trail::Trail;
 
 /// How many connections are served at a time.
 pub const MOST_CONNECTIONS: usize = 64;
 
-/// Connections that take turns: the first has the next one, and is the last then. A contract sees their `Talks`.
+/// Connections that take turns: the first has the next one, and is the last then. A contract sees their `Talks`, and
+/// those of the connections that were closed.
 #[derive(Drop)]
 pub struct Connections<S: Polled + Drop, W: Sink + Drop> {
     queue: VecDeque<Connection<S, W>>,
     count: u64,
+    closed: Trail<Connection<S, W>>,
 }
 
 impl<S: Polled + Drop, W: Sink + Drop> Model for Connections<S, W> {
+    ghost use Rattle.std.specs.Prelude.{map};
+    ghost use Rattle.swim_trail.specs.Noted.{value_in};
     ghost use Rattle.swim_control.specs.Talks.{Talks};
 
     ghost Value = { Talks };
 
-    ghost view = { λ c. record { talks = c.queue.items; count = c.count } };
+    ghost view = { λ c. record { talks = c.queue.items; count = c.count; closed = map value_in c.closed.items } };
 }
 
 impl<S: Polled + Drop, W: Sink + Drop> Connections<S, W> {
     /// No connections.
     pub fn new(alloc: Global) -> Connections<S, W>
-        ensures none { result ≡ record { talks = []; count = 0 } }
+        ensures none { result ≡ record { talks = []; count = 0; closed = [] } }
         ensures heard { (b : Brought) → AreHeard b [] result }
     {
         Connections {
             queue: VecDeque::new(alloc),
             count: 0,
+            closed: Trail::new(),
         }
     }
 
@@ -64,8 +70,10 @@ impl<S: Polled + Drop, W: Sink + Drop> Connections<S, W> {
         ensures heard { IsTrue result → HearsNewcomer self.old (S.left reader) (W.written writer) self.new }
         ensures comes { MatchBool result
             (self.new ≡ record {
-              talks = self.old.talks ++ newcomer self.old.count (S.left reader) (W.written writer) now ∷ [];
+              talks = self.old.talks
+                  ++ newcomer self.old.count (S.left reader) (S.given reader) (W.written writer) now ∷ [];
               count = self.old.count + 1;
+              closed = self.old.closed;
             })
             (self.new ≡ self.old) }
     {
@@ -76,8 +84,10 @@ impl<S: Polled + Drop, W: Sink + Drop> Connections<S, W> {
     fn take_in(&mut self, alloc: Global, reader: S, writer: W, now: u64) -> bool
         ensures { MatchBool result
             (self.new ≡ record {
-              talks = self.old.talks ++ newcomer self.old.count (S.left reader) (W.written writer) now ∷ [];
+              talks = self.old.talks
+                  ++ newcomer self.old.count (S.left reader) (S.given reader) (W.written writer) now ∷ [];
               count = self.old.count + 1;
+              closed = self.old.closed;
             })
             (self.new ≡ self.old) }
     {
@@ -109,8 +119,8 @@ impl<S: Polled + Drop, W: Sink + Drop> Connections<S, W> {
     ) -> Option<Stand>
         ensures count { self.new.count ≡ self.old.count }
         ensures turn { MatchOption result
-            ((self.old.talks ≡ []) × (self.new.talks ≡ []) × (desk.new ≡ desk.old))
-            (λ stand. TakesTurn D.asks now stand self.old.talks self.new.talks desk.old desk.new) }
+            ((self.old.talks ≡ []) × (self.new ≡ self.old) × (desk.new ≡ desk.old))
+            (λ stand. TakesTurn D.asks now stand self.old self.new desk.old desk.new) }
         ensures heard { IfSome result (λ stand. HearsOn D.asks stand self.old self.new desk.old desk.new) }
     {
         self.take_turn(rt, alloc, now, desk)
@@ -126,13 +136,13 @@ impl<S: Polled + Drop, W: Sink + Drop> Connections<S, W> {
     ) -> Option<Stand>
         ensures count { self.new.count ≡ self.old.count }
         ensures turn { MatchOption result
-            ((self.old.talks ≡ []) × (self.new.talks ≡ []) × (desk.new ≡ desk.old))
-            (λ stand. TakesTurn D.asks now stand self.old.talks self.new.talks desk.old desk.new) }
+            ((self.old.talks ≡ []) × (self.new ≡ self.old) × (desk.new ≡ desk.old))
+            (λ stand. TakesTurn D.asks now stand self.old self.new desk.old desk.new) }
     {
         let mut first = self.queue.pop_front()?;
         let stand = first.turn(rt, alloc, now, desk);
         match stand {
-            Stand::Closed(_) => {}
+            Stand::Closed(_) => self.closed.note(&first, &[]),
             _ => self.queue.push_back_reserved(first),
         }
         Some(stand)

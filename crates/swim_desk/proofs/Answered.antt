@@ -69,7 +69,7 @@ served_kept asks (Some text) (Some rest) first last old mid new end is kept = re
 -- ---- one connection
 
 -- as many calls by it are as many answers
-still_answered : (b : Brought) (log after : List Called) (t : Talk) → calls_by t.id after ≡ calls_by t.id log →
+pub still_answered : (b : Brought) (log after : List Called) (t : Talk) → calls_by t.id after ≡ calls_by t.id log →
     IsAnswered b log t → IsAnswered b after t
 still_answered b log after t same is = record {
   heard = λ serves.
@@ -99,16 +99,16 @@ calm_ended b log more old new end none calm was ends =
     new.written end (was.ended end (sym (ap (λ (t : Talk). t.end) calm.1) ∙ ends)) calm.0))
 
 -- a connection after its turn, and the calls that the desk got by it
-record AnswersOn {S : Type 0} (asks : S → DeskCommand → Told → S → Type 0) (desk after : S) (b : Brought)
+pub record AnswersOn {S : Type 0} (asks : S → DeskCommand → Told → S → Type 0) (desk after : S) (b : Brought)
     (log : List Called) (old new : Talk) : Type 0 where
-  more : List Called
-  leads : Leads asks desk more after
-  others : (other : ℕ) → old.id ≢ other → calls_by other (more ++ log) ≡ calls_by other log
-  mine : AllByRecursion (λ (c : Called). c.by ≡ old.id) more
-  same : new.id ≡ old.id
-  answered : IsAnswered b (more ++ log) new
+  pub more : List Called
+  pub leads : Leads asks desk more after
+  pub others : (other : ℕ) → old.id ≢ other → calls_by other (more ++ log) ≡ calls_by other log
+  pub mine : AllByRecursion (λ (c : Called). c.by ≡ old.id) more
+  pub same : new.id ≡ old.id
+  pub answered : IsAnswered b (more ++ log) new
 
-answers_on : {S : Type 0} (asks : S → DeskCommand → Told → S → Type 0) (desk after : S) (b : Brought)
+pub answers_on : {S : Type 0} (asks : S → DeskCommand → Told → S → Type 0) (desk after : S) (b : Brought)
     (log : List Called) (now : ℕ) (stand : Stand) (old new : Talk) →
     Counted asks desk after (count_of log) now stand old new → IsAnswered b log old →
     AnswersOn asks desk after b log old new
@@ -184,7 +184,7 @@ kept_too P (stands.Closed why) others t all is = subst (AllByRecursion P) (sym (
 
 pub turn_answered : {S : Type 0} (asks : S → DeskCommand → Told → S → Type 0) (now : ℕ) (stand : Stand)
     (old new : Talks) (desk after : S) (b : Brought) (log : List Called) →
-    TakesTurn asks now stand old.talks new.talks desk after → new.count ≡ old.count → AreAnswered b log old →
+    TakesTurn asks now stand old new desk after → new.count ≡ old.count → AreAnswered b log old →
     (more : List Called) × Leads asks desk more after × AreAnswered b (more ++ log) new
 turn_answered asks now stand old new desk after b log t count all =
     let since : ℕ = count_of log in
@@ -196,9 +196,8 @@ turn_answered asks now stand old new desk after b log t count all =
     let first_came : t.first.id < old.count = first_is_there t.first t.others old heard t.was in
     let c = turn_counted asks desk after since now stand t.first t.then_so t.turn in
     let o = answers_on asks desk after b log now stand t.first t.then_so c served.0 in
-    let taken : TakesTurn (Counts asks desk after since) now stand old.talks new.talks since c.count =
-    record { first = t.first; others = t.others; was = t.was; then_so = t.then_so; turn = c.turn; are = t.are } in
-    let next = hears_on (Counts asks desk after since) now stand old new since c.count taken count b 0 log
+    let next = hears_on (Counts asks desk after since) now stand old new since c.count t.first t.then_so t.others t.was
+    c.turn t.are count b 0 log
     (counted_before asks desk after since log (omega arith)) heard in (
       o.more,
       o.leads,
@@ -247,13 +246,13 @@ newcomer_answered b log t heard none = record {
   ended = λ end is. absurd (cc (sym none ∙ is));
 }
 
-pub come_answered : (b : Brought) (log : List Called) (old : Talks) (left written : Option (List ℕ)) (now : ℕ) →
+pub come_answered : (b : Brought) (log : List Called) (old : Talks) (left given written : Option (List ℕ)) (now : ℕ) →
     b.text old.count ≡ left → b.old old.count ≡ written → AreAnswered b log old →
-    AreAnswered b log (with_newcomer left written now old)
-come_answered b log old left written now text before all =
-    let t : Talk = newcomer old.count left written now in
-    let heard : AreHeard b log (with_newcomer left written now old) =
-    newcomer_heard old (with_newcomer left written now old) left written now refl b log text before
+    AreAnswered b log (with_newcomer left given written now old)
+come_answered b log old left given written now text before all =
+    let t : Talk = newcomer old.count left given written now in
+    let heard : AreHeard b log (with_newcomer left given written now old) =
+    newcomer_heard old (with_newcomer left given written now old) left given written now refl b log text before
     (are_heard b log old all) in
     let answered : IsAnswered b log t =
     newcomer_answered b log t (of_last (IsHeard b log) old.talks t heard.heard) refl in
@@ -272,7 +271,7 @@ come_answered b log old left written now text before all =
     below id count came apart = omega (arith, came, apart)
 
 -- nobody has come
-pub none_answered : (b : Brought) → AreAnswered b [] (record { talks = []; count = 0 })
+pub none_answered : (b : Brought) → AreAnswered b [] (record { talks = []; count = 0; closed = [] })
 none_answered b = record {
   served = tt;
   each = λ id came. absurd (omega (arith, came));

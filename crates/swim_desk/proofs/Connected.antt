@@ -13,7 +13,8 @@ use Rattle.swim_work.specs.declared.workers.End.{End}
 use Rattle.swim_work.specs.Callers.{fresh_seat}
 use Rattle.swim_work.specs.Turns.{EndsSo, Turns}
 use Rattle.swim_desk.specs.Connected.{AnswersLines, AreAnswered, BecomeSo, BringsSo, unmade_in}
-use Rattle.swim_desk.specs.Controlling.{AtControl, ControlsLife, ControlsNext, Step, TakesStep, at_desk, with_newcomer}
+use Rattle.swim_desk.specs.Controlling.{AtControl, ControlsLife, ControlsNext, Step, TakesStep, at_control, at_desk}
+use Rattle.swim_desk.specs.Controlling.{with_newcomer}
 use Rattle.swim_desk.specs.Controlling.Step.{Came, Knocked, Turned}
 use Rattle.swim_desk.specs.Desk.{Asks, AtDesk}
 use Rattle.swim_desk.proofs.Answered.{come_answered, turn_answered}
@@ -21,7 +22,7 @@ use Rattle.swim_desk.proofs.Becoming.{led_made}
 
 -- ---- steps, whether or not one of them ended the controller
 
-abbrev TakesSteps : Setting → ℕ → List Step → AtControl → AtControl → Type 0
+abbrev pub TakesSteps : Setting → ℕ → List Step → AtControl → AtControl → Type 0
 TakesSteps o limit [] old new = new ≡ old
 TakesSteps o limit (step ∷ steps) old new =
     (mid : AtControl) × (end : Option Why) × TakesStep o limit step old end mid × TakesSteps o limit steps mid new
@@ -70,7 +71,7 @@ all_steps o limit turns old (Some why) new is = (
 -- ---- one step after the other
 
 -- some calls, and then others, newest first
-led_both : {S : Type 0} (asks : S → DeskCommand → Told → S → Type 0) (more log : List Called) (a b c : S) →
+pub led_both : {S : Type 0} (asks : S → DeskCommand → Told → S → Type 0) (more log : List Called) (a b c : S) →
     Leads asks a log b → Leads asks b more c → Leads asks a (more ++ log) c
 led_both asks [] log a b c is then = subst (λ s. Leads asks a log s) (sym then) is
 led_both asks (x ∷ more) log a b c is (mid, (led, asked)) = (mid, (led_both asks more log a b mid is led, asked))
@@ -100,14 +101,14 @@ stay_answered o limit (Knocked fault ∷ steps) old new is =
     of_same o limit steps old.connections is.0.connections old.desk is.0.desk new.connections new.desk
     (ap (λ (s : AtControl). s.connections) is.2.0) (ap (λ (s : AtControl). s.desk) is.2.0)
     (stay_answered o limit steps is.0 new is.3)
-stay_answered o limit (Came left written now ∷ steps) old new is =
-    let come = with_newcomer left written now old.connections in
+stay_answered o limit (Came left given written now ∷ steps) old new is =
+    let come = with_newcomer left given written now old.connections in
     let rest : StayAnswered o limit steps come old.desk new.connections new.desk =
     of_same o limit steps come is.0.connections old.desk is.0.desk new.connections new.desk
     (ap (λ (s : AtControl). s.connections) is.2.0) (ap (λ (s : AtControl). s.desk) is.2.0)
     (stay_answered o limit steps is.0 new is.3) in
     λ b log brings all.
-    rest b log brings.2 (come_answered b log old.connections left written now brings.0 brings.1 all)
+    rest b log brings.2 (come_answered b log old.connections left given written now brings.0 brings.1 all)
 stay_answered o limit (Turned now stand ∷ steps) old new is = λ b log brings all.
     let mid = is.0 in
     let turn = turn_answered (Asks o limit) now stand old.connections mid.connections old.desk mid.desk b log is.2.0
@@ -139,16 +140,16 @@ lines_answered o limit b log saw seen seat count new more leads answered =
 
 -- each line of a life became its calls
 pub life_answered : (o : Setting) (limit : ℕ) (before after : Option (List Bool)) (old new : Talks) (seat : Seated)
-    (end : End) → ControlsLife o limit before after old seat end new →
-    (saw : List Change) × (seen : List Change) × (steps : List Step)
+    (end : End) (life : ControlsLife o limit before after old seat end new) → (steps : List Step)
+    × TakesSteps o limit steps (at_control old (at_desk (fresh_seat seat.number) life.first 0) 0)
+    (at_control new (at_desk seat life.seen end.counts.refused) life.row)
     × ((b : Brought) (log : List Called) → BringsSo b old.count steps → AreAnswered b log old →
-    AnswersLines o limit b log saw seen seat end.counts.refused new)
+    AnswersLines o limit b log life.first life.seen seat end.counts.refused new)
 life_answered o limit before after old new seat end life =
     let all = all_steps o limit life.controlled.turns _ end.why _ life.controlled.ends in
     let stay = stay_answered o limit all.0 _ _ all.1 in (
-      life.first,
-      life.seen,
       all.0,
+      all.1,
       λ b log brings was.
           let is = stay b log brings was in
           lines_answered o limit b log life.first life.seen seat end.counts.refused new is.0 is.1 is.2,

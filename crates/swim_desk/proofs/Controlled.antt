@@ -9,7 +9,7 @@ use Rattle.swim_history.specs.Setting.{Setting}
 use Rattle.swim_node.specs.Seats.{Seated}
 use Rattle.swim_control.specs.declared.connections.Stand.{Stand}
 use Rattle.swim_control.specs.Connections.{TakesTurn}
-use Rattle.swim_control.specs.Talks.{Talk, Talks}
+use Rattle.swim_control.specs.Talks.{IsEmptyKnown, Talks}
 use Rattle.swim_work.specs.declared.counts.Why.{Why}
 use Rattle.swim_work.specs.declared.workers.End.{End}
 use Rattle.swim_work.specs.Callers.{fresh_seat}
@@ -48,21 +48,22 @@ nobody_came before after old row later grown none = record {
 
 -- somebody came, and was let in, where there was memory
 pub somebody_came : (before after : Option (List Bool)) (old new : Talks) (row later : ℕ)
-    (left written : Option (List ℕ)) (now : ℕ) (is_in : Bool) →
-    Grows before after (false ∷ []) → later ≡ 0 →
-    MatchBool is_in (new ≡ with_newcomer left written now old) (new ≡ old) → LetsIn before after old row None new later
-somebody_came before after old new row later left written now true grown none is = record {
-  steps = Knocked false ∷ Came left written now ∷ [];
-  once = inr (false, Came left written now ∷ [], refl, refl);
+    (left given written : Option (List ℕ)) (now : ℕ) (is_in : Bool) →
+    Grows before after (false ∷ []) → later ≡ 0 → IsEmptyKnown given × IsEmptyKnown written →
+    MatchBool is_in (new ≡ with_newcomer left given written now old) (new ≡ old) →
+    LetsIn before after old row None new later
+somebody_came before after old new row later left given written now true grown none blank is = record {
+  steps = Knocked false ∷ Came left given written now ∷ [];
+  once = inr (false, Came left given written now ∷ [], refl, refl);
   grown = grown;
   ends = λ o limit desk. (
     at_control old desk later,
     (refl, (none, refl)),
-    ends_with_one (TakesStep o limit) (Came left written now) (at_control old desk later) None
-        (at_control new desk later) (ap (λ c. at_control c desk later) is, refl),
+    ends_with_one (TakesStep o limit) (Came left given written now) (at_control old desk later) None
+        (at_control new desk later) (ap (λ c. at_control c desk later) is, refl, blank.0, blank.1),
   );
 }
-somebody_came before after old new row later left written now false grown none is =
+somebody_came before after old new row later left given written now false grown none blank is =
     subst (λ c. LetsIn before after old row None c later) (sym is)
     (nobody_came before after old row later grown none)
 
@@ -86,7 +87,7 @@ none_served o limit old = record { steps = []; none = refl; ends = refl }
 knocks_both : (xs ys : List Step) → knocks_in (xs ++ ys) ≡ knocks_in xs ++ knocks_in ys
 knocks_both [] ys = refl
 knocks_both (Knocked fault ∷ xs) ys = ap (λ l. fault ∷ l) (knocks_both xs ys)
-knocks_both (Came left written now ∷ xs) ys = knocks_both xs ys
+knocks_both (Came left given written now ∷ xs) ys = knocks_both xs ys
 knocks_both (Turned now stand ∷ xs) ys = knocks_both xs ys
 
 no_knock : (xs ys : List Step) → knocks_in xs ≡ [] → knocks_in ys ≡ [] → knocks_in (xs ++ ys) ≡ []
@@ -103,7 +104,7 @@ more_served o limit old mid end new is then = record {
 -- the turn of one
 one_served : (o : Setting) (limit now : ℕ) (stand : Stand) (old new : Talks) (desk after : AtDesk) (row : ℕ)
     (end : Option Why) →
-    TakesTurn (Asks o limit) now stand old.talks new.talks desk after → new.count ≡ old.count → end ≡ why_at stand →
+    TakesTurn (Asks o limit) now stand old new desk after → new.count ≡ old.count → end ≡ why_at stand →
     Serves o limit (at_control old desk row) end (at_control new after row)
 one_served o limit now stand old new desk after row end turn count is = record {
   steps = Turned now stand ∷ [];
@@ -115,7 +116,7 @@ one_served o limit now stand old new desk after row end turn count is = record {
 -- which goes on
 pub one_goes_on : (o : Setting) (limit now : ℕ) (stand : Stand) (old new : Talks) (desk after : AtDesk) (row : ℕ)
     (found : Option Why) →
-    TakesTurn (Asks o limit) now stand old.talks new.talks desk after → new.count ≡ old.count → found ≡ why_at stand →
+    TakesTurn (Asks o limit) now stand old new desk after → new.count ≡ old.count → found ≡ why_at stand →
     found ≡ None → Serves o limit (at_control old desk row) None (at_control new after row)
 one_goes_on o limit now stand old new desk after row found turn count is none =
     one_served o limit now stand old new desk after row None turn count (sym none ∙ is)
@@ -123,22 +124,15 @@ one_goes_on o limit now stand old new desk after row found turn count is none =
 -- or with which the controller ends
 pub one_ends : (o : Setting) (limit now : ℕ) (stand : Stand) (old new : Talks) (desk after : AtDesk) (row : ℕ)
     (found : Option Why) (why : Why) →
-    TakesTurn (Asks o limit) now stand old.talks new.talks desk after → new.count ≡ old.count → found ≡ why_at stand →
+    TakesTurn (Asks o limit) now stand old new desk after → new.count ≡ old.count → found ≡ why_at stand →
     found ≡ Some why → Serves o limit (at_control old desk row) (Some why) (at_control new after row)
 one_ends o limit now stand old new desk after row found why turn count is some =
     one_served o limit now stand old new desk after row (Some why) turn count (sym some ∙ is)
 
-abbrev with_talks : List Talk → ℕ → Talks
-with_talks talks count = record { talks = talks; count = count }
-
 -- there was no connection
-pub no_turn : (o : Setting) (limit : ℕ) (old new : Talks) (desk after : AtDesk) (row : ℕ) → old.talks ≡ [] →
-    new.talks ≡ [] → after ≡ desk → new.count ≡ old.count →
-    Serves o limit (at_control old desk row) None (at_control new after row)
-no_turn o limit old new desk after row none nor same count =
-    let is : new ≡ old =
-    ap (λ (l : List Talk). with_talks l new.count) (nor ∙ sym none) ∙ ap (λ (n : ℕ). with_talks old.talks n) count in
-    rw (is, same) (none_served o limit (at_control old desk row))
+pub no_turn : (o : Setting) (limit : ℕ) (old new : Talks) (desk after : AtDesk) (row : ℕ) → new ≡ old →
+    after ≡ desk → Serves o limit (at_control old desk row) None (at_control new after row)
+no_turn o limit old new desk after row is same = rw (is, same) (none_served o limit (at_control old desk row))
 
 -- ---- a turn of the controller
 

@@ -25,23 +25,23 @@ shut_out why [] old new is = by_faults why (nat_lt new 16) (is.none refl).1
 shut_out why (t ∷ talks) old new is = absurd (cc (is.some (omega arith)).1)
 
 step_ended : (o : Setting) (limit : ℕ) (step : Step) (old : AtControl) (why : Why) (new : AtControl) → why ≢ Socket →
-    TakesStep o limit step old (Some why) new → EndsByTurn o limit why new.connections.talks
+    TakesStep o limit step old (Some why) new → EndsByTurn o limit why new.connections
 step_ended o limit (Knocked true) old why new other is =
     absurd (other (shut_out why old.connections.talks old.row new.row is.1))
 step_ended o limit (Knocked false) old why new other is = absurd (cc is.1.1)
-step_ended o limit (Came left written now) old why new other is = absurd (cc is.1)
+step_ended o limit (Came left given written now) old why new other is = absurd (cc is.1)
 step_ended o limit (Turned now stand) old why new other is =
-    (now, stand, old.connections.talks, old.desk, new.desk, is.0, sym is.3)
+    (now, stand, old.connections, old.desk, new.desk, is.0, sym is.3)
 
 turns_ended : (o : Setting) (limit : ℕ) (turns : List (List Step)) (old : AtControl) (why : Why) (new : AtControl) →
     why ≢ Socket → EndsSo (ControlsNext o limit) turns old (Some why) new →
-    EndsByTurn o limit why new.connections.talks
+    EndsByTurn o limit why new.connections
 turns_ended o limit turns old why new other is =
     let steps = is.5.1 in step_ended o limit steps.1 steps.2 why new other steps.5
 
 pub life_ended : (o : Setting) (limit : ℕ) (before after : Option (List Bool)) (old new : Talks) (seat : Seated)
     (end : End) (why : Why) → ControlsLife o limit before after old seat end new → end.why ≡ Some why → why ≢ Socket →
-    EndsByTurn o limit why new.talks
+    EndsByTurn o limit why new
 life_ended o limit before after old new seat end why life ends other =
     let first = at_control old (at_desk (fresh_seat seat.number) life.first 0) 0 in
     let last = at_control new (at_desk seat life.seen end.counts.refused) life.row in

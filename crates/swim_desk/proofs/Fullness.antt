@@ -1,8 +1,6 @@
 -- A turn of a connection that ends a life for a full journal leaves a seat that knows of it.
 use Rattle.std.proofs.Common.{◌≡◌, ℕ, ◌<◌, Bool, true, false, List, [], ◌∷◌, Option, Some, None, Result}
-use Rattle.std.proofs.Common.{Ok, Err, sym, inl, inr, arith}
-use Rattle.std.specs.Prelude.{MatchOption}
-use Rattle.std.specs.Option.{unwrap_or}
+use Rattle.std.proofs.Common.{Ok, Err, sym, ap, ◌∙◌, inl, inr, arith}
 use Rattle.swim_text.specs.declared.short_lines.LineEnd.{LineEnd}
 use Rattle.swim_text.specs.declared.short_lines.LineEnd.TheVariants as lines
 use Rattle.swim_history.specs.declared.calls.Call.{Call}
@@ -24,8 +22,9 @@ use Rattle.swim_control.specs.Commands.{said_by, line_said}
 use Rattle.swim_control.specs.Connections.{TakesTurn}
 use Rattle.swim_control.specs.Desks.{Told, Shows, Measures, Answers, Counts as Counted}
 use Rattle.swim_control.specs.Serving.{end_at}
-use Rattle.swim_control.specs.Talks.{Talk}
+use Rattle.swim_control.specs.Talks.{Talks}
 use Rattle.swim_control.specs.Turns.{Asked, Meets, closed}
+use Rattle.swim_work.specs.declared.counts.Why.{Why}
 use Rattle.swim_work.specs.declared.counts.Why.TheVariants.{JournalFull}
 use Rattle.swim_desk.specs.Desk.{AtDesk, Asks, Calls, Tells}
 use Rattle.swim_desk.specs.Ending.{why_at}
@@ -97,7 +96,7 @@ met_full o limit lines.Spent line desk after old new is = absurd (cc is.2)
 met_full o limit lines.Failed line desk after old new is = absurd (cc is.2)
 met_full o limit lines.Unsent line desk after old new is = absurd (cc is.2)
 
-ended_full : (o : Setting) (limit now : ℕ) (end : Served) (old new : List Talk) (desk after : AtDesk) →
+ended_full : (o : Setting) (limit now : ℕ) (end : Served) (old new : Talks) (desk after : AtDesk) →
     TakesTurn (Asks o limit) now (stands.Ended end) old new desk after → why_at (stands.Ended end) ≡ Some JournalFull →
     0 < after.seat.full
 ended_full o limit now served.JournalFull old new desk after is ends =
@@ -109,7 +108,7 @@ ended_full o limit now served.TooLong old new desk after is ends = absurd (cc en
 ended_full o limit now served.ReadFault old new desk after is ends = absurd (cc ends)
 ended_full o limit now served.WriteFault old new desk after is ends = absurd (cc ends)
 
-stood_full : (o : Setting) (limit now : ℕ) (stand : Stand) (old new : List Talk) (desk after : AtDesk) →
+stood_full : (o : Setting) (limit now : ℕ) (stand : Stand) (old new : Talks) (desk after : AtDesk) →
     TakesTurn (Asks o limit) now stand old new desk after → why_at stand ≡ Some JournalFull → 0 < after.seat.full
 stood_full o limit now (stands.Ended end) old new desk after is ends =
     ended_full o limit now end old new desk after is ends
@@ -117,11 +116,10 @@ stood_full o limit now stands.Idle old new desk after is ends = absurd (cc ends)
 stood_full o limit now stands.Busy old new desk after is ends = absurd (cc ends)
 stood_full o limit now (stands.Closed why) old new desk after is ends = absurd (cc ends)
 
--- of a turn of a connection, if there is one
-pub turned_full : (o : Setting) (limit now : ℕ) (turn : Option Stand) (old new : List Talk) (desk after : AtDesk) →
-    MatchOption turn ((old ≡ []) × (new ≡ []) × (after ≡ desk))
-    (λ stand. TakesTurn (Asks o limit) now stand old new desk after) →
-    why_at (unwrap_or turn stands.Idle) ≡ Some JournalFull → 0 < after.seat.full
-turned_full o limit now None old new desk after is ends = absurd (cc ends)
-turned_full o limit now (Some stand) old new desk after is ends =
-    stood_full o limit now stand old new desk after is ends
+-- of a turn that ends a life for this reason
+pub turned_full : (o : Setting) (limit now : ℕ) (stand : Stand) (old new : Talks) (desk after : AtDesk)
+    (found : Option Why) (why : Why) →
+    TakesTurn (Asks o limit) now stand old new desk after → found ≡ why_at stand → found ≡ Some why →
+    why ≡ JournalFull → 0 < after.seat.full
+turned_full o limit now stand old new desk after found why is at some full =
+    stood_full o limit now stand old new desk after is (sym at ∙ (some ∙ ap Some full))

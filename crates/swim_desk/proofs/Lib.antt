@@ -4,7 +4,9 @@ pub mod Connected
 pub mod Controlled
 pub mod Ended
 pub mod Fullness
+pub mod Given
 pub mod Numbered
 pub mod Since
+pub mod SoFar
 pub mod Steps
 pub mod Told

@@ -18,7 +18,7 @@ use Rattle.swim_control.specs.declared.serving.Served.{Served}
 use Rattle.swim_control.specs.Commands.{said_by, line_said}
 use Rattle.swim_control.specs.Connections.{TakesTurn, Turns}
 use Rattle.swim_control.specs.Desks.{Told, Shows, Measures, Answers, Counts as Counted}
-use Rattle.swim_control.specs.Talks.{Talk}
+use Rattle.swim_control.specs.Talks.{Talk, Talks}
 use Rattle.swim_control.specs.Turns.{Asked, Meets}
 use Rattle.swim_desk.specs.Desk.{AtDesk, Asks, Calls}
 
@@ -94,6 +94,6 @@ turn_same o limit now (stands.Closed (closes.Served end)) old new desk after is 
 turn_same o limit now (stands.Closed closes.Silent) old new desk after is = same desk after is.0
 turn_same o limit now (stands.Closed closes.Untaken) old new desk after is = same desk after is.0
 
-pub turned_same : (o : Setting) (limit now : ℕ) (stand : Stand) (old new : List Talk) (desk after : AtDesk) →
+pub turned_same : (o : Setting) (limit now : ℕ) (stand : Stand) (old new : Talks) (desk after : AtDesk) →
     TakesTurn (Asks o limit) now stand old new desk after → IsSame desk after
 turned_same o limit now stand old new desk after is = turn_same o limit now stand is.first is.then_so desk after is.turn

@@ -3,3 +3,4 @@ pub mod Controlling
 pub mod Desk
 pub mod Doors
 pub mod Ending
+pub mod Given

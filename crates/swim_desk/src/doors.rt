@@ -2,7 +2,7 @@
 
 ghost use Rattle.std.specs.Prelude.{◌≡◌, [], ◌∷◌};
 ghost use Rattle.swim_work.specs.Posts.{Grows};
-ghost use Rattle.swim_desk.specs.Doors.{is_fault};
+ghost use Rattle.swim_desk.specs.Doors.{ComesNew, is_fault};
 
 use std::sync::Wait;
 use swim_text::{Polled, Sink};
@@ -34,9 +34,10 @@ pub trait Door {
     /// Where the answers to them go. What it can't hand on at once, it holds back.
     type Writer: Sink + Drop;
 
-    /// The next connection, if one has come.
+    /// The next connection, if one has come. It gave nothing yet, and nothing was written for it.
     fn next<R: Wait>(&mut self, rt: &R) -> Knock<Self::Reader, Self::Writer>
-        ensures { Grows (faults self.old) (faults self.new) (is_fault result ∷ []) };
+        ensures noted { Grows (faults self.old) (faults self.new) (is_fault result ∷ []) }
+        ensures newcomer { ComesNew Self.Reader.given Self.Writer.written result };
 
     /// Waits a moment, or until something comes: a connection, bytes of one, or room for an answer of one.
     fn wait<R: Wait>(&mut self, rt: &R)

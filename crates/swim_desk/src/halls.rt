@@ -21,7 +21,7 @@ impl<D: Door + Drop> Hall<D> {
     /// Returns a hall with this door, by which nobody came yet.
     pub fn new(alloc: Global, door: D) -> Hall<D>
         ensures door { result.door ≡ door }
-        ensures connections { result.connections ≡ record { talks = []; count = 0 } }
+        ensures connections { result.connections ≡ record { talks = []; count = 0; closed = [] } }
         ensures turned_away { result.turned_away ≡ 0 }
     {
         Hall {

@@ -6,6 +6,10 @@ use Rattle.std.specs.List.{flat_map}
 use Rattle.std.proofs.lemmas.List.{drop-append-le, drop-drop, length-drop, nil_from_length, take-take, take_all}
 use Rattle.swim_text.specs.Buffers.{drop_range}
 use Rattle.swim_text.specs.Streams.{Puts}
+use Rattle.swim_desk.specs.declared.doors.Knock.{Knock}
+use Rattle.swim_desk.specs.declared.doors.Knock.TheVariants.{Conn, Idle, Refused, Fault}
+use Rattle.swim_desk.specs.Doors.{ComesNew}
+use Rattle.swim_devices.specs.Streams.{AtSink, AtSource, IsNew}
 use Rattle.swim_devices.specs.Trails.{bytes_in, bytes_more}
 
 -- ---- where lines come from
@@ -123,3 +127,14 @@ pub none_held : (put left rest none : List ℕ) → put ≡ left ++ rest → len
     put ≡ left ++ none
 none_held put left rest none was empty is =
     was ∙ ap (λ t. left ++ t) (nil_from_length rest empty ∙ sym is)
+
+-- ---- who comes
+
+-- new ends have given nothing, and nothing was put into them
+pub new_comes : (knock : Knock AtSource AtSink) → IsNew knock →
+    ComesNew (λ (reader : AtSource). Some reader.taken) (λ (writer : AtSink). Some writer.put) knock
+new_comes (Conn reader writer) is =
+    (ap (λ (r : AtSource). r.taken) is.0, ap (λ (w : AtSink). w.put) is.1)
+new_comes Idle is = tt
+new_comes Refused is = tt
+new_comes Fault is = tt

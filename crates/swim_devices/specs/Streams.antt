@@ -1,8 +1,6 @@
 -- What passed through the two ends of a connection.
 use Rattle.std.specs.Prelude.{◌≡◌, ◌⊎◌, ℕ, ◌<◌, Bool, true, List, [], ◌∷◌, ◌++◌, length, take, Result, Ok, Err}
 use Rattle.swim_text.specs.declared.polled.Look.{Look}
-use Rattle.swim_text.specs.declared.streams.Byte.{Byte}
-use Rattle.swim_text.specs.declared.streams.Byte.TheVariants.{One, End, Fault}
 use Rattle.swim_desk.specs.declared.doors.Knock.{Knock}
 use Rattle.swim_desk.specs.declared.doors.Knock.TheVariants.{Conn}
 
@@ -40,12 +38,6 @@ abbrev pub Finds : AtSource → Look → AtSource → Type 0
 Finds old look new =
     ((0 < length old.ready) × (new ≡ old))
     ⊎ ((old.ready ≡ []) × (new.found ≡ old.found ++ (look, new.ready) ∷ []) × (new.taken ≡ old.taken))
-
--- the byte that was given, if one was, is the next that was taken
-abbrev pub Takes : AtSource → Byte → AtSource → Type 0
-Takes old (One b) new = new.taken ≡ old.taken ++ b ∷ []
-Takes old End new = new.taken ≡ old.taken
-Takes old Fault new = new.taken ≡ old.taken
 
 -- the system took a front of what was held back, which has left since; or it took nothing
 abbrev pub Sends : {E : Type 0} → AtSink → Result ℕ E → AtSink → Type 0

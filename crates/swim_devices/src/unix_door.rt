@@ -1,7 +1,7 @@
 //! The door of a daemon: a Unix socket.
 
 ghost use Rattle.std.specs.Prelude.{◌≡◌, [], ◌∷◌, ◌++◌, IfOk, Some, map};
-ghost use Rattle.swim_desk.specs.Doors.{is_fault};
+ghost use Rattle.swim_desk.specs.Doors.{ComesNew, is_fault};
 ghost use Rattle.swim_devices.specs.Streams.{IsNew, fresh_sink, fresh_source};
 
 use crate::receptions::{Arrival, Guest, Reception};
@@ -39,6 +39,7 @@ const EVENTS: usize = 64;
 /// answers so far whether it was a fault.
 #[derive(Drop)]
 pub struct UnixDoor<K: Clock + Drop> {
+    alloc: Global,
     reception: Reception,
     poll: Poll,
     events: Events<Global>,
@@ -81,6 +82,7 @@ impl<K: Clock + Drop> UnixDoor<K> {
         watch(&poll, reception.as_raw_fd())?;
         let began = Instant::now(&clock)?;
         Ok(UnixDoor {
+            alloc,
             reception,
             poll,
             events,
@@ -125,7 +127,10 @@ impl<K: Clock + Drop> UnixDoor<K> {
         let Guest { stream, place } = guest;
         let other = stream.try_clone()?;
         watch(&self.poll, stream.as_raw_fd())?;
-        Ok((StreamSource::new(stream), StreamSink::new(other, place)))
+        Ok((
+            StreamSource::new(stream),
+            StreamSink::new(self.alloc, other, place),
+        ))
     }
 }
 
@@ -150,9 +155,11 @@ impl<K: Clock + Drop> Door for UnixDoor<K> {
 
     type Writer = StreamSink;
 
+    #[tactic(auto, using(crate::proofs::Streamed::new_comes))]
     fn next<R: Wait>(&mut self, _rt: &R) -> Knock<StreamSource, StreamSink>
         ensures noted { self.new ≡ self.old ++ is_fault result ∷ [] }
         ensures fresh { IsNew result }
+        ensures newcomer { ComesNew (λ reader. Some reader.taken) (λ writer. Some writer.put) result }
     {
         self.knock()
     }

@@ -1,12 +1,12 @@
 //! The two ends of a connection of the control socket. Neither waits: the stream has to be one that doesn't.
 
 ghost use Rattle.std.specs.Prelude.{◌≡◌, ◌<◌, ◌≤◌, [], ◌∷◌, ◌++◌, true, false, length, take, drop, None, Some};
-ghost use Rattle.std.specs.Io.KnownBytes.{Keeps};
-ghost use Rattle.swim_text.specs.Streams.{Gives, Puts, failures_then, failures_if};
+ghost use Rattle.std.specs.Io.KnownBytes.{Keeps, append_known};
+ghost use Rattle.swim_text.specs.Streams.{Gives, Puts, failures_then, failures_if, given_then};
 ghost use Rattle.swim_text.specs.Polled.{Looks};
-ghost use Rattle.swim_devices.specs.Streams.{Finds, Sends, Takes, fresh_sink, fresh_source};
+ghost use Rattle.swim_devices.specs.Streams.{Finds, Sends, fresh_sink, fresh_source};
 
-use arrayvec::ArrayVec;
+use std::alloc::Global;
 use std::io::{self, ErrorKind, Read, Write};
 use std::marker::Model;
 use std::net::Shutdown;
@@ -17,10 +17,6 @@ use swim_trail::Trail;
 
 /// How many bytes are read at a time.
 const READ_BYTES: usize = 4096;
-
-/// Room for the longest answer, a table of 128 rows of at most 61 bytes each and its end, behind 15 others of at most
-/// 66 bytes each.
-const ANSWER_BYTES: usize = 9216;
 
 /// How many writes there are at a time.
 const WRITES: u32 = 16;
@@ -124,12 +120,14 @@ impl Source for StreamSource {
 
     ghost ready = { λ s. s.ready };
 
+    ghost given = { λ s. Some s.taken };
+
     ghost failures = { λ s. s.failures };
 
     fn byte(&mut self) -> Byte
         ensures bytes { Gives None None result }
         ensures failures { self.new.failures ≡ failures_then self.old.failures result }
-        ensures taken { Takes self.old result self.new }
+        ensures given { Some self.new.taken ≡ given_then (Some self.old.taken) result }
     {
         match self.look() {
             Look::Ready => Byte::One(self.take_next()),
@@ -152,7 +150,7 @@ impl Source for StreamSource {
         ensures ready { self.new.ready ≡ drop count self.old.ready }
         ensures failures { self.new.failures ≡ self.old.failures }
         ensures found { self.new.found ≡ self.old.found }
-        ensures taken { self.new.taken ≡ self.old.taken ++ take count self.old.ready }
+        ensures given { Some self.new.taken ≡ append_known (Some self.old.taken) (take count self.old.ready) }
     {
         self.take(count);
     }
@@ -164,6 +162,7 @@ impl Polled for StreamSource {
         ensures looks { Looks None None self.new.ready result }
         ensures failures { self.new.failures ≡ self.old.failures }
         ensures finds { Finds self.old result self.new }
+        ensures given { Some self.new.taken ≡ Some self.old.taken }
     {
         if !self.ready().is_empty() {
             return Look::Ready;
@@ -195,7 +194,8 @@ pub struct StreamSink {
     stream: UnixStream,
     // The place of the connection, which it has as long as this stands.
     _place: Arc<()>,
-    held: ArrayVec<u8, ANSWER_BYTES>,
+    // In the heap, and empty as long as nothing is held back: the longest answer has some 72 KiB.
+    held: Vec<u8>,
     sent: usize,
     failures: u64,
     put: Trail<()>,
@@ -223,13 +223,13 @@ impl Model for StreamSink {
 
 impl StreamSink {
     /// A sink over a stream that doesn't wait, of a connection that has this place. It took nothing yet.
-    pub fn new(stream: UnixStream, place: Arc<()>) -> StreamSink
+    pub fn new(alloc: Global, stream: UnixStream, place: Arc<()>) -> StreamSink
         ensures { result ≡ fresh_sink }
     {
         StreamSink {
             stream,
             _place: place,
-            held: ArrayVec::new(),
+            held: Vec::new(alloc),
             sent: 0,
             failures: 0,
             put: Trail::new(),
@@ -307,14 +307,14 @@ impl StreamSink {
         let _is_shut = self.stream.shutdown(Shutdown::Both);
     }
 
-    /// Holds a text back, if there is room for it, and notes it.
+    /// Holds a text back, if there is memory for it, and notes it.
     #[tactic(auto, using(crate::proofs::Streamed::put_more, crate::proofs::Streamed::none_put, crate::specs::Trails::bytes_more))]
     fn hold(&mut self, text: &[u8]) -> bool
         ensures puts { Puts (Some self.old.put) (Some self.new.put) text.now result }
         ensures left { self.new.left ≡ self.old.left }
         ensures failures { self.new.failures ≡ self.old.failures }
     {
-        match self.held.try_extend_from_slice(text) {
+        match self.held.extend_from_slice(text) {
             Ok(()) => {
                 self.put.note(&(), text);
                 true

@@ -41,14 +41,13 @@ impl NewFile {
         path_of(self.dir.as_str(), self.me, self.stamp)
     }
 
-    /// Makes it. It is new, and its owner's alone. Where something lies at its path, the next second names it for which
-    /// there is nothing: that of its stamp then. `AlreadyExists` where there is none in all that are tried, and then
-    /// the stamp stays.
+    /// Makes it. It is new, and its owner's alone. Where something lies at its path, or at that of its second name, the
+    /// next second names it for which there is nothing: that of its stamp then. `AlreadyExists` where there is none in
+    /// all that are tried, and then the stamp stays.
     pub fn make<R: Files<File = File>>(&mut self, rt: &R) -> io::Result<File> {
         let mut stamp = self.stamp;
         for _try in 0..SECONDS_TRIED {
-            let path = path_of(self.dir.as_str(), self.me, stamp);
-            match make_file(rt, path.as_str(), OWNER_ALONE) {
+            match self.make_as(rt, stamp) {
                 Ok(file) => {
                     self.stamp = stamp;
                     return Ok(file);
@@ -60,6 +59,19 @@ impl NewFile {
             }
         }
         Err(io::Error::from(ErrorKind::AlreadyExists))
+    }
+
+    /// Makes it with that stamp. `AlreadyExists` also where a file that is gone from here still has its second name.
+    fn make_as<R: Files<File = File>>(&self, rt: &R, stamp: Stamp) -> io::Result<File> {
+        let judged = path_of(judged_in(self.dir.as_str()).as_str(), self.me, stamp);
+        if rt.symlink_metadata(judged.as_str()).is_ok() {
+            return Err(io::Error::from(ErrorKind::AlreadyExists));
+        }
+        make_file(
+            rt,
+            path_of(self.dir.as_str(), self.me, stamp).as_str(),
+            OWNER_ALONE,
+        )
     }
 
     /// Removes the oldest files of this member beside it, where there are more than stay. What can't be removed stays.

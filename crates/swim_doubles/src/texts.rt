@@ -70,6 +70,8 @@ impl<'a> Source for Text<'a> {
 
     ghost ready = { λ t. ready_of t };
 
+    ghost given = { λ t. None };
+
     ghost failures = { λ t. t.failures };
 
     fn byte(&mut self) -> Byte
@@ -121,7 +123,7 @@ impl<'a> Source for Text<'a> {
 /// A look finds all that is left at once, unless a call is yet to fail; the failing call may be a look.
 impl<'a> Polled for Text<'a> {
     fn look(&mut self) -> Look
-        ensures { Looks (Some self.old.left) (Some self.new.left) (ready_of self.new) result }
+        ensures looks { Looks (Some self.old.left) (Some self.new.left) (ready_of self.new) result }
     {
         if is_due(&mut self.fails_in) {
             self.failures = self.failures.saturating_add(1);

@@ -13,8 +13,8 @@ use Rattle.swim_metrics.specs.declared.wait_histograms.Waits.{Waits}
 use Rattle.swim_metrics.proofs.Counted.{counted_if}
 
 -- a list whose elements are those of another, each changed
-pub map_from_each : (f : HistogramBucket → HistogramBucket) (new old : List HistogramBucket) → length new ≡ length old →
-    ((k : ℕ) (d : HistogramBucket) → k < length old → get_or new k d ≡ f (get_or old k d)) → new ≡ map f old
+pub map_from_each : {X : Type 0} (f : X → X) (new old : List X) → length new ≡ length old →
+    ((k : ℕ) (d : X) → k < length old → get_or new k d ≡ f (get_or old k d)) → new ≡ map f old
 map_from_each f [] [] same each = refl
 map_from_each f [] (y ∷ old) same each = absurd (omega (arith, same))
 map_from_each f (x ∷ new) [] same each = absurd (omega (arith, same))

@@ -29,6 +29,15 @@ counted_of test more xs all old new times is whole held adds =
     let added : new ≡ capped (capped (count_by test xs) + count_by test more) = rw (adds, held, is) refl in
     capped_on (count_by test xs) (count_by test more) new added ∙ ap capped (sym step)
 
+-- a late ack more, or none
+one_late : (bit n m old new : ℕ) → old ≡ capped (n + m) → new ≡ capped (old + bit) → new ≡ capped ((bit + n) + m)
+one_late bit n m old new held adds = omega (arith, held, adds)
+
+pub late_then : (test is_so : Bool) (n m old new : ℕ) → is_so ≡ test → old ≡ capped (n + m) →
+    new ≡ capped (old + cond is_so 1 0) → new ≡ capped ((cond test 1 0 + n) + m)
+late_then test is_so n m old new is held adds =
+    one_late (cond test 1 0) n m old new held (adds ∙ ap (λ b. capped (old + cond b 1 0)) is)
+
 -- what holds for each reason holds for all
 pub each_reason : (P : DropReason → Type 0) → P NotForMe → P Borrowed → P AboutMe → P Unlisted → P TableFull → P Stray →
     P NoRequest →

@@ -5,3 +5,5 @@ pub mod Buckets
 pub mod Lines
 pub mod Noting
 pub mod LastHeard
+pub mod Carrying
+pub mod OddOnes

@@ -9,7 +9,10 @@ use Rattle.swim_metrics.specs.declared.outside.Outside.{Outside}
 use Rattle.swim_metrics.specs.declared.wait_histograms.HistogramBucket.{HistogramBucket}
 use Rattle.swim_metrics.specs.declared.wait_histograms.Waits.{Waits}
 use Rattle.swim_metrics.specs.Families.{Family, Sample, bucket_sample, escaped, escaped_one, family_of, total_samples}
+use Rattle.swim_metrics.specs.Families.{column_of, member_acks, member_sample, member_samples}
 use Rattle.swim_metrics.specs.Families.{version_sample, wait_samples}
+use Rattle.swim_metrics.specs.declared.families.Column.{Column}
+use Rattle.swim_metrics.specs.declared.member_figures.MemberFigures.{MemberFigures}
 use Rattle.swim_metrics.specs.declared.measures.Measures.{Measures}
 use Rattle.swim_metrics.specs.Texts.{families_lines, families_text, family_lines, family_text, head_text, sample_text}
 use Rattle.swim_metrics.specs.Texts.{samples_text}
@@ -52,7 +55,7 @@ pub version_line : (me number : ℕ) (bytes name version : List ℕ) → number 
 version_line me number bytes name version same is = rw same (version_line_of me bytes name version is)
 
 -- the lines of some samples and of others
-samples_append : (me : ℕ) (name : List ℕ) (some others : List Sample) →
+pub samples_append : (me : ℕ) (name : List ℕ) (some others : List Sample) →
     samples_text me name some ++ samples_text me name others ≡ samples_text me name (some ++ others)
 samples_append me name [] others = refl
 samples_append me name (sample ∷ some) others =
@@ -63,6 +66,33 @@ pub wait_lines : (me : ℕ) (name : List ℕ) (w : Waits) →
     samples_text me name (map bucket_sample w.buckets) ++ samples_text me name (total_samples w) ≡
     samples_text me name (wait_samples w)
 wait_lines me name w = samples_append me name (map bucket_sample w.buckets) (total_samples w)
+
+-- the line of a member
+figure_line_of : (me id n : ℕ) (bytes name labels : List ℕ) → bytes ≡ name →
+    bytes ++ (codes "{member=\"" ++ (decimal me ++ (codes "\",id=\"" ++ (decimal id ++ (codes "\"" ++ (labels ++
+    (codes "} " ++ (decimal n ++ (codes "\n" ++ []))))))))) ≡ samples_text me name (member_sample id labels n ∷ [])
+figure_line_of me id n bytes name labels is =
+    let rest = codes "} " ++ (decimal n ++ feed) in
+    ap (λ t. t ++ (codes "{member=\"" ++ (decimal me ++ (codes "\",id=\"" ++ (decimal id ++ (codes "\"" ++ (labels ++
+    rest))))))) is
+    ∙ ap (λ t. name ++ (codes "{member=\"" ++ (decimal me ++ (codes "\",id=\"" ++ t))))
+    (sym (append_assoc (decimal id) (codes "\"" ++ labels) rest))
+    ∙ sym (append-nil (sample_text me name (member_sample id labels n)))
+
+pub figure_line : (me number id other n : ℕ) (bytes name labels : List ℕ) → number ≡ me → other ≡ id → bytes ≡ name →
+    bytes ++ (codes "{member=\"" ++ (decimal number ++ (codes "\",id=\"" ++ (decimal other ++ (codes "\"" ++ (labels ++
+    (codes "} " ++ (decimal n ++ (codes "\n" ++ []))))))))) ≡ samples_text me name (member_sample id labels n ∷ [])
+figure_line me number id other n bytes name labels same ids is =
+    rw (same, ids) (figure_line_of me id n bytes name labels is)
+
+-- the lines of the acks of a member
+pub ack_lines : (me id directly by_relay : ℕ) (name : List ℕ) →
+    samples_text me name (member_sample id (codes ",from=\"target\"") directly ∷ [])
+    ++ samples_text me name (member_sample id (codes ",from=\"relay\"") by_relay ∷ [])
+    ≡ samples_text me name (member_acks id directly by_relay)
+ack_lines me id directly by_relay name =
+    samples_append me name (member_sample id (codes ",from=\"target\"") directly ∷ [])
+    (member_sample id (codes ",from=\"relay\"") by_relay ∷ [])
 
 -- ---- the first and the others
 
@@ -77,6 +107,14 @@ pub first_line : {X : Type 0} (sample_of : X → Sample) (me : ℕ) (name : List
 first_line sample_of me name xs d some =
     ap (λ l. samples_text me name (map sample_of l))
     (sym (first_and_others xs (get_or xs 0 d) some (same_first xs d some)))
+
+pub first_member : (column : Column) (me : ℕ) (name : List ℕ) (rows : List MemberFigures) (first : MemberFigures) →
+    1 ≤ length rows → first ≡ get_or rows 0 first →
+    samples_text me name (column_of column first) ++ samples_text me name (member_samples column (others_of rows))
+    ≡ samples_text me name (member_samples column rows)
+first_member column me name rows first some is =
+    samples_append me name (column_of column first) (member_samples column (others_of rows))
+    ∙ ap (λ l. samples_text me name (member_samples column l)) (sym (first_and_others rows first some is))
 
 pub first_escaped : (text : List ℕ) (d : ℕ) → 1 ≤ length text →
     escaped_one (get_or text 0 d) ++ escaped (others_of text) ≡ escaped text

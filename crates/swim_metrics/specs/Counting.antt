@@ -1,6 +1,6 @@
 -- What is counted of a node's journals, over all its lives, the newest first.
-use Rattle.std.specs.Prelude.{ℕ, ◌==◌, ◌^◌, ◌-◌, min, not, Bool, true, false, List, [], ◌∷◌, ◌++◌, count_by}
-use Rattle.std.specs.Prelude.{Option, Some, None}
+use Rattle.std.specs.Prelude.{ℕ, ◌==◌, ◌^◌, ◌+◌, ◌-◌, min, not, nat_lt, Bool, true, false, List, [], ◌∷◌, ◌++◌}
+use Rattle.std.specs.Prelude.{count_by, Option, Some, None, if◌then◌else◌}
 use Rattle.swim_wire.specs.Address.{Address}
 use Rattle.swim_wire.specs.Messages.{Message}
 use Rattle.swim_wire.specs.declared.messages.Kind.{Kind}
@@ -10,6 +10,7 @@ use Rattle.swim_history.specs.declared.calls.Call.TheVariants.{Hear, Remove}
 use Rattle.swim_history.specs.declared.replies.Reply.{Reply}
 use Rattle.swim_history.specs.declared.replies.Reply.TheVariants.{Heard, Dropped, Removed}
 use Rattle.swim_history.specs.declared.replies.DropReason.{DropReason}
+use Rattle.swim_history.specs.declared.replies.DropReason.TheVariants.{Stray}
 use Rattle.swim_history.specs.declared.entries.Entry.{Entry}
 use Rattle.swim_history.specs.declared.rows.Row.{Row}
 use Rattle.swim_history.specs.Setting.{Setting, is_state_up}
@@ -18,6 +19,7 @@ use Rattle.swim_history.specs.Reasons.{drop_number}
 use Rattle.swim_history.specs.Sends.{sends_of}
 use Rattle.swim_history.specs.Waiting.{asked_in}
 use Rattle.swim_events.specs.Watched.{Lived}
+use Rattle.swim_events.specs.Watching.{number_then}
 
 -- a count stops at 2^64-1
 abbrev pub capped : ℕ → ℕ
@@ -114,6 +116,31 @@ judges e = is_there (judged_in e.reply)
 
 abbrev pub leaves : Entry → Bool
 leaves e = is_leaving e.call e.reply
+
+-- ---- late acks
+
+-- the number of the last period that began: the last one used as the life began, and one more at each start
+abbrev pub last_begun : Setting → List Entry → ℕ
+last_begun o [] = o.last
+last_begun o (e ∷ before) = number_then e.reply (last_begun o before)
+
+-- an ack of an own probe came after the end of its period: it is stray, and its number is below that of the period that
+-- runs
+abbrev pub is_late : Call → Reply → ℕ → Bool
+is_late (Hear source ack) (Dropped Stray) number = nat_lt ack.number number
+is_late call reply number = false
+
+abbrev pub comes_late : Setting → List Entry → Entry → Bool
+comes_late o before e = is_late e.call e.reply (last_begun o before)
+
+-- how many came late in a life, and in all lives
+abbrev pub late_in : Setting → List Entry → ℕ
+late_in o [] = 0
+late_in o (e ∷ before) = (if comes_late o before e then 1 else 0) + late_in o before
+
+abbrev pub late : List Lived → ℕ
+late [] = 0
+late (life ∷ older) = late_in life.opening life.past + late older
 
 -- ---- the table
 

@@ -10,6 +10,9 @@ use Rattle.swim_metrics.specs.declared.outside.FileFigures.{FileFigures}
 use Rattle.swim_metrics.specs.declared.heads.MetricKind.{MetricKind}
 use Rattle.swim_metrics.specs.declared.heads.Metric.{Metric}
 use Rattle.swim_metrics.specs.declared.heads.Metric.TheVariants as metrics
+use Rattle.swim_metrics.specs.declared.families.Column.{Column}
+use Rattle.swim_metrics.specs.declared.families.Column.TheVariants as columns
+use Rattle.swim_metrics.specs.declared.member_figures.MemberFigures.{MemberFigures}
 use Rattle.swim_metrics.specs.declared.measures.Measures.{Measures}
 use Rattle.swim_metrics.specs.Heads.{head_of}
 
@@ -80,6 +83,13 @@ dropped_samples d =
     ∷ labelled (codes ",reason=\"no_request\"") d.no_request
     ∷ []
 
+abbrev pub odd_samples : ℕ → ℕ → ℕ → List Sample
+odd_samples unlisted own_id elsewhere =
+    labelled (codes ",why=\"unlisted\"") unlisted
+    ∷ labelled (codes ",why=\"own_id\"") own_id
+    ∷ labelled (codes ",why=\"elsewhere\"") elsewhere
+    ∷ []
+
 -- of a histogram's bucket
 abbrev pub bucket_sample : HistogramBucket → Sample
 bucket_sample bucket =
@@ -95,6 +105,32 @@ total_samples w =
 
 abbrev pub wait_samples : Waits → List Sample
 wait_samples w = map bucket_sample w.buckets ++ total_samples w
+
+-- ---- members
+
+-- of a member; what is told beside its id stands behind that
+abbrev pub member_sample : ℕ → List ℕ → ℕ → Sample
+member_sample id more n = labelled (codes ",id=\"" ++ (decimal id ++ (codes "\"" ++ more))) n
+
+abbrev pub heard_sample : ℕ → Option ℕ → List Sample
+heard_sample id None = []
+heard_sample id (Some number) = member_sample id [] number ∷ []
+
+abbrev pub member_acks : ℕ → ℕ → ℕ → List Sample
+member_acks id directly by_relay =
+    member_sample id (codes ",from=\"target\"") directly ∷ member_sample id (codes ",from=\"relay\"") by_relay ∷ []
+
+abbrev pub column_of : Column → MemberFigures → List Sample
+column_of columns.Up row = member_sample row.id [] (from_bool row.is_up) ∷ []
+column_of columns.Heard row = heard_sample row.id row.tally.heard
+column_of columns.Acks row = member_acks row.id row.tally.directly row.tally.by_relay
+column_of columns.Verdicts row = member_sample row.id [] row.tally.verdicts ∷ []
+column_of columns.Asked row = member_sample row.id [] row.tally.asked ∷ []
+
+-- of each member, in turn
+abbrev pub member_samples : Column → List MemberFigures → List Sample
+member_samples column [] = []
+member_samples column (row ∷ rows) = column_of column row ++ member_samples column rows
 
 -- ---- journal files
 
@@ -117,13 +153,17 @@ samples_by m out metrics.Member = one out.me
 samples_by m out metrics.Members = state_samples m.up m.failed
 samples_by m out metrics.PeriodNumber = one m.number
 samples_by m out metrics.PeriodSeconds = one_time (out.tick_ms * out.period)
+samples_by m out metrics.TickSeconds = one_time out.tick_ms
 samples_by m out metrics.Ticks = one m.counts.ticks
 samples_by m out metrics.PingsSent = one m.counts.pings_sent
 samples_by m out metrics.PingsHeard = one m.counts.pings_heard
 samples_by m out metrics.AcksHeard = ack_samples m.counts.heard_directly m.counts.heard_by_relay
+samples_by m out metrics.LateAcks = one m.counts.acks_late
 samples_by m out metrics.AsksSent = one m.counts.asks_sent
 samples_by m out metrics.RequestsServed = one m.counts.requests_served
 samples_by m out metrics.Dropped = dropped_samples m.counts.dropped
+samples_by m out metrics.OddSenders =
+    odd_samples m.odd.unlisted.count m.odd.own_id.count m.odd.elsewhere.count
 samples_by m out metrics.Verdicts = one m.counts.verdicts
 samples_by m out metrics.Joins = one m.counts.joins
 samples_by m out metrics.OwnJoins = one out.own_joins
@@ -141,6 +181,11 @@ samples_by m out metrics.Fenced = one out.fenced
 samples_by m out metrics.Watchers = one out.watchers
 samples_by m out metrics.LostWatchers = one out.lost_watchers
 samples_by m out metrics.Unwritten = one out.unwritten
+samples_by m out metrics.MemberUp = member_samples columns.Up m.members.items
+samples_by m out metrics.MemberHeard = member_samples columns.Heard m.members.items
+samples_by m out metrics.MemberAcks = member_samples columns.Acks m.members.items
+samples_by m out metrics.MemberVerdicts = member_samples columns.Verdicts m.members.items
+samples_by m out metrics.MemberAsked = member_samples columns.Asked m.members.items
 samples_by m out metrics.JournalFileOk = one (from_bool (is_ok out.files))
 samples_by m out metrics.JournalFilesCut = one (cut_in out.files)
 samples_by m out metrics.AckWait = wait_samples m.counts.waits
@@ -156,12 +201,14 @@ family_of m out metric = record {
 -- those that are told also where lives have no journal files, in the order in which they are told
 abbrev pub without_files : List Metric
 without_files =
-    metrics.Build ∷ metrics.Member ∷ metrics.Members ∷ metrics.PeriodNumber ∷ metrics.PeriodSeconds ∷ metrics.Ticks
-    ∷ metrics.PingsSent ∷ metrics.PingsHeard ∷ metrics.AcksHeard ∷ metrics.AsksSent ∷ metrics.RequestsServed
-    ∷ metrics.Dropped ∷ metrics.AckWait ∷ metrics.Verdicts ∷ metrics.Joins ∷ metrics.OwnJoins ∷ metrics.Removals
-    ∷ metrics.Knocks ∷ metrics.Lives ∷ metrics.Entries ∷ metrics.EntriesLimit ∷ metrics.EntriesBehind ∷ metrics.Unsent
-    ∷ metrics.Wire ∷ metrics.Refused ∷ metrics.Forged ∷ metrics.Fenced ∷ metrics.Watchers ∷ metrics.LostWatchers
-    ∷ metrics.Unwritten ∷ []
+    metrics.Build ∷ metrics.Member ∷ metrics.Members ∷ metrics.PeriodNumber ∷ metrics.PeriodSeconds
+    ∷ metrics.TickSeconds ∷ metrics.Ticks ∷ metrics.PingsSent ∷ metrics.PingsHeard ∷ metrics.AcksHeard
+    ∷ metrics.LateAcks ∷ metrics.AsksSent ∷ metrics.RequestsServed ∷ metrics.Dropped
+    ∷ metrics.OddSenders ∷ metrics.AckWait
+    ∷ metrics.Verdicts ∷ metrics.Joins ∷ metrics.OwnJoins ∷ metrics.Removals ∷ metrics.Knocks ∷ metrics.Lives
+    ∷ metrics.Entries ∷ metrics.EntriesLimit ∷ metrics.EntriesBehind ∷ metrics.Unsent ∷ metrics.Wire ∷ metrics.Refused
+    ∷ metrics.Forged ∷ metrics.Fenced ∷ metrics.Watchers ∷ metrics.LostWatchers ∷ metrics.Unwritten ∷ metrics.MemberUp
+    ∷ metrics.MemberHeard ∷ metrics.MemberAcks ∷ metrics.MemberVerdicts ∷ metrics.MemberAsked ∷ []
 
 -- all of them
 abbrev pub all : List Metric

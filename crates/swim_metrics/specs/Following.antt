@@ -13,10 +13,13 @@ use Rattle.swim_events.specs.Watching.{Known, rows_then, number_then}
 use Rattle.swim_metrics.specs.declared.entry_counts.EntryCounts.{EntryCounts}
 use Rattle.swim_metrics.specs.declared.dropped.Dropped.{Dropped}
 use Rattle.swim_metrics.specs.declared.measures.Measures.{Measures}
+use Rattle.swim_metrics.specs.declared.odd_senders.OddSenders.{OddSenders}
 use Rattle.swim_metrics.specs.declared.wait_histograms.HistogramBucket.{HistogramBucket}
 use Rattle.swim_metrics.specs.declared.wait_histograms.Waits.{Waits}
 use Rattle.swim_metrics.specs.Counting.{capped, entries, this_life, sent, sends_ping, sends_ask, pinged, heard_directly}
-use Rattle.swim_metrics.specs.Counting.{heard_by_relay, serves, dropped_as, failed_in, judges, leaves, up_in}
+use Rattle.swim_metrics.specs.Counting.{heard_by_relay, serves, dropped_as, failed_in, judges, last_begun, late, leaves}
+use Rattle.swim_metrics.specs.Counting.{up_in}
+use Rattle.swim_metrics.specs.declared.member_figures.MemberFigures.{MemberFigures}
 use Rattle.swim_metrics.specs.Waiting.{bounds, waited, waits, was_heard}
 
 -- the count of a reason
@@ -51,6 +54,7 @@ pub record Count (c : EntryCounts) (node : List Lived) : Type 0 where
   pub pings_heard : c.pings_heard ≡ capped (count_by pinged (entries node))
   pub heard_directly : c.heard_directly ≡ capped (count_by heard_directly (entries node))
   pub heard_by_relay : c.heard_by_relay ≡ capped (count_by heard_by_relay (entries node))
+  pub acks_late : c.acks_late ≡ capped (late node)
   pub asks_sent : c.asks_sent ≡ capped (count_by sends_ask (sent node))
   pub requests_served : c.requests_served ≡ capped (count_by serves (entries node))
   pub dropped : (why : DropReason) → dropped_for why c.dropped ≡ capped (count_by (dropped_as why) (entries node))
@@ -66,22 +70,38 @@ pub record Runs (ticks : ℕ) (is_heard : Bool) (h : List Entry) : Type 0 where
   pub age : ticks ≡ capped (waited h)
   pub hearing : is_heard ≡ was_heard h
 
--- the counts, how many ticks old the period that runs is, whether its aim was heard, and what is known of the members
+-- the counts, how many ticks old the period that runs is, whether its aim was heard, what is known of the members, what
+-- was counted of each, this member's id, and messages whose senders aren't as the table has them
 pub record Measured : Type 0 where
   pub counts : EntryCounts
   pub waited : ℕ
   pub heard : Bool
   pub known : Known
+  pub members : List MemberFigures
+  pub me : ℕ
+  pub odd : OddSenders
 
--- what is held is what all these lives come to; what is known of the members is told apart
+-- the number of the last period that began in the newest life
+abbrev pub newest_number : List Lived → ℕ
+newest_number [] = 0
+newest_number (life ∷ older) = last_begun life.opening life.past
+
+-- what is held is what all these lives come to; what is known and counted of the members is told apart
 pub record Follows (m : Measured) (lives : List Lived) : Type 0 where
   pub counts : Count m.counts lives
   pub period : Runs m.waited m.heard (this_life lives)
+  pub number : m.known.number ≡ newest_number lives
 
 -- what is told of them
 abbrev pub measures_of : Measured → Measures
-measures_of m =
-    record { counts = m.counts; up = up_in m.known.rows; failed = failed_in m.known.rows; number = m.known.number }
+measures_of m = record {
+  counts = m.counts;
+  up = up_in m.known.rows;
+  failed = failed_in m.known.rows;
+  number = m.known.number;
+  members = record { items = m.members };
+  odd = m.odd;
+}
 
 -- a life begins
 abbrev pub begun : ℕ → Setting → List Lived → List Lived

@@ -19,17 +19,23 @@ head_of metrics.Member = head Gauge (codes "swimd_member_id") (codes "This membe
 head_of metrics.Members = head Gauge (codes "swimd_members") (codes "Other members that are known, by state.")
 head_of metrics.PeriodNumber = head Gauge (codes "swimd_period_number") (codes "The number of the period that runs.")
 head_of metrics.PeriodSeconds = head Gauge (codes "swimd_period_seconds") (codes "How long a period lasts.")
+head_of metrics.TickSeconds = head Gauge (codes "swimd_tick_seconds") (codes "How long a tick lasts.")
 head_of metrics.Ticks = head Counter (codes "swimd_ticks_total") (codes "Ticks of time that were taken.")
 head_of metrics.PingsSent =
     head Counter (codes "swimd_pings_sent_total") (codes "Pings sent, those for other members among them.")
 head_of metrics.PingsHeard = head Counter (codes "swimd_pings_heard_total") (codes "Pings that came.")
 head_of metrics.AcksHeard =
     head Counter (codes "swimd_acks_heard_total") (codes "Acks of own probes that came in time, by who sent them.")
+head_of metrics.LateAcks =
+    head Counter (codes "swimd_acks_late_total") (codes "Acks of own probes that came after the end of their periods.")
 head_of metrics.AsksSent =
     head Counter (codes "swimd_asks_sent_total") (codes "Relays that were asked to ping a member.")
 head_of metrics.RequestsServed =
     head Counter (codes "swimd_requests_served_total") (codes "Requests of others for which a member was pinged.")
 head_of metrics.Dropped = head Counter (codes "swimd_dropped_total") (codes "Messages that were dropped, by reason.")
+head_of metrics.OddSenders =
+    head Counter (codes "swimd_odd_senders_total")
+    (codes "Messages whose senders are not as the member table has them, by why.")
 head_of metrics.Verdicts = head Counter (codes "swimd_verdicts_total") (codes "Members that were judged failed.")
 head_of metrics.Joins = head Counter (codes "swimd_joins_total") (codes "Members that joined, or joined again.")
 head_of metrics.OwnJoins = head Counter (codes "swimd_own_joins_total") (codes "Joins that the daemon made by itself.")
@@ -55,6 +61,17 @@ head_of metrics.LostWatchers = head Counter (codes "swimd_lost_watchers_total") 
 head_of metrics.Unwritten =
     head Counter (codes "swimd_metrics_unwritten_total")
     (codes "Times that the metrics could not be written to their file.")
+head_of metrics.MemberUp = head Gauge (codes "swimd_member_up") (codes "Whether a member is up.")
+head_of metrics.MemberHeard =
+    head Gauge (codes "swimd_member_heard_period")
+    (codes "The number of the last period in which an ack of a member came in time.")
+head_of metrics.MemberAcks =
+    head Counter (codes "swimd_member_acks_total")
+    (codes "Acks of own probes of a member that came in time, by who sent them.")
+head_of metrics.MemberVerdicts =
+    head Counter (codes "swimd_member_verdicts_total") (codes "How often a member was judged failed.")
+head_of metrics.MemberAsked =
+    head Counter (codes "swimd_member_asked_total") (codes "How often a member was asked to ping another one.")
 head_of metrics.JournalFileOk =
     head Gauge (codes "swimd_journal_file_ok") (codes "Whether this life's journal file is whole so far.")
 head_of metrics.JournalFilesCut =

@@ -1,5 +1,7 @@
 pub mod Counting
 pub mod Waiting
+pub mod Members
+pub mod OddSenders
 pub mod Following
 pub mod LastHeard
 pub mod FailedFor

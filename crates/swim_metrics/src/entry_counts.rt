@@ -5,7 +5,7 @@ ghost use Rattle.std.specs.Option.{option_to_list};
 ghost use Rattle.swim_history.specs.declared.entries.Entry.{Entry};
 ghost use Rattle.swim_history.specs.Setting.{Setting};
 ghost use Rattle.swim_events.specs.Watched.{Lived, lived_on};
-ghost use Rattle.swim_metrics.specs.Counting.{capped};
+ghost use Rattle.swim_metrics.specs.Counting.{capped, comes_late};
 ghost use Rattle.swim_metrics.specs.Following.{Count, begun};
 ghost use Rattle.swim_metrics.specs.Waiting.{wait_ended};
 
@@ -31,6 +31,8 @@ pub struct EntryCounts {
     pub heard_directly: u64,
     /// The same from relays.
     pub heard_by_relay: u64,
+    /// Acks of own probes that came after the end of their periods.
+    pub acks_late: u64,
     /// Relays that were asked to ping a member for us.
     pub asks_sent: u64,
     /// Requests of other members for which a member was pinged.
@@ -62,6 +64,7 @@ impl EntryCounts {
             pings_heard: 0,
             heard_directly: 0,
             heard_by_relay: 0,
+            acks_late: 0,
             asks_sent: 0,
             requests_served: 0,
             dropped: Dropped::new(),
@@ -83,10 +86,17 @@ impl EntryCounts {
         self.entries = 0;
     }
 
-    /// The counts after an entry that ended that wait, if it ended one.
-    pub(crate) fn after(&self, call: &Call, reply: &Reply, wait: Option<u64>) -> EntryCounts
+    /// The counts after an entry that ended that wait, if it ended one, and was a late ack or was not.
+    pub(crate) fn after(
+        &self,
+        call: &Call,
+        reply: &Reply,
+        wait: Option<u64>,
+        is_late: bool,
+    ) -> EntryCounts
         ensures { (life : Lived) (older : List Lived) (e : Entry) → e.call ≡ call.now → e.reply ≡ reply.now →
             option_to_list wait ≡ map capped (wait_ended e life.past) →
+            is_late ≡ comes_late life.opening life.past e →
             Count self.now (life ∷ older) → Count result (lived_on life e ∷ older) }
     {
         EntryCounts {
@@ -95,6 +105,7 @@ impl EntryCounts {
             pings_heard: more_if(self.pings_heard, is_pinged(call)),
             heard_directly: more_if(self.heard_directly, is_heard_directly(call, reply)),
             heard_by_relay: more_if(self.heard_by_relay, is_heard_by_relay(call, reply)),
+            acks_late: more_if(self.acks_late, is_late),
             asks_sent: more(self.asks_sent, asks_in(reply)),
             requests_served: more_if(self.requests_served, is_served(call, reply)),
             dropped: self.dropped.after(reply),

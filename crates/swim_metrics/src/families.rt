@@ -7,8 +7,19 @@ ghost use Rattle.swim_metrics.specs.Told.{samples_of};
 use crate::dropped::Dropped;
 use crate::heads::{Metric, MetricKind};
 use crate::measures::Measures;
+use crate::member_figures::MemberFigures;
 use crate::outside::Outside;
 use crate::wait_histograms::Waits;
+
+/// What is told of each member.
+#[derive(Clone, Copy)]
+pub(crate) enum Column {
+    Up,
+    Heard,
+    Acks,
+    Verdicts,
+    Asked,
+}
 
 /// The values of a metric.
 #[derive(Clone, Copy)]
@@ -17,10 +28,22 @@ pub(crate) enum Samples<'a> {
     /// A time in milliseconds, which is told in seconds.
     Milliseconds(u64),
     Version(&'a str),
-    States { up: u64, failed: u64 },
-    Acks { directly: u64, by_relay: u64 },
+    States {
+        up: u64,
+        failed: u64,
+    },
+    Acks {
+        directly: u64,
+        by_relay: u64,
+    },
     Dropped(&'a Dropped),
     Waits(&'a Waits),
+    Members(Column, &'a [MemberFigures]),
+    OddSenders {
+        unlisted: u64,
+        own_id: u64,
+        elsewhere: u64,
+    },
 }
 
 /// What the table says of a metric.
@@ -54,7 +77,7 @@ impl Metric {
     fn samples<'a>(self, measures: &'a Measures, outside: &Outside<'a>) -> Samples<'a>
         ensures { samples_of result ≡ samples_by measures.now outside.now self }
     {
-        let counts = &measures.counts;
+        let (counts, members) = (&measures.counts, measures.members.as_slice());
         match self {
             Metric::Build => Samples::Version(outside.version),
             Metric::Member => Samples::One(u64::from(outside.me.get())),
@@ -67,6 +90,7 @@ impl Metric {
                 outside.period,
                 outside.tick_ms,
             )),
+            Metric::TickSeconds => Samples::Milliseconds(u64::from(outside.tick_ms)),
             Metric::Ticks => Samples::One(counts.ticks),
             Metric::PingsSent => Samples::One(counts.pings_sent),
             Metric::PingsHeard => Samples::One(counts.pings_heard),
@@ -74,9 +98,15 @@ impl Metric {
                 directly: counts.heard_directly,
                 by_relay: counts.heard_by_relay,
             },
+            Metric::LateAcks => Samples::One(counts.acks_late),
             Metric::AsksSent => Samples::One(counts.asks_sent),
             Metric::RequestsServed => Samples::One(counts.requests_served),
             Metric::Dropped => Samples::Dropped(&counts.dropped),
+            Metric::OddSenders => Samples::OddSenders {
+                unlisted: measures.odd.unlisted.count,
+                own_id: measures.odd.own_id.count,
+                elsewhere: measures.odd.elsewhere.count,
+            },
             Metric::Verdicts => Samples::One(counts.verdicts),
             Metric::Joins => Samples::One(counts.joins),
             Metric::OwnJoins => Samples::One(outside.own_joins),
@@ -94,6 +124,11 @@ impl Metric {
             Metric::Watchers => Samples::One(outside.watchers),
             Metric::LostWatchers => Samples::One(outside.lost_watchers),
             Metric::Unwritten => Samples::One(outside.unwritten),
+            Metric::MemberUp => Samples::Members(Column::Up, members),
+            Metric::MemberHeard => Samples::Members(Column::Heard, members),
+            Metric::MemberAcks => Samples::Members(Column::Acks, members),
+            Metric::MemberVerdicts => Samples::Members(Column::Verdicts, members),
+            Metric::MemberAsked => Samples::Members(Column::Asked, members),
             Metric::JournalFileOk => Samples::One(u64::from(outside.is_file_ok())),
             Metric::JournalFilesCut => Samples::One(outside.files_cut()),
             Metric::AckWait => Samples::Waits(&counts.waits),

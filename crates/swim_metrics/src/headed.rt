@@ -10,7 +10,7 @@ use crate::metric_texts::put_head;
 use swim_text::{Sink, cut};
 use swim_wire::{Piece, put_pieces};
 
-/// How many lines are looked at at most. The answer to `stats` has some seventy.
+/// How many lines are looked at at most. The answer to `stats` has some seventy, and at most six of each member.
 const MOST_LINES: usize = 1_024;
 
 /// Writes the values of metrics, a line each, as the answer to `stats` has them, in the exposition format of Prometheus:

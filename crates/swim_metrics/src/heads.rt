@@ -16,6 +16,8 @@ pub enum Metric {
     PeriodNumber,
     /// How long a period lasts.
     PeriodSeconds,
+    /// How long a tick lasts.
+    TickSeconds,
     /// Ticks that were accepted.
     Ticks,
     /// Pings that were sent.
@@ -24,12 +26,16 @@ pub enum Metric {
     PingsHeard,
     /// Acks of own probes that came in time.
     AcksHeard,
+    /// Acks of own probes that came too late.
+    LateAcks,
     /// Relays that were asked.
     AsksSent,
     /// Requests of others that were served.
     RequestsServed,
     /// Messages that were dropped.
     Dropped,
+    /// Messages whose senders aren't as the table has them.
+    OddSenders,
     /// How long acks were waited for.
     AckWait,
     /// Members that were judged failed.
@@ -66,6 +72,16 @@ pub enum Metric {
     LostWatchers,
     /// Times that the metrics couldn't be written to their file.
     Unwritten,
+    /// Whether each member is up.
+    MemberUp,
+    /// When each was last heard.
+    MemberHeard,
+    /// Acks of each that came in time.
+    MemberAcks,
+    /// How often each was judged failed.
+    MemberVerdicts,
+    /// How often each was asked as a relay.
+    MemberAsked,
     /// Whether the newest life's file is whole so far.
     JournalFileOk,
     /// Lives without a whole file.
@@ -95,19 +111,22 @@ pub struct Head {
 }
 
 /// All metrics, in the order in which they are told.
-pub const ALL_METRICS: [Metric; 32] = [
+pub const ALL_METRICS: [Metric; 40] = [
     Metric::Build,
     Metric::Member,
     Metric::Members,
     Metric::PeriodNumber,
     Metric::PeriodSeconds,
+    Metric::TickSeconds,
     Metric::Ticks,
     Metric::PingsSent,
     Metric::PingsHeard,
     Metric::AcksHeard,
+    Metric::LateAcks,
     Metric::AsksSent,
     Metric::RequestsServed,
     Metric::Dropped,
+    Metric::OddSenders,
     Metric::AckWait,
     Metric::Verdicts,
     Metric::Joins,
@@ -126,6 +145,11 @@ pub const ALL_METRICS: [Metric; 32] = [
     Metric::Watchers,
     Metric::LostWatchers,
     Metric::Unwritten,
+    Metric::MemberUp,
+    Metric::MemberHeard,
+    Metric::MemberAcks,
+    Metric::MemberVerdicts,
+    Metric::MemberAsked,
     Metric::JournalFileOk,
     Metric::JournalFilesCut,
 ];
@@ -169,6 +193,11 @@ impl Metric {
                 "How long a period lasts.",
                 MetricKind::Gauge,
             ),
+            Metric::TickSeconds => Head::of(
+                "swimd_tick_seconds",
+                "How long a tick lasts.",
+                MetricKind::Gauge,
+            ),
             Metric::Ticks => Head::of(
                 "swimd_ticks_total",
                 "Ticks of time that were taken.",
@@ -187,6 +216,11 @@ impl Metric {
             Metric::AcksHeard => Head::of(
                 "swimd_acks_heard_total",
                 "Acks of own probes that came in time, by who sent them.",
+                MetricKind::Counter,
+            ),
+            Metric::LateAcks => Head::of(
+                "swimd_acks_late_total",
+                "Acks of own probes that came after the end of their periods.",
                 MetricKind::Counter,
             ),
             Metric::AsksSent => Head::of(
@@ -289,6 +323,31 @@ impl Metric {
                 "Times that the metrics could not be written to their file.",
                 MetricKind::Counter,
             ),
+            Metric::MemberUp => Head::of(
+                "swimd_member_up",
+                "Whether a member is up.",
+                MetricKind::Gauge,
+            ),
+            Metric::MemberHeard => Head::of(
+                "swimd_member_heard_period",
+                "The number of the last period in which an ack of a member came in time.",
+                MetricKind::Gauge,
+            ),
+            Metric::MemberAcks => Head::of(
+                "swimd_member_acks_total",
+                "Acks of own probes of a member that came in time, by who sent them.",
+                MetricKind::Counter,
+            ),
+            Metric::MemberVerdicts => Head::of(
+                "swimd_member_verdicts_total",
+                "How often a member was judged failed.",
+                MetricKind::Counter,
+            ),
+            Metric::MemberAsked => Head::of(
+                "swimd_member_asked_total",
+                "How often a member was asked to ping another one.",
+                MetricKind::Counter,
+            ),
             Metric::JournalFileOk => Head::of(
                 "swimd_journal_file_ok",
                 "Whether this life's journal file is whole so far.",
@@ -297,6 +356,11 @@ impl Metric {
             Metric::JournalFilesCut => Head::of(
                 "swimd_journal_files_cut_total",
                 "Lives without a whole journal file.",
+                MetricKind::Counter,
+            ),
+            Metric::OddSenders => Head::of(
+                "swimd_odd_senders_total",
+                "Messages whose senders are not as the member table has them, by why.",
                 MetricKind::Counter,
             ),
             Metric::AckWait => Head::of(

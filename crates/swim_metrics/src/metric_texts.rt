@@ -14,7 +14,7 @@ use swim_text::Sink;
 use swim_wire::{Piece, put_pieces};
 
 /// How many metrics, the first, are told also where lives have no journal files.
-const WITHOUT_FILES: usize = 30;
+const WITHOUT_FILES: usize = 38;
 
 /// Writes the metrics in the exposition format of Prometheus: of each what it tells, its type, and its values.
 pub fn put_exposition<W: Sink>(writer: &mut W, measures: &Measures, outside: &Outside<'_>) -> bool

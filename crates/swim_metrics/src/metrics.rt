@@ -9,22 +9,33 @@ ghost use Rattle.swim_events.specs.Watching.{known};
 ghost use Rattle.swim_metrics.specs.Counting.{failed_in, up_in};
 ghost use Rattle.swim_metrics.specs.Following.{Follows, begun, known_then, measures_of};
 ghost use Rattle.swim_metrics.specs.FailedFor.{failed_for, periods_since, state_in};
+ghost use Rattle.swim_metrics.specs.Members.{members_of, tally_in};
+ghost use Rattle.swim_metrics.specs.OddSenders.{senders_of};
 
 use crate::entry_counts::EntryCounts;
 use crate::measures::Measures;
+use crate::member_figures::{
+    MemberFigures, MemberRows, carried, carry_over, copied_members, count_for_members, tally_in,
+};
+use crate::odd_senders::OddSenders;
 use crate::periods::Period;
+use crate::tests_of_entries::is_late;
 use std::marker::Model;
 use swim_events::Watching;
 use swim_history::{Call, Opening, Reply, Row, RowState};
 use swim_wire::Id;
 
 /// What is counted of a node's journals over all its lives, read entry by entry, and the members that are known. A
-/// contract sees both, how many ticks old the period that runs is, and whether its aim was heard.
+/// contract sees both, how many ticks old the period that runs is, whether its aim was heard, what was counted of each
+/// member, this member's id, and messages whose senders aren't as the table has them.
 #[derive(Drop)]
 pub struct Metrics {
     counts: EntryCounts,
     period: Period,
     watching: Watching,
+    members: MemberRows,
+    me: Id,
+    odd: OddSenders,
 }
 
 impl Model for Metrics {
@@ -37,6 +48,9 @@ impl Model for Metrics {
       waited = m.period.waited;
       heard = m.period.heard;
       known = m.watching;
+      members = m.members.items;
+      me = m.me;
+      odd = m.odd;
     } };
 }
 
@@ -45,13 +59,21 @@ impl Metrics {
     pub fn new(opening: &Opening) -> Metrics
         ensures follows { (number : ℕ) → Follows result (begun number opening.now []) }
         ensures known { result.known ≡ known opening.now [] }
+        ensures members { (number : ℕ) → result.members ≡ members_of (begun number opening.now []) }
+        ensures me { result.me ≡ opening.now.me }
+        ensures odd { (number : ℕ) → result.odd ≡ senders_of (begun number opening.now []) }
     {
         let mut counts = EntryCounts::new();
         counts.begin();
+        let watching = Watching::new(opening);
+        let members = carried(&[], watching.rows());
         Metrics {
             counts,
             period: Period::new(),
-            watching: Watching::new(opening),
+            watching,
+            members,
+            me: opening.me(),
+            odd: OddSenders::new(),
         }
     }
 
@@ -60,24 +82,44 @@ impl Metrics {
         ensures follows { (number : ℕ) (lives : List Lived) → Follows self.old lives →
             Follows self.new (begun number opening.now lives) }
         ensures known { self.new.known ≡ known opening.now [] }
+        ensures members { (number : ℕ) (lives : List Lived) → self.old.members ≡ members_of lives →
+            self.new.members ≡ members_of (begun number opening.now lives) }
+        ensures me { self.new.me ≡ opening.now.me }
+        ensures odd { (number : ℕ) (lives : List Lived) → self.old.odd ≡ senders_of lives →
+            self.new.odd ≡ senders_of (begun number opening.now lives) }
     {
+        self.me = opening.me();
         self.counts.begin();
         self.period = Period::new();
         self.watching = Watching::new(opening);
+        self.members = carried(self.members.as_slice(), self.watching.rows());
     }
 
-    /// Goes one entry on. Where the entries are those of a run, what is known of the members is the run's.
+    /// Goes one entry on. If the entries are those of a run, what is known of the members is the run's, and what was
+    /// counted of each of them is what the entries since it came into the table say.
     pub fn read(&mut self, call: &Call, reply: &Reply)
         ensures follows { (life : Lived) (older : List Lived) (e : Entry) → e.call ≡ call.now → e.reply ≡ reply.now →
             Follows self.old (life ∷ older) → Follows self.new (lived_on life e ∷ older) }
         ensures known { self.new.known ≡ known_then call.now reply.now self.old.known }
         ensures run { (o : Setting) (h : List Entry) (e : Entry) → IsSetting o → IsRun o (e ∷ h) →
             e.call ≡ call.now → e.reply ≡ reply.now → self.old.known ≡ known o h → self.new.known ≡ known o (e ∷ h) }
+        ensures members { (life : Lived) (older : List Lived) (e : Entry) → IsSetting life.opening →
+            IsRun life.opening (e ∷ life.past) → e.call ≡ call.now → e.reply ≡ reply.now →
+            self.old.known ≡ known life.opening life.past → self.old.members ≡ members_of (life ∷ older) →
+            self.new.members ≡ members_of (lived_on life e ∷ older) }
+        ensures me { self.new.me ≡ self.old.me }
+        ensures odd { (life : Lived) (older : List Lived) (e : Entry) → e.call ≡ call.now →
+            self.old.known ≡ known life.opening life.past → self.old.me ≡ life.opening.me →
+            self.old.odd ≡ senders_of (life ∷ older) → self.new.odd ≡ senders_of (lived_on life e ∷ older) }
     {
         let wait = self.period.wait_ended(call, reply);
-        self.counts = self.counts.after(call, reply, wait);
+        let late = is_late(call, reply, self.watching.number());
+        self.counts = self.counts.after(call, reply, wait, late);
         self.period = self.period.after(call, reply);
-        let _change = self.watching.next(call, reply);
+        self.odd = self.odd.after(self.me, self.watching.rows(), call);
+        count_for_members(&mut self.members, call, reply);
+        let change = self.watching.next(call, reply);
+        carry_over(&mut self.members, &change, self.watching.rows());
     }
 
     /// What is told of all that was read.
@@ -90,7 +132,16 @@ impl Metrics {
             up: up_in(rows),
             failed: failed_in(rows),
             number: self.watching.number(),
+            members: copied_members(self.members.as_slice()),
+            odd: self.odd,
         }
+    }
+
+    /// What is told of each member of the table, ascending by id.
+    pub fn members(&self) -> &[MemberFigures]
+        ensures { result.now ≡ self.now.members }
+    {
+        self.members.as_slice()
     }
 
     /// The last period number used: that of the period that runs, if any.
@@ -98,6 +149,13 @@ impl Metrics {
         ensures { result ≡ self.now.known.number }
     {
         self.watching.number()
+    }
+
+    /// In how many of the last periods in a row in which a member was probed acks of it came from relays alone.
+    pub fn relayed(&self, member: Id) -> u64
+        ensures { result ≡ (tally_in member self.now.members).relayed }
+    {
+        tally_in(member, self.members.as_slice()).relayed
     }
 
     /// For how many periods a member is failed, if it is known and failed.

@@ -3,12 +3,13 @@
 ghost use Rattle.std.specs.Prelude.{◌≡◌, ◌++◌, codes, map};
 ghost use Rattle.swim_text.specs.Streams.{Puts, failures_if};
 ghost use Rattle.swim_metrics.specs.Families.{bucket_sample, dropped_samples, escaped, escaped_one, one_time};
-ghost use Rattle.swim_metrics.specs.Families.{version_sample, wait_samples};
+ghost use Rattle.swim_metrics.specs.Families.{odd_samples, version_sample, wait_samples};
 ghost use Rattle.swim_metrics.specs.Texts.{sample_text, samples_text};
 ghost use Rattle.swim_metrics.specs.Told.{labelled_of, samples_of};
 
 use crate::dropped::Dropped;
 use crate::families::Samples;
+use crate::member_samples::put_members;
 use crate::wait_histograms::{HistogramBucket, Waits};
 use swim_text::Sink;
 use swim_wire::{Id, Piece, put_pieces};
@@ -54,6 +55,12 @@ pub(crate) fn put_samples<W: Sink>(
         }
         Samples::Dropped(dropped) => put_dropped(writer, series, dropped),
         Samples::Waits(waits) => put_waits(writer, series, waits),
+        Samples::Members(column, members) => put_members(writer, series, &column, members),
+        Samples::OddSenders {
+            unlisted,
+            own_id,
+            elsewhere,
+        } => put_odd(writer, series, unlisted, own_id, elsewhere),
     }
 }
 
@@ -127,6 +134,25 @@ fn put_dropped<W: Sink>(writer: &mut W, series: &Series<'_>, dropped: &Dropped) 
         Labelled("", ",reason=\"no_request\"", dropped.no_request),
     ];
     put_each(writer, series, &reasons)
+}
+
+fn put_odd<W: Sink>(
+    writer: &mut W,
+    series: &Series<'_>,
+    unlisted: u64,
+    own_id: u64,
+    elsewhere: u64,
+) -> bool
+    ensures bytes { Puts (W.written writer.old) (W.written writer.new)
+        (samples_text series.now.me series.now.name.now (odd_samples unlisted own_id elsewhere)) result }
+    ensures failures { W.failures writer.new ≡ failures_if (W.failures writer.old) result }
+{
+    let counts = [
+        Labelled("", ",why=\"unlisted\"", unlisted),
+        Labelled("", ",why=\"own_id\"", own_id),
+        Labelled("", ",why=\"elsewhere\"", elsewhere),
+    ];
+    put_each(writer, series, &counts)
 }
 
 /// A histogram: its buckets, all waits, their sum, and how many there were.

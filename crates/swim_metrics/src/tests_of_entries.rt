@@ -6,10 +6,11 @@ ghost use Rattle.swim_history.specs.Sends.{sends_of};
 ghost use Rattle.swim_history.specs.Setting.{Setting};
 ghost use Rattle.swim_history.specs.Waiting.{asked_in};
 ghost use Rattle.swim_metrics.specs.Counting.{is_heard_by_relay, is_heard_directly, is_leaving, is_pinged, is_there};
-ghost use Rattle.swim_metrics.specs.Counting.{sends_ask, sends_ping};
+ghost use Rattle.swim_metrics.specs.Counting.{is_late, sends_ask, sends_ping};
+ghost use Rattle.swim_metrics.specs.Members.{is_of_members};
 ghost use Rattle.swim_metrics.specs.Waiting.{is_hearing};
 
-use swim_history::{Call, Relay, Reply};
+use swim_history::{Call, DropReason, Relay, Reply};
 use swim_wire::{Kind, Message};
 
 /// Whether a tick was accepted.
@@ -104,6 +105,27 @@ fn is_of_target(message: &Message) -> bool
     ensures { result ≡ message.now.sender == message.now.target }
 {
     message.sender == message.target
+}
+
+/// Whether an ack of an own probe came after the end of its period, where that of this number runs.
+pub(crate) fn is_late(call: &Call, reply: &Reply, number: u64) -> bool
+    ensures { result ≡ is_late call.now reply.now number }
+{
+    match (call, reply) {
+        (Call::Hear(_, ack), Reply::Dropped(DropReason::Stray)) => ack.number.get() < number,
+        _ => false,
+    }
+}
+
+/// Whether an entry with that reply counts for members: one is heard, judged or asked.
+pub(crate) fn is_of_members(reply: &Reply) -> bool
+    ensures { result ≡ is_of_members reply.now }
+{
+    match reply {
+        Reply::Heard | Reply::Asked { .. } => true,
+        Reply::Started { judged, .. } => judged.is_some(),
+        _ => false,
+    }
 }
 
 /// How many pings a reply sends.

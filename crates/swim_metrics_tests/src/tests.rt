@@ -11,7 +11,7 @@ use std::process::Abort;
 use std::test::Fail;
 use swim_doubles::FailingPage;
 use swim_history::{Call, DropReason, Refusal, Reply};
-use swim_metrics::{Hearings, HistogramBucket, Metrics, put_exposition, put_stats};
+use swim_metrics::{Hearings, HistogramBucket, Metrics, OddMessage, put_exposition, put_stats};
 use swim_text::Page;
 use swim_wire::Kind;
 
@@ -152,6 +152,48 @@ fn counts_are_there_to_be_read(rt: HostRuntime) -> Result<(), Fail> {
         &(measures.up, measures.failed, measures.number),
         &(3, 1, 12),
     );
+    Ok(())
+}
+
+// A stranger pings, one that has this member's id does, and member 3 from where 2 is listed.
+#[test]
+fn odd_senders_are_counted(rt: HostRuntime) -> Result<(), Fail> {
+    let mut metrics = Metrics::new(&first_opening()?);
+    for sender in [9, 1, 3] {
+        let ping = message(Kind::Ping, sender, sender, 1, 3);
+        let answer = sent(2, message(Kind::Ack, 1, sender, 1, 3));
+        read(&mut metrics, Call::Hear(address(2), ping), answer);
+    }
+    let odd = metrics.measures().copy().odd;
+    assert_same(
+        &rt,
+        &(odd.unlisted.count, odd.own_id.count, odd.elsewhere.count),
+        &(1, 1, 1),
+    );
+    let newest = OddMessage {
+        sender: id(3),
+        source: address(2),
+        listed: Some(address(3)),
+    };
+    assert_same(&rt, &odd.elsewhere.newest, &Some(newest));
+    Ok(())
+}
+
+// Member 2 is heard by 3 alone in two periods, in one of them twice, and then by itself.
+#[test]
+fn periods_by_relays_alone_are_counted(rt: HostRuntime) -> Result<(), Fail> {
+    let mut metrics = Metrics::new(&first_opening()?);
+    let acks = [(3, 8, 1), (3, 9, 2), (3, 9, 2), (2, 10, 0), (3, 10, 0)];
+    for (sender, number, relayed) in acks {
+        read(
+            &mut metrics,
+            heard(Kind::Ack, sender, 1, 2, number),
+            Reply::Heard,
+        );
+        assert_same(&rt, &metrics.relayed(id(2)), &relayed);
+    }
+    let first = metrics.members().first();
+    assert_same(&rt, &first.map(|member| member.tally.by_relay), &Some(4));
     Ok(())
 }
 

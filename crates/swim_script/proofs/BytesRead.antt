@@ -1,17 +1,19 @@
 -- How many bytes of a script are read: those of the lines before, and of the next one what the budget lets.
 use Rattle.std.proofs.Common.{◌≡◌, ℕ, ◌+◌, ◌≤◌, Bool, true, false, cond, List, [], ◌∷◌, ◌++◌, length, reverse, Option}
-use Rattle.std.proofs.Common.{Some, None, refl, sym, ap, ◌∙◌, arith}
+use Rattle.std.proofs.Common.{Some, None, Result, Ok, Err, refl, sym, ap, ◌∙◌, arith}
+use Rattle.std.specs.Prelude.{OnOk}
 use Rattle.std.specs.List.{flat_map}
 use Rattle.std.proofs.lemmas.List.{append_assoc, length-append, reverse-append, reverse-reverse}
 use Rattle.swim_text.specs.Cutting.{lines_join}
 use Rattle.swim_text.specs.Lines.{pieces, bare, TakesKnown}
 use Rattle.swim_text.specs.Reads.{IsReadWithin, line_within}
 use Rattle.swim_text.specs.declared.lines.Taken.{Taken}
+use Rattle.swim_text.specs.declared.lines.Taken.TheVariants.{Over}
 use Rattle.swim_script.specs.declared.forms.Form.{Form}
 use Rattle.swim_script.specs.declared.forms.Form.TheVariants.{Script, Journal}
 use Rattle.swim_script.specs.Forms.{is_mark, form_of, most_bytes}
 use Rattle.swim_script.specs.Holds.{Played, Course, CourseKnown}
-use Rattle.swim_script.specs.Reads.{ReadsKnown}
+use Rattle.swim_script.specs.Reads.{IsReadWhole, ReadsKnown}
 use Rattle.swim_script.specs.Script.{bytes_of, lines_of}
 use Rattle.swim_script.proofs.Courses.{cut_more}
 
@@ -91,3 +93,20 @@ reads_known taken (Some script) None left old mid line form limit budget after s
 reads_known taken (Some script) (Some rest) None old mid line form limit budget after s c t = absurd t
 reads_known taken (Some script) (Some rest) (Some left) old mid line form limit budget after s c t =
     reads script rest left old mid form budget s c (line_within taken rest left line limit budget after t)
+
+-- ---- where a script ends, nothing of it is left
+
+whole_known : (script rest left old mid : Option (List ℕ)) (line : List ℕ) (form : Form) (limit budget after : ℕ)
+    (s : Played) → CourseKnown script rest old mid form budget s → TakesKnown rest left Over line limit budget after →
+    IsReadWhole script left
+whole_known None rest left old mid line form limit budget after s c t = tt
+whole_known (Some script) None left old mid line form limit budget after s c t = absurd c
+whole_known (Some script) (Some rest) None old mid line form limit budget after s c t = absurd t
+whole_known (Some script) (Some rest) (Some left) old mid line form limit budget after s c t = t.1
+
+pub whole_if_ok : {A E : Type 0} (result : Result A E) (script rest left old mid : Option (List ℕ)) (line : List ℕ)
+    (form : Form) (limit budget after : ℕ) (s : Played) → CourseKnown script rest old mid form budget s →
+    TakesKnown rest left Over line limit budget after → OnOk result (IsReadWhole script left)
+whole_if_ok (Ok value) script rest left old mid line form limit budget after s c t =
+    whole_known script rest left old mid line form limit budget after s c t
+whole_if_ok (Err error) script rest left old mid line form limit budget after s c t = tt

@@ -3,7 +3,7 @@
 ghost use Rattle.std.specs.Prelude.{◌≡◌, if◌then◌else◌, OnOk};
 ghost use Rattle.swim_text.specs.Streams.{one_more};
 ghost use Rattle.swim_script.specs.Ends.{LeavesKnown, unplayed};
-ghost use Rattle.swim_script.specs.Reads.{ReadsKnown};
+ghost use Rattle.swim_script.specs.Reads.{IsReadWhole, ReadsKnown};
 ghost use Rattle.swim_script.specs.Script.{RunsKnown, is_read, is_write};
 
 use crate::commands::LINE_BYTES;
@@ -16,9 +16,9 @@ use swim_text::{Sink, Source, Taken, next_line};
 
 /// Plays the script that the reader gives, and writes its answers. Each answer is written as soon as its
 /// line was read, and handed on before the reader is waited for. What a journal file tells of answers is compared with
-/// them, and the first that differs ends the run. After a script without a fault the writer holds no answer back. No
-/// more is read than one byte behind the most that a script of its form may have. The session, of which no line was
-/// read before, has the journal of the run afterwards.
+/// them, and the first that differs ends the run. After a script without a fault the writer holds no answer back, and
+/// the reader has no byte left. No more is read than one byte behind the most that a script of its form may have. The
+/// session, of which no line was read before, has the journal of the run afterwards.
 pub fn run<R: Source, W: Sink>(
     session: &mut Session,
     reader: &mut R,
@@ -28,6 +28,7 @@ pub fn run<R: Source, W: Sink>(
     ensures told { RunsKnown (R.left reader.old) (R.left reader.new)
         (W.written writer.old) (W.written writer.new) result }
     ensures within { ReadsKnown (R.left reader.old) (R.left reader.new) }
+    ensures whole { OnOk result (IsReadWhole (R.left reader.old) (R.left reader.new)) }
     ensures reads { R.failures reader.new ≡
         (if is_read result then one_more (R.failures reader.old) else R.failures reader.old) }
     ensures writes { W.failures writer.new ≡
@@ -49,6 +50,7 @@ pub fn play<R: Source, W: Sink, T: Teller<W>>(
     ensures told { RunsKnown (R.left reader.old) (R.left reader.new)
         (W.written writer.old) (W.written writer.new) result }
     ensures within { ReadsKnown (R.left reader.old) (R.left reader.new) }
+    ensures whole { OnOk result (IsReadWhole (R.left reader.old) (R.left reader.new)) }
     ensures reads { R.failures reader.new ≡
         (if is_read result then one_more (R.failures reader.old) else R.failures reader.old) }
     ensures writes { W.failures writer.new ≡

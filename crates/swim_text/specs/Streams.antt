@@ -1,7 +1,7 @@
 -- What reads and writes do to the bytes that a source has left and a sink was given, where those are known.
 use Rattle.std.specs.Prelude.{◌≡◌, ℕ, ◌+◌, ◌-◌, ◌^◌, min, Bool, true, false, List, [], ◌∷◌, ◌++◌, take, drop, Option}
 use Rattle.std.specs.Prelude.{Some, None, refl}
-use Rattle.std.specs.Io.KnownBytes.{Keeps, Appends, Consumes, IsAtEnd}
+use Rattle.std.specs.Io.KnownBytes.{Keeps, Appends, Consumes, IsAtEnd, append_known}
 use Rattle.std.proofs.Common.{sym, ap, ◌∙◌, append_assoc, append-nil, take-append-drop}
 use Rattle.swim_text.specs.declared.streams.Byte.{Byte}
 use Rattle.swim_text.specs.declared.streams.Byte.TheVariants.{One, End, Fault}
@@ -11,6 +11,13 @@ abbrev pub Gives : Option (List ℕ) → Option (List ℕ) → Byte → Type 0
 Gives old new (One b) = Consumes old new (b ∷ [])
 Gives old new End = IsAtEnd old × Keeps old new
 Gives old new Fault = Keeps old new
+
+-- the bytes given so far, after a read
+abbrev pub given_then : Option (List ℕ) → Byte → Option (List ℕ)
+given_then None byte = None
+given_then (Some bytes) (One b) = Some (bytes ++ b ∷ [])
+given_then (Some bytes) End = Some bytes
+given_then (Some bytes) Fault = Some bytes
 
 -- a failure more; the count stops at 2^64-1
 abbrev pub one_more : ℕ → ℕ
@@ -50,6 +57,10 @@ keeps_both None m n p q = tt
 keeps_both (Some x) None n p q = absurd p
 keeps_both (Some x) (Some y) None p q = absurd q
 keeps_both (Some x) (Some y) (Some z) p q = q ∙ p
+
+pub append_none : (m : Option (List ℕ)) → m ≡ append_known m []
+append_none None = refl
+append_none (Some x) = ap Some (sym (append-nil x))
 
 pub appends_none : (o n : Option (List ℕ)) → Keeps o n → Appends o n []
 appends_none None n p = tt

@@ -2,7 +2,7 @@
 
 ghost use Rattle.std.specs.Prelude.{◌≡◌, length};
 ghost use Rattle.swim_text.specs.ShortLines.{Advances};
-ghost use Rattle.swim_text.specs.Polled.{Looks, end_met};
+ghost use Rattle.swim_text.specs.Polled.{GivesOn, Looks, end_met};
 
 use crate::short_lines::{LineEnd, at_end, read_ready};
 use crate::streams::Source;
@@ -25,7 +25,8 @@ pub enum Look {
 pub trait Polled: Source {
     /// Gets what came by now, where no byte is ready. Nothing is taken.
     fn look(&mut self) -> Look
-        ensures { Looks (Self.left self.old) (Self.left self.new) (Self.ready self.new) result };
+        ensures looks { Looks (Self.left self.old) (Self.left self.new) (Self.ready self.new) result }
+        ensures given { Self.given self.new ≡ Self.given self.old };
 }
 
 /// How far the reading of a line got.
@@ -41,12 +42,15 @@ pub enum Met {
 
 /// Reads on in a line with what came by now, and never waits: it looks where no byte is ready, and else takes the
 /// bytes that are, as `next_short_line` does.
+#[tactic(auto, using(crate::proofs::Giving::gives_none, crate::proofs::Giving::gives_these))]
 pub fn read_on<R: Polled, const LIMIT: usize>(
     reader: &mut R,
     line: &mut ArrayVec<u8, LIMIT>,
     reads: &mut u32,
 ) -> Met
-    ensures { Advances (end_met result) (R.left reader.old) (R.left reader.new)
+    ensures advances { Advances (end_met result) (R.left reader.old) (R.left reader.new)
+        line.old.items line.new.items LIMIT reads.old reads.new }
+    ensures given { GivesOn (R.given reader.old) (R.given reader.new) (end_met result)
         line.old.items line.new.items LIMIT reads.old reads.new }
 {
     if *reads == 0 {

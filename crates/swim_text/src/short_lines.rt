@@ -1,7 +1,8 @@
 //! Lines of somebody who waits for an answer: reading ends at the byte too many.
 
-ghost use Rattle.std.specs.Prelude.{◌≡◌, ℕ, ◌+◌, ◌<◌, ◌≤◌, length, take, None as none, Some as some, not, true, false};
-ghost use Rattle.std.specs.Io.KnownBytes.{Keeps};
+ghost use Rattle.std.specs.Prelude.{◌≡◌, ℕ, ◌+◌, ◌<◌, ◌≤◌, List, length, take, None as none, Some as some, not, true};
+ghost use Rattle.std.specs.Prelude.{false};
+ghost use Rattle.std.specs.Io.KnownBytes.{Keeps, append_known};
 ghost use Rattle.swim_text.specs.Streams.{failures_if};
 ghost use Rattle.swim_text.specs.ShortLines.{ComesKnown, Advances, AdvancesBy, is_failed, is_unsent, has_failed};
 ghost use Rattle.swim_text.specs.ShortLines.{is_unsent_at, met_at, at_end, KeepsIf};
@@ -76,6 +77,8 @@ pub(crate) fn read_ready<R: Source, const LIMIT: usize>(
     requires reads { 0 < reads.old }
     ensures advances { Advances result (R.left reader.old) (R.left reader.new)
         line.old.items line.new.items LIMIT reads.old reads.new }
+    ensures given { (bytes : List ℕ) × (R.given reader.new ≡ append_known (R.given reader.old) bytes)
+        × AdvancesBy result bytes line.old.items line.new.items LIMIT reads.old reads.new }
     ensures reads { R.failures reader.new ≡ failures_if (R.failures reader.old) (not (has_failed result)) }
     ensures writes { is_unsent_at result ≡ false }
     ensures whole { has_failed result ≡ false }

@@ -1,6 +1,6 @@
 //! Sources and sinks over std's readers and writers, each with a buffer of its own, so that a byte is no system call.
 
-ghost use Rattle.std.specs.Prelude.{◌≡◌, ℕ, ◌<◌, ◌≤◌, true, List, [], ◌∷◌, length, take, drop, IfSome};
+ghost use Rattle.std.specs.Prelude.{◌≡◌, ℕ, ◌<◌, ◌≤◌, true, List, [], ◌∷◌, length, take, drop, IfSome, None};
 ghost use Rattle.std.specs.Bool.{MatchBool};
 ghost use Rattle.std.specs.Io.{StartsWith};
 ghost use Rattle.std.specs.Io.KnownBytes.{Keeps, Appends, Consumes};
@@ -46,6 +46,8 @@ impl<R: Read> Source for ReadSource<R> {
     ghost left = { λ s. left_of R.remaining s };
 
     ghost ready = { λ s. s.buffered };
+
+    ghost given = { λ s. None };
 
     ghost failures = { λ s. s.failures };
 

@@ -2,8 +2,8 @@
 
 ghost use Rattle.std.specs.Prelude.{◌≡◌, ℕ, ◌≤◌, true, List, length, take, drop, Option, IfSome};
 ghost use Rattle.std.specs.Io.{StartsWith};
-ghost use Rattle.std.specs.Io.KnownBytes.{Keeps, Consumes};
-ghost use Rattle.swim_text.specs.Streams.{Gives, Puts, failures_then, failures_if};
+ghost use Rattle.std.specs.Io.KnownBytes.{Keeps, Consumes, append_known};
+ghost use Rattle.swim_text.specs.Streams.{Gives, Puts, failures_then, failures_if, given_then};
 
 /// What a read of one byte gave.
 #[derive(Clone, Copy, Debug, PartialEq, Eq)]
@@ -24,12 +24,16 @@ pub trait Source {
     // The first of them, that can be had without waiting for the outside.
     ghost ready: { Self → List ℕ };
 
+    // The bytes that it gave so far, oldest first; `None` where nobody notes them.
+    ghost given: { Self → Option (List ℕ) };
+
     // How many reads failed; the count stops at 2^64-1.
     ghost failures: { Self → ℕ };
 
     /// The next byte.
     fn byte(&mut self) -> Byte
         ensures bytes { Gives (left self.old) (left self.new) result }
+        ensures given { given self.new ≡ given_then (given self.old) result }
         ensures failures { failures self.new ≡ failures_then (failures self.old) result };
 
     /// The next bytes, as many as can be had without waiting for the outside. They are not taken yet.
@@ -41,6 +45,7 @@ pub trait Source {
     fn skip(&mut self, count: usize)
         requires { count ≤ length (ready self.old) }
         ensures bytes { Consumes (left self.old) (left self.new) (take count (ready self.old)) }
+        ensures given { given self.new ≡ append_known (given self.old) (take count (ready self.old)) }
         ensures ready { ready self.new ≡ drop count (ready self.old) }
         ensures failures { failures self.new ≡ failures self.old };
 }

@@ -4,3 +4,4 @@ pub mod Objects
 pub mod Pages
 pub mod Recent
 pub mod Replies
+pub mod Tables

@@ -1,16 +1,51 @@
 -- Which page a request asks for.
-use Rattle.std.specs.Prelude.{ℕ, ◌-◌, ◌^◌, Bool, false, not, ◌&&◌, ◌||◌, List, Option, Some, None, is_some, codes}
+use Rattle.std.specs.Prelude.{ℕ, ◌-◌, ◌^◌, Bool, false, not, ◌&&◌, ◌||◌, List, [], Option, Some, None, is_some, codes}
 use Rattle.std.specs.Prelude.{if◌then◌else◌}
 use Rattle.std.specs.Option.{unwrap_or}
 use Rattle.std.specs.Str.{bytes_eq}
 use Rattle.swim_text.specs.Numbers.{number_of}
+use Rattle.swim_text.specs.Parts.{cut}
+use Rattle.swim_wire.specs.Ids.{id_of}
 use Rattle.http.specs.declared.request.Parts.{Parts}
 use Rattle.http_header.specs.FieldValue.{FieldValue}
 use Rattle.http_header.specs.HeaderMap.{get}
 use Rattle.http_uri.specs.Uri.{uri_authority, uri_path}
 use Rattle.swim_web.specs.declared.pages.Page.{Page}
 use Rattle.swim_web.specs.declared.pages.Page.TheVariants.{Front, Health, Metrics, Members, Events, Unknown, Forbidden}
-use Rattle.swim_web.specs.declared.pages.Page.TheVariants.{Misdirected}
+use Rattle.swim_web.specs.declared.pages.Page.TheVariants.{Misdirected, Verdict}
+
+abbrev pub verdict_by : Option ℕ → Option ℕ → Page
+verdict_by (Some member) (Some number) = Verdict member number
+verdict_by member number = Unknown
+
+abbrev pub numbers_in : Option (List ℕ × List ℕ) → Page
+numbers_in None = Unknown
+numbers_in (Some parts) = verdict_by (id_of parts.0) (number_of (2 ^ 64 - 1) parts.1)
+
+-- the verdict on a member at the end of a period, ID/PERIOD
+abbrev pub verdict_named : List ℕ → Page
+verdict_named name = numbers_in (cut 47 name)
+
+abbrev pub in_folder : List ℕ → Option (List ℕ × List ℕ) → Option (List ℕ)
+in_folder root None = None
+in_folder root (Some parts) =
+    if bytes_eq root [] && bytes_eq parts.0 (codes "verdicts") then Some parts.1 else None
+
+abbrev pub below_root : Option (List ℕ × List ℕ) → Option (List ℕ)
+below_root None = None
+below_root (Some parts) = in_folder parts.0 (cut 47 parts.1)
+
+-- what is behind /verdicts/ in a path
+abbrev pub rest_of : List ℕ → Option (List ℕ)
+rest_of path = below_root (cut 47 path)
+
+abbrev pub named_if : Option (List ℕ) → Page
+named_if None = Unknown
+named_if (Some name) = verdict_named name
+
+-- the page at a path /verdicts/ID/PERIOD
+abbrev pub verdict_at : List ℕ → Page
+verdict_at path = named_if (rest_of path)
 
 -- the page at a path, for whoever has seen the events up to some number
 abbrev pub page_at : List ℕ → ℕ → Page
@@ -19,7 +54,7 @@ page_at path seen =
     else (if bytes_eq path (codes "/healthz") then Health
     else (if bytes_eq path (codes "/metrics") then Metrics
     else (if bytes_eq path (codes "/members.json") then Members
-    else (if bytes_eq path (codes "/events") then Events seen else Unknown))))
+    else (if bytes_eq path (codes "/events") then Events seen else verdict_at path))))
 
 abbrev pub page_by : List ℕ → List ℕ → ℕ → Page
 page_by method path seen =

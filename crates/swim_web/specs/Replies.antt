@@ -16,10 +16,12 @@ use Rattle.swim_web.specs.Asking.{Asks, AsksNothing, Looked}
 use Rattle.swim_web.specs.Objects.{members_text}
 use Rattle.swim_web.specs.Pages.{page_asked}
 use Rattle.swim_web.specs.Recent.{Kept, stream_text}
+use Rattle.swim_web.specs.Tables.{IsNoTable}
 use Rattle.swim_web.specs.declared.front_page.TheConstants.{FRONT_PAGE, FRONT_POLICY}
 use Rattle.swim_web.specs.declared.pages.Page.{Page}
 use Rattle.swim_web.specs.declared.pages.Page.TheVariants as pages
 use Rattle.swim_web.specs.declared.questions.Question.TheVariants as questions
+use Rattle.swim_web.specs.declared.replies.TheConstants.{VERDICT_POLICY}
 use Rattle.swim_web.specs.declared.replies.Kind.{Kind}
 use Rattle.swim_web.specs.declared.replies.Kind.TheVariants as kinds
 
@@ -29,10 +31,12 @@ kind_text kinds.Metrics = codes "text/plain; version=0.0.4; charset=utf-8"
 kind_text kinds.Json = codes "application/json"
 kind_text kinds.Html = codes "text/html; charset=utf-8"
 kind_text kinds.Events = codes "text/event-stream"
+kind_text kinds.Verdict = codes "text/html; charset=utf-8"
 
 -- nothing but the page runs or is shown, and no other page may show it
 abbrev pub policy_text : Kind → List ℕ
 policy_text kinds.Html = FRONT_POLICY.now
+policy_text kinds.Verdict = VERDICT_POLICY.now
 policy_text kind = codes "default-src 'none'; frame-ancestors 'none'"
 
 -- the header fields of each response
@@ -77,23 +81,32 @@ AreMetrics told r = AreSamples (option_and_then samples_in told) r
 abbrev pub AreMembers : Option (List ℕ) → Response → Type 0
 AreMembers None r = IsUnanswered r
 AreMembers (Some answer) r =
-    ((rows : List Row) × (answer ≡ table_text rows) × IsReply 200 kinds.Json (members_text rows) r) ⊎ IsUnanswered r
+    ((rows : List Row) × (answer ≡ table_text rows) × IsReply 200 kinds.Json (members_text rows) r)
+    ⊎ (IsNoTable answer × IsUnanswered r)
+
+-- a page about a verdict, by what the shelf's texts tell; or no file has the verdict
+abbrev pub IsVerdict : (List ℕ → Type 0) → Response → Type 0
+IsVerdict Tells r =
+    ((text : List ℕ) × Tells text × IsReply 200 kinds.Verdict text r)
+    ⊎ IsReply 404 kinds.Text (codes "no such verdict\n") r
 
 -- ---- pages
 
--- what a page comes to, with the events that are kept
-abbrev pub Serves : Page → Kept → Looked → Response → Looked → Type 0
-Serves pages.Health kept old r new = Asks questions.List old new (λ told. IsHealth told r)
-Serves pages.Metrics kept old r new = Asks questions.Stats old new (λ told. AreMetrics told r)
-Serves pages.Members kept old r new = Asks questions.List old new (λ told. AreMembers told r)
-Serves pages.Front kept old r new = AsksNothing old new × IsReply 200 kinds.Html FRONT_PAGE.now r
-Serves (pages.Events number) kept old r new =
+-- what a page comes to, with the texts that may be shown of verdicts, and the events that are kept
+abbrev pub Serves : (ℕ → ℕ → List ℕ → Type 0) → Page → Kept → Looked → Response → Looked → Type 0
+Serves T pages.Health kept old r new = Asks questions.List old new (λ told. IsHealth told r)
+Serves T pages.Metrics kept old r new = Asks questions.Stats old new (λ told. AreMetrics told r)
+Serves T pages.Members kept old r new = Asks questions.List old new (λ told. AreMembers told r)
+Serves T pages.Front kept old r new = AsksNothing old new × IsReply 200 kinds.Html FRONT_PAGE.now r
+Serves T (pages.Verdict member number) kept old r new = AsksNothing old new × IsVerdict (T member number) r
+Serves T (pages.Events number) kept old r new =
     AsksNothing old new × IsReply 200 kinds.Events (stream_text number kept) r
-Serves pages.Misdirected kept old r new = AsksNothing old new × IsReply 421 kinds.Text (codes "no such host\n") r
-Serves pages.Unknown kept old r new = AsksNothing old new × IsReply 404 kinds.Text (codes "no such page\n") r
-Serves pages.Forbidden kept old r new = AsksNothing old new × IsReply 405 kinds.Text (codes "only GET and HEAD\n") r
+Serves T pages.Misdirected kept old r new = AsksNothing old new × IsReply 421 kinds.Text (codes "no such host\n") r
+Serves T pages.Unknown kept old r new = AsksNothing old new × IsReply 404 kinds.Text (codes "no such page\n") r
+Serves T pages.Forbidden kept old r new = AsksNothing old new × IsReply 405 kinds.Text (codes "only GET and HEAD\n") r
 
 -- what a request comes to; no event comes or goes by it
-abbrev pub Answers : (List ℕ → Bool) → Kept → Looked → Request (List ℕ) → Response → Kept → Looked → Type 0
-Answers is_name kept old request r kept_new new =
-    Serves (page_asked is_name (head_of request)) kept old r new × (kept_new ≡ kept)
+abbrev pub Answers : (ℕ → ℕ → List ℕ → Type 0) → (List ℕ → Bool) → Kept → Looked → Request (List ℕ) → Response →
+    Kept → Looked → Type 0
+Answers T is_name kept old request r kept_new new =
+    Serves T (page_asked is_name (head_of request)) kept old r new × (kept_new ≡ kept)

@@ -5,6 +5,7 @@ ghost use Rattle.swim_web.specs.Asked.{OnlyLooks};
 
 use crate::daemons::Daemon;
 use crate::services::Web;
+use crate::shelves::Shelf;
 use crate::turns::advance;
 use http_server::Connection;
 use mio::net::TcpStream;
@@ -53,7 +54,12 @@ impl Guest {
 
     /// Has a turn at this moment. A guest whose request or answer takes longer than `most` is over.
     #[tactic(auto, using(crate::proofs::Looking::looks_none))]
-    fn turn<D: Daemon + Drop>(&mut self, web: &mut Web<D>, now: Instant, most: Duration)
+    fn turn<D: Daemon + Drop, S: Shelf + Drop>(
+        &mut self,
+        web: &mut Web<D, S>,
+        now: Instant,
+        most: Duration,
+    )
         ensures { OnlyLooks (D.asked (box_value web.old.daemon)) (D.asked (box_value web.new.daemon))
             × (web.new.recent ≡ web.old.recent) }
     {
@@ -98,7 +104,12 @@ fn step(connection: &mut Connection, stream: &mut TcpStream) -> Stand {
 /// Gives each guest a turn. A request may take `most` to come, from the answer before it on, and its answer as long to
 /// be taken. Whatever guests send, the daemon is only looked at, and the events stay.
 #[tactic(auto, using(crate::proofs::Looking::looks_none))]
-pub fn turns<D: Daemon + Drop>(guests: &mut [Guest], web: &mut Web<D>, now: Instant, most: Duration)
+pub fn turns<D: Daemon + Drop, S: Shelf + Drop>(
+    guests: &mut [Guest],
+    web: &mut Web<D, S>,
+    now: Instant,
+    most: Duration,
+)
     ensures { OnlyLooks (D.asked (box_value web.old.daemon)) (D.asked (box_value web.new.daemon))
         × (web.new.recent ≡ web.old.recent) }
 {

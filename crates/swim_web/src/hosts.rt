@@ -8,6 +8,7 @@ use crate::daemons::Daemon;
 use crate::guests::{Guest, Stand, turns};
 use crate::recent::listen;
 use crate::services::Web;
+use crate::shelves::Shelf;
 use crate::tellers::Teller;
 use http_server::{Config, Connection};
 use mio::net::TcpListener;
@@ -41,11 +42,11 @@ const HEAD_BYTES: usize = 8_192;
 
 /// Serves guests for good, up to an error of the system, which may refuse to say the time or to wait.
 #[tactic(auto, using(crate::proofs::Looking::looks_none, crate::proofs::Listening::notes_none))]
-pub fn run<R: Net + Clock + RandomSource + Wait, D: Daemon + Drop, T: Teller>(
+pub fn run<R: Net + Clock + RandomSource + Wait, D: Daemon + Drop, S: Shelf + Drop, T: Teller>(
     rt: &R,
     alloc: Global,
     listener: &mut TcpListener,
-    web: &mut Web<D>,
+    web: &mut Web<D, S>,
     teller: &mut T,
 ) -> io::Result<()>
     // Whatever comes in, the daemon is only looked at,

@@ -1,17 +1,19 @@
 //! Which page a request asks for.
 
-ghost use Rattle.std.specs.Prelude.{◌≡◌, ◌^◌, ◌-◌, codes, string_bytes};
+ghost use Rattle.std.specs.Prelude.{◌≡◌, ◌^◌, ◌-◌, codes, option_copied, string_bytes};
 ghost use Rattle.std.specs.List.{list_any};
 ghost use Rattle.std.specs.Option.{unwrap_or};
 ghost use Rattle.std.specs.Str.{bytes_eq};
 ghost use Rattle.http.specs.Request.{head_of};
 ghost use Rattle.http_header.specs.HeaderMap.{get};
 ghost use Rattle.swim_text.specs.Numbers.{number_of};
-ghost use Rattle.swim_web.specs.Pages.{is_known, page_asked, page_at, page_by, seen_in};
+ghost use Rattle.swim_web.specs.Pages.{is_known, page_asked, page_at, page_by, rest_of, seen_in};
+ghost use Rattle.swim_web.specs.Pages.{verdict_at, verdict_by, verdict_named};
 
 use bytes::Bytes;
 use http::{HeaderName, Request, header};
-use swim_text::read_number;
+use swim_text::{cut, read_number};
+use swim_wire::Id;
 
 /// What a request asks for.
 #[derive(Clone, Copy, Debug, PartialEq, Eq)]
@@ -26,6 +28,8 @@ pub enum Page {
     Members,
     /// The events above this number.
     Events(u64),
+    /// Why a member was judged failed at the end of the period with this number.
+    Verdict(Id, u64),
     /// Nothing that there is.
     Unknown,
     /// What no page allows: a method other than GET and HEAD.
@@ -117,6 +121,49 @@ fn page_at(path: &str, seen: u64) -> Page
     } else if path == "/events" {
         Page::Events(seen)
     } else {
-        Page::Unknown
+        verdict_at(path.as_bytes())
+    }
+}
+
+/// Returns the page of the verdict that a path names: `/verdicts/ID/PERIOD`.
+fn verdict_at(path: &[u8]) -> Page
+    ensures { result ≡ verdict_at path.now }
+{
+    match rest_of(path) {
+        Some(rest) => verdict_named(rest),
+        None => Page::Unknown,
+    }
+}
+
+/// Returns what is behind the folder of verdicts in a path, if the path is there.
+fn rest_of(path: &[u8]) -> Option<&[u8]>
+    ensures { option_copied result ≡ rest_of path.now }
+{
+    let (root, rest) = cut(path, b'/')?;
+    let (folder, rest) = cut(rest, b'/')?;
+    if root == b"".as_slice() && folder == b"verdicts".as_slice() {
+        Some(rest)
+    } else {
+        None
+    }
+}
+
+/// Returns the page of the verdict with this name, `ID/PERIOD`.
+fn verdict_named(name: &[u8]) -> Page
+    ensures { result ≡ verdict_named name.now }
+{
+    match cut(name, b'/') {
+        Some((member, number)) => verdict_by(Id::read(member), read_number(number, u64::MAX)),
+        None => Page::Unknown,
+    }
+}
+
+/// Returns the page of the verdict on a member at the end of a period, if both are told.
+fn verdict_by(member: Option<Id>, number: Option<u64>) -> Page
+    ensures { result ≡ verdict_by member number }
+{
+    match (member, number) {
+        (Some(member), Some(number)) => Page::Verdict(member, number),
+        _ => Page::Unknown,
     }
 }

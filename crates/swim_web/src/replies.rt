@@ -10,6 +10,11 @@ use http::{HeaderName, HeaderValue, StatusCode, header};
 use http_server::Response;
 use std::alloc::AllocError;
 
+/// What a page about a verdict may do: its style and its picture's are shown. It has no script, and asks for nothing.
+pub(crate) const VERDICT_POLICY: &str =
+    "default-src 'none'; style-src 'unsafe-inline'; img-src data:; \
+    base-uri 'none'; form-action 'none'; frame-ancestors 'none'";
+
 /// What the body of a response is.
 #[derive(Clone, Copy, Debug, PartialEq, Eq)]
 pub enum Kind {
@@ -23,6 +28,8 @@ pub enum Kind {
     Html,
     /// A stream of Server-Sent Events.
     Events,
+    /// A page about a verdict.
+    Verdict,
 }
 
 impl Kind {
@@ -34,7 +41,7 @@ impl Kind {
             Kind::Text => HeaderValue::from_static("text/plain; charset=utf-8"),
             Kind::Metrics => HeaderValue::from_static("text/plain; version=0.0.4; charset=utf-8"),
             Kind::Json => HeaderValue::from_static("application/json"),
-            Kind::Html => HeaderValue::from_static("text/html; charset=utf-8"),
+            Kind::Html | Kind::Verdict => HeaderValue::from_static("text/html; charset=utf-8"),
             Kind::Events => HeaderValue::from_static("text/event-stream"),
         }
     }
@@ -45,6 +52,7 @@ impl Kind {
     {
         match self {
             Kind::Html => HeaderValue::from_static(FRONT_POLICY),
+            Kind::Verdict => HeaderValue::from_static(VERDICT_POLICY),
             _ => HeaderValue::from_static("default-src 'none'; frame-ancestors 'none'"),
         }
     }

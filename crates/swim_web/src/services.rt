@@ -6,8 +6,8 @@ ghost use Rattle.swim_metrics.specs.Headed.{headed};
 ghost use Rattle.swim_web.specs.Asking.{Asks, told_if};
 ghost use Rattle.swim_web.specs.Objects.{members_text};
 ghost use Rattle.swim_web.specs.Recent.{stream_text};
-ghost use Rattle.swim_web.specs.Replies.{AreMembers, AreMetrics, AreSamples, IsHealth, IsReply, IsUnanswered, Serves};
-ghost use Rattle.swim_web.specs.Replies.{samples_in};
+ghost use Rattle.swim_web.specs.Replies.{AreMembers, AreMetrics, AreSamples, IsHealth, IsReply, IsUnanswered};
+ghost use Rattle.swim_web.specs.Replies.{IsVerdict, Serves, samples_in};
 
 use crate::daemons::{Answer, Daemon, ask_once};
 use crate::front_page::FRONT_PAGE;
@@ -16,6 +16,7 @@ use crate::pages::{Page, page_asked};
 use crate::questions::Question;
 use crate::recent::Recent;
 use crate::replies::{Kind, reply};
+use crate::shelves::{Found, Shelf};
 use crate::tables::read_table;
 use bytes::Bytes;
 use http::{Request, StatusCode};
@@ -24,10 +25,11 @@ use std::alloc::{AllocError, Global};
 use swim_history::Row;
 use swim_metrics::put_headed;
 use swim_text::Page as Text;
+use swim_wire::Id;
 
 /// Serves what a daemon answers.
 #[derive(Drop)]
-pub struct Web<D: Daemon + Drop> {
+pub struct Web<D: Daemon + Drop, S: Shelf + Drop> {
     /// Where memory for pages comes from.
     pub alloc: Global,
     /// The names that a request may ask for in its field `host`, each with a port, as `localhost:8946`.
@@ -38,16 +40,18 @@ pub struct Web<D: Daemon + Drop> {
     pub is_late: bool,
     /// The daemon that is asked.
     pub daemon: Box<D>,
+    /// Where verdicts are looked up.
+    pub shelf: Box<S>,
 }
 
-impl<D: Daemon + Drop> Service for Web<D> {
+impl<D: Daemon + Drop, S: Shelf + Drop> Service for Web<D, S> {
     ghost use Rattle.std.specs.Prelude.{box_value, string_bytes};
     ghost use Rattle.std.specs.List.{list_any};
     ghost use Rattle.std.specs.Str.{bytes_eq};
     ghost use Rattle.swim_web.specs.Replies.{Answers};
 
     ghost answers = { λ old request response new.
-        Answers (λ host. list_any (λ name. bytes_eq (string_bytes name) host) old.names.items) old.recent
+        Answers S.tells (λ host. list_any (λ name. bytes_eq (string_bytes name) host) old.names.items) old.recent
         (record { asked = D.asked (box_value old.daemon); is_late = old.is_late }) request response new.recent
         (record { asked = D.asked (box_value new.daemon); is_late = new.is_late }) };
 
@@ -62,6 +66,7 @@ impl<D: Daemon + Drop> Service for Web<D> {
             &mut *self.daemon,
             &mut self.is_late,
             &self.recent,
+            &mut *self.shelf,
             page,
             response,
         );
@@ -70,16 +75,17 @@ impl<D: Daemon + Drop> Service for Web<D> {
 }
 
 /// Answers a page.
-fn serve_page<D: Daemon>(
+fn serve_page<D: Daemon, S: Shelf>(
     alloc: Global,
     daemon: &mut D,
     is_late: &mut bool,
     recent: &Recent,
+    shelf: &mut S,
     page: Page,
     response: &mut Response,
 )
     requires { IsBlank response.old }
-    ensures { Serves page recent.now (record { asked = D.asked daemon.old; is_late = is_late.old }) response.new
+    ensures { Serves S.tells page recent.now (record { asked = D.asked daemon.old; is_late = is_late.old }) response.new
         (record { asked = D.asked daemon.new; is_late = is_late.new }) }
 {
     match page {
@@ -88,6 +94,7 @@ fn serve_page<D: Daemon>(
         Page::Members => serve_members(alloc, daemon, is_late, response),
         Page::Front => reply(response, StatusCode::OK, Kind::Html, FRONT_PAGE.as_bytes()),
         Page::Events(number) => reply_events(alloc, response, recent, number),
+        Page::Verdict(member, number) => serve_verdict(alloc, shelf, member, number, response),
         Page::Misdirected => reply(
             response,
             StatusCode::MISDIRECTED_REQUEST,
@@ -150,6 +157,30 @@ fn serve_members<D: Daemon>(
     let mut answer = Answer::new();
     let is_told = ask_once(daemon, is_late, Question::List, &mut answer);
     reply_members(alloc, response, told(is_told, answer.as_slice()));
+}
+
+/// Answers why a member was judged.
+fn serve_verdict<S: Shelf>(
+    alloc: Global,
+    shelf: &mut S,
+    member: Id,
+    number: u64,
+    response: &mut Response,
+)
+    requires { IsBlank response.old }
+    ensures { IsVerdict (S.tells member number) response.new }
+{
+    let mut page = Text::new(alloc);
+    match shelf.find(member, number, &mut page) {
+        Found::Page => reply(response, StatusCode::OK, Kind::Verdict, page.text()),
+        Found::Nothing => reply(
+            response,
+            StatusCode::NOT_FOUND,
+            Kind::Text,
+            b"no such verdict\n",
+        ),
+        Found::NoMemory => response.status = StatusCode::INTERNAL_SERVER_ERROR,
+    }
 }
 
 /// Returns an answer, if there is one.

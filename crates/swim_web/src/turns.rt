@@ -11,16 +11,17 @@ ghost use Rattle.swim_web.specs.Replies.{Answers};
 
 use crate::daemons::Daemon;
 use crate::services::Web;
+use crate::shelves::Shelf;
 use http_server::Connection;
 
 /// Answers the requests that a connection has received.
-pub fn advance<D: Daemon + Drop>(connection: &mut Connection, web: &mut Web<D>)
+pub fn advance<D: Daemon + Drop, S: Shelf + Drop>(connection: &mut Connection, web: &mut Web<D, S>)
     // What goes out are the responses to the requests that came in, in order,
     ensures served { ∥ IsServed (config_of connection.new) (history connection.new) ∥₁ }
 
     // each response says what the daemon answered to one question, or was given without one,
     ensures answers { Calls (λ old request response new.
-        Answers (λ host. list_any (λ name. bytes_eq (string_bytes name) host) old.names.items) old.recent
+        Answers S.tells (λ host. list_any (λ name. bytes_eq (string_bytes name) host) old.names.items) old.recent
         (record { asked = D.asked (box_value old.daemon); is_late = old.is_late }) request response new.recent
         (record { asked = D.asked (box_value new.daemon); is_late = new.is_late }))
         web.old web.new (history connection.old).calls (history connection.new).calls }

@@ -4,7 +4,11 @@ use http_server::{Config, Connection};
 use std::hash::RandomState;
 use std::process::Abort;
 use std::test::Fail;
-use swim_web::{Answer, Daemon, EventLine, Question, Recent, Teller, Web, advance, listen};
+use swim_text::{Page, Sink};
+use swim_web::{
+    Answer, Daemon, EventLine, Found, Question, Recent, Shelf, Teller, Web, advance, listen,
+};
+use swim_wire::Id;
 
 const TABLE: &[u8] = b"2 10.0.0.2:7000 up\n3 10.0.0.3:7000 failed 12\n.\n";
 
@@ -31,6 +35,28 @@ impl Daemon for FixedDaemon {
     }
 }
 
+/// Has a page about the verdict on member 3 in period 12, and no memory for that in period 13.
+#[derive(Drop)]
+struct FixedShelf {
+    count: u32,
+}
+
+impl Shelf for FixedShelf {
+    ghost tells = { λ member number text. Unit {0} };
+
+    fn find(&mut self, member: Id, number: u64, page: &mut Page) -> Found {
+        self.count = self.count.saturating_add(1);
+        if member.get() != 3 {
+            return Found::Nothing;
+        }
+        match number {
+            12 if page.put(b"why\n") => Found::Page,
+            13 => Found::NoMemory,
+            _ => Found::Nothing,
+        }
+    }
+}
+
 /// Tells so many events.
 #[derive(Drop)]
 struct CountedTeller {
@@ -50,7 +76,10 @@ impl Teller for CountedTeller {
     }
 }
 
-fn web_with(rt: &HostRuntime, answer: Option<&'static [u8]>) -> Result<Web<FixedDaemon>, Fail> {
+fn web_with(
+    rt: &HostRuntime,
+    answer: Option<&'static [u8]>,
+) -> Result<Web<FixedDaemon, FixedShelf>, Fail> {
     let alloc = rt.alloc();
     let mut names = Vec::new(alloc);
     names.push(format!(in alloc; "swim:1")?)?;
@@ -60,11 +89,16 @@ fn web_with(rt: &HostRuntime, answer: Option<&'static [u8]>) -> Result<Web<Fixed
         recent: Recent::new(),
         is_late: false,
         daemon: Box::new(alloc, FixedDaemon { answer, count: 0 })?,
+        shelf: Box::new(alloc, FixedShelf { count: 0 })?,
     })
 }
 
 // What is sent for this request, on a connection of its own.
-fn served(rt: &HostRuntime, web: &mut Web<FixedDaemon>, request: &str) -> Result<Vec<u8>, Fail> {
+fn served(
+    rt: &HostRuntime,
+    web: &mut Web<FixedDaemon, FixedShelf>,
+    request: &str,
+) -> Result<Vec<u8>, Fail> {
     let alloc = rt.alloc();
     let mut connection = Connection::new(alloc, RandomState::new(rt)?, Config::default());
     let mut reader = request.as_bytes();
@@ -217,5 +251,55 @@ fn keeps_the_last_events(rt: HostRuntime) -> Result<(), Fail> {
         .filter(|bytes| *bytes == b"id: ".as_slice())
         .count();
     assert_eq!(rt; count, 64);
+    Ok(())
+}
+
+#[test]
+fn shows_verdicts(rt: HostRuntime) -> Result<(), Fail> {
+    let mut web = web_with(&rt, Some(TABLE))?;
+    for (request, first, last) in [
+        (
+            "GET /verdicts/3/12 HTTP/1.1\r\nHost: swim:1\r\n\r\n",
+            "HTTP/1.1 200 OK\r\ncontent-type: text/html; charset=utf-8\r\n",
+            b"\r\n\r\nwhy\n".as_slice(),
+        ),
+        (
+            "GET /verdicts/3/11 HTTP/1.1\r\nHost: swim:1\r\n\r\n",
+            "HTTP/1.1 404 ",
+            b"\r\n\r\nno such verdict\n".as_slice(),
+        ),
+        (
+            "GET /verdicts/3/13 HTTP/1.1\r\nHost: swim:1\r\n\r\n",
+            "HTTP/1.1 500 ",
+            b"\r\n\r\n".as_slice(),
+        ),
+    ] {
+        let sent = served(&rt, &mut web, request)?;
+        assert_sent(&rt, sent.as_slice(), first, last);
+    }
+    assert_eq!(rt; web.shelf.count, 3);
+    assert_eq!(rt; web.daemon.count, 0);
+    Ok(())
+}
+
+#[test]
+fn knows_no_other_path_of_a_verdict(rt: HostRuntime) -> Result<(), Fail> {
+    let mut web = web_with(&rt, Some(TABLE))?;
+    for request in [
+        "GET /verdicts/03/12 HTTP/1.1\r\nHost: swim:1\r\n\r\n",
+        "GET /verdicts/3/12/ HTTP/1.1\r\nHost: swim:1\r\n\r\n",
+        "GET /verdicts/0/12 HTTP/1.1\r\nHost: swim:1\r\n\r\n",
+        "GET /verdicts/3 HTTP/1.1\r\nHost: swim:1\r\n\r\n",
+        "GET /a/verdicts/3/12 HTTP/1.1\r\nHost: swim:1\r\n\r\n",
+    ] {
+        let sent = served(&rt, &mut web, request)?;
+        assert_sent(
+            &rt,
+            sent.as_slice(),
+            "HTTP/1.1 404 ",
+            b"\r\n\r\nno such page\n",
+        );
+    }
+    assert_eq!(rt; web.shelf.count, 0);
     Ok(())
 }

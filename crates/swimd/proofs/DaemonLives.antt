@@ -27,6 +27,7 @@ use Rattle.swim_ticker.specs.Ticking.{Owned as Ticking}
 use Rattle.swim_ticker.specs.Ticks.{AreTicked, ticks_in}
 use Rattle.swim_desk.specs.Connected.{AnswersLines, AreAnswered, BringsSo}
 use Rattle.swim_desk.specs.Controlling.{ControlsLife, Step}
+use Rattle.swim_desk.specs.Given.{AnswersGiven, AreAnsweredSoFar}
 use Rattle.swim_recorder.specs.declared.journal_recorder.JournalRecorder.{JournalRecorder}
 use Rattle.swim_crew.specs.declared.pasts.LivesEnd.{LivesEnd}
 use Rattle.swim_crew.specs.declared.pasts.Past.{Past}
@@ -39,6 +40,7 @@ use Rattle.swim_keeper.specs.Told.{EachIsTold, EachLife, IsAnnounced, IsWithout}
 use Rattle.swim_keeper.proofs.Lives.{announced, life_drawn, life_kept, same_both}
 use Rattle.swimd.specs.DaemonLives.{AreDaemonLives, AtDaemon, AtReceiving, AtTicking, Controls, IsDaemonLife, Receives}
 use Rattle.swimd.specs.DaemonLives.{Ticks, at_daemon, told_by}
+use Rattle.swimd.proofs.Lines.{all_lines}
 
 -- the laws of the three workers, for posts that are known so
 abbrev pub IsHeard : {O : Type 0} → (O → Option (List Posted)) → Type 0
@@ -60,6 +62,7 @@ IsControlled =
     ControlsLife o limit before after old seat end new → (saw : List Change) × (seen : List Change)
     × (steps : List Step) × ((b : Brought) (log : List Called) → BringsSo b old.count steps → AreAnswered b log old →
     AnswersLines o limit b log saw seen seat end.counts.refused new)
+    × ((log : List Called) → AreAnsweredSoFar log old → AnswersGiven o limit log saw seen seat end.counts.refused new)
 
 abbrev hears : {A O : Type 0} → (O → Option (List Posted)) → (A → Receiving O) → Works A
 hears posted receiving x o limit seat end y = HearsLife posted o limit (receiving x) seat end (receiving y)
@@ -118,7 +121,7 @@ controlled : IsControlled → (o : Setting) (limit : ℕ) (seat : Seated) (end :
     Controls o limit seat end x y
 controlled is_controlled o limit seat end before after x y is =
     let law = is_controlled o limit before after x y seat end is in
-    record { saw = law.0; seen = law.1; steps = law.2; answered = law.3 }
+    record { saw = law.0; seen = law.1; steps = law.2; answered = law.3; given = law.4 }
 
 module _ {A B C W F H S V Q E I Y O : Type 0} (out : Outlets W F H S V Y) (posted : O → Option (List Posted))
     (receiving : A → Receiving O) (ticking : B → Ticking O) (faults : C → Option (List Bool)) (talks : C → Talks)
@@ -233,7 +236,14 @@ module _ {A B C W F H S V Q E I Y O : Type 0} (out : Outlets W F H S V Y) (poste
       let lived = lives_lived old.keeper.terms opening old is.lives is.after_lives refl knows is.lived in
       let last = ended opening is.lives is.after_lives new end is.ended in (
         same_both old.keeper is.after_lives.keeper new.keeper lived.0 last.0,
-        record { lives = is.lives; after_lives = seen is.after_lives; lived = lived.2; ended = last.1 },
+        record {
+          lives = is.lives;
+          after_lives = seen is.after_lives;
+          lived = lived.2;
+          ended = last.1;
+          lines = all_lines out.fresh old.keeper.terms opening (seen old) is.lives (seen is.after_lives) (seen new) end
+              lived.2 last.1;
+        },
       )
 
 -- ---- over the gates of a daemon: a line behind a fence and keys, and posts with keys

@@ -6,4 +6,5 @@ pub mod Explained
 pub mod HeldTexts
 pub mod Keys
 pub mod Kept
+pub mod Lines
 pub mod Noticed

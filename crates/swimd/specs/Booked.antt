@@ -1,7 +1,12 @@
 -- What a daemon counts of its lives, and tells of them.
-use Rattle.std.specs.Prelude.{◌≡◌, ℕ, ◌-◌, ◌==◌, Bool, true, false, List, [], ◌∷◌, Option, Some, None}
+use Rattle.std.specs.Prelude.{◌≡◌, ℕ, ◌-◌, ◌==◌, ◌&&◌, nat_lt, Bool, true, false, List, [], ◌∷◌, Option, Some, None}
+use Rattle.std.specs.Prelude.{if◌then◌else◌}
 use Rattle.std.specs.Option.{option_and_then}
 use Rattle.swim_wire.specs.Address.{Address}
+use Rattle.swim_history.specs.declared.calls.Call.{Call}
+use Rattle.swim_history.specs.declared.calls.Call.TheVariants.{Hear}
+use Rattle.swim_history.specs.declared.replies.Reply.{Reply}
+use Rattle.swim_history.specs.declared.replies.Reply.TheVariants.{Heard}
 use Rattle.swim_history.specs.declared.rows.Change.{Change}
 use Rattle.swim_history.specs.declared.rows.Change.TheVariants.{Up, Failed, Gone}
 use Rattle.swim_events.specs.Watched.{Lived}
@@ -10,9 +15,10 @@ use Rattle.swim_metrics.specs.declared.hearings.LastHearing.{LastHearing}
 use Rattle.swim_metrics.specs.FailedFor.{failed_for}
 use Rattle.swim_metrics.specs.Following.{Follows, Measured, measures_of}
 use Rattle.swim_metrics.specs.LastHeard.{heard_at}
+use Rattle.swim_metrics.specs.Members.{tally_in}
 use Rattle.swimd.specs.declared.telling.bulletins.Counted.{Counted}
 use Rattle.swimd.specs.declared.telling.happenings.Happening.{Happening}
-use Rattle.swimd.specs.declared.telling.happenings.Happening.TheVariants.{Judged, Joined, JoinedAgain, Removed}
+use Rattle.swimd.specs.declared.telling.happenings.Happening.TheVariants.{Judged, Joined, JoinedAgain, Relayed, Removed}
 use Rattle.swimd.specs.declared.counting.totals.Totals.{Totals}
 use Rattle.swimd.specs.Totals.{totals_with}
 
@@ -45,6 +51,24 @@ counted_of life over own_joins m = record {
 -- for how many periods a member is failed, if it is
 abbrev pub failed_by : Option Measured → ℕ → Option ℕ
 failed_by metrics id = option_and_then (λ m. failed_for id m.known) metrics
+
+-- the member of which an entry is an ack that came in time
+abbrev pub acked_in : Call → Reply → Option ℕ
+acked_in (Hear source ack) Heard = Some ack.target
+acked_in call reply = None
+
+-- in how many periods in a row that member was heard by relays alone, by what was counted
+abbrev pub relayed_of : Option ℕ → Option Measured → ℕ
+relayed_of (Some id) (Some m) = (tally_in id m.members).relayed
+relayed_of id metrics = 0
+
+abbrev pub relayed_by : Call → Reply → Option Measured → ℕ
+relayed_by call reply metrics = relayed_of (acked_in call reply) metrics
+
+-- what the log tells as a member was heard by relays alone in the tenth period in a row
+abbrev pub told_alone : Option ℕ → ℕ → ℕ → Option Happening
+told_alone None before after = None
+told_alone (Some id) before after = if nat_lt before 10 && after == 10 then Some (Relayed id 10) else None
 
 -- a join of a member that is failed for so many periods, if it is, by the receiver's seat or by another
 abbrev pub join_told : Option ℕ → Bool → ℕ → Address → Happening

@@ -96,7 +96,7 @@ DoesWanted (Some (Ask path line seconds form)) old new outcome =
     × (new.faults ≡ old.faults)
 DoesWanted (Some (Watch path is_json)) old new outcome =
     WatchesDaemon is_json old.written.0 new.written.0 outcome × LetsBe old new
-DoesWanted (Some (Web listen control events names)) old new outcome =
+DoesWanted (Some (Web listen control events journals names)) old new outcome =
     ServesWeb old.faults new.faults outcome × (new.left ≡ old.left) × (new.read ≡ old.read)
     × (new.written ≡ old.written)
 DoesWanted (Some Help) old new outcome =

@@ -1,6 +1,8 @@
 -- The lives of a daemon: what came in by its gates in each of them, what went out, and who was told.
-use Rattle.std.specs.Prelude.{◌≡◌, ◌⊎◌, ℕ, List, [], Option, Some}
+use Rattle.std.specs.Prelude.{◌≡◌, ◌⊎◌, ℕ, List, [], ◌∷◌, ◌++◌, Option, Some}
 use Rattle.swim_history.specs.declared.rows.Change.{Change}
+use Rattle.swim_history.specs.declared.seats.Kept.{Kept}
+use Rattle.swim_history.specs.Seats.{kept_of}
 use Rattle.swim_history.specs.Setting.{Setting}
 use Rattle.swim_node.specs.Seats.{Seated}
 use Rattle.swim_control.specs.SideBySide.{Brought, Called}
@@ -13,8 +15,9 @@ use Rattle.swim_work.specs.Posts.{Grows, HasSent, Posted, starts_in}
 use Rattle.swim_receiver.specs.Datagrams.{AreHeard, datagrams_in}
 use Rattle.swim_ticker.specs.Knocking.{HasKnocked}
 use Rattle.swim_ticker.specs.Ticks.{AreTicked, ticks_in}
-use Rattle.swim_desk.specs.Connected.{AnswersLines, AreAnswered, BringsSo}
+use Rattle.swim_desk.specs.Connected.{AnswersLines, AreAnswered, BecomeSo, BringsSo}
 use Rattle.swim_desk.specs.Controlling.{Step}
+use Rattle.swim_desk.specs.Given.{AnswersGiven, AreAnsweredSoFar}
 use Rattle.swim_crew.specs.declared.pasts.LivesEnd.{LivesEnd}
 use Rattle.swim_crew.specs.declared.pasts.Past.{Past}
 use Rattle.swim_crew.specs.declared.pasts.Terms.{Terms}
@@ -76,7 +79,7 @@ abbrev pub none_ticked : ℕ → AtTicking
 none_ticked rejoin = at_ticking (Some []) (Some []) (Some []) rejoin 0
 
 abbrev pub none_connected : Talks
-none_connected = record { talks = []; count = 0 }
+none_connected = record { talks = []; count = 0; closed = [] }
 
 -- no life was announced or had a file, nobody watches, and the reporter heard of none
 pub record IsUntold (told : AtLives) : Type 0 where
@@ -116,14 +119,17 @@ pub record Ticks (o : Setting) (seat : Seated) (end : End) (old new : AtTicking)
   pub counted : new.knocks ≡ both old.knocks knocks
   pub same : new.rejoin ≡ old.rejoin
 
--- each whole line that a connection brought, in order, became exactly its calls of this seat, with the reply that it
--- was answered, and the seat made no other: whatever connections brought, if the lines of lives before were answered so
+-- each whole line that a connection gave so far, in order, became exactly its calls of this seat, with the reply that
+-- it was answered, and the seat made no other, if the lines of lives before were answered so; and the same of whatever
+-- connections brought
 pub record Controls (o : Setting) (limit : ℕ) (seat : Seated) (end : End) (old new : Talks) : Type 0 where
   pub saw : List Change
   pub seen : List Change
   pub steps : List Step
   pub answered : (b : Brought) (log : List Called) → BringsSo b old.count steps → AreAnswered b log old →
       AnswersLines o limit b log saw seen seat end.counts.refused new
+  pub given : (log : List Called) → AreAnsweredSoFar log old →
+      AnswersGiven o limit log saw seen seat end.counts.refused new
 
 -- a life of this number from an opening: its journal is one history of three seats, each of which made the calls for
 -- what came in by its gate; and it was told
@@ -135,6 +141,18 @@ pub record IsDaemonLife (fresh : Option (List ℕ)) (terms : Terms) (life : ℕ)
   pub controlled : Controls o terms.limit lived.three past.ends.third old.connections new.connections
   pub kept : IsKept fresh terms life o past old.told new.told
 
+-- the calls of the third seats of lives, which come newest first, oldest call first: those of operators
+abbrev pub operators_calls : List Past → List Kept
+operators_calls [] = []
+operators_calls (past ∷ before) = operators_calls before ++ kept_of 2 past.journal.past
+
+-- all that the connections of lives gave was answered by these calls of the desks of the lives, and by others before
+-- them; and each became its calls of a third seat, in order, which have no others
+pub record AnswersLives (log : List Called) (lives : List Past) (new : Talks) : Type 0 where
+  pub more : List Called
+  pub answered : AreAnsweredSoFar (more ++ log) new
+  pub become : BecomeSo more (operators_calls lives)
+
 -- lives, newest first, were lived from this opening, each as it went on from the one before, and they ended so; nothing
 -- else came in, went out, or was told
 pub record AreDaemonLives (fresh : Option (List ℕ)) (terms : Terms) (opening : Setting) (old new : AtDaemon)
@@ -145,6 +163,7 @@ pub record AreDaemonLives (fresh : Option (List ℕ)) (terms : Terms) (opening :
   pub ended : ((new ≡ after_lives) × AreEndedByLife lives end)
       ⊎ (IsWithout lives end × IsAnnounced (number_after lives) after_lives.told new.told
       × (new ≡ record after_lives { told = new.told }))
+  pub lines : (log : List Called) → AreAnsweredSoFar log old.connections → AnswersLives log lives new.connections
 
 -- the same, of a crew and its keeper of which that is seen
 abbrev pub AreSeenLives : {X : Type 0} → (X → AtDaemon) → Option (List ℕ) → Terms → Setting → X → X → LivesEnd → Type 0

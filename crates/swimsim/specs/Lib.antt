@@ -1,11 +1,6 @@
 pub mod Options
-pub mod Meanings
 pub mod Reasons
 pub mod Differences
-pub mod Verifying
-pub mod Examined
-pub mod VerdictTexts
 pub mod Sequences
 pub mod Sightings
 pub mod Telling
-pub mod WholeLines

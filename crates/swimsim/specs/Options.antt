@@ -107,11 +107,17 @@ abbrev pub AsksForScript : Options → Type 0
 AsksForScript options = IsSome options.script ⊎ (options.decode ≡ true) ⊎ (options.explain ≡ true)
     ⊎ IsSome options.timeline ⊎ IsSome options.from ⊎ IsSome options.around ⊎ (options.force ≡ true)
 
--- files are to be verified or traced, and something else is asked beside that
+-- something is asked that has to do with a script, and with no probe that is traced: a picture may be of either
+abbrev pub AsksForRun : Options → Type 0
+AsksForRun options = IsSome options.script ⊎ (options.decode ≡ true) ⊎ (options.explain ≡ true)
+    ⊎ IsSome options.from ⊎ IsSome options.around ⊎ ((options.force ≡ true) × (options.timeline ≡ None))
+
+-- files are to be verified, and something else is asked beside that; or they are to be traced, and something else than
+-- a picture of a probe is asked
 abbrev pub IsMixed : Options → Type 0
 IsMixed options =
     ((0 < length options.verify.items) × ((0 < length options.trace.items) ⊎ AsksForScript options))
-    ⊎ ((0 < length options.trace.items) × AsksForScript options)
+    ⊎ ((0 < length options.trace.items) × AsksForRun options)
 
 -- judgements are named that are to be traced, and no files
 abbrev pub IsUntraced : Options → Type 0

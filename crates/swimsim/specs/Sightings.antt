@@ -5,9 +5,9 @@ use Rattle.std.specs.List.{AllByRecursion}
 use Rattle.swim_evidence.specs.declared.sequences.Seen.{Seen}
 use Rattle.swim_evidence.specs.declared.verdicts.Standing.TheVariants.{Sound}
 use Rattle.swim_evidence.specs.Sequences.{AreGood}
-use Rattle.swimsim.specs.declared.examining.Played.{Played}
+use Rattle.swim_verdicts.specs.declared.examining.Played.{Played}
 use Rattle.swimsim.specs.declared.verifying.Look.{Look}
-use Rattle.swimsim.specs.Examined.{IsCutFile, IsWholeFile, header_of, left_of}
+use Rattle.swim_verdicts.specs.Examined.{IsCutFile, IsWholeFile, header_of, left_of}
 use Rattle.swimsim.specs.Sequences.{IsStatusOf}
 
 -- a file: its path; what was played of it, where it could be read; and what was seen of it

@@ -18,7 +18,7 @@ use Rattle.swim_script.specs.Texts.{reply_text, send_text}
 use Rattle.swim_text.specs.Streams.{Puts}
 use Rattle.swimsim.specs.declared.reasons.Reason.{Reason}
 use Rattle.swimsim.specs.declared.reasons.Reason.TheVariants.{Wire}
-use Rattle.swimsim.specs.Meanings.{message_words}
+use Rattle.swim_verdicts.specs.Meanings.{message_words}
 use Rattle.swimsim.specs.Reasons.{reason_of}
 
 -- a text of which this is so was written, or where a write failed a front of it

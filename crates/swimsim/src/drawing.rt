@@ -17,6 +17,9 @@ const FIRST_LINE: &[u8; 39] = b"<svg xmlns=\"http://www.w3.org/2000/svg\"";
 
 const SECOND_LINE: &[u8; 32] = b"<title id=\"title\">Run of member ";
 
+/// What the second line of a picture of a probe begins with.
+const PROBE_LINE: &[u8; 34] = b"<title id=\"title\">Probe of member ";
+
 /// They have at most so many bytes together.
 const HEAD_BYTES: usize = 512;
 
@@ -52,14 +55,7 @@ fn draw(
     let Some(span) = Span::of(journal, options.view())? else {
         return Err(nothing_shown(options.view()));
     };
-    if !is_drawn_at(rt, path) {
-        return Err(anyhow!("it is no file: a picture is written to a file, or to /dev/stdout"));
-    }
-    let file = if options.force {
-        File::create(rt, path)?
-    } else {
-        open_unless_lost(rt, path)?
-    };
+    let file = open_picture(rt, path, options.force)?;
     let mut writer = WriteSink::new(file);
     if put_timeline(rt.alloc(), journal, span, &mut writer)? && writer.flush() {
         Ok(())
@@ -77,6 +73,19 @@ fn nothing_shown(view: View) -> Error {
             let id = member.get();
             anyhow!("member {id} was not judged in this run")
         }
+    }
+}
+
+/// Opens the file for a picture. It is refused where something else than a file stands, and where what it holds would
+/// be lost, unless that is forced.
+pub fn open_picture(rt: &HostRuntime, path: &str, is_forced: bool) -> Result<File> {
+    if !is_drawn_at(rt, path) {
+        return Err(anyhow!("it is no file: a picture is written to a file, or to /dev/stdout"));
+    }
+    if is_forced {
+        Ok(File::create(rt, path)?)
+    } else {
+        open_unless_lost(rt, path)
     }
 }
 
@@ -120,12 +129,13 @@ fn make_empty(file: &mut File) -> Result<bool> {
     Ok(true)
 }
 
-/// Whether a file that begins so has a picture of a run.
+/// Whether a file that begins so has a picture of a run or of a probe.
 fn is_picture(head: &[u8]) -> bool {
     let mut lines = Words::split(head, b'\n');
     match (lines.next(), lines.next()) {
         (Some(first), Some(second)) => {
-            first.starts_with(FIRST_LINE) && second.starts_with(SECOND_LINE)
+            first.starts_with(FIRST_LINE)
+                && (second.starts_with(SECOND_LINE) || second.starts_with(PROBE_LINE))
         }
         _ => false,
     }

@@ -4,11 +4,10 @@ ghost use Rattle.std.specs.Io.{ReadsAtMost};
 
 use crate::notes::NoteTaker;
 use crate::overhearing::Overheard;
-use crate::whole_lines::WholeLines;
-use std::cell::RefCell;
 use std::fs::File;
 use std::io::{self, ErrorKind, Read, Stdin};
 use swim_text::{Byte, ReadSource, Source};
+use swim_verdicts::Played;
 
 /// Where a script lies.
 #[derive(Drop)]
@@ -26,12 +25,30 @@ impl Read for Script {
     }
 }
 
-/// A script, as it lies there, or byte by byte with notes of its lines, or its whole lines alone.
+/// Opens the file of a script. A folder is refused at once, since nothing can be read from it.
+pub fn open(rt: &HostRuntime, path: &str) -> io::Result<File> {
+    let file = File::open(rt, path)?;
+    if file.metadata()?.is_dir() {
+        return Err(io::Error::from(ErrorKind::IsADirectory));
+    }
+    Ok(file)
+}
+
+/// Plays the journal file of that path; `-` is standard input.
+pub fn play(rt: &HostRuntime, path: &str) -> io::Result<Played> {
+    let script = if path == "-" {
+        Script::Standard(rt.stdin())
+    } else {
+        Script::File(open(rt, path)?)
+    };
+    Ok(swim_verdicts::play(rt.alloc(), script))
+}
+
+/// A script, as it lies there, or byte by byte with notes of its lines.
 #[derive(Drop)]
 pub enum Input<'a> {
     Plain(Script),
     Overheard(Overheard<ReadSource<Script>, NoteTaker<'a>>),
-    Whole(&'a RefCell<WholeLines>),
 }
 
 impl<'a> Read for Input<'a> {
@@ -39,18 +56,7 @@ impl<'a> Read for Input<'a> {
         match self {
             Input::Plain(script) => script.read(buf),
             Input::Overheard(script) => read_byte(script, buf),
-            Input::Whole(lines) => read_lines(lines, buf),
         }
-    }
-}
-
-/// Reads whole lines, which nobody else reads meanwhile.
-fn read_lines(lines: &RefCell<WholeLines>, buf: &mut [u8]) -> io::Result<usize>
-    ensures { ReadsAtMost result buf.new }
-{
-    match lines.try_borrow_mut() {
-        Ok(mut lines) => lines.read(buf),
-        Err(_) => Err(io::Error::from(ErrorKind::Other)),
     }
 }
 

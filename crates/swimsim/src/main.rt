@@ -4,45 +4,35 @@
 ghost use Rattle.std.specs.Prelude.{◌≡◌, if◌then◌else◌};
 ghost use Rattle.swim_script.specs.Ends.{unplayed};
 
-mod accounts;
 mod causes;
+mod charting;
 mod differences;
 mod drawing;
 mod draws;
-mod examining;
 mod expectations;
 mod explanations;
 mod files;
 mod grammar;
 mod limits;
 mod marks;
-mod meanings;
 mod notes;
 mod options;
 mod overhearing;
-mod presences;
 mod reasons;
-mod reports;
 mod showing;
 mod spelling;
 mod summaries;
 mod tallies;
 mod telling;
-mod trace_json;
-mod trace_lines;
 mod tracing;
-mod unheard;
-mod verdict_lines;
 mod verifying;
-mod whole_lines;
-mod witness;
 
 use anyhow::Result;
 use differences::newest_line;
 use drawing::draw_at;
 use draws::warnings_of;
 use explanations::Explanation;
-use files::{Input, Script};
+use files::{Input, Script, open};
 use notes::{NoteTaker, Notes, Told};
 use options::{
     Options, read_options, refuse_bytes, refuse_mixed, refuse_twofold, refuse_unplaced,
@@ -52,8 +42,7 @@ use overhearing::Overheard;
 use std::alloc::AllocError;
 use std::cell::RefCell;
 use std::env;
-use std::fs::File;
-use std::io::{self, ErrorKind, Stdout};
+use std::io::{ErrorKind, Stdout};
 use std::process::ExitCode;
 use summaries::JournalSummary;
 use swim_history::Journal;
@@ -147,15 +136,6 @@ fn play_file(rt: &HostRuntime, path: &str, options: &Options<'_>) -> ExitCode {
             ExitCode::FAILURE
         }
     }
-}
-
-/// Opens the file of a script. A folder is refused at once, since nothing can be read from it.
-fn open(rt: &HostRuntime, path: &str) -> io::Result<File> {
-    let file = File::open(rt, path)?;
-    if file.metadata()?.is_dir() {
-        return Err(io::Error::from(ErrorKind::IsADirectory));
-    }
-    Ok(file)
 }
 
 /// Plays the script, and writes its answers on standard output.

@@ -5,8 +5,8 @@ ghost use Rattle.std.specs.Prelude.{option_map};
 ghost use Rattle.std.specs.Option.{unwrap_or};
 ghost use Rattle.clap.specs.Words.{FailsBy, app_of, fault_of, kind_of, rule_of};
 ghost use Rattle.swimsim.specs.Options.{TellsFlag, command_line, flag_in, flag_rule, script_in, script_rule, value_in};
-ghost use Rattle.swimsim.specs.Options.{AsksForScript, IsMixed, IsTwofold, IsUnplaced, IsUntraced, TellsNumber};
-ghost use Rattle.swimsim.specs.Options.{number_rule};
+ghost use Rattle.swimsim.specs.Options.{AsksForRun, AsksForScript, IsMixed, IsTwofold, IsUnplaced, IsUntraced};
+ghost use Rattle.swimsim.specs.Options.{TellsNumber, number_rule};
 ghost use Rattle.swimsim.specs.Options.{value_rule, values_in, values_rule, view_of};
 
 use clap::builder::ValueParser;
@@ -26,7 +26,7 @@ pub struct Options<'a> {
     pub decode: bool,
     /// Whether faults, numbers and the whole run are explained.
     pub explain: bool,
-    /// The path of a picture of the run; `None` where none is wanted.
+    /// The path of a picture of the run, or of a probe that is traced; `None` where none is wanted.
     pub timeline: Option<&'a str>,
     /// The period with which the picture begins; `None` where no period is named.
     pub from: Option<u64>,
@@ -52,7 +52,7 @@ impl<'a> Options<'a> {
         ensures { IsTrue result ↔ IsMixed self.now }
     {
         (!self.verify.is_empty() && (!self.trace.is_empty() || self.asks_for_script()))
-            || (!self.trace.is_empty() && self.asks_for_script())
+            || (!self.trace.is_empty() && self.asks_for_run())
     }
 
     /// Whether something is asked that has to do with a script and its picture.
@@ -66,6 +66,18 @@ impl<'a> Options<'a> {
             || self.from.is_some()
             || self.around.is_some()
             || self.force
+    }
+
+    /// Whether something is asked that has to do with a script, and with no probe that is traced.
+    fn asks_for_run(&self) -> bool
+        ensures { IsTrue result ↔ AsksForRun self.now }
+    {
+        self.script.is_some()
+            || self.decode
+            || self.explain
+            || self.from.is_some()
+            || self.around.is_some()
+            || (self.force && self.timeline.is_none())
     }
 
     /// Whether some judgements are named that are to be traced, and no files.
@@ -291,7 +303,7 @@ fn timeline<'a>(alloc: Global) -> Arg<'a>
     Arg::new(alloc, "timeline")
         .long("timeline")
         .value_name("FILE")
-        .help("Draws the run into FILE, as SVG")
+        .help("Draws the run into FILE, as SVG; beside --trace a probe")
 }
 
 /// The journal files that are verified.

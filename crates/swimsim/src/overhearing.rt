@@ -2,8 +2,8 @@
 
 ghost use Rattle.std.specs.Prelude.{◌≡◌, ◌≤◌, length, take, drop, IfSome};
 ghost use Rattle.std.specs.Io.{StartsWith};
-ghost use Rattle.std.specs.Io.KnownBytes.{Consumes};
-ghost use Rattle.swim_text.specs.Streams.{Gives, failures_then};
+ghost use Rattle.std.specs.Io.KnownBytes.{Consumes, append_known};
+ghost use Rattle.swim_text.specs.Streams.{Gives, failures_then, given_then};
 
 use std::marker::Model;
 use swim_text::{Byte, Source};
@@ -45,10 +45,13 @@ impl<R: Source, L: Listener> Source for Overheard<R, L> {
 
     ghost ready = { λ s. R.ready s };
 
+    ghost given = { λ s. R.given s };
+
     ghost failures = { λ s. R.failures s };
 
     fn byte(&mut self) -> Byte
         ensures bytes { Gives (R.left self.old) (R.left self.new) result }
+        ensures given { R.given self.new ≡ given_then (R.given self.old) result }
         ensures failures { R.failures self.new ≡ failures_then (R.failures self.old) result }
     {
         let met = self.reader.byte();
@@ -71,6 +74,7 @@ impl<R: Source, L: Listener> Source for Overheard<R, L> {
         requires { count ≤ length (R.ready self.old) }
         ensures bytes { Consumes (R.left self.old) (R.left self.new)
             (take count (R.ready self.old)) }
+        ensures given { R.given self.new ≡ append_known (R.given self.old) (take count (R.ready self.old)) }
         ensures ready { R.ready self.new ≡ drop count (R.ready self.old) }
         ensures failures { R.failures self.new ≡ R.failures self.old }
     {

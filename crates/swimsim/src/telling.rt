@@ -7,7 +7,6 @@ ghost use Rattle.swim_script.specs.Outcomes.{outcome_text};
 ghost use Rattle.swimsim.specs.Telling.{AreSent, IsAnswer, IsEnd, IsExact, IsFault, IsNewest, IsReply, IsSent};
 ghost use Rattle.swimsim.specs.Telling.{IsWorded, MayHear, MayName, MayStand, PutsSome};
 
-use crate::meanings::message_words;
 use crate::reasons::{Reason, reason_of};
 use crate::tallies::AnswerTally;
 use std::alloc::Global;
@@ -15,6 +14,7 @@ use std::io::Stdout;
 use swim_history::{Call, Opening, Reply, sends};
 use swim_script::{LineOutcome, Session, Teller, put_reply, put_send};
 use swim_text::{Sink, WriteSink, put_numbered};
+use swim_verdicts::message_words;
 use swim_wire::{Message, Peer, WireFault};
 
 /// Who writes answers with words: datagrams as they are heard and sent, or the names of reasons behind their numbers,

@@ -1,24 +1,25 @@
 //! Journal files of several members, in which the datagrams of judged probes are looked for.
 
-use crate::accounts::{Account, Choice, index_of};
-use crate::examining::{Played, play};
+use crate::charting::{chosen, draw_probe};
+use crate::files::play;
 use crate::options::Options;
-use crate::presences::{Clock, Rhythms};
-use crate::reports::Extent;
-use crate::trace_json::{JsonFile, JsonTrace};
-use crate::trace_lines::TraceReport;
 use crate::verifying::{object, status_of, tell_objection, tell_report, tell_unread};
 use anyhow::Result;
+use std::alloc::AllocError;
 use std::io::ErrorKind;
 use std::mem::replace;
 use std::process::ExitCode;
 use swim_evidence::{Evidence, Standing};
-use swim_trace::{ActIndex, Case, ProbeName, conclusion_on, ways_of};
+use swim_trace::{ActIndex, Case, Conclusion, ProbeName, Way, conclusion_on, ways_of};
+use swim_verdicts::{
+    Account, Choice, Clock, Extent, JsonFile, JsonTrace, Played, Rhythms, TraceReport, index_of,
+};
 use swim_wire::Id;
 
-/// Plays the files that the options name, tells what each comes to, and what became of the datagrams of each probe after
-/// which somebody was judged. The status is 0 where nothing speaks against any file; 4 where that isn't known, or what
-/// became of them, as memory was refused; else 1.
+/// Plays the files that the options name, tells what each comes to, and what became of the datagrams of each probe
+/// after which somebody was judged. One of these probes is drawn, if that is asked. The status is 0 where nothing
+/// speaks against any file, and the picture was made that was asked for; 4 where that isn't known, or what became of
+/// them, as memory was refused; else 1.
 pub fn trace_files(rt: &HostRuntime, options: &Options<'_>) -> Result<ExitCode> {
     let choice = Choice {
         judged: options.judged,
@@ -34,7 +35,7 @@ pub fn trace_files(rt: &HostRuntime, options: &Options<'_>) -> Result<ExitCode> 
         }
     }
     tell_missing_lives(rt, accounts.as_slice());
-    standing = standing.worse(tell_all(rt, accounts.as_slice(), &choice, options.json)?);
+    standing = standing.worse(tell_all(rt, accounts.as_slice(), &choice, options)?);
     Ok(ExitCode::from(status_of(standing)))
 }
 
@@ -139,12 +140,12 @@ fn tell_missing_lives(rt: &HostRuntime, accounts: &[Account<'_>]) {
     }
 }
 
-/// Tells of each of these judgements what became of its probe.
+/// Tells of each of these judgements what became of its probe, and then draws one, if that is asked.
 fn tell_all<'r>(
     rt: &'r HostRuntime,
     accounts: &'r [Account<'_>],
     choice: &Choice,
-    is_json: bool,
+    options: &Options<'_>,
 ) -> Result<Standing> {
     let Ok(index) = index_of(rt.alloc(), accounts, choice) else {
         return Ok(starved(rt));
@@ -157,7 +158,7 @@ fn tell_all<'r>(
         accounts,
         index: &index,
         rhythms: &rhythms,
-        is_json,
+        is_json: options.json,
     };
     let mut standing = Standing::Sound;
     let mut file = 0u32;
@@ -165,7 +166,10 @@ fn tell_all<'r>(
         standing = standing.worse(teller.tell_file(account, file, choice)?);
         file = file.saturating_add(1);
     }
-    Ok(standing)
+    Ok(match options.timeline {
+        Some(path) => standing.worse(teller.draw_at(path, options.force, choice)),
+        None => standing,
+    })
 }
 
 /// Tells that memory didn't suffice.
@@ -239,10 +243,9 @@ impl<'r, 'p> Teller<'r, 'p> {
         evidence: &'e Evidence,
     ) -> Result<Standing> {
         let case = self.case_of(account.member, told, evidence);
-        let Ok(ways) = ways_of(self.rt.alloc(), &case) else {
+        let Ok((ways, conclusion)) = self.solve(&case) else {
             return Ok(starved(self.rt));
         };
-        let conclusion = conclusion_on(&case, ways.as_slice());
         let clock = self.clock(account, &case.probe);
         let trace = TraceReport {
             accounts: self.accounts,
@@ -260,6 +263,46 @@ impl<'r, 'p> Teller<'r, 'p> {
             print!(self.rt; "{trace}")?;
         }
         Ok(Standing::Sound)
+    }
+
+    /// What became of the datagrams of a probe, and what is concluded.
+    fn solve(&self, case: &Case<'_>) -> Result<(Vec<Way>, Conclusion), AllocError> {
+        let ways = ways_of(self.rt.alloc(), case)?;
+        let conclusion = conclusion_on(case, ways.as_slice());
+        Ok((ways, conclusion))
+    }
+
+    /// Draws one of these judgements into the file of that path. Where the picture can't be made, the error names the
+    /// file.
+    fn draw_at(&self, path: &str, is_forced: bool, choice: &Choice) -> Standing {
+        match self.draw(path, is_forced, choice) {
+            Ok(()) => Standing::Sound,
+            Err(error) => {
+                object(self.rt, path, format_args!("{error}"));
+                Standing::Accused
+            }
+        }
+    }
+
+    fn draw(&self, path: &str, is_forced: bool, choice: &Choice) -> Result<()> {
+        let (file, account, evidence) = chosen(self.accounts, choice)?;
+        let alloc = self.rt.alloc();
+        let told = self
+            .rhythms
+            .members_beside(alloc, self.accounts, file, account)?;
+        let case = self.case_of(account.member, told.as_slice(), evidence);
+        let (ways, conclusion) = self.solve(&case)?;
+        let clock = self.clock(account, &case.probe);
+        let trace = TraceReport {
+            accounts: self.accounts,
+            file,
+            evidence,
+            case,
+            ways: ways.as_slice(),
+            conclusion,
+            clock,
+        };
+        draw_probe(self.rt, path, is_forced, &trace)
     }
 
     /// What is known of the probe that a judgement of that member rests on.

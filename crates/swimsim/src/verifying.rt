@@ -5,16 +5,14 @@ ghost use Rattle.std.specs.Process.{exit_status};
 ghost use Rattle.swimsim.specs.Sequences.{status_of};
 ghost use Rattle.swimsim.specs.Sightings.{AreExamined, Examines, Sees, played_in, sighting_in};
 
-use crate::examining::{Played, play};
-use crate::reports::{Extent, Report};
-use crate::verdict_lines::{Closing, Objection};
-use crate::witness::FileEnd;
+use crate::files::play;
 use anyhow::Result;
 use std::fmt;
 use std::io::{self, ErrorKind};
 use std::process::ExitCode;
 use swim_evidence::{Link, Seen, Sequence, Standing, Verdict};
 use swim_trail::{Remembered, Trail};
+use swim_verdicts::{Closing, Extent, FileEnd, Objection, Played, Report};
 
 /// Who plays journal files, and tells what they come to.
 pub trait Examiner {

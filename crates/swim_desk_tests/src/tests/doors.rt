@@ -70,6 +70,7 @@ impl<'s> Door for Row<'s> {
 
     type Writer = Screen<'s>;
 
+    #[tactic(auto, using(swim_desk::specs::Doors::unknown_comes_new))]
     fn next<R: Wait>(&mut self, _rt: &R) -> Knock<Typed, Screen<'s>> {
         if let Some(knock) = self.knocks.pop() {
             return knock;

@@ -28,6 +28,8 @@ impl Source for Typed {
 
     ghost ready = { λ typed. typed.ready.now };
 
+    ghost given = { λ typed. None };
+
     ghost failures = { λ typed. 0 };
 
     fn byte(&mut self) -> Byte {

@@ -352,3 +352,34 @@ fn a_line_that_is_not_sent(rt: HostRuntime) -> Result<(), Fail> {
     }
     Ok(())
 }
+
+// Of a line that can't be put a front is told, or all of it where its last put is an empty one; the other one as ever.
+#[test]
+fn a_line_that_is_not_put(rt: HostRuntime) -> Result<(), Fail> {
+    for place in 0..RUNS {
+        let ran = run_failing(rt, rt.alloc(), Failing::Lines, place)?;
+        if !ran.has_failed {
+            assert!(rt; place > 1);
+            assert_told(&rt, &ran, FIRST, LAST);
+            return Ok(());
+        }
+        assert_same(&rt, &ran.end, &LivesEnd::Stopped);
+        assert_same(&rt, &ran.begun, &2);
+        assert_same(&rt, &ran.back, &2);
+        assert!(rt; is_a_line_short(ran.told.text()));
+    }
+    Err(Fail::new("a run without a failure"))
+}
+
+// Whether one line is whole, and of the other one a front or all stands there.
+fn is_a_line_short(told: &[u8]) -> bool {
+    let is_last_short = match told.strip_prefix(FIRST) {
+        Some(rest) => LAST.starts_with(rest),
+        None => false,
+    };
+    let is_first_short = match told.strip_suffix(LAST) {
+        Some(rest) => FIRST.starts_with(rest),
+        None => false,
+    };
+    is_last_short || is_first_short
+}

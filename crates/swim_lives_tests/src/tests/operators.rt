@@ -36,6 +36,8 @@ impl<'s> Source for Lines<'s> {
 
     ghost ready = { λ lines. lines.ready.now };
 
+    ghost given = { λ lines. None };
+
     ghost failures = { λ lines. 0 };
 
     fn byte(&mut self) -> Byte {

@@ -17,6 +17,9 @@ swimd_period_number{member=\"1\"} 12
 # HELP swimd_period_seconds How long a period lasts.
 # TYPE swimd_period_seconds gauge
 swimd_period_seconds{member=\"1\"} 0.600
+# HELP swimd_tick_seconds How long a tick lasts.
+# TYPE swimd_tick_seconds gauge
+swimd_tick_seconds{member=\"1\"} 0.200
 # HELP swimd_ticks_total Ticks of time that were taken.
 # TYPE swimd_ticks_total counter
 swimd_ticks_total{member=\"1\"} 11
@@ -30,6 +33,9 @@ swimd_pings_heard_total{member=\"1\"} 2
 # TYPE swimd_acks_heard_total counter
 swimd_acks_heard_total{member=\"1\",from=\"target\"} 1
 swimd_acks_heard_total{member=\"1\",from=\"relay\"} 2
+# HELP swimd_acks_late_total Acks of own probes that came after the end of their periods.
+# TYPE swimd_acks_late_total counter
+swimd_acks_late_total{member=\"1\"} 1
 # HELP swimd_asks_sent_total Relays that were asked to ping a member.
 # TYPE swimd_asks_sent_total counter
 swimd_asks_sent_total{member=\"1\"} 3
@@ -45,6 +51,11 @@ swimd_dropped_total{member=\"1\",reason=\"unlisted\"} 1
 swimd_dropped_total{member=\"1\",reason=\"table_full\"} 0
 swimd_dropped_total{member=\"1\",reason=\"stray\"} 1
 swimd_dropped_total{member=\"1\",reason=\"no_request\"} 0
+# HELP swimd_odd_senders_total Messages whose senders are not as the member table has them, by why.
+# TYPE swimd_odd_senders_total counter
+swimd_odd_senders_total{member=\"1\",why=\"unlisted\"} 0
+swimd_odd_senders_total{member=\"1\",why=\"own_id\"} 0
+swimd_odd_senders_total{member=\"1\",why=\"elsewhere\"} 0
 # HELP swimd_ack_wait_ticks Ticks from a probe to the first ack of it that came in time.
 # TYPE swimd_ack_wait_ticks histogram
 swimd_ack_wait_ticks_bucket{member=\"1\",le=\"1\"} 1
@@ -117,6 +128,38 @@ swimd_lost_watchers_total{member=\"1\"} 11
 # HELP swimd_metrics_unwritten_total Times that the metrics could not be written to their file.
 # TYPE swimd_metrics_unwritten_total counter
 swimd_metrics_unwritten_total{member=\"1\"} 14
+# HELP swimd_member_up Whether a member is up.
+# TYPE swimd_member_up gauge
+swimd_member_up{member=\"1\",id=\"2\"} 0
+swimd_member_up{member=\"1\",id=\"3\"} 1
+swimd_member_up{member=\"1\",id=\"5\"} 1
+swimd_member_up{member=\"1\",id=\"6\"} 1
+# HELP swimd_member_heard_period The number of the last period in which an ack of a member came in time.
+# TYPE swimd_member_heard_period gauge
+swimd_member_heard_period{member=\"1\",id=\"2\"} 8
+swimd_member_heard_period{member=\"1\",id=\"3\"} 9
+# HELP swimd_member_acks_total Acks of own probes of a member that came in time, by who sent them.
+# TYPE swimd_member_acks_total counter
+swimd_member_acks_total{member=\"1\",id=\"2\",from=\"target\"} 1
+swimd_member_acks_total{member=\"1\",id=\"2\",from=\"relay\"} 1
+swimd_member_acks_total{member=\"1\",id=\"3\",from=\"target\"} 0
+swimd_member_acks_total{member=\"1\",id=\"3\",from=\"relay\"} 1
+swimd_member_acks_total{member=\"1\",id=\"5\",from=\"target\"} 0
+swimd_member_acks_total{member=\"1\",id=\"5\",from=\"relay\"} 0
+swimd_member_acks_total{member=\"1\",id=\"6\",from=\"target\"} 0
+swimd_member_acks_total{member=\"1\",id=\"6\",from=\"relay\"} 0
+# HELP swimd_member_verdicts_total How often a member was judged failed.
+# TYPE swimd_member_verdicts_total counter
+swimd_member_verdicts_total{member=\"1\",id=\"2\"} 1
+swimd_member_verdicts_total{member=\"1\",id=\"3\"} 0
+swimd_member_verdicts_total{member=\"1\",id=\"5\"} 0
+swimd_member_verdicts_total{member=\"1\",id=\"6\"} 0
+# HELP swimd_member_asked_total How often a member was asked to ping another one.
+# TYPE swimd_member_asked_total counter
+swimd_member_asked_total{member=\"1\",id=\"2\"} 1
+swimd_member_asked_total{member=\"1\",id=\"3\"} 1
+swimd_member_asked_total{member=\"1\",id=\"5\"} 0
+swimd_member_asked_total{member=\"1\",id=\"6\"} 0
 # HELP swimd_journal_file_ok Whether this life's journal file is whole so far.
 # TYPE swimd_journal_file_ok gauge
 swimd_journal_file_ok{member=\"1\"} 1
@@ -132,11 +175,13 @@ swimd_members{member=\"1\",state=\"up\"} 2
 swimd_members{member=\"1\",state=\"failed\"} 1
 swimd_period_number{member=\"1\"} 7
 swimd_period_seconds{member=\"1\"} 0.600
+swimd_tick_seconds{member=\"1\"} 0.200
 swimd_ticks_total{member=\"1\"} 0
 swimd_pings_sent_total{member=\"1\"} 0
 swimd_pings_heard_total{member=\"1\"} 0
 swimd_acks_heard_total{member=\"1\",from=\"target\"} 0
 swimd_acks_heard_total{member=\"1\",from=\"relay\"} 0
+swimd_acks_late_total{member=\"1\"} 0
 swimd_asks_sent_total{member=\"1\"} 0
 swimd_requests_served_total{member=\"1\"} 0
 swimd_dropped_total{member=\"1\",reason=\"not_for_me\"} 0
@@ -146,6 +191,9 @@ swimd_dropped_total{member=\"1\",reason=\"unlisted\"} 0
 swimd_dropped_total{member=\"1\",reason=\"table_full\"} 0
 swimd_dropped_total{member=\"1\",reason=\"stray\"} 0
 swimd_dropped_total{member=\"1\",reason=\"no_request\"} 0
+swimd_odd_senders_total{member=\"1\",why=\"unlisted\"} 0
+swimd_odd_senders_total{member=\"1\",why=\"own_id\"} 0
+swimd_odd_senders_total{member=\"1\",why=\"elsewhere\"} 0
 swimd_ack_wait_ticks_bucket{member=\"1\",le=\"1\"} 0
 swimd_ack_wait_ticks_bucket{member=\"1\",le=\"2\"} 0
 swimd_ack_wait_ticks_bucket{member=\"1\",le=\"4\"} 0
@@ -182,6 +230,21 @@ swimd_fenced_total{member=\"1\"} 9
 swimd_watchers{member=\"1\"} 10
 swimd_lost_watchers_total{member=\"1\"} 11
 swimd_metrics_unwritten_total{member=\"1\"} 14
+swimd_member_up{member=\"1\",id=\"2\"} 1
+swimd_member_up{member=\"1\",id=\"3\"} 1
+swimd_member_up{member=\"1\",id=\"4\"} 0
+swimd_member_acks_total{member=\"1\",id=\"2\",from=\"target\"} 0
+swimd_member_acks_total{member=\"1\",id=\"2\",from=\"relay\"} 0
+swimd_member_acks_total{member=\"1\",id=\"3\",from=\"target\"} 0
+swimd_member_acks_total{member=\"1\",id=\"3\",from=\"relay\"} 0
+swimd_member_acks_total{member=\"1\",id=\"4\",from=\"target\"} 0
+swimd_member_acks_total{member=\"1\",id=\"4\",from=\"relay\"} 0
+swimd_member_verdicts_total{member=\"1\",id=\"2\"} 0
+swimd_member_verdicts_total{member=\"1\",id=\"3\"} 0
+swimd_member_verdicts_total{member=\"1\",id=\"4\"} 0
+swimd_member_asked_total{member=\"1\",id=\"2\"} 0
+swimd_member_asked_total{member=\"1\",id=\"3\"} 0
+swimd_member_asked_total{member=\"1\",id=\"4\"} 0
 swimd_journal_file_ok{member=\"1\"} 1
 swimd_journal_files_cut_total{member=\"1\"} 15
 .

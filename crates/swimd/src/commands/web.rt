@@ -8,12 +8,15 @@ ghost use Rattle.swimd.specs.Served.{ServesWeb};
 use crate::telling::notices::Notice;
 use mio::net::TcpListener;
 use std::alloc::{AllocError, Global};
+use std::fs::File;
 use std::io;
 use std::net::{Ipv4Addr, Net, SocketAddr, SocketAddrV4};
 use std::random::RandomSource;
-use std::rt::Clock;
+use std::rt::{Clock, Files};
 use std::sync::Wait;
-use swim_commands::{Details, Outcome, SocketDaemon, SocketEvents, WebRequest, words_why};
+use swim_commands::{
+    Details, FileShelf, Outcome, SocketDaemon, SocketEvents, WebRequest, words_why,
+};
 use swim_config::ConfigFault;
 use swim_text::Sink;
 use swim_web::{Recent, Web, run};
@@ -25,7 +28,7 @@ const LOOPBACK: u8 = 127;
 /// Serves pages for good, unless the address can't be listened on or the system refuses something. Whatever comes in,
 /// the daemon is only asked for its table and its counts.
 #[tactic(auto, using(swim_keeper::specs::Notices::no_notices, crate::proofs::Explained::nothing_explains))]
-pub fn serve_web<R: Net + Clock + RandomSource + Wait, F: Sink>(
+pub fn serve_web<R: Files<File = File> + Net + Clock + RandomSource + Wait, F: Sink>(
     rt: &R,
     alloc: Global,
     request: &WebRequest<'_>,
@@ -47,7 +50,8 @@ pub fn serve_web<R: Net + Clock + RandomSource + Wait, F: Sink>(
     let Ok(daemon) = SocketDaemon::of(rt, request.control) else {
         return Outcome::WebOver;
     };
-    let Ok(mut web) = web_over(alloc, request, daemon) else {
+    let shelf = FileShelf::of(rt, alloc, request.journals);
+    let Ok(mut web) = web_over(alloc, request, daemon, shelf) else {
         return Outcome::Refused(ConfigFault::NoMemory);
     };
     announce(rt, alloc, request.listen, faults);
@@ -64,11 +68,12 @@ fn listen<R: Net>(rt: &R, peer: Peer) -> io::Result<TcpListener> {
 }
 
 /// Returns what is served of a daemon.
-fn web_over<'r, 'p, R: Net + Clock>(
+fn web_over<'r, 'p, R: Files<File = File> + Net + Clock>(
     alloc: Global,
     request: &WebRequest<'_>,
     daemon: SocketDaemon<'r, 'p, R>,
-) -> Result<Web<SocketDaemon<'r, 'p, R>>, AllocError> {
+    shelf: FileShelf<'r, 'p, R>,
+) -> Result<Web<SocketDaemon<'r, 'p, R>, FileShelf<'r, 'p, R>>, AllocError> {
     let names = names(alloc, request)?;
     Ok(Web {
         alloc,
@@ -76,6 +81,7 @@ fn web_over<'r, 'p, R: Net + Clock>(
         recent: Recent::new(),
         is_late: false,
         daemon: Box::new(alloc, daemon)?,
+        shelf: Box::new(alloc, shelf)?,
     })
 }
 

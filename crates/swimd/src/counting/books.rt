@@ -9,13 +9,14 @@ ghost use Rattle.swim_events.specs.Watched.{Lived, lived_on};
 ghost use Rattle.swim_work.specs.Ends.{both};
 ghost use Rattle.swim_metrics.specs.Following.{begun};
 ghost use Rattle.swim_metrics.specs.LastHeard.{Tell};
-ghost use Rattle.swimd.specs.Booked.{AreCounted, counted_of, failed_by, is_own_join, told_of};
+ghost use Rattle.swimd.specs.Booked.{AreCounted, acked_in, counted_of, failed_by, is_own_join, relayed_by, told_alone};
+ghost use Rattle.swimd.specs.Booked.{told_of};
 ghost use Rattle.swimd.specs.Totals.{totals_with};
 
 use crate::counting::totals::Totals;
 use crate::telling::bulletins::Counted;
 use crate::telling::happenings::Happening;
-use swim_history::{Change, Opening};
+use swim_history::{Call, Change, Opening, Reply};
 use swim_metrics::{Hearings, Metrics};
 use swim_node::Followed;
 use swim_recorder::Standing;
@@ -24,6 +25,9 @@ use swim_work::Metered;
 
 /// The seat of the receiver, by which the daemon lets members join again.
 const RECEIVER: u8 = 0;
+
+/// After how many periods in a row the log tells that a member was heard by relays alone.
+const ROUNDS_ALONE: u64 = 10;
 
 /// How a life stands of which nothing was read.
 const NOTHING: Standing = Standing {
@@ -145,6 +149,17 @@ impl Book {
         }
     }
 
+    /// In how many periods in a row the member of which a call is an ack in time was heard by relays alone, by what was
+    /// counted until now; 0 of any other call.
+    pub fn relayed(&self, next: &Followed) -> u64
+        ensures { result ≡ relayed_by next.now.kept.call next.now.kept.reply self.now.metrics }
+    {
+        match (acked(next), &self.metrics) {
+            (Some(id), Some(metrics)) => metrics.relayed(id),
+            _ => 0,
+        }
+    }
+
     /// What was counted until now, once a life has begun.
     pub fn counted(&self) -> Option<Counted>
         ensures { result
@@ -166,6 +181,30 @@ impl Book {
         ensures { result ≡ failed_by self.now.metrics id }
     {
         self.metrics.as_ref()?.failed_for(id)
+    }
+}
+
+/// The member of which a call is an ack that came in time, if it is one.
+pub fn acked(next: &Followed) -> Option<Id>
+    ensures { result ≡ acked_in next.now.kept.call next.now.kept.reply }
+{
+    match (&next.kept.call, &next.kept.reply) {
+        (Call::Hear(_, ack), Reply::Heard) => Some(ack.target),
+        _ => None,
+    }
+}
+
+/// What the log tells of an ack in time of a member that was heard by relays alone in so many periods in a row before
+/// it, and in so many with it.
+pub fn told_alone(acked: Option<Id>, before: u64, after: u64) -> Option<Happening>
+    ensures { result ≡ told_alone acked before after }
+{
+    match acked {
+        Some(id) if before < ROUNDS_ALONE && after == ROUNDS_ALONE => Some(Happening::Relayed {
+            id,
+            rounds: ROUNDS_ALONE,
+        }),
+        _ => None,
     }
 }
 

@@ -70,7 +70,7 @@ impl Counters {
     {
         let mut sink = TextSink::new();
         if let Some(figures) = self.figures(rt, files) {
-            if put_stats(&mut sink, &figures.measures(), &figures.outside()) {
+            if put_stats(&mut sink, figures.measures(), &figures.outside()) {
                 return sink.into_text();
             }
         }
@@ -94,7 +94,7 @@ impl Counters {
 
 /// What was counted at a moment, with what is told of the configuration. It borrows nothing, so that another thread may
 /// be handed it.
-#[derive(Clone, Copy)]
+#[derive(Drop)]
 pub struct Figures {
     counted: Counted,
     strangers: StrangerCounts,
@@ -105,10 +105,10 @@ pub struct Figures {
 
 impl Figures {
     /// What is told of entries.
-    pub fn measures(&self) -> Measures
-        ensures { result ≡ self.now.counted.measures }
+    pub fn measures(&self) -> &Measures
+        ensures { result.now ≡ self.now.counted.measures }
     {
-        self.counted.measures
+        &self.counted.measures
     }
 
     /// What is told beside them.

@@ -98,8 +98,8 @@ impl MetricsDesk {
             let Some(Handed { path, figures }) = self.take(rt) else {
                 return;
             };
-            let (measures, outside) = (figures.measures(), figures.outside());
-            let written = write_metrics(rt, path.as_str(), &measures, &outside);
+            let outside = figures.outside();
+            let written = write_metrics(rt, path.as_str(), figures.measures(), &outside);
             self.report(rt, written);
         }
     }

@@ -1,13 +1,15 @@
 //! What the worker that reads the journal hands to the worker at the door, who tells it to people: changes for the log,
 //! and what was counted. Neither waits for the other longer than it takes to copy it.
 
+ghost use Rattle.std.specs.Prelude.{◌≡◌};
+
 use crate::counting::totals::Totals;
 use crate::telling::happenings::Happening;
 use arrayvec::ArrayVec;
 use std::mem;
 use std::sync::atomic::{AtomicU64, Ordering};
 use std::sync::{Mutex, Wait};
-use swim_metrics::Measures;
+use swim_metrics::{Measures, OddSenders};
 
 /// How many changes wait to be told at most.
 const MOST_WAITING: usize = 128;
@@ -16,7 +18,7 @@ const MOST_WAITING: usize = 128;
 pub type Waiting = ArrayVec<Happening, MOST_WAITING>;
 
 /// What was counted until now, over all lives.
-#[derive(Clone, Copy)]
+#[derive(Drop)]
 pub struct Counted {
     /// Of the journals' entries.
     pub measures: Measures,
@@ -28,6 +30,21 @@ pub struct Counted {
     pub watchers: u64,
     /// Joins that the daemon made by itself.
     pub own_joins: u64,
+}
+
+impl Counted {
+    /// The same.
+    fn copy(&self) -> Counted
+        ensures { result ≡ self.now }
+    {
+        Counted {
+            measures: self.measures.copy(),
+            behind: self.behind,
+            totals: self.totals,
+            watchers: self.watchers,
+            own_joins: self.own_joins,
+        }
+    }
 }
 
 /// What stands on a bulletin.
@@ -93,8 +110,15 @@ impl Bulletin {
         self.sheet.lock(rt).counted = Some(counted);
     }
 
+    /// The messages until now whose senders aren't as the member table has them, once a life has begun.
+    pub fn odd<R: Wait>(&self, rt: &R) -> Option<OddSenders> {
+        let sheet = self.sheet.lock(rt);
+        Some(sheet.counted.as_ref()?.measures.odd)
+    }
+
     /// What was counted until now, once a life has begun.
     pub fn counted<R: Wait>(&self, rt: &R) -> Option<Counted> {
-        self.sheet.lock(rt).counted
+        let sheet = self.sheet.lock(rt);
+        Some(sheet.counted.as_ref()?.copy())
     }
 }

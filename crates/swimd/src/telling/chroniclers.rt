@@ -5,7 +5,7 @@ ghost use Rattle.std.specs.Prelude.{◌≡◌, ◌++◌, ◌∷◌, [], Some, If
 ghost use Rattle.swim_recorder.specs.Reports.Report.{Began, Called};
 ghost use Rattle.swimd.specs.Chronicled.{report_in};
 
-use crate::counting::books::{Book, is_own_join};
+use crate::counting::books::{Book, acked, is_own_join, told_alone};
 use crate::counting::counters::Counters;
 use std::alloc::{AllocError, Global};
 use std::sync::Wait;
@@ -78,7 +78,12 @@ impl<'b> Reporter for Chronicler<'b> {
         if is_own_join(next.seat, change) {
             self.counters.remarks.add();
         }
+        let before = self.book.relayed(next);
         self.book.read(next, change);
+        let alone = told_alone(acked(next), before, self.book.relayed(next));
+        if let (Some(happening), false) = (alone, self.is_quiet) {
+            self.counters.bulletin.add(rt, happening);
+        }
     }
 
     fn rest<R: Wait>(&mut self, rt: &R, standing: Standing) {

@@ -12,7 +12,7 @@ use std::sync::Wait;
 use swim_text::Sink;
 use swim_wire::{Id, Peer};
 
-/// A change of the member table, as the log tells it.
+/// A change of the member table, or what else is known of a member, as the log tells it.
 #[derive(Clone, Copy)]
 pub enum Happening {
     /// A member was judged failed at the end of that period; and the last period in which it was heard, if that is
@@ -35,6 +35,11 @@ pub enum Happening {
     /// A member was removed.
     Removed {
         id: Id,
+    },
+    /// A member was heard by relays alone, in so many periods in a row in which it was probed.
+    Relayed {
+        id: Id,
+        rounds: u64,
     },
 }
 
@@ -65,6 +70,11 @@ impl Happening {
                 write!(notice, "joined {} again, after {after} periods", id.get())
             }
             Happening::Removed { id } => write!(notice, "removed {}", id.get()),
+            Happening::Relayed { id, rounds } => write!(
+                notice,
+                "{} was heard by relays alone for {rounds} rounds",
+                id.get()
+            ),
         };
         notice
     }

@@ -22,6 +22,7 @@ use swim_commands::{TEXT_BYTES, VERSION, add_printed};
 use swim_config::{Config, fingerprint};
 use swim_keeper::Herald;
 use swim_keys::GroupKey;
+use swim_metrics::OddMessage;
 use swim_streams::{STANDARD_ERROR, is_taken};
 use swim_text::Sink;
 use swim_trail::Trail;
@@ -166,6 +167,44 @@ impl Notice {
             "datagrams from {} come faster than the fence lets in, fenced {}",
             address.as_str(),
             count
+        );
+        notice
+    }
+
+    /// That a sender that isn't known pings.
+    pub fn unlisted<K: Clock>(clock: &K, message: &OddMessage) -> Notice {
+        let mut notice = Notice::begun(clock);
+        let (sender, source) = (message.sender.get(), message.source.write());
+        let _is_added = write!(
+            notice,
+            "{sender} at {} pings and isn't listed",
+            source.as_str()
+        );
+        notice
+    }
+
+    /// That somebody else speaks with this member's id.
+    pub fn own_id<K: Clock>(clock: &K, message: &OddMessage) -> Notice {
+        let mut notice = Notice::begun(clock);
+        let (sender, source) = (message.sender.get(), message.source.write());
+        let _is_added = write!(
+            notice,
+            "{sender} is this member, and {} speaks as {sender}, too",
+            source.as_str()
+        );
+        notice
+    }
+
+    /// That a member is heard from another address than that of its row.
+    pub fn elsewhere<K: Clock>(clock: &K, message: &OddMessage, listed: Peer) -> Notice {
+        let mut notice = Notice::begun(clock);
+        let (sender, source) = (message.sender.get(), message.source.write());
+        let row = listed.write();
+        let _is_added = write!(
+            notice,
+            "{sender} is heard from {}, its row has {}",
+            source.as_str(),
+            row.as_str()
         );
         notice
     }

@@ -18,6 +18,7 @@ use std::time::{Duration, Instant};
 use swim_control::StatsText;
 use swim_desk::Speaker;
 use swim_disk::MOST_FILES;
+use swim_metrics::{OddCount, OddMessage};
 use swim_text::Sink;
 use swim_wire::Peer;
 
@@ -51,6 +52,16 @@ impl Telling {
         }
     }
 
+    /// The newest of so many odd messages, if that is to be told now. Then nothing more is for a minute.
+    fn due_of<K: Clock>(&mut self, clock: &K, odd: &OddCount) -> Option<OddMessage> {
+        let newest = odd.newest?;
+        if self.is_due(clock, odd.count) {
+            Some(newest)
+        } else {
+            None
+        }
+    }
+
     /// Whether it is to be told now that there are so many. Then nothing more is for a minute.
     fn is_due<K: Clock>(&mut self, clock: &K, count: u64) -> bool {
         if count == self.told || self.is_pausing(clock) {
@@ -78,8 +89,8 @@ impl Telling {
 
 /// Tells what happens. Once a turn of the controller it tells what there is to be told, and waits for nobody: each change
 /// of the member table, how many datagrams were thrown away and where the newest came from, and how many connections were
-/// turned away, of each kind at most once a minute; and every ten seconds it hands the metrics over, to be written. Where
-/// it is quiet it tells nothing in the log but that metrics can't be written, and which journal files aren't whole.
+/// turned away, of each kind at most once a minute, likewise messages whose senders aren't as the member table has them;
+/// and every ten seconds it hands the metrics over, to be written. Where it is quiet it tells nothing in the log but that metrics can't be written, and which journal files aren't whole.
 #[derive(Drop)]
 pub struct LogSpeaker<'s, 'r, R, G: Sink + Clerk + Drop> {
     rt: &'r R,
@@ -93,6 +104,9 @@ pub struct LogSpeaker<'s, 'r, R, G: Sink + Clerk + Drop> {
     fenced: Telling,
     forged: Telling,
     refused: Telling,
+    unlisted: Telling,
+    own_id: Telling,
+    elsewhere: Telling,
 }
 
 impl<'s, 'r, R: Files<File = File> + Net + Clock, G: Sink + Clerk + Drop> LogSpeaker<'s, 'r, R, G> {
@@ -116,6 +130,9 @@ impl<'s, 'r, R: Files<File = File> + Net + Clock, G: Sink + Clerk + Drop> LogSpe
             fenced: Telling::new(),
             forged: Telling::new(),
             refused: Telling::new(),
+            unlisted: Telling::new(),
+            own_id: Telling::new(),
+            elsewhere: Telling::new(),
         }
     }
 
@@ -124,6 +141,7 @@ impl<'s, 'r, R: Files<File = File> + Net + Clock, G: Sink + Clerk + Drop> LogSpe
         if !self.is_quiet {
             self.tell_changes(rt);
             self.tell_thrown();
+            self.tell_odd(rt);
             self.tell_refused();
         }
         self.tell_unwritten(rt);
@@ -168,6 +186,33 @@ impl<'s, 'r, R: Files<File = File> + Net + Clock, G: Sink + Clerk + Drop> LogSpe
         }
         if let Some((count, newest)) = self.forged.due(self.rt, &strangers.forged) {
             let notice = Notice::forged(self.rt, newest, count);
+            notice.tell_notice(self.rt, self.alloc, &mut self.log);
+        }
+    }
+
+    /// Tells of messages whose senders aren't as the member table has them, if they are to be told.
+    fn tell_odd<W: Wait>(&mut self, rt: &W) {
+        let Some(odd) = self.counters.bulletin.odd(rt) else {
+            return;
+        };
+        if let Some(message) = self.unlisted.due_of(self.rt, &odd.unlisted) {
+            let notice = Notice::unlisted(self.rt, &message);
+            notice.tell_notice(self.rt, self.alloc, &mut self.log);
+        }
+        if let Some(message) = self.own_id.due_of(self.rt, &odd.own_id) {
+            let notice = Notice::own_id(self.rt, &message);
+            notice.tell_notice(self.rt, self.alloc, &mut self.log);
+        }
+        self.tell_elsewhere(&odd.elsewhere);
+    }
+
+    /// Tells of messages of members that the table has at another address, if they are to be told.
+    fn tell_elsewhere(&mut self, count: &OddCount) {
+        let Some(message) = self.elsewhere.due_of(self.rt, count) else {
+            return;
+        };
+        if let Some(listed) = message.listed {
+            let notice = Notice::elsewhere(self.rt, &message, listed);
             notice.tell_notice(self.rt, self.alloc, &mut self.log);
         }
     }

@@ -16,9 +16,12 @@ returns c =
     let events_is = c.in_ok-arg-3.ensures.shape c.events.ensures.local ∙
     ap₂ with_rule control_is c.events.ensures.rule in
     let events_local = c.in_ok-arg-3.ensures.globals ∙ ap₂ (λ a b. a || b) control_local c.events.ensures.local in
+    let names_is = c.in_ok-arg-4.ensures.shape c.names.ensures.local ∙
+    ap₂ with_rule events_is c.names.ensures.rule in
+    let names_local = c.in_ok-arg-4.ensures.globals ∙ ap₂ (λ a b. a || b) events_local c.names.ensures.local in
     record {
-      app = IfOk-weaker c.arg-4.result _ _
-          (λ r h. h.shape c.names.ensures.local ∙ ap₂ with_rule events_is c.names.ensures.rule) c.arg-4.ensures;
-      local = IfOk-weaker c.arg-4.result _ _ (λ r h. h.globals ∙ ap₂ (λ a b. a || b) events_local c.names.ensures.local)
-          c.arg-4.ensures;
+      app = IfOk-weaker c.arg-5.result _ _
+          (λ r h. h.shape c.journals.ensures.local ∙ ap₂ with_rule names_is c.journals.ensures.rule) c.arg-5.ensures;
+      local = IfOk-weaker c.arg-5.result _ _
+          (λ r h. h.globals ∙ ap₂ (λ a b. a || b) names_local c.journals.ensures.local) c.arg-5.ensures;
     }

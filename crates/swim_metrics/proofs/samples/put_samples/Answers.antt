@@ -20,3 +20,9 @@ returns-in-Dropped-clause-bytes g c = rw (c.in-Dropped.is) c.put_dropped.ensures
 
 pub returns-in-Waits-clause-bytes : goal.returns-in-Waits-clause-bytes
 returns-in-Waits-clause-bytes g c = rw (c.in-Waits.is) c.put_waits.ensures.bytes
+
+pub returns-in-Members-clause-bytes : goal.returns-in-Members-clause-bytes
+returns-in-Members-clause-bytes g c = rw (c.in-Members.is) c.put_members.ensures.bytes
+
+pub returns-in-OddSenders-clause-bytes : goal.returns-in-OddSenders-clause-bytes
+returns-in-OddSenders-clause-bytes g c = rw (c.in-OddSenders.is) c.put_odd.ensures.bytes

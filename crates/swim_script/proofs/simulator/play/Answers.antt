@@ -9,7 +9,7 @@ use Rattle.swim_script.specs.Forms.{form_after}
 use Rattle.swim_script.specs.Holds.{Played, CourseKnown}
 use Rattle.swim_script.proofs.Known.{start_known, next_known, stop_known, long_known, oversize_known, unread_known}
 use Rattle.swim_script.proofs.Known.{unsent_known, ending_known, passed_on, left_known, left_at_fault}
-use Rattle.swim_script.proofs.BytesRead.{reads_known}
+use Rattle.swim_script.proofs.BytesRead.{reads_known, whole_if_ok}
 use Rattle.swim_script.proofs.simulator.play.Goals as goal
 
 pub loop-session-init : goal.loop-session-init
@@ -154,6 +154,14 @@ returns-in_err-turn-in-Line-clause-within g c =
 pub returns-in-Over-clause-within : goal.returns-in-Over-clause-within
 returns-in-Over-clause-within g c =
     reads_known Over (g.R.Source.left c.args.reader.now) (g.R.Source.left c.loop-session.reader)
+    (g.R.Source.left c.next_line.new.reader) (g.W.Sink.written c.args.writer.now)
+    (g.W.Sink.written c.loop-session.writer) c.next_line.new.line.items c.loop-session.form 2048
+    c.loop-session.budget c.next_line.new.budget c.loop-session.session c.loop-session.invariant.course
+    c.in-Over.ensures.takes
+
+pub returns-in-Over-clause-whole : goal.returns-in-Over-clause-whole
+returns-in-Over-clause-whole g c =
+    whole_if_ok c.end.result (g.R.Source.left c.args.reader.now) (g.R.Source.left c.loop-session.reader)
     (g.R.Source.left c.next_line.new.reader) (g.W.Sink.written c.args.writer.now)
     (g.W.Sink.written c.loop-session.writer) c.next_line.new.line.items c.loop-session.form 2048
     c.loop-session.budget c.next_line.new.budget c.loop-session.session c.loop-session.invariant.course

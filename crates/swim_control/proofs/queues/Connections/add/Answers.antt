@@ -9,6 +9,6 @@ where_true P Q false is holds = absurd (cc is)
 
 pub returns-clause-heard : goal.returns-clause-heard
 returns-clause-heard g c is =
-    newcomer_heard c.args.self.now c.take_in.new.self (g.S.Source.left c.args.reader) (g.W.Sink.written c.args.writer)
-    c.args.now
+    newcomer_heard c.args.self.now c.take_in.new.self (g.S.Source.left c.args.reader) (g.S.Source.given c.args.reader)
+    (g.W.Sink.written c.args.writer) c.args.now
     (where_true _ (c.take_in.new.self ≡ c.args.self.now) c.take_in.result is c.take_in.ensures)

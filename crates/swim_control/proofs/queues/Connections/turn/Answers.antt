@@ -16,8 +16,9 @@ returns-clause-heard g c =
     let new = c.take_turn.new.self in
     let desk = c.args.desk.now in
     let after = c.take_turn.new.desk in
-    where_some ((old.talks ≡ []) × (new.talks ≡ []) × (after ≡ desk))
-    (λ (stand : Stand). TakesTurn g.D.Desk.asks c.args.now stand old.talks new.talks desk after)
+    where_some ((old.talks ≡ []) × (new ≡ old) × (after ≡ desk))
+    (λ (stand : Stand). TakesTurn g.D.Desk.asks c.args.now stand old new desk after)
     (λ (stand : Stand). HearsOn g.D.Desk.asks stand old new desk after) c.take_turn.result
-    (λ stand turn. hears_on g.D.Desk.asks c.args.now stand old new desk after turn c.take_turn.ensures.count)
+    (λ stand turn. hears_on g.D.Desk.asks c.args.now stand old new desk after turn.first turn.then_so turn.others
+    turn.was turn.turn turn.are c.take_turn.ensures.count)
     c.take_turn.ensures.turn

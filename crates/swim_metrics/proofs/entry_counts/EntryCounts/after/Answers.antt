@@ -7,16 +7,16 @@ use Rattle.swim_history.specs.Sends.{sends_of}
 use Rattle.swim_history.specs.Waiting.{asked_in}
 use Rattle.swim_events.specs.Watched.{lived_on}
 use Rattle.swim_metrics.specs.Counting.{entries, heard_by_relay, heard_directly, is_heard_by_relay, is_heard_directly}
-use Rattle.swim_metrics.specs.Counting.{is_leaving, is_pinged, is_there}
+use Rattle.swim_metrics.specs.Counting.{comes_late, is_leaving, is_pinged, is_there, late as late_of, late_in}
 use Rattle.swim_metrics.specs.Counting.{judges, leaves, pinged, sends_ask, sends_ping, sent, sent_in, serves}
 use Rattle.swim_metrics.specs.Following.{AreOf}
 use Rattle.swim_metrics.specs.Waiting.{wait_ended, waits, waits_in}
 use Rattle.swim_metrics.proofs.Buckets.{one_more_then}
-use Rattle.swim_metrics.proofs.Counted.{counted_if, counted_of}
+use Rattle.swim_metrics.proofs.Counted.{counted_if, counted_of, late_then}
 use Rattle.swim_metrics.proofs.entry_counts.EntryCounts.after.Goals as goal
 
 pub returns : goal.returns
-returns c = λ life older e calls replies ended held.
+returns c = λ life older e calls replies ended late held.
     let all = entries (life ∷ older) in record {
       ticks = counted_if is_tick e all c.args.self.now.ticks c.more_if.result c.is_tick.result
           (c.is_tick.ensures ∙ ap₂ is_ticking (sym calls) (sym replies)) held.ticks c.more_if.ensures;
@@ -34,23 +34,25 @@ returns c = λ life older e calls replies ended held.
       heard_by_relay = counted_if heard_by_relay e all c.args.self.now.heard_by_relay c.more_if-4.result
           c.is_heard_by_relay.result (c.is_heard_by_relay.ensures ∙ ap₂ is_heard_by_relay (sym calls) (sym replies))
           held.heard_by_relay c.more_if-4.ensures;
+      acks_late = late_then (comes_late life.opening life.past e) c.args.is_late (late_in life.opening life.past)
+          (late_of older) c.args.self.now.acks_late c.more_if-5.result late held.acks_late c.more_if-5.ensures;
       asks_sent = counted_of sends_ask (sends_of e.reply life.opening) (sent (life ∷ older))
           (sent (lived_on life e ∷ older)) c.args.self.now.asks_sent c.more-2.result c.asks_in.result
           (c.asks_in.ensures life.opening ∙
           ap (λ (r : Reply). count_by sends_ask (sends_of r life.opening)) (sym replies))
           (append_assoc (sends_of e.reply life.opening) (sent_in life.opening life.past) (sent older)) held.asks_sent
           c.more-2.ensures;
-      requests_served = counted_if serves e all c.args.self.now.requests_served c.more_if-5.result c.is_served.result
+      requests_served = counted_if serves e all c.args.self.now.requests_served c.more_if-6.result c.is_served.result
           (c.is_served.ensures ∙ ap₂ (λ (a : Call) (r : Reply). is_there (asked_in a r)) (sym calls) (sym replies))
-          held.requests_served c.more_if-5.ensures;
+          held.requests_served c.more_if-6.ensures;
       dropped = c.after.ensures all e replies held.dropped;
-      verdicts = counted_if judges e all c.args.self.now.verdicts c.more_if-6.result c.is_verdict.result
+      verdicts = counted_if judges e all c.args.self.now.verdicts c.more_if-7.result c.is_verdict.result
           (c.is_verdict.ensures ∙ ap (λ (r : Reply). is_there (judged_in r)) (sym replies)) held.verdicts
-          c.more_if-6.ensures;
-      joins = counted_if joins e all c.args.self.now.joins c.more_if-7.result c.is_join.result
-          (c.is_join.ensures ∙ ap₂ is_joining (sym calls) (sym replies)) held.joins c.more_if-7.ensures;
-      removals = counted_if leaves e all c.args.self.now.removals c.more_if-8.result c.is_removal.result
-          (c.is_removal.ensures ∙ ap₂ is_leaving (sym calls) (sym replies)) held.removals c.more_if-8.ensures;
+          c.more_if-7.ensures;
+      joins = counted_if joins e all c.args.self.now.joins c.more_if-8.result c.is_join.result
+          (c.is_join.ensures ∙ ap₂ is_joining (sym calls) (sym replies)) held.joins c.more_if-8.ensures;
+      removals = counted_if leaves e all c.args.self.now.removals c.more_if-9.result c.is_removal.result
+          (c.is_removal.ensures ∙ ap₂ is_leaving (sym calls) (sym replies)) held.removals c.more_if-9.ensures;
       lives = held.lives;
       entries = one_more_then (length life.past) c.args.self.now.entries c.more-3.result held.entries c.more-3.ensures;
       waits = subst (λ ws. AreOf c.after-2.result ws)

@@ -13,6 +13,6 @@ returns-then-put_stats g c =
       c.outside.ensures,
       ap (λ t. t.items) c.into_text.ensures ∙
           (c.if-put_stats.ensures.bytes
-          ∙ (ap (λ (old : List ℕ). old ++ stats_text c.measures.result out) c.new-sink.ensures
+          ∙ (ap (λ (old : List ℕ). old ++ stats_text c.measures.result.now out) c.new-sink.ensures
           ∙ ap (λ m. stats_text m out) c.measures.ensures)),
     )

@@ -1,0 +1,77 @@
+-- What is seen of a journal file that was played.
+use Rattle.std.specs.Prelude.{◌≡◌, ◌↔◌, ◌⊎◌, ◌||◌, ℕ, Bool, List, [], reverse, take, Option, Some, None, IfOk, is_err}
+use Rattle.std.specs.Prelude.{Contains}
+use Rattle.swim_evidence.specs.Evidence.{findings}
+use Rattle.swim_evidence.specs.declared.findings.Evidence.{Evidence}
+use Rattle.swim_evidence.specs.declared.findings.Finding.{Finding}
+use Rattle.swim_evidence.specs.declared.findings.Finding.TheVariants.{Judged}
+use Rattle.swim_evidence.specs.declared.following.Heading.{Heading}
+use Rattle.swim_evidence.specs.declared.sequences.Header.{Header}
+use Rattle.swim_evidence.specs.declared.sequences.Left.{Left}
+use Rattle.swim_evidence.specs.declared.verdicts.Standing.TheVariants.{Sound}
+use Rattle.swim_evidence.specs.declared.verdicts.Verdict.{Verdict}
+use Rattle.swim_evidence.specs.declared.verdicts.Verdict.TheVariants.{Whole, Cut}
+use Rattle.swim_evidence.specs.Verdicts.{IsCut, IsWhole, standing_by}
+use Rattle.swim_history.specs.After.{setting_after}
+use Rattle.swim_history.specs.Storing.Written.{Written}
+use Rattle.swim_script.specs.declared.faults.ScriptFault.{ScriptFault}
+use Rattle.swim_verdicts.specs.declared.examining.Played.{Played}
+use Rattle.swim_verdicts.specs.Verifying.{ends_in_midst, fault_met, has_calls, header_end, wants_memory}
+
+-- what the first entries of a journal tell of judgements, so many of them
+abbrev pub told_by : Option Written → ℕ → List Finding
+told_by None confirmed = []
+told_by (Some journal) confirmed = findings journal.opening (reverse (take confirmed (reverse journal.past)))
+
+-- what is found in a file is what its confirmed entries tell, and nothing of later ones
+abbrev pub FindsConfirmed : Played → Type 0
+FindsConfirmed p = IfOk p.found (λ found. found.findings.items ≡ told_by p.journal p.witness.confirmations.confirmed)
+
+-- the file tells the verdict on that member at the end of that period: its confirmed entries do
+abbrev pub TellsVerdict : Played → ℕ → ℕ → Type 0
+TellsVerdict p member number = (e : Evidence) × (e.member ≡ member) × (e.number ≡ number)
+    × Contains (told_by p.journal p.witness.confirmations.confirmed) (Judged e)
+
+-- memory was refused: to play the file, to keep a time, or to find out what its entries tell
+abbrev pub is_starved : Played → Bool
+is_starved p = wants_memory p.outcome || (is_err p.witness.kept || is_err p.found)
+
+-- the file is whole, by what was played and what its lines confirmed
+abbrev pub IsWholeFile : Played → Type 0
+IsWholeFile p =
+    IsWhole (fault_met p.outcome p.witness.end p.witness.lines) (is_starved p) (ends_in_midst p.outcome p.witness.end)
+    p.witness.confirmations
+
+-- the file is cut
+abbrev pub IsCutFile : Played → Type 0
+IsCutFile p =
+    IsCut (fault_met p.outcome p.witness.end p.witness.lines) (is_starved p) (ends_in_midst p.outcome p.witness.end)
+    p.witness.confirmations
+
+-- the verdict on the file
+pub record IsVerdictOn (p : Played) (v : Verdict ScriptFault) : Type 0 where
+  pub whole : (v ≡ Whole) ↔ IsWholeFile p
+  pub cut : (v ≡ Cut) ↔ IsCutFile p
+  pub sound : (standing_by v ≡ Sound) ↔ (IsWholeFile p ⊎ IsCutFile p)
+
+abbrev pub header_with : Option Written → Option Heading → Played → Option Header
+header_with (Some journal) (Some heading) p =
+    Some (record {
+      opening = journal.opening;
+      heading = heading;
+      end = header_end (has_calls p.witness.confirmations) heading.draw p.witness.end;
+    })
+header_with journal heading p = None
+
+-- the header of the file, where a line told an opening that isn't refused
+abbrev pub header_of : Played → Option Header
+header_of p = header_with p.journal p.witness.heading p
+
+abbrev pub left_with : Option Written → Option Heading → Option Left
+left_with (Some journal) (Some heading) =
+    Some (record { opening = setting_after journal.opening journal.past; heading = heading })
+left_with journal heading = None
+
+-- what its life left
+abbrev pub left_of : Played → Option Left
+left_of p = left_with p.journal p.witness.heading

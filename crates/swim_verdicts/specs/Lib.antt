@@ -1,0 +1,5 @@
+pub mod Meanings
+pub mod Verifying
+pub mod Examined
+pub mod VerdictTexts
+pub mod WholeLines

@@ -1,0 +1,27 @@
+//! Shelves with journal files, in which verdicts are looked up.
+
+ghost use Rattle.std.specs.Prelude.{◌≡◌, ℕ, List};
+
+use swim_text::Page as Text;
+use swim_wire::Id;
+
+/// What a shelf has of a verdict.
+#[derive(Clone, Copy, Debug, PartialEq, Eq)]
+pub enum Found {
+    /// A page about it.
+    Page,
+    /// No file that tells it.
+    Nothing,
+    /// No memory to look for it.
+    NoMemory,
+}
+
+/// Journal files, which are only read.
+pub trait Shelf {
+    // The texts that may be shown of the verdict on a member at the end of a period.
+    ghost tells: { ℕ → ℕ → List ℕ → Type 0 };
+
+    /// Looks for the verdict on a member at the end of the period with this number, and writes a page about it.
+    fn find(&mut self, member: Id, number: u64, page: &mut Text) -> Found
+        ensures { result ≡ Found.Page → tells member number page.new.text };
+}
