@@ -34,5 +34,5 @@ pub use rows::{Change, Row, RowState, Table};
 pub use seats::Kept;
 pub use sending::{own_message, sends};
 pub use swim_wire::{KNOWN_MEMBERS, Order};
-pub use tables::{change_by, table_of};
+pub use tables::{change_by, find_row, table_of};
 pub use texts::{put_gap, put_table};

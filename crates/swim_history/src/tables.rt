@@ -61,8 +61,8 @@ pub(crate) fn apply_change(table: &mut Table, change: &Change)
     }
 }
 
-/// The row of a member.
-pub(crate) fn find_row(rows: &[Row], id: Id) -> Option<Row>
+/// The row of a member in a table, which is ascending by id: of N rows it looks at some log N.
+pub fn find_row(rows: &[Row], id: Id) -> Option<Row>
     requires { IsAscending rows.now }
     ensures { result ≡ row_at rows.now id }
 {

@@ -1,11 +1,12 @@
 //! Messages whose senders aren't as the member table has them.
 
 ghost use Rattle.std.specs.Prelude.{◌≡◌, ◌==◌, [], Some, None, if◌then◌else◌};
+ghost use Rattle.swim_history.specs.Changes.{IsAscending};
 ghost use Rattle.swim_metrics.specs.OddSenders.{count_of, count_then, elsewhere, is_elsewhere, is_same, is_unlisted};
 ghost use Rattle.swim_metrics.specs.OddSenders.{message_if, own_id, place_of, senders_of, senders_then, unlisted};
 
 use crate::counting::more;
-use swim_history::{Call, Row};
+use swim_history::{Call, Row, find_row};
 use swim_wire::{Id, Kind, Message, Peer};
 
 /// A message whose sender isn't as the member table has it.
@@ -50,6 +51,7 @@ impl OddSenders {
 
     /// The same after a call, while the table of this member has these rows.
     pub(crate) fn after(&self, me: Id, rows: &[Row], call: &Call) -> OddSenders
+        requires { IsAscending rows.now }
         ensures { result ≡ senders_then me rows.now call.now self.now }
     {
         match call {
@@ -60,6 +62,7 @@ impl OddSenders {
 
     /// The same after a message.
     fn after_message(&self, me: Id, rows: &[Row], source: &Peer, message: &Message) -> OddSenders
+        requires { IsAscending rows.now }
         ensures unlisted { let listed = place_of message.now.sender rows.now in result.unlisted
             ≡ count_then (message_if (is_unlisted me message.now listed) message.now source.now listed)
             self.now.unlisted }
@@ -113,9 +116,10 @@ impl OddCount {
 
 /// Where the table has a member, if it is known.
 fn place_of(member: Id, rows: &[Row]) -> Option<Peer>
+    requires { IsAscending rows.now }
     ensures { result ≡ place_of member rows.now }
 {
-    rows.iter().find(|row| row.id == member).map(|row| row.peer)
+    find_row(rows, member).map(|row| row.peer)
 }
 
 /// Whether a message is a ping of a sender that is neither known nor this member.
