@@ -1,11 +1,6 @@
 -- What contracts see of connections that are served side by side.
-use Rattle.std.specs.Prelude.{◌≡◌, ℕ, Bool, List, [], Option, Some, None}
+use Rattle.std.specs.Prelude.{ℕ, Bool, List, Option}
 use Rattle.swim_control.specs.declared.serving.Served.{Served}
-
--- no byte has passed, as far as that is known
-abbrev pub IsEmptyKnown : Option (List ℕ) → Type 0
-IsEmptyKnown None = Unit {0}
-IsEmptyKnown (Some bytes) = bytes ≡ []
 
 -- a connection: its number, the bytes that it has left, those that it gave so far, the part of a line that was read of
 -- it, how many reads it has left, what was written for it before it came, and what is by now; when it came, or its last

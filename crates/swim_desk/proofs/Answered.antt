@@ -246,13 +246,13 @@ newcomer_answered b log t heard none = record {
   ended = λ end is. absurd (cc (sym none ∙ is));
 }
 
-pub come_answered : (b : Brought) (log : List Called) (old : Talks) (left given written : Option (List ℕ)) (now : ℕ) →
-    b.text old.count ≡ left → b.old old.count ≡ written → AreAnswered b log old →
-    AreAnswered b log (with_newcomer left given written now old)
-come_answered b log old left given written now text before all =
-    let t : Talk = newcomer old.count left given written now in
-    let heard : AreHeard b log (with_newcomer left given written now old) =
-    newcomer_heard old (with_newcomer left given written now old) left given written now refl b log text before
+pub come_answered : (b : Brought) (log : List Called) (old : Talks) (left : Option (List ℕ)) (now : ℕ) →
+    b.text old.count ≡ left → b.old old.count ≡ Some [] → AreAnswered b log old →
+    AreAnswered b log (with_newcomer left now old)
+come_answered b log old left now text before all =
+    let t : Talk = newcomer old.count left (Some []) (Some []) now in
+    let heard : AreHeard b log (with_newcomer left now old) =
+    newcomer_heard old (with_newcomer left now old) left (Some []) (Some []) now refl b log text before
     (are_heard b log old all) in
     let answered : IsAnswered b log t =
     newcomer_answered b log t (of_last (IsHeard b log) old.talks t heard.heard) refl in

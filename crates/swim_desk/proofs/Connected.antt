@@ -101,14 +101,14 @@ stay_answered o limit (Knocked fault ∷ steps) old new is =
     of_same o limit steps old.connections is.0.connections old.desk is.0.desk new.connections new.desk
     (ap (λ (s : AtControl). s.connections) is.2.0) (ap (λ (s : AtControl). s.desk) is.2.0)
     (stay_answered o limit steps is.0 new is.3)
-stay_answered o limit (Came left given written now ∷ steps) old new is =
-    let come = with_newcomer left given written now old.connections in
+stay_answered o limit (Came left now ∷ steps) old new is =
+    let come = with_newcomer left now old.connections in
     let rest : StayAnswered o limit steps come old.desk new.connections new.desk =
     of_same o limit steps come is.0.connections old.desk is.0.desk new.connections new.desk
     (ap (λ (s : AtControl). s.connections) is.2.0) (ap (λ (s : AtControl). s.desk) is.2.0)
     (stay_answered o limit steps is.0 new is.3) in
     λ b log brings all.
-    rest b log brings.2 (come_answered b log old.connections left given written now brings.0 brings.1 all)
+    rest b log brings.2 (come_answered b log old.connections left now brings.0 brings.1 all)
 stay_answered o limit (Turned now stand ∷ steps) old new is = λ b log brings all.
     let mid = is.0 in
     let turn = turn_answered (Asks o limit) now stand old.connections mid.connections old.desk mid.desk b log is.2.0

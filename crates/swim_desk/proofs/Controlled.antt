@@ -1,5 +1,5 @@
 -- The steps and the turns of the controller, one after the other.
-use Rattle.std.proofs.Common.{◌≡◌, ℕ, Bool, true, false, List, [], ◌∷◌, ◌++◌, length, flat_map, Option, Some, None}
+use Rattle.std.proofs.Common.{◌≡◌, ℕ, ◌+◌, Bool, true, false, List, [], ◌∷◌, ◌++◌, length, flat_map, Option, Some, None}
 use Rattle.std.proofs.Common.{refl, sym, subst, ap, ◌∙◌, inl, inr, append-nil}
 use Rattle.std.specs.Bool.{MatchBool}
 use Rattle.std.proofs.lemmas.Grind.{flat_map-append}
@@ -8,8 +8,8 @@ use Rattle.swim_history.specs.declared.seats.Kept.{Kept}
 use Rattle.swim_history.specs.Setting.{Setting}
 use Rattle.swim_node.specs.Seats.{Seated}
 use Rattle.swim_control.specs.declared.connections.Stand.{Stand}
-use Rattle.swim_control.specs.Connections.{TakesTurn}
-use Rattle.swim_control.specs.Talks.{IsEmptyKnown, Talks}
+use Rattle.swim_control.specs.Connections.{TakesTurn, newcomer}
+use Rattle.swim_control.specs.Talks.{Talks}
 use Rattle.swim_work.specs.declared.counts.Why.{Why}
 use Rattle.swim_work.specs.declared.workers.End.{End}
 use Rattle.swim_work.specs.Callers.{fresh_seat}
@@ -46,21 +46,37 @@ nobody_came before after old row later grown none = record {
       (at_control old desk later) (refl, (none, refl));
 }
 
+-- the connections with one of which this was given, and for which this was written
+abbrev with_one : Option (List ℕ) → Option (List ℕ) → Option (List ℕ) → ℕ → Talks → Talks
+with_one left given written now old = record {
+  talks = old.talks ++ newcomer old.count left given written now ∷ [];
+  count = old.count + 1;
+  closed = old.closed;
+}
+
+-- of the new one it is known that both are nothing
+with_new : (old new : Talks) (left given written : Option (List ℕ)) (now : ℕ) → given ≡ Some [] → written ≡ Some [] →
+    new ≡ with_one left given written now old → new ≡ with_newcomer left now old
+with_new old new left given written now none blank is =
+    is ∙ (ap (λ (g : Option (List ℕ)). with_one left g written now old) none
+    ∙ ap (λ (w : Option (List ℕ)). with_one left (Some []) w now old) blank)
+
 -- somebody came, and was let in, where there was memory
 pub somebody_came : (before after : Option (List Bool)) (old new : Talks) (row later : ℕ)
     (left given written : Option (List ℕ)) (now : ℕ) (is_in : Bool) →
-    Grows before after (false ∷ []) → later ≡ 0 → IsEmptyKnown given × IsEmptyKnown written →
-    MatchBool is_in (new ≡ with_newcomer left given written now old) (new ≡ old) →
+    Grows before after (false ∷ []) → later ≡ 0 → (given ≡ Some []) × (written ≡ Some []) →
+    MatchBool is_in (new ≡ with_one left given written now old) (new ≡ old) →
     LetsIn before after old row None new later
 somebody_came before after old new row later left given written now true grown none blank is = record {
-  steps = Knocked false ∷ Came left given written now ∷ [];
-  once = inr (false, Came left given written now ∷ [], refl, refl);
+  steps = Knocked false ∷ Came left now ∷ [];
+  once = inr (false, Came left now ∷ [], refl, refl);
   grown = grown;
   ends = λ o limit desk. (
     at_control old desk later,
     (refl, (none, refl)),
-    ends_with_one (TakesStep o limit) (Came left given written now) (at_control old desk later) None
-        (at_control new desk later) (ap (λ c. at_control c desk later) is, refl, blank.0, blank.1),
+    ends_with_one (TakesStep o limit) (Came left now) (at_control old desk later) None
+        (at_control new desk later)
+        (ap (λ c. at_control c desk later) (with_new old new left given written now blank.0 blank.1 is), refl),
   );
 }
 somebody_came before after old new row later left given written now false grown none blank is =
@@ -87,7 +103,7 @@ none_served o limit old = record { steps = []; none = refl; ends = refl }
 knocks_both : (xs ys : List Step) → knocks_in (xs ++ ys) ≡ knocks_in xs ++ knocks_in ys
 knocks_both [] ys = refl
 knocks_both (Knocked fault ∷ xs) ys = ap (λ l. fault ∷ l) (knocks_both xs ys)
-knocks_both (Came left given written now ∷ xs) ys = knocks_both xs ys
+knocks_both (Came left now ∷ xs) ys = knocks_both xs ys
 knocks_both (Turned now stand ∷ xs) ys = knocks_both xs ys
 
 no_knock : (xs ys : List Step) → knocks_in xs ≡ [] → knocks_in ys ≡ [] → knocks_in (xs ++ ys) ≡ []

@@ -29,7 +29,7 @@ step_ended : (o : Setting) (limit : ℕ) (step : Step) (old : AtControl) (why : 
 step_ended o limit (Knocked true) old why new other is =
     absurd (other (shut_out why old.connections.talks old.row new.row is.1))
 step_ended o limit (Knocked false) old why new other is = absurd (cc is.1.1)
-step_ended o limit (Came left given written now) old why new other is = absurd (cc is.1)
+step_ended o limit (Came left now) old why new other is = absurd (cc is.1)
 step_ended o limit (Turned now stand) old why new other is =
     (now, stand, old.connections, old.desk, new.desk, is.0, sym is.3)
 

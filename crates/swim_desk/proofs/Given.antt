@@ -1,25 +1,25 @@
 -- What one connection gave stays answered with its turn.
-use Rattle.std.proofs.Common.{◌≡◌, ◌≢◌, ℕ, ◌<◌, List, [], ◌++◌, Option, Some, None, refl, sym, ap, subst, ◌∙◌, ◌⊎◌, inl}
-use Rattle.std.proofs.Common.{inr, append_assoc, append-nil}
-use Rattle.std.specs.Io.KnownBytes.{append_known}
+use Rattle.std.proofs.Common.{◌≡◌, ◌≢◌, ℕ, ◌<◌, List, [], ◌∷◌, ◌++◌, Option, Some, None, refl, sym, ap, subst, ◌∙◌, ◌⊎◌}
+use Rattle.std.proofs.Common.{inl, inr, append_assoc, append-nil}
+use Rattle.std.specs.Io.KnownBytes.{Appends, append_known}
 use Rattle.std.specs.List.{AllByRecursion}
 use Rattle.std.proofs.lemmas.Option.{same_Some}
 use Rattle.swim_text.specs.ShortLines.{IsTaken, IsTakenKnown, none_taken}
-use Rattle.swim_text.specs.Streams.{append_none}
 use Rattle.swim_control.specs.declared.connections.Close.TheVariants as closes
 use Rattle.swim_control.specs.declared.connections.Stand.{Stand}
 use Rattle.swim_control.specs.declared.connections.Stand.TheVariants as stands
 use Rattle.swim_control.specs.declared.desks.DeskCommand.{DeskCommand}
 use Rattle.swim_control.specs.declared.serving.Served.{Served}
+use Rattle.swim_control.specs.declared.serving.Served.TheVariants as finals
 use Rattle.swim_control.specs.Connections.{Turns, TurnsOnGiven, newcomer, with_left}
 use Rattle.swim_control.specs.Desks.{Told}
-use Rattle.swim_control.specs.Serving.{Course, CourseKnown, IsServedKnown}
-use Rattle.swim_control.specs.SideBySide.{Brought, Called, IsHeard, Joins, Leads, calls_by}
-use Rattle.swim_control.specs.Talks.{IsEmptyKnown, Talk}
+use Rattle.swim_control.specs.Serving.{AreCutOff, Course, CourseKnown, Ends, IsServedKnown, lines_of}
+use Rattle.swim_control.specs.SideBySide.{Called, Joins, Leads, calls_by}
+use Rattle.swim_control.specs.Talks.{Talk}
 use Rattle.swim_control.proofs.Heard.{no_calls}
 use Rattle.swim_control.proofs.Known.{start_known}
 use Rattle.swim_desk.specs.Connected.{IsAnswered}
-use Rattle.swim_desk.specs.Given.{IsAnsweredSoFar, brings_given}
+use Rattle.swim_desk.specs.Given.{IsAnsweredSoFar, brings}
 use Rattle.swim_desk.proofs.Answered.{AnswersOn, answers_on, still_answered}
 use Rattle.swim_desk.proofs.Since.{count_of, turn_counted}
 
@@ -56,39 +56,83 @@ HasCome asks text left part first now old new after =
     (start : Option (List ℕ)) × (reads : ℕ) × CourseKnown asks text start first now old new reads
     × IsTakenKnown start left part 128 reads after
 
-come_more : {S : Type 0} (asks : S → DeskCommand → Told → S → Type 0) (given start : Option (List ℕ))
+come_more : {S : Type 0} (asks : S → DeskCommand → Told → S → Type 0) (text : List ℕ) (start : Option (List ℕ))
     (bytes part : List ℕ) (first now : S) (old new : Option (List ℕ)) (reads after : ℕ) →
-    CourseKnown asks given start first now old new reads → IsTakenKnown start (Some []) part 128 reads after →
-    HasCome asks (append_known given bytes) (Some bytes) part first now old new after
-come_more asks None start bytes part first now old new reads after c t = (None, reads, tt, tt)
-come_more asks (Some text) None bytes part first now old new reads after c t = absurd c
-come_more asks (Some text) (Some rest) bytes part first now old new reads after c t = (
+    CourseKnown asks (Some text) start first now old new reads → IsTakenKnown start (Some []) part 128 reads after →
+    HasCome asks (Some (text ++ bytes)) (Some bytes) part first now old new after
+come_more asks text None bytes part first now old new reads after c t = absurd c
+come_more asks text (Some rest) bytes part first now old new reads after c t = (
   Some (rest ++ bytes),
   reads,
   course_more asks text rest bytes first now old new reads c,
   part_more rest bytes part reads after t,
 )
 
--- a connection that brings some bytes more than it gave so far
-abbrev brings_more : Talk → List ℕ → Brought
-brings_more t bytes = record { text = λ id. append_known t.given bytes; old = λ id. t.old }
-
-answered_more : (log : List Called) (t : Talk) (bytes : List ℕ) → (t.end ≡ None) ⊎ (bytes ≡ []) →
-    IsAnswered (brings_given t) log (with_left [] t) → IsAnswered (brings_more t bytes) log (with_left bytes t)
-answered_more log t bytes which is = record {
+answered_more : (log : List Called) (t : Talk) (given bytes : List ℕ) → (t.end ≡ None) ⊎ (bytes ≡ []) →
+    IsAnswered (brings given) log (with_left [] t) → IsAnswered (brings (given ++ bytes)) log (with_left bytes t)
+answered_more log t given bytes which is = record {
   heard = λ serves.
       let was = is.heard serves in
-      come_more (Joins t.id) t.given was.0 bytes t.part [] (calls_by t.id log) t.old t.written was.1 t.reads was.2
+      come_more (Joins t.id) given was.0 bytes t.part [] (calls_by t.id log) (Some []) t.written was.1 t.reads was.2
       was.3;
   ended = λ end ends. elim which [
     | inl serves ↦ absurd (cc (sym serves ∙ ends))
     | inr none ↦
-        subst (λ (l : List ℕ). IsServedKnown (Joins t.id) (append_known t.given l) (Some l) [] (calls_by t.id log) t.old
+        subst (λ (l : List ℕ). IsServedKnown (Joins t.id) (Some (given ++ l)) (Some l) [] (calls_by t.id log) (Some [])
         t.written end) (sym none)
-        (subst (λ (g : Option (List ℕ)). IsServedKnown (Joins t.id) g (Some []) [] (calls_by t.id log) t.old t.written
-        end) (append_none t.given) (is.ended end ends))
+        (subst (λ (g : List ℕ). IsServedKnown (Joins t.id) (Some g) (Some []) [] (calls_by t.id log) (Some [])
+        t.written end) (sym (append-nil given)) (is.ended end ends))
   ];
 }
+
+-- ---- what was written
+
+-- it is known
+abbrev IsKnown : Option (List ℕ) → Type 0
+IsKnown bytes = (known : List ℕ) × (bytes ≡ Some known)
+
+appended_known : (old new : Option (List ℕ)) (text : List ℕ) → IsKnown old → Appends old new text → IsKnown new
+appended_known None new text known is = absurd (cc known.1)
+appended_known (Some old) None text known is = absurd is
+appended_known (Some old) (Some new) text known is = (new, refl)
+
+cut_known : (lines : List (List ℕ)) (told : List Told) (old new : Option (List ℕ)) → IsKnown old →
+    AreCutOff lines told old new → IsKnown new
+cut_known [] told old new known is = appended_known old new [] known is
+cut_known (line ∷ before) told old new known is = appended_known old new _ known is.written
+
+ends_known : (end : Served) (read part rest : List ℕ) (told : List Told) (old new : Option (List ℕ)) → IsKnown old →
+    Ends end read part rest told old new → IsKnown new
+ends_known finals.Ended read part rest told old new known is = appended_known old new _ known is.4
+ends_known finals.Unended read part rest told old new known is = appended_known old new _ known is.4
+ends_known finals.TooLong read part rest told old new known is = appended_known old new _ known is.3
+ends_known finals.Stopped read part rest told old new known is = appended_known old new _ known is.2
+ends_known finals.JournalFull read part rest told old new known is = appended_known old new _ known is.2
+ends_known finals.ReadFault read part rest told old new known is = appended_known old new _ known is.2
+ends_known finals.WriteFault read part rest told old new known is =
+    cut_known (lines_of read) told old new known is.1
+
+course_known : {S : Type 0} (asks : S → DeskCommand → Told → S → Type 0) (text : List ℕ) (start : Option (List ℕ))
+    (first now : S) (old new : Option (List ℕ)) (reads : ℕ) → IsKnown old →
+    CourseKnown asks (Some text) start first now old new reads → IsKnown new
+course_known asks text None first now old new reads known is = absurd is
+course_known asks text (Some rest) first now old new reads known is = appended_known old new _ known is.written
+
+served_known : {S : Type 0} (asks : S → DeskCommand → Told → S → Type 0) (text rest : List ℕ) (first last : S)
+    (old new : Option (List ℕ)) (end : Served) → IsKnown old →
+    IsServedKnown asks (Some text) (Some rest) first last old new end → IsKnown new
+served_known asks text rest first last old new end known is =
+    ends_known end is.read is.part rest is.told old new known is.ends
+
+written_known : (log : List Called) (given : List ℕ) (t : Talk) → IsAnswered (brings given) log (with_left [] t) →
+    IsKnown t.written
+written_known log given t is = by t.end refl where
+  by : (end : Option Served) → t.end ≡ end → IsKnown t.written
+  by None none =
+      let serves = is.heard none in
+      course_known (Joins t.id) given serves.0 [] (calls_by t.id log) (Some []) t.written serves.1 ([], refl) serves.2
+  by (Some end) ends =
+      served_known (Joins t.id) given [] [] (calls_by t.id log) (Some []) t.written end ([], refl) (is.ended end ends)
 
 -- ---- a turn
 
@@ -133,10 +177,11 @@ given_on asks desk after log now stand old new given is =
       | inl serves ↦ inl serves
       | inr still ↦ inr (sym (same_Some [] bytes still))
     ] in
-    let was = answered_more log old bytes which is.answered in
+    let was = answered_more log old is.given bytes which is.answered in
     let c = turn_counted asks desk after (count_of log) now stand (with_left bytes old) (with_left [] new) given.2 in
-    let o = answers_on asks desk after (brings_more old bytes) log now stand (with_left bytes old) (with_left [] new) c
-    was in
+    let o = answers_on asks desk after (brings (is.given ++ bytes)) log now stand (with_left bytes old)
+    (with_left [] new) c was in
+    let written = written_known (o.more ++ log) (is.given ++ bytes) new o.answered in
     record {
       more = o.more;
       leads = o.leads;
@@ -144,12 +189,12 @@ given_on asks desk after log now stand old new given is =
       mine = o.mine;
       same = o.same;
       answered = record {
-        answered = subst (λ (g : Option (List ℕ)). IsAnswered (record { text = λ id. g; old = λ id. new.old })
-            (o.more ++ log) (with_left [] new)) (sym given.1)
-            (subst (λ (w : Option (List ℕ)). IsAnswered
-            (record { text = λ id. append_known old.given bytes; old = λ id. w }) (o.more ++ log) (with_left [] new))
-            (sym keeps.0) o.answered);
-        began = subst IsEmptyKnown (sym keeps.0) is.began;
+        given = is.given ++ bytes;
+        is_given = given.1 ∙ ap (λ (g : Option (List ℕ)). append_known g bytes) is.is_given;
+        written = written.0;
+        is_written = written.1;
+        began = keeps.0 ∙ is.began;
+        answered = o.answered;
       };
     }
 
@@ -158,26 +203,32 @@ given_on asks desk after log now stand old new given is =
 pub given_still : (log after : List Called) (t : Talk) → calls_by t.id after ≡ calls_by t.id log →
     IsAnsweredSoFar log t → IsAnsweredSoFar after t
 given_still log after t same is = record {
-  answered = still_answered (brings_given t) log after (with_left [] t) same is.answered;
+  given = is.given;
+  is_given = is.is_given;
+  written = is.written;
+  is_written = is.is_written;
   began = is.began;
+  answered = still_answered (brings is.given) log after (with_left [] t) same is.answered;
 }
 
 -- ---- who comes
 
-come_new : {S : Type 0} (asks : S → DeskCommand → Told → S → Type 0) (given written : Option (List ℕ)) (first : S) →
-    IsEmptyKnown given → HasCome asks given (Some []) [] first first written written 1048576
-come_new asks None written first none = (None, 1048576, tt, tt)
-come_new asks (Some bytes) written first none = subst (λ (l : List ℕ).
-    HasCome asks (Some l) (Some []) [] first first written written 1048576) (sym none)
-    (Some [], 1048576, start_known asks (Some []) first written, none_taken (Some []) [] 128 1048576 refl)
+come_new : {S : Type 0} (asks : S → DeskCommand → Told → S → Type 0) (first : S) →
+    HasCome asks (Some []) (Some []) [] first first (Some []) (Some []) 1048576
+come_new asks first =
+    (Some [], 1048576, start_known asks (Some []) first (Some []), none_taken (Some []) [] 128 1048576 refl)
 
-pub newcomer_given : (log : List Called) (count : ℕ) (left given written : Option (List ℕ)) (now : ℕ) →
-    AllByRecursion (λ (c : Called). c.by < count) log → IsEmptyKnown given → IsEmptyKnown written →
-    IsAnsweredSoFar log (newcomer count left given written now)
-newcomer_given log count left given written now called none unwritten = record {
+pub newcomer_given : (log : List Called) (count : ℕ) (left : Option (List ℕ)) (now : ℕ) →
+    AllByRecursion (λ (c : Called). c.by < count) log →
+    IsAnsweredSoFar log (newcomer count left (Some []) (Some []) now)
+newcomer_given log count left now called = record {
+  given = [];
+  is_given = refl;
+  written = [];
+  is_written = refl;
+  began = refl;
   answered = record {
-    heard = λ serves. rw (no_calls count log called) (come_new (Joins count) given written [] none);
+    heard = λ serves. rw (no_calls count log called) (come_new (Joins count) []);
     ended = λ end ends. absurd (cc ends);
   };
-  began = unwritten;
 }

@@ -15,7 +15,7 @@ use Rattle.swim_control.specs.declared.desks.DeskCommand.{DeskCommand}
 use Rattle.swim_control.specs.Connections.{TakesTurn, closed_with, kept_at, newcomer}
 use Rattle.swim_control.specs.Desks.{Told}
 use Rattle.swim_control.specs.SideBySide.{Brought, Called, Leads, calls_by}
-use Rattle.swim_control.specs.Talks.{IsEmptyKnown, Talk, Talks}
+use Rattle.swim_control.specs.Talks.{Talk, Talks}
 use Rattle.swim_work.specs.declared.workers.End.{End}
 use Rattle.swim_work.specs.Callers.{fresh_seat}
 use Rattle.swim_desk.specs.Connected.{AnswersLines, AreAnswered, BecomeSo, BringsSo, unmade_in}
@@ -204,12 +204,11 @@ having_with id talks closed t one =
     let w = having_both id talks closed in
     omega (arith, x, y, z, w, one)
 
-come_given : (log : List Called) (old : Talks) (left given written : Option (List ℕ)) (now : ℕ) →
-    IsEmptyKnown given → IsEmptyKnown written → AreAnsweredSoFar log old →
-    AreAnsweredSoFar log (with_newcomer left given written now old)
-come_given log old left given written now none unwritten all =
-    let t : Talk = newcomer old.count left given written now in
-    let is = newcomer_given log old.count left given written now all.called none unwritten in
+come_given : (log : List Called) (old : Talks) (left : Option (List ℕ)) (now : ℕ) → AreAnsweredSoFar log old →
+    AreAnsweredSoFar log (with_newcomer left now old)
+come_given log old left now all =
+    let t : Talk = newcomer old.count left (Some []) (Some []) now in
+    let is = newcomer_given log old.count left now all.called in
     record {
       served = with_one (IsAnsweredSoFar log) t all.served is;
       once = λ id within. having_with id old.talks old.closed t (elim (eqb_tells old.count id) [
@@ -277,13 +276,13 @@ stay_given o limit (Knocked fault ∷ steps) old new is =
     of_same o limit old.connections is.0.connections old.desk is.0.desk new.connections new.desk
     (ap (λ (s : AtControl). s.connections) is.2.0) (ap (λ (s : AtControl). s.desk) is.2.0)
     (stay_given o limit steps is.0 new is.3)
-stay_given o limit (Came left given written now ∷ steps) old new is =
-    let come = with_newcomer left given written now old.connections in
+stay_given o limit (Came left now ∷ steps) old new is =
+    let come = with_newcomer left now old.connections in
     let rest : StayGiven o limit come old.desk new.connections new.desk =
     of_same o limit come is.0.connections old.desk is.0.desk new.connections new.desk
     (ap (λ (s : AtControl). s.connections) is.2.0) (ap (λ (s : AtControl). s.desk) is.2.0)
     (stay_given o limit steps is.0 new is.3) in
-    λ log all. rest log (come_given log old.connections left given written now is.2.2 is.2.3 all)
+    λ log all. rest log (come_given log old.connections left now all)
 stay_given o limit (Turned now stand ∷ steps) old new is = λ log all.
     let mid = is.0 in
     let turn = turn_given (Asks o limit) now stand old.connections mid.connections old.desk mid.desk log is.2.0 is.2.1

@@ -74,8 +74,8 @@ pub record AreAnswered (b : Brought) (log : List Called) (all : Talks) : Type 0 
 abbrev pub BringsSo : Brought → ℕ → List Step → Type 0
 BringsSo b number [] = Unit {0}
 BringsSo b number (Knocked fault ∷ steps) = BringsSo b number steps
-BringsSo b number (Came left given written now ∷ steps) =
-    (b.text number ≡ left) × (b.old number ≡ written) × BringsSo b (number + 1) steps
+BringsSo b number (Came left now ∷ steps) =
+    (b.text number ≡ left) × (b.old number ≡ Some []) × BringsSo b (number + 1) steps
 BringsSo b number (Turned now stand ∷ steps) = BringsSo b number steps
 
 -- ---- a life

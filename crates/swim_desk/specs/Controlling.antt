@@ -1,12 +1,12 @@
 -- What the controller does in a life, step by step.
 use Rattle.std.specs.Prelude.{◌≡◌, ◌⊎◌, ℕ, ◌+◌, ◌-◌, ◌^◌, ◌<◌, ◌≤◌, Bool, true, false, List, [], ◌∷◌, ◌++◌, length}
-use Rattle.std.specs.Prelude.{flat_map, Option, None}
+use Rattle.std.specs.Prelude.{flat_map, Option, Some, None}
 use Rattle.swim_history.specs.declared.rows.Change.{Change}
 use Rattle.swim_history.specs.Setting.{Setting}
 use Rattle.swim_node.specs.Seats.{Seated}
 use Rattle.swim_control.specs.declared.connections.Stand.{Stand}
 use Rattle.swim_control.specs.Connections.{TakesTurn, newcomer}
-use Rattle.swim_control.specs.Talks.{IsEmptyKnown, Talks}
+use Rattle.swim_control.specs.Talks.{Talks}
 use Rattle.swim_work.specs.declared.counts.Why.{Why}
 use Rattle.swim_work.specs.declared.workers.End.{End}
 use Rattle.swim_work.specs.Callers.{fresh_seat, nothing}
@@ -16,11 +16,11 @@ use Rattle.swim_work.specs.Turns.{EndsSo}
 use Rattle.swim_desk.specs.Desk.{Asks, AtDesk}
 use Rattle.swim_desk.specs.Ending.{why_at}
 
--- a step: the door was asked, and was out of order or not; a connection came, which brings this, and of which this was
--- given and for which this was written before; or a connection had its turn, and stood so then
+-- a step: the door was asked, and was out of order or not; a connection came, which brings this; or one had its turn,
+-- and stood so then
 pub data Step : Type 0 where
   Knocked : (fault : Bool) → Step
-  Came : (left given written : Option (List ℕ)) (now : ℕ) → Step
+  Came : (left : Option (List ℕ)) (now : ℕ) → Step
   Turned : (now : ℕ) (stand : Stand) → Step
 
 -- what is true between two steps: the connections, the desk, and how many faults the door gave in a row
@@ -42,10 +42,11 @@ abbrev pub Knocks : ℕ → Bool → ℕ → Option Why → ℕ → Type 0
 Knocks connections true old end new = ShutsOut connections old end new
 Knocks connections false old end new = (new ≡ 0) × (end ≡ None)
 
--- the connections with one that came
-abbrev pub with_newcomer : Option (List ℕ) → Option (List ℕ) → Option (List ℕ) → ℕ → Talks → Talks
-with_newcomer left given written now old = record {
-  talks = old.talks ++ newcomer old.count left given written now ∷ [];
+-- the connections with one that came, and of which it is known that it gave nothing yet, and that nothing was written
+-- for it
+abbrev pub with_newcomer : Option (List ℕ) → ℕ → Talks → Talks
+with_newcomer left now old = record {
+  talks = old.talks ++ newcomer old.count left (Some []) (Some []) now ∷ [];
   count = old.count + 1;
   closed = old.closed;
 }
@@ -54,9 +55,8 @@ with_newcomer left given written now old = record {
 abbrev pub TakesStep : Setting → ℕ → Step → AtControl → Option Why → AtControl → Type 0
 TakesStep o limit (Knocked fault) old end new =
     (new ≡ record old { row = new.row }) × Knocks (length old.connections.talks) fault old.row end new.row
-TakesStep o limit (Came left given written now) old end new =
-    (new ≡ record old { connections = with_newcomer left given written now old.connections }) × (end ≡ None)
-    × IsEmptyKnown given × IsEmptyKnown written
+TakesStep o limit (Came left now) old end new =
+    (new ≡ record old { connections = with_newcomer left now old.connections }) × (end ≡ None)
 TakesStep o limit (Turned now stand) old end new =
     TakesTurn (Asks o limit) now stand old.connections new.connections old.desk new.desk
     × (new.connections.count ≡ old.connections.count) × (new.row ≡ old.row) × (end ≡ why_at stand)
@@ -65,7 +65,7 @@ TakesStep o limit (Turned now stand) old end new =
 abbrev pub knocks_in : List Step → List Bool
 knocks_in [] = []
 knocks_in (Knocked fault ∷ steps) = fault ∷ knocks_in steps
-knocks_in (Came left given written now ∷ steps) = knocks_in steps
+knocks_in (Came left now ∷ steps) = knocks_in steps
 knocks_in (Turned now stand ∷ steps) = knocks_in steps
 
 -- there is no place for another connection

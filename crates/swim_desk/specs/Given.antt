@@ -1,27 +1,31 @@
 -- What connections gave so far, line by line: how it was answered, and which calls of a seat their lines became.
-use Rattle.std.specs.Prelude.{◌≡◌, ℕ, ◌-◌, ◌^◌, ◌<◌, ◌==◌, min, List, [], ◌++◌}
+use Rattle.std.specs.Prelude.{◌≡◌, ℕ, ◌-◌, ◌^◌, ◌<◌, ◌==◌, min, List, [], ◌++◌, Some}
 use Rattle.std.specs.List.{AllByRecursion, count_by}
 use Rattle.swim_history.specs.declared.rows.Change.{Change}
 use Rattle.swim_history.specs.Setting.{Setting}
 use Rattle.swim_node.specs.Seats.{Seated}
 use Rattle.swim_control.specs.Connections.{with_left}
 use Rattle.swim_control.specs.SideBySide.{Brought, Called, Leads}
-use Rattle.swim_control.specs.Talks.{IsEmptyKnown, Talk, Talks}
+use Rattle.swim_control.specs.Talks.{Talk, Talks}
 use Rattle.swim_work.specs.Callers.{fresh_seat}
 use Rattle.swim_desk.specs.Connected.{BecomeSo, IsAnswered, unmade_in}
 use Rattle.swim_desk.specs.Controlling.{at_desk}
 use Rattle.swim_desk.specs.Desk.{Asks}
 
--- a connection brings what it gave so far, and what was written for it before is what was when it came
-abbrev pub brings_given : Talk → Brought
-brings_given t = record { text = λ id. t.given; old = λ id. t.old }
+-- a connection brings these bytes, and nothing was written for it before
+abbrev pub brings : List ℕ → Brought
+brings bytes = record { text = λ id. Some bytes; old = λ id. Some [] }
 
--- the whole lines of all that a connection gave so far were answered by its calls, one line after the other, and a part
--- of the next was read; what was written for it are these answers, and nothing was before. If serving it ended, it was
--- served to that end
+-- what a connection gave so far is known, and so is what was written for it, which was nothing when it came. The whole
+-- lines of all that it gave were answered by its calls, one line after the other, and a part of the next was read; what
+-- was written are these answers. If serving it ended, it was served to that end
 pub record IsAnsweredSoFar (log : List Called) (t : Talk) : Type 0 where
-  pub answered : IsAnswered (brings_given t) log (with_left [] t)
-  pub began : IsEmptyKnown t.old
+  pub given : List ℕ
+  pub is_given : t.given ≡ Some given
+  pub written : List ℕ
+  pub is_written : t.written ≡ Some written
+  pub began : t.old ≡ Some []
+  pub answered : IsAnswered (brings given) log (with_left [] t)
 
 -- all connections that have come, those that were closed as they were then
 abbrev pub all_come : Talks → List Talk

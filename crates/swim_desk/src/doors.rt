@@ -34,7 +34,8 @@ pub trait Door {
     /// Where the answers to them go. What it can't hand on at once, it holds back.
     type Writer: Sink + Drop;
 
-    /// The next connection, if one has come. It gave nothing yet, and nothing was written for it.
+    /// The next connection, if one has come. It gave nothing yet, and nothing was written for it. Both are known, and so
+    /// is all that passes through its ends later.
     fn next<R: Wait>(&mut self, rt: &R) -> Knock<Self::Reader, Self::Writer>
         ensures noted { Grows (faults self.old) (faults self.new) (is_fault result ∷ []) }
         ensures newcomer { ComesNew Self.Reader.given Self.Writer.written result };

@@ -17,8 +17,8 @@ ghost use Rattle.swim_desk.specs.Given.{AnswersGiven, AreAnsweredSoFar};
 /// Each whole line that a connection brought, in order, became exactly its calls of the controller's seat, with the reply
 /// that it was answered: a join and a removal one call, unless the node refused it, and every other line none. The seat
 /// made no other call. A connection may come in one life and bring lines in the next ones, too. Clause `life` says that
-/// of connections whose bytes are known when they come, and of the bytes that connections gave so far, where these are
-/// noted.
+/// of connections whose bytes are known when they come, and of the bytes that connections gave so far, which are known of
+/// each.
 pub fn each_line_is_called()
     ensures none { (b : Brought) → AreAnswered b [] (record { talks = []; count = 0; closed = [] }) }
     ensures none_given { AreAnsweredSoFar [] (record { talks = []; count = 0; closed = [] }) }

@@ -134,7 +134,7 @@ none_held put left rest none was empty is =
 pub new_comes : (knock : Knock AtSource AtSink) → IsNew knock →
     ComesNew (λ (reader : AtSource). Some reader.taken) (λ (writer : AtSink). Some writer.put) knock
 new_comes (Conn reader writer) is =
-    (ap (λ (r : AtSource). r.taken) is.0, ap (λ (w : AtSink). w.put) is.1)
+    (ap (λ (r : AtSource). Some r.taken) is.0, ap (λ (w : AtSink). Some w.put) is.1)
 new_comes Idle is = tt
 new_comes Refused is = tt
 new_comes Fault is = tt

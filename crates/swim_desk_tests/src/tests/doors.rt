@@ -2,7 +2,7 @@
 
 ghost use Rattle.std.specs.Prelude.{None};
 
-use super::operators::{Room, Screen, Typed, Who};
+use super::operators::{Keyboard, Room, Screen, Typed, Who};
 use std::alloc::{AllocError, Global};
 use std::sync::Wait;
 use std::sync::atomic::Ordering;
@@ -13,7 +13,7 @@ use swim_desk::{Door, Knock};
 #[derive(Drop)]
 pub struct Row<'s> {
     /// What it answers next stands last.
-    knocks: Vec<Knock<Typed, Screen<'s>>>,
+    knocks: Vec<Knock<Typed, Who>>,
     room: &'s Room,
     rest: u32,
 }
@@ -30,8 +30,7 @@ impl<'s> Row<'s> {
 
     /// Puts an operator before all others, who types these lines.
     pub fn operator(&mut self, who: Who, typed: Typed) -> Result<(), AllocError> {
-        let screen = Screen::new(self.room, who);
-        self.knocks.push(Knock::Conn(typed, screen))?;
+        self.knocks.push(Knock::Conn(typed, who))?;
         Ok(())
     }
 
@@ -57,6 +56,15 @@ impl<'s> Row<'s> {
         Ok(())
     }
 
+    // Nothing stands in the row any more.
+    fn rest_or_end(&mut self) {
+        if self.rest == 0 {
+            self.room.over.store(true, Ordering::SeqCst);
+        } else {
+            self.rest -= 1;
+        }
+    }
+
     /// How many answers are left in the row.
     pub fn left(&self) -> usize {
         self.knocks.len()
@@ -66,21 +74,23 @@ impl<'s> Row<'s> {
 impl<'s> Door for Row<'s> {
     ghost faults = { λ door. None };
 
-    type Reader = Typed;
+    type Reader = Keyboard;
 
     type Writer = Screen<'s>;
 
-    #[tactic(auto, using(swim_desk::specs::Doors::unknown_comes_new))]
-    fn next<R: Wait>(&mut self, _rt: &R) -> Knock<Typed, Screen<'s>> {
-        if let Some(knock) = self.knocks.pop() {
-            return knock;
+    fn next<R: Wait>(&mut self, _rt: &R) -> Knock<Keyboard, Screen<'s>> {
+        match self.knocks.pop() {
+            Some(Knock::Conn(typed, who)) => {
+                Knock::Conn(Keyboard::of(typed), Screen::new(self.room, who))
+            }
+            Some(Knock::Idle) => Knock::Idle,
+            Some(Knock::Refused) => Knock::Refused,
+            Some(Knock::Fault) => Knock::Fault,
+            None => {
+                self.rest_or_end();
+                Knock::Idle
+            }
         }
-        if self.rest == 0 {
-            self.room.over.store(true, Ordering::SeqCst);
-        } else {
-            self.rest -= 1;
-        }
-        Knock::Idle
     }
 
     fn wait<R: Wait>(&mut self, _rt: &R) {}

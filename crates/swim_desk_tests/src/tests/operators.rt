@@ -1,40 +1,61 @@
 //! Operators in memory: what they type, and whether they were answered as is expected.
 
-ghost use Rattle.std.specs.Prelude.{None};
+ghost use Rattle.std.specs.Prelude.{◌≡◌, [], None, Some};
+ghost use Rattle.std.specs.List.{flat_map};
+ghost use Rattle.swim_devices.specs.Trails.{bytes_in};
 
 use std::sync::atomic::{AtomicBool, AtomicUsize, Ordering};
 use swim_text::{Byte, Look, Polled, Sink, Source};
+use swim_trail::Trail;
 
 /// Lines that an operator types, all at once. Nothing comes before they were looked for so often.
 #[derive(Drop)]
 pub struct Typed {
     waits: u32,
     lines: &'static [u8],
-    ready: &'static [u8],
 }
 
 impl Typed {
     pub fn new(waits: u32, lines: &'static [u8]) -> Typed {
-        Typed {
-            waits,
-            lines,
+        Typed { waits, lines }
+    }
+}
+
+/// A keyboard, by which such lines come. It notes the bytes that it gave.
+#[derive(Drop)]
+pub struct Keyboard {
+    typed: Typed,
+    ready: &'static [u8],
+    given: Trail<()>,
+}
+
+impl Keyboard {
+    /// These lines are to come by it.
+    pub fn of(typed: Typed) -> Keyboard
+        ensures { Some (flat_map bytes_in result.given.items) ≡ Some [] }
+    {
+        Keyboard {
+            typed,
             ready: b"",
+            given: Trail::new(),
         }
     }
 }
 
-impl Source for Typed {
-    ghost left = { λ typed. None };
+impl Source for Keyboard {
+    ghost left = { λ keyboard. None };
 
-    ghost ready = { λ typed. typed.ready.now };
+    ghost ready = { λ keyboard. keyboard.ready.now };
 
-    ghost given = { λ typed. None };
+    ghost given = { λ keyboard. Some (flat_map bytes_in keyboard.given.items) };
 
-    ghost failures = { λ typed. 0 };
+    ghost failures = { λ keyboard. 0 };
 
+    #[tactic(auto, using(swim_devices::specs::Trails::bytes_more))]
     fn byte(&mut self) -> Byte {
         match self.ready.split_first() {
             Some((byte, rest)) => {
+                self.given.note(&(), &[*byte]);
                 self.ready = rest;
                 Byte::One(*byte)
             }
@@ -46,22 +67,24 @@ impl Source for Typed {
         self.ready
     }
 
+    #[tactic(auto, using(swim_devices::specs::Trails::bytes_more))]
     fn skip(&mut self, count: usize) {
+        self.given.note(&(), &self.ready[..count]);
         self.ready = &self.ready[count..];
     }
 }
 
-impl Polled for Typed {
+impl Polled for Keyboard {
     fn look(&mut self) -> Look {
-        if self.waits > 0 {
-            self.waits -= 1;
+        if self.typed.waits > 0 {
+            self.typed.waits -= 1;
             return Look::Nothing;
         }
-        if self.lines.is_empty() {
+        if self.typed.lines.is_empty() {
             return Look::Over;
         }
-        self.ready = self.lines;
-        self.lines = b"";
+        self.ready = self.typed.lines;
+        self.typed.lines = b"";
         Look::Ready
     }
 }
@@ -102,6 +125,12 @@ impl Seen {
     /// Whether so many bytes of the expected answers came, and no others.
     pub fn is_front(&self, bytes: usize) -> bool {
         self.bytes.load(Ordering::SeqCst) == bytes && !self.has_other.load(Ordering::SeqCst)
+    }
+
+    fn see_all(&self, text: &[u8]) {
+        for byte in text {
+            self.see(*byte);
+        }
     }
 
     fn see(&self, byte: u8) {
@@ -164,31 +193,37 @@ impl Room {
     }
 }
 
-/// Where an operator's answers go.
+/// Where an operator's answers go. It notes what was put.
 #[derive(Drop)]
 pub struct Screen<'s> {
     room: &'s Room,
     who: Who,
+    put: Trail<()>,
 }
 
 impl<'s> Screen<'s> {
-    pub fn new(room: &'s Room, who: Who) -> Screen<'s> {
-        Screen { room, who }
+    pub fn new(room: &'s Room, who: Who) -> Screen<'s>
+        ensures { Some (flat_map bytes_in result.put.items) ≡ Some [] }
+    {
+        Screen {
+            room,
+            who,
+            put: Trail::new(),
+        }
     }
 }
 
 impl<'s> Sink for Screen<'s> {
-    ghost written = { λ screen. None };
+    ghost written = { λ screen. Some (flat_map bytes_in screen.put.items) };
 
     ghost failures = { λ screen. 0 };
 
     ghost held = { λ screen. 0 };
 
+    #[tactic(auto, using(swim_devices::specs::Trails::bytes_more))]
     fn put(&mut self, text: &[u8]) -> bool {
-        let seen = self.room.seen(self.who);
-        for byte in text {
-            seen.see(*byte);
-        }
+        self.room.seen(self.who).see_all(text);
+        self.put.note(&(), text);
         true
     }
 

@@ -2,6 +2,7 @@
 
 mod doors;
 mod lines;
+mod noting;
 mod paces;
 mod pads;
 mod posts;
@@ -9,6 +10,7 @@ mod signals;
 
 pub use self::doors::{NoDoor, OneDoor};
 pub use self::lines::{PING, PingLine, line};
+pub use self::noting::{NotingReader, NotingWriter};
 pub use self::paces::{Never, StopPace, pace};
 pub use self::pads::{Pad, PadShelf};
 pub use self::posts::{ACK, AckPost, TakingPost, post};

@@ -2,7 +2,7 @@
 
 ghost use Rattle.std.specs.Prelude.{None};
 
-use super::gates::pause;
+use super::gates::{NotingReader, pause};
 use super::readers::{Moment, Seen, Who};
 use std::alloc::Global;
 use std::rt::Clock;
@@ -96,13 +96,13 @@ impl<'s, K: Clock + Drop> OneOperator<'s, K> {
 impl<'s, K: Clock + Drop> Door for OneOperator<'s, K> {
     ghost faults = { λ door. None };
 
-    type Reader = Lines<'s>;
+    type Reader = NotingReader<Lines<'s>>;
 
     type Writer = Page;
 
-    fn next<R: Wait>(&mut self, _rt: &R) -> Knock<Lines<'s>, Page> {
+    fn next<R: Wait>(&mut self, _rt: &R) -> Knock<NotingReader<Lines<'s>>, Page> {
         match self.lines.take() {
-            Some(lines) => Knock::Conn(lines, Page::new(self.alloc)),
+            Some(lines) => Knock::Conn(NotingReader::over(lines), Page::new(self.alloc)),
             None => Knock::Idle,
         }
     }

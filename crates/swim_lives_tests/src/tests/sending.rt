@@ -2,6 +2,7 @@
 
 ghost use Rattle.std.specs.Prelude.{None};
 
+use super::gates::{NotingReader, NotingWriter};
 use super::lives::assert_ended;
 use super::*;
 use arrayvec::ArrayVec;
@@ -97,11 +98,14 @@ struct AskingDoor<'s, K: Clock + Drop> {
 impl<'s, K: Clock + Drop> Door for AskingDoor<'s, K> {
     ghost faults = { λ door. None };
 
-    type Reader = Text<'static>;
+    type Reader = NotingReader<Text<'static>>;
 
-    type Writer = Expecting<'s>;
+    type Writer = NotingWriter<Expecting<'s>>;
 
-    fn next<R: Wait>(&mut self, _rt: &R) -> Knock<Text<'static>, Expecting<'s>> {
+    fn next<R: Wait>(
+        &mut self,
+        _rt: &R,
+    ) -> Knock<NotingReader<Text<'static>>, NotingWriter<Expecting<'s>>> {
         if self.was_open || !is_set(&self.marks.is_sending) {
             return Knock::Idle;
         }
@@ -110,7 +114,8 @@ impl<'s, K: Clock + Drop> Door for AskingDoor<'s, K> {
             is_answered: &self.marks.is_answered,
             text: ArrayVec::new(),
         };
-        Knock::Conn(Text::new(b"gap 2\n"), answers)
+        let asks = NotingReader::over(Text::new(b"gap 2\n"));
+        Knock::Conn(asks, NotingWriter::over(answers))
     }
 
     fn wait<R: Wait>(&mut self, _rt: &R) {

@@ -3,6 +3,7 @@
 ghost use Rattle.std.specs.Prelude.{None};
 ghost use Rattle.swim_work.specs.Gates.{FitsInto};
 
+use super::gates::{NotingReader, NotingWriter};
 use super::*;
 use std::sync::atomic::AtomicU32;
 use swim_desk::Knock;
@@ -134,17 +135,21 @@ struct JoinDoor<'s, K: Clock + Drop> {
 impl<'s, K: Clock + Drop> Door for JoinDoor<'s, K> {
     ghost faults = { λ door. None };
 
-    type Reader = Text<'static>;
+    type Reader = NotingReader<Text<'static>>;
 
-    type Writer = Told<'s>;
+    type Writer = NotingWriter<Told<'s>>;
 
-    fn next<R: Wait>(&mut self, _rt: &R) -> Knock<Text<'static>, Told<'s>> {
+    fn next<R: Wait>(
+        &mut self,
+        _rt: &R,
+    ) -> Knock<NotingReader<Text<'static>>, NotingWriter<Told<'s>>> {
         if self.was_open || read(&self.shown.latest) == 0 {
             return Knock::Idle;
         }
         self.was_open = true;
+        let joins = NotingReader::over(Text::new(b"join 4 10.0.0.4:7000\n"));
         let told = Told { shown: self.shown };
-        Knock::Conn(Text::new(b"join 4 10.0.0.4:7000\n"), told)
+        Knock::Conn(joins, NotingWriter::over(told))
     }
 
     fn wait<R: Wait>(&mut self, _rt: &R) {

@@ -4,6 +4,7 @@ ghost use Rattle.std.specs.Prelude.{◌≡◌, None};
 ghost use Rattle.std.specs.Io.KnownBytes.{Keeps};
 ghost use Rattle.swim_text.specs.Streams.{Puts, failures_if};
 
+use super::noting::{NotingReader, NotingWriter};
 use super::signals::{Failing, Signals, TURNS, is_set, pause, set};
 use arrayvec::ArrayVec;
 use std::rt::Clock;
@@ -56,11 +57,14 @@ pub struct OneDoor<'s, K: Clock + Copy + Drop> {
 impl<'s, K: Clock + Copy + Drop> Door for OneDoor<'s, K> {
     ghost faults = { λ door. None };
 
-    type Reader = TwoLines<'s>;
+    type Reader = NotingReader<TwoLines<'s>>;
 
-    type Writer = Answers<'s>;
+    type Writer = NotingWriter<Answers<'s>>;
 
-    fn next<R: Wait>(&mut self, _rt: &R) -> Knock<TwoLines<'s>, Answers<'s>> {
+    fn next<R: Wait>(
+        &mut self,
+        _rt: &R,
+    ) -> Knock<NotingReader<TwoLines<'s>>, NotingWriter<Answers<'s>>> {
         if self.signals.fails(Failing::Door) {
             return Knock::Fault;
         }
@@ -79,7 +83,7 @@ impl<'s, K: Clock + Copy + Drop> Door for OneDoor<'s, K> {
             text: ArrayVec::new(),
             failures: 0,
         };
-        Knock::Conn(lines, answers)
+        Knock::Conn(NotingReader::over(lines), NotingWriter::over(answers))
     }
 
     fn wait<R: Wait>(&mut self, _rt: &R) {
