@@ -63,9 +63,10 @@ def each_page(machine):
         names = lambda text: [line.split(b" ")[0] for line in text.split(b"\n") if not line.startswith(b"#")]
         must(names(metrics.body + b".\n") == names(daemon.ask(b"stats\n")), f"the metrics are {metrics.body!r}")
         must_answer(web, "/events", 200, b"retry: 2000\n\n", "text/event-stream")
+        must_answer(web, "/verdicts.json", 200, b'{"explained":false,"changes":[]}\n', "application/json")
         must_answer(web, "/?at=1", 200, kind="text/html; charset=utf-8")
         must_answer(web, "/other", 404, b"no such page\n")
-        for path in ("/", "/healthz", "/metrics", "/members.json", "/events", "/other"):
+        for path in ("/", "/healthz", "/metrics", "/members.json", "/verdicts.json", "/events", "/other"):
             whole, head = web.get(path), web.get(path, "HEAD")
             must(head.status == whole.status and head.body == b"", f"HEAD {path} is answered {head}")
             same = lambda name: head.fields.get(name) == whole.fields.get(name)
@@ -129,6 +130,7 @@ def a_verdict_is_explained(machine):
             must(part in text, f"{part} isn't in the page {text[:2_000]}")
         must(f"\nswimsim --timeline run.svg --around 2 {file.path}\n" in text, "the page has another command")
         must("<script" not in text, "the page has a script")
+        must(b'{"explained":true,' in web.get("/verdicts.json").body, "verdicts are told as having no pages")
         for other in (f"/verdicts/2/{number + 1}", f"/verdicts/3/{number}"):
             must_answer(web, other, 404, b"no such verdict\n")
         for other in (f"/verdicts/02/{number}", f"/verdicts/2/{number}/", "/verdicts/2", "/verdicts/2/x"):
@@ -178,6 +180,8 @@ def events_are_passed_on(machine):
         gone, up = {"event": "gone", "id": 2}, {"event": "up", "id": 4, "peer": "10.0.0.4:7000"}
         must(but_for_time(events_of(web)) == [(1, gone), (2, up)], f"{events_of(web)} is told")
         must(all(it["time"].endswith("Z") for _, it in events_of(web)), f"{events_of(web)} has no time")
+        kept = json.loads(web.get("/verdicts.json").body)
+        must(kept == {"explained": False, "changes": [it for _, it in events_of(web)]}, f"{kept} is kept")
         must(but_for_time(events_of(web, Last_Event_ID="1")) == [(2, up)], "what was seen is told again")
         must(events_of(web, Last_Event_ID="2") == [], "what was seen is told again")
         for other in ("3", "-1", "x", "18446744073709551616"):
@@ -289,22 +293,6 @@ def what_the_page_shows(machine):
         must(shown(web)["alarm"] == "The daemon doesn\u2019t answer.", f"the alarm is {shown(web)['alarm']!r}")
 
 
-def a_browser_shows_the_page(machine):
-    """The members, the failed one first, by Chromium."""
-    chromium = shutil.which("chromium")
-    if not chromium:
-        return leave_out("chromium is not on PATH, so no browser shows the page of swimd web")
-    daemon = machine.started(members=[(2, "127.0.0.1:9")], k=0, rtt=1, period=3, tick_ms=20)
-    until(lambda: daemon.states() == {2: "failed"}, "a verdict")
-    with WebServer(machine, daemon.control) as web:
-        words = ["--headless", "--no-sandbox", f"--user-data-dir={machine.folder}/chromium", "--virtual-time-budget=4000"]
-        shown = subprocess.run(
-            [chromium, *words, "--dump-dom", f"http://{HOST}:{web.port}/"], capture_output=True, timeout=60
-        ).stdout.decode()
-        must("1 failed" in shown and "failed in period" in shown, f"the page is shown as {shown[-2_000:]!r}")
-    return None if daemon.stop().status == 0 else "the daemon ended otherwise"
-
-
 PAGES = [
     each_page,
     the_page_and_its_policy,
@@ -316,5 +304,4 @@ PAGES = [
     a_daemon_that_stands_still,
     addresses,
     what_the_page_shows,
-    a_browser_shows_the_page,
 ]

@@ -53,7 +53,15 @@ impl<'r, 'p, R: Files<File = File>> FileShelf<'r, 'p, R> {
 }
 
 impl<'r, 'p, R: Files<File = File>> Shelf for FileShelf<'r, 'p, R> {
+    ghost use Rattle.std.specs.Prelude.{is_some};
+
     ghost tells = { IsTold };
+
+    ghost opened = { λ s. is_some s.dir };
+
+    fn is_open(&self) -> bool {
+        self.dir.is_some()
+    }
 
     fn find(&mut self, member: Id, number: u64, page: &mut Text) -> Found {
         let Some(dir) = self.dir else {

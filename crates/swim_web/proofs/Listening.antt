@@ -1,8 +1,9 @@
 -- From event to event: what is kept of what was heard.
-use Rattle.std.proofs.Common.{◌≡◌, ℕ, List, [], ◌∷◌, ◌++◌, Option, Some, None, refl, sym, ap, ◌∙◌}
+use Rattle.std.proofs.Common.{◌≡◌, ℕ, Bool, List, [], ◌∷◌, ◌++◌, Option, Some, None, refl, sym, ap, ◌∙◌}
 use Rattle.std.proofs.Common.{append_assoc}
 use Rattle.std.proofs.Common.{append-nil, length, map, suc, ◌-◌}
 use Rattle.swim_web.specs.Asked.{Grows}
+use Rattle.swim_web.specs.Changes.{changes_text}
 use Rattle.swim_web.specs.Recent.{Kept, Notes, events_text, kept_then, noted, seen_of}
 
 nothing : (o : Option (List (List ℕ))) → Grows o o []
@@ -65,3 +66,10 @@ pub stream_is : {A : Type 0} (f : A → List ℕ) (kept : Kept) (told : ℕ) (xs
     ≡ events_text (seen_of kept.told number) (kept.told - length kept.lines) kept.lines
 stream_is f kept told xs slice number seen first count is seen_is first_is count_is slice_is =
     rw (is, seen_is, first_is, count_is, slice_is, map_length f xs) refl
+
+-- ---- what is kept as JSON
+
+pub changes_are : {A : Type 0} (f : A → List ℕ) (kept : Kept) (told : ℕ) (xs slice : List A) (is_explained : Bool) →
+    kept ≡ record { told = told; lines = map f xs } → slice ≡ xs →
+    changes_text is_explained (map f slice) ≡ changes_text is_explained kept.lines
+changes_are f kept told xs slice is_explained is slice_is = rw (is, slice_is) refl

@@ -85,33 +85,35 @@ asking_looks : (is_late : Bool) (question : Question) (o n : Looked) (Tells : Op
 asking_looks true question o n Tells is = none_looks o n is.0
 asking_looks false question o n Tells is = grown_looks o.asked n.asked (is.sent ∷ []) is.once
 
-serves_looks : (T : ℕ → ℕ → List ℕ → Type 0) (page : Page) (kept : Kept) (o : Looked) (r : Response) (n : Looked) →
-    Serves T page kept o r n → OnlyLooks o.asked n.asked
-serves_looks T pages.Health kept o r n is = asking_looks o.is_late questions.List o n _ is
-serves_looks T pages.Metrics kept o r n is = asking_looks o.is_late questions.Stats o n _ is
-serves_looks T pages.Members kept o r n is = asking_looks o.is_late questions.List o n _ is
-serves_looks T pages.Front kept o r n is = none_looks o n is.0
-serves_looks T (pages.Verdict member number) kept o r n is = none_looks o n is.0
-serves_looks T (pages.Events number) kept o r n is = none_looks o n is.0
-serves_looks T pages.Misdirected kept o r n is = none_looks o n is.0
-serves_looks T pages.Unknown kept o r n is = none_looks o n is.0
-serves_looks T pages.Forbidden kept o r n is = none_looks o n is.0
+serves_looks : (T : ℕ → ℕ → List ℕ → Type 0) (is_open : Bool) (page : Page) (kept : Kept) (o : Looked) (r : Response)
+    (n : Looked) → Serves T is_open page kept o r n → OnlyLooks o.asked n.asked
+serves_looks T is_open pages.Health kept o r n is = asking_looks o.is_late questions.List o n _ is
+serves_looks T is_open pages.Metrics kept o r n is = asking_looks o.is_late questions.Stats o n _ is
+serves_looks T is_open pages.Members kept o r n is = asking_looks o.is_late questions.List o n _ is
+serves_looks T is_open pages.Front kept o r n is = none_looks o n is.0
+serves_looks T is_open (pages.Verdict member number) kept o r n is = none_looks o n is.0
+serves_looks T is_open pages.Changes kept o r n is = none_looks o n is.0
+serves_looks T is_open (pages.Events number) kept o r n is = none_looks o n is.0
+serves_looks T is_open pages.Misdirected kept o r n is = none_looks o n is.0
+serves_looks T is_open pages.Unknown kept o r n is = none_looks o n is.0
+serves_looks T is_open pages.Forbidden kept o r n is = none_looks o n is.0
 
 -- whatever requests came one after the other
-pub chain_looks : {S : Type 0} (T : ℕ → ℕ → List ℕ → Type 0) (names : S → List ℕ → Bool) (kept : S → Kept)
-    (looked : S → Looked) (old : S) (calls : List Call) (new : S) →
-    Chain (λ a q r b. Answers T (names a) (kept a) (looked a) q r (kept b) (looked b)) old calls new →
+pub chain_looks : {S : Type 0} (T : ℕ → ℕ → List ℕ → Type 0) (opened : S → Bool) (names : S → List ℕ → Bool)
+    (kept : S → Kept) (looked : S → Looked) (old : S) (calls : List Call) (new : S) →
+    Chain (λ a q r b. Answers T (opened a) (names a) (kept a) (looked a) q r (kept b) (looked b)) old calls new →
     OnlyLooks (looked old).asked (looked new).asked
-chain_looks T names kept looked old [] new is =
+chain_looks T opened names kept looked old [] new is =
     subst (λ s. OnlyLooks (looked old).asked (looked s).asked) (sym is) (looks_none (looked old).asked)
-chain_looks T names kept looked old (c ∷ calls) new is =
+chain_looks T opened names kept looked old (c ∷ calls) new is =
     looks_both (looked old).asked (looked is.0).asked (looked new).asked
-    (serves_looks T _ (kept old) (looked old) c.1 (looked is.0) is.1.0)
-    (chain_looks T names kept looked is.0 calls new is.2)
+    (serves_looks T _ _ (kept old) (looked old) c.1 (looked is.0) is.1.0)
+    (chain_looks T opened names kept looked is.0 calls new is.2)
 
-pub chain_keeps : {S : Type 0} (T : ℕ → ℕ → List ℕ → Type 0) (names : S → List ℕ → Bool) (kept : S → Kept)
-    (looked : S → Looked) (old : S) (calls : List Call) (new : S) →
-    Chain (λ a q r b. Answers T (names a) (kept a) (looked a) q r (kept b) (looked b)) old calls new →
+pub chain_keeps : {S : Type 0} (T : ℕ → ℕ → List ℕ → Type 0) (opened : S → Bool) (names : S → List ℕ → Bool)
+    (kept : S → Kept) (looked : S → Looked) (old : S) (calls : List Call) (new : S) →
+    Chain (λ a q r b. Answers T (opened a) (names a) (kept a) (looked a) q r (kept b) (looked b)) old calls new →
     kept new ≡ kept old
-chain_keeps T names kept looked old [] new is = ap kept is
-chain_keeps T names kept looked old (c ∷ calls) new is = chain_keeps T names kept looked is.0 calls new is.2 ∙ is.1.1
+chain_keeps T opened names kept looked old [] new is = ap kept is
+chain_keeps T opened names kept looked old (c ∷ calls) new is =
+    chain_keeps T opened names kept looked is.0 calls new is.2 ∙ is.1.1

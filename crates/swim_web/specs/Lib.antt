@@ -1,5 +1,6 @@
 pub mod Asked
 pub mod Asking
+pub mod Changes
 pub mod Objects
 pub mod Pages
 pub mod Recent

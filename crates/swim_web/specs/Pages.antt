@@ -12,7 +12,7 @@ use Rattle.http_header.specs.HeaderMap.{get}
 use Rattle.http_uri.specs.Uri.{uri_authority, uri_path}
 use Rattle.swim_web.specs.declared.pages.Page.{Page}
 use Rattle.swim_web.specs.declared.pages.Page.TheVariants.{Front, Health, Metrics, Members, Events, Unknown, Forbidden}
-use Rattle.swim_web.specs.declared.pages.Page.TheVariants.{Misdirected, Verdict}
+use Rattle.swim_web.specs.declared.pages.Page.TheVariants.{Changes, Misdirected, Verdict}
 
 abbrev pub verdict_by : Option ℕ → Option ℕ → Page
 verdict_by (Some member) (Some number) = Verdict member number
@@ -54,7 +54,8 @@ page_at path seen =
     else (if bytes_eq path (codes "/healthz") then Health
     else (if bytes_eq path (codes "/metrics") then Metrics
     else (if bytes_eq path (codes "/members.json") then Members
-    else (if bytes_eq path (codes "/events") then Events seen else verdict_at path))))
+    else (if bytes_eq path (codes "/verdicts.json") then Changes
+    else (if bytes_eq path (codes "/events") then Events seen else verdict_at path)))))
 
 abbrev pub page_by : List ℕ → List ℕ → ℕ → Page
 page_by method path seen =

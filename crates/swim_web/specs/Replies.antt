@@ -13,6 +13,7 @@ use Rattle.swim_history.specs.Texts.{table_text}
 use Rattle.swim_history.specs.declared.rows.Row.{Row}
 use Rattle.swim_metrics.specs.Headed.{headed}
 use Rattle.swim_web.specs.Asking.{Asks, AsksNothing, Looked}
+use Rattle.swim_web.specs.Changes.{changes_text}
 use Rattle.swim_web.specs.Objects.{members_text}
 use Rattle.swim_web.specs.Pages.{page_asked}
 use Rattle.swim_web.specs.Recent.{Kept, stream_text}
@@ -92,21 +93,27 @@ IsVerdict Tells r =
 
 -- ---- pages
 
--- what a page comes to, with the texts that may be shown of verdicts, and the events that are kept
-abbrev pub Serves : (ℕ → ℕ → List ℕ → Type 0) → Page → Kept → Looked → Response → Looked → Type 0
-Serves T pages.Health kept old r new = Asks questions.List old new (λ told. IsHealth told r)
-Serves T pages.Metrics kept old r new = Asks questions.Stats old new (λ told. AreMetrics told r)
-Serves T pages.Members kept old r new = Asks questions.List old new (λ told. AreMembers told r)
-Serves T pages.Front kept old r new = AsksNothing old new × IsReply 200 kinds.Html FRONT_PAGE.now r
-Serves T (pages.Verdict member number) kept old r new = AsksNothing old new × IsVerdict (T member number) r
-Serves T (pages.Events number) kept old r new =
+-- what a page comes to, with the texts that may be shown of verdicts, whether there may be any, and the events that
+-- are kept
+abbrev pub Serves : (ℕ → ℕ → List ℕ → Type 0) → Bool → Page → Kept → Looked → Response → Looked → Type 0
+Serves T is_open pages.Health kept old r new = Asks questions.List old new (λ told. IsHealth told r)
+Serves T is_open pages.Metrics kept old r new = Asks questions.Stats old new (λ told. AreMetrics told r)
+Serves T is_open pages.Members kept old r new = Asks questions.List old new (λ told. AreMembers told r)
+Serves T is_open pages.Front kept old r new = AsksNothing old new × IsReply 200 kinds.Html FRONT_PAGE.now r
+Serves T is_open (pages.Verdict member number) kept old r new = AsksNothing old new × IsVerdict (T member number) r
+Serves T is_open pages.Changes kept old r new =
+    AsksNothing old new × IsReply 200 kinds.Json (changes_text is_open kept.lines) r
+Serves T is_open (pages.Events number) kept old r new =
     AsksNothing old new × IsReply 200 kinds.Events (stream_text number kept) r
-Serves T pages.Misdirected kept old r new = AsksNothing old new × IsReply 421 kinds.Text (codes "no such host\n") r
-Serves T pages.Unknown kept old r new = AsksNothing old new × IsReply 404 kinds.Text (codes "no such page\n") r
-Serves T pages.Forbidden kept old r new = AsksNothing old new × IsReply 405 kinds.Text (codes "only GET and HEAD\n") r
+Serves T is_open pages.Misdirected kept old r new =
+    AsksNothing old new × IsReply 421 kinds.Text (codes "no such host\n") r
+Serves T is_open pages.Unknown kept old r new =
+    AsksNothing old new × IsReply 404 kinds.Text (codes "no such page\n") r
+Serves T is_open pages.Forbidden kept old r new =
+    AsksNothing old new × IsReply 405 kinds.Text (codes "only GET and HEAD\n") r
 
 -- what a request comes to; no event comes or goes by it
-abbrev pub Answers : (ℕ → ℕ → List ℕ → Type 0) → (List ℕ → Bool) → Kept → Looked → Request (List ℕ) → Response →
-    Kept → Looked → Type 0
-Answers T is_name kept old request r kept_new new =
-    Serves T (page_asked is_name (head_of request)) kept old r new × (kept_new ≡ kept)
+abbrev pub Answers : (ℕ → ℕ → List ℕ → Type 0) → Bool → (List ℕ → Bool) → Kept → Looked → Request (List ℕ) →
+    Response → Kept → Looked → Type 0
+Answers T is_open is_name kept old request r kept_new new =
+    Serves T is_open (page_asked is_name (head_of request)) kept old r new × (kept_new ≡ kept)

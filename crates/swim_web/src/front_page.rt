@@ -3,11 +3,11 @@
 /// What the page may do: its own script runs, its own style is shown, and it asks nobody but its server. The hashes are
 /// those of the texts between `<script>` and `</script>`, and between `<style>` and `</style>`.
 pub(crate) const FRONT_POLICY: &str = "default-src 'none'; \
-    script-src 'sha256-alNqmJrrbi7QQRciXPTfn4zKGUu0+obDcbyiVZVc7g0='; \
-    style-src 'sha256-HFLwqoK37lfNnuIiWqBjv27o91iXSPpXE/0z1zyfiyI='; \
+    script-src 'sha256-HkSip0PMEOLSZnzlTwIFx2+0xmijuWBJLTm+lbjOfb8='; \
+    style-src 'sha256-wTixHHAP+0ZnxtbF5pGxaTxKJK9B9xeQ2x2zgJXHGvI='; \
     connect-src 'self'; img-src 'self' data:; base-uri 'none'; form-action 'none'; frame-ancestors 'none'";
 
-/// The page, which needs nothing but itself, `/members.json`, `/metrics` and `/events`.
+/// The page, which needs nothing but itself, `/members.json`, `/verdicts.json`, `/metrics` and `/events`.
 pub(crate) const FRONT_PAGE: &str = r##"<!doctype html>
 <html lang="en">
 <head>
@@ -66,7 +66,8 @@ button { font: inherit; font-size: .87rem; color: inherit; background: var(--ban
   tbody tr { display: flex; flex-wrap: wrap; gap: 0 .75rem; padding: .55rem 0 .55rem .75rem;
     border-bottom: 1px solid var(--line) }
   th:first-child, #figures th { width: auto }
-  tbody th, tbody td, tr.is-failed th:first-child { border: 0; padding: 0; box-shadow: none }
+  tbody th:first-child, tbody td, .none td:first-child, tr.is-failed th:first-child { border: 0; padding: 0;
+    box-shadow: none }
   tbody td.state { flex-basis: 100% }
   tr.is-failed { box-shadow: inset 3px 0 var(--failed) }
 }
@@ -103,7 +104,8 @@ read that, or <a href="/metrics">/metrics</a>.</p></noscript>
 </div>
 </main>
 <footer>
-<p><a href="/members.json">members.json</a><a href="/metrics">metrics</a><a href="/healthz">healthz</a>
+<p><a href="/members.json">members.json</a><a href="/verdicts.json">verdicts.json</a>
+<a href="/metrics">metrics</a><a href="/healthz">healthz</a>
 <button type="button" id="hold" aria-pressed="false">Pause</button></p>
 <p>A member is up until this daemon judges it failed. Other daemons may see their group otherwise.</p>
 </footer>
@@ -114,7 +116,7 @@ const id = name => document.getElementById(name);
 const shapes = { up: "M1 6 4 9 10 1.5", failed: "M1 1 10 10M1 10 10 1" };
 const roles = { tr: "row", th: "rowheader", td: "cell" };
 const changes = [];
-let last = "", asked = 0, held = false, soon = 0;
+let last = "", asked = 0, held = false, soon = 0, explained;
 
 function put(parent, tag, text, cls) {
   const e = document.createElement(tag);
@@ -136,13 +138,27 @@ function shape(state) {
 const clock = time => new Date(time).toLocaleString(undefined, { dateStyle: "medium", timeStyle: "medium" });
 const many = (n, one) => n + " " + one + (n === 1 ? "" : "s");
 function rowsOf(body, list, none, fill) {
+  const old = document.activeElement, focused = old && body.contains(old) ? old.href : undefined;
   body.textContent = "";
   for (const x of list) fill(put(body, "tr"), x);
   if (!list.length) put(put(body, "tr", undefined, "none"), "td", none).colSpan = 3;
+  if (focused) [...body.querySelectorAll("a")].find(a => a.href === focused)?.focus();
 }
 function putState(tr, state, text) {
   const td = put(tr, "td", undefined, "state " + (state === "failed" ? "f" : "u"));
-  td.append(shape(state), text);
+  td.append(shape(state));
+  return put(td, "span", text);
+}
+// Links to its page, if the server explains verdicts.
+function putFailed(tr, verdict) {
+  const text = "failed in period " + verdict.period;
+  if (!explained) {
+    putState(tr, "failed", text);
+    return;
+  }
+  const link = put(putState(tr, "failed", ""), "a", text);
+  link.href = "/verdicts/" + verdict.id + "/" + verdict.period;
+  link.setAttribute("aria-label", "Member " + verdict.id + " " + text + ": the evidence");
 }
 function showMembers(members) {
   const failed = members.filter(m => m.state === "failed"), up = members.length - failed.length;
@@ -161,10 +177,10 @@ function showMembers(members) {
     tr.className = m.state === "failed" ? "is-failed" : "";
     put(tr, "th", m.id, "number").scope = "row";
     put(put(tr, "td"), "code", m.peer);
-    putState(tr, m.state, m.state === "failed" ? "failed in period " + m.period : "up");
+    if (m.state === "failed") putFailed(tr, m); else putState(tr, "up", "up");
   });
 }
-const words = { up: e => "up at " + e.peer, failed: e => "failed in period " + e.period, gone: () => "removed",
+const words = { up: e => "up at " + e.peer, gone: () => "removed",
   life: e => "life " + e.life + " began", lost: () => "some changes weren’t heard",
   again: () => "the daemon was found again", ended: () => "the daemon ended" };
 function showChanges() {
@@ -172,7 +188,9 @@ function showChanges() {
   rowsOf(id("events"), changes, "", (tr, e) => {
     put(tr, "th", e.id === undefined ? "" : e.id, "number").scope = "row";
     const text = words[e.event] ? words[e.event](e) : e.event;
-    if (shapes[e.event]) putState(tr, e.event, text); else put(tr, "td", text, "state");
+    if (e.event === "failed") putFailed(tr, e);
+    else if (e.event === "up") putState(tr, e.event, text);
+    else put(tr, "td", text, "state");
     put(tr, "td", e.time ? clock(e.time) : "");
   });
 }
@@ -245,9 +263,16 @@ async function get(path) {
   if (!r.ok) throw new Error("The daemon");
   return r.text();
 }
+async function learn() {
+  if (explained !== undefined) return;
+  explained = JSON.parse(await get("/verdicts.json")).explained;
+  last = "";
+  showChanges();
+}
 async function ask() {
   if (held || document.hidden) return;
   try {
+    await learn();
     showFigures(await get("/metrics"));
     const text = await get("/members.json");
     if (text !== last) showMembers(JSON.parse(text).members);
@@ -256,6 +281,7 @@ async function ask() {
     tell("");
     id("at").textContent = "As the daemon answered at " + new Date().toLocaleTimeString();
   } catch (e) {
+    if (e.message !== "The daemon") explained = undefined;
     const who = e.message === "The daemon" ? e.message : "This page’s server";
     tell(asked ? who + " hasn’t answered since " + clock(asked) + ". What is below is as it was then."
       : who + " doesn’t answer.");

@@ -1,6 +1,7 @@
 //! What a daemon answers, served over HTTP: each page is the answer to one question, and no question changes anything.
 #![tactic(auto)]
 
+mod changes;
 mod daemons;
 mod front_page;
 mod guests;

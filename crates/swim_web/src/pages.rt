@@ -26,6 +26,8 @@ pub enum Page {
     Metrics,
     /// Its member table.
     Members,
+    /// The events that are kept, as JSON.
+    Changes,
     /// The events above this number.
     Events(u64),
     /// Why a member was judged failed at the end of the period with this number.
@@ -118,6 +120,8 @@ fn page_at(path: &str, seen: u64) -> Page
         Page::Metrics
     } else if path == "/members.json" {
         Page::Members
+    } else if path == "/verdicts.json" {
+        Page::Changes
     } else if path == "/events" {
         Page::Events(seen)
     } else {

@@ -2,9 +2,11 @@
 
 ghost use Rattle.std.specs.Prelude.{◌≡◌, ◌++◌, [], map, ◌∷◌};
 ghost use Rattle.swim_text.specs.Streams.{Puts};
+ghost use Rattle.swim_web.specs.Changes.{changes_text};
 ghost use Rattle.swim_web.specs.Recent.{Notes, event_text, events_text, kept_then, last_of, seen_of, stream_text};
 ghost use Rattle.swim_web.specs.Recent.{unseen_text};
 
+use crate::changes::put_changes;
 use crate::tellers::{EventLine, Teller};
 use arrayvec::ArrayVec;
 use std::marker::Model;
@@ -67,6 +69,14 @@ impl Recent {
         let seen = seen_of(self.told, number);
         let first = self.told.saturating_sub(self.lines.len() as u64);
         put_events(writer, seen, first, self.lines.as_slice())
+    }
+
+    /// Writes the events as an object of JSON, oldest first, and whether verdicts are explained by pages. Returns
+    /// whether the sink took all of it.
+    pub fn put_object<W: Sink>(&self, writer: &mut W, is_explained: bool) -> bool
+        ensures { Puts (W.written writer.old) (W.written writer.new) (changes_text is_explained self.now.lines) result }
+    {
+        put_changes(writer, is_explained, self.lines.as_slice())
     }
 }
 

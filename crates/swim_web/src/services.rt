@@ -4,6 +4,7 @@ ghost use Rattle.std.specs.Prelude.{◌≡◌, Some, option_copied};
 ghost use Rattle.http_server.specs.Response.{IsBlank};
 ghost use Rattle.swim_metrics.specs.Headed.{headed};
 ghost use Rattle.swim_web.specs.Asking.{Asks, told_if};
+ghost use Rattle.swim_web.specs.Changes.{changes_text};
 ghost use Rattle.swim_web.specs.Objects.{members_text};
 ghost use Rattle.swim_web.specs.Recent.{stream_text};
 ghost use Rattle.swim_web.specs.Replies.{AreMembers, AreMetrics, AreSamples, IsHealth, IsReply, IsUnanswered};
@@ -51,7 +52,8 @@ impl<D: Daemon + Drop, S: Shelf + Drop> Service for Web<D, S> {
     ghost use Rattle.swim_web.specs.Replies.{Answers};
 
     ghost answers = { λ old request response new.
-        Answers S.tells (λ host. list_any (λ name. bytes_eq (string_bytes name) host) old.names.items) old.recent
+        Answers S.tells (S.opened (box_value old.shelf))
+        (λ host. list_any (λ name. bytes_eq (string_bytes name) host) old.names.items) old.recent
         (record { asked = D.asked (box_value old.daemon); is_late = old.is_late }) request response new.recent
         (record { asked = D.asked (box_value new.daemon); is_late = new.is_late }) };
 
@@ -85,7 +87,8 @@ fn serve_page<D: Daemon, S: Shelf>(
     response: &mut Response,
 )
     requires { IsBlank response.old }
-    ensures { Serves S.tells page recent.now (record { asked = D.asked daemon.old; is_late = is_late.old }) response.new
+    ensures { Serves S.tells (S.opened shelf.old) page recent.now
+        (record { asked = D.asked daemon.old; is_late = is_late.old }) response.new
         (record { asked = D.asked daemon.new; is_late = is_late.new }) }
 {
     match page {
@@ -93,6 +96,7 @@ fn serve_page<D: Daemon, S: Shelf>(
         Page::Metrics => serve_metrics(alloc, daemon, is_late, response),
         Page::Members => serve_members(alloc, daemon, is_late, response),
         Page::Front => reply(response, StatusCode::OK, Kind::Html, FRONT_PAGE.as_bytes()),
+        Page::Changes => reply_changes(alloc, response, recent, shelf.is_open()),
         Page::Events(number) => reply_events(alloc, response, recent, number),
         Page::Verdict(member, number) => serve_verdict(alloc, shelf, member, number, response),
         Page::Misdirected => reply(
@@ -272,6 +276,19 @@ fn reply_rows(alloc: Global, response: &mut Response, rows: &[Row])
 {
     let mut text = Text::new(alloc);
     if put_members(&mut text, rows) {
+        reply(response, StatusCode::OK, Kind::Json, text.text());
+    } else {
+        response.status = StatusCode::INTERNAL_SERVER_ERROR;
+    }
+}
+
+/// Replies with the events, and whether verdicts are explained.
+fn reply_changes(alloc: Global, response: &mut Response, recent: &Recent, is_explained: bool)
+    requires { IsBlank response.old }
+    ensures { IsReply 200 Kind.Json (changes_text is_explained recent.now.lines) response.new }
+{
+    let mut text = Text::new(alloc);
+    if recent.put_object(&mut text, is_explained) {
         reply(response, StatusCode::OK, Kind::Json, text.text());
     } else {
         response.status = StatusCode::INTERNAL_SERVER_ERROR;

@@ -1,6 +1,6 @@
 //! Shelves with journal files, in which verdicts are looked up.
 
-ghost use Rattle.std.specs.Prelude.{◌≡◌, ℕ, List};
+ghost use Rattle.std.specs.Prelude.{◌≡◌, ℕ, Bool, List};
 
 use swim_text::Page as Text;
 use swim_wire::Id;
@@ -20,6 +20,13 @@ pub enum Found {
 pub trait Shelf {
     // The texts that may be shown of the verdict on a member at the end of a period.
     ghost tells: { ℕ → ℕ → List ℕ → Type 0 };
+
+    // Whether it has a place in which files may be.
+    ghost opened: { Self → Bool };
+
+    /// Returns whether it has a place in which files may be: without one no verdict is found.
+    fn is_open(&self) -> bool
+        ensures { result ≡ opened self.now };
 
     /// Looks for the verdict on a member at the end of the period with this number, and writes a page about it.
     fn find(&mut self, member: Id, number: u64, page: &mut Text) -> Found

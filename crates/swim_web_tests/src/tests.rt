@@ -42,7 +42,15 @@ struct FixedShelf {
 }
 
 impl Shelf for FixedShelf {
+    ghost use Rattle.std.specs.Prelude.{true};
+
     ghost tells = { λ member number text. Unit {0} };
+
+    ghost opened = { λ s. true };
+
+    fn is_open(&self) -> bool {
+        true
+    }
 
     fn find(&mut self, member: Id, number: u64, page: &mut Page) -> Found {
         self.count = self.count.saturating_add(1);
@@ -145,6 +153,11 @@ fn answers_each_page(rt: HostRuntime) -> Result<(), Fail> {
             "GET /events HTTP/1.1\r\nHost: swim:1\r\n\r\n",
             "HTTP/1.1 200 OK\r\n",
             b"\r\n\r\nretry: 2000\n\n".as_slice(),
+        ),
+        (
+            "GET /verdicts.json HTTP/1.1\r\nHost: swim:1\r\n\r\n",
+            "HTTP/1.1 200 OK\r\n",
+            b"\r\n\r\n{\"explained\":true,\"changes\":[]}\n".as_slice(),
         ),
     ] {
         let sent = served(&rt, &mut web, request)?;
@@ -249,6 +262,15 @@ fn keeps_the_last_events(rt: HostRuntime) -> Result<(), Fail> {
     let count = all
         .windows(4)
         .filter(|bytes| *bytes == b"id: ".as_slice())
+        .count();
+    assert_eq!(rt; count, 64);
+    let request = "GET /verdicts.json HTTP/1.1\r\nHost: swim:1\r\n\r\n";
+    let object = served(&rt, &mut web, request)?;
+    let first = "HTTP/1.1 200 OK\r\ncontent-type: application/json\r\n";
+    assert_sent(&rt, object.as_slice(), first, b",{},{}]}\n");
+    let count = object
+        .windows(2)
+        .filter(|bytes| *bytes == b"{}".as_slice())
         .count();
     assert_eq!(rt; count, 64);
     Ok(())

@@ -1,0 +1,89 @@
+"""The page of `swimd web` in a browser: a kill that shows, its link, and the page about the verdict."""
+
+from tests.support.browsers import Browser, chromium
+from tests.support.configurations import HOST
+from tests.support.daemons import introduced, must, until
+from tests.support.parts import leave_out
+from tests.support.web_servers import WebServer
+from tests.swimd.daemon_watchers import watched
+
+# Members that answer aren't judged on a machine with much to do. A verdict shows so many seconds later than it has to.
+CALM = {"k": 0, "rtt": 20, "period": 60, "tick_ms": 10}
+ROOM = 1.5
+TABS = 10
+
+
+def group_of_three(machine):
+    """Three daemons that know one another, and where the first tells events."""
+    first, path = watched(machine, **CALM)
+    return introduced([first, machine.started(2, **CALM), machine.started(3, **CALM)]), path
+
+
+def follow(browser, number):
+    """Goes to the page of a verdict by keys alone."""
+    for _ in range(TABS):
+        browser.press("Tab")
+        if browser.value("document.activeElement.pathname || ''") == f"/verdicts/2/{number}":
+            browser.press("Enter")
+            return
+    must(False, "no key leads to the verdict")
+
+
+def must_fit(browser):
+    """On a narrow screen nothing is beside it, and the ids stand below one another."""
+    browser.call("Emulation.setDeviceMetricsOverride", width=400, height=800, deviceScaleFactor=1, mobile=False)
+    lefts = "[...document.querySelectorAll('#members tr')].map(it => it.firstChild.getBoundingClientRect().left)"
+    found = browser.value(lefts)
+    must(len(found) == 2 and len(set(found)) == 1, f"ids begin at {found}")
+    must(browser.value("document.documentElement.scrollWidth") <= 400, "the page is wider than the screen")
+    browser.call("Emulation.setEmulatedMedia", features=[{"name": "prefers-color-scheme", "value": "dark"}])
+    found = browser.value("getComputedStyle(document.body).backgroundColor")
+    must(found == "rgb(13, 17, 23)", f"in the dark the page is {found}")
+
+
+def a_kill_is_followed_to_its_page(machine):
+    """In Chromium: a member that is killed shows within two periods and two seconds, and its link leads to the page with
+    its evidence and its picture. Nothing is asked for elsewhere, and nothing goes wrong in the page."""
+    if not chromium():
+        return leave_out("chromium is not on PATH, so no browser shows the page of swimd web")
+    (first, second, third), path = group_of_three(machine)
+    folder = first.values["journal_dir"]
+    with WebServer(machine, first.control, "--events", path, "--journals", folder) as web, Browser(machine.folder) as it:
+        home = f"http://{HOST}:{web.port}/"
+        it.open(home)
+        it.wait("document.getElementById('sum')?.textContent === 'All 2 members up'")
+        second.kill()
+        link = it.wait("document.querySelector('#members a')?.textContent", 2 * first.period_seconds + 2 + ROOM)
+        number = int(link.removeprefix("failed in period "))
+        name = it.value("document.querySelector('#members a').ariaLabel")
+        must(name == f"Member 2 failed in period {number}: the evidence", f"the link is named {name}")
+        until(lambda: web.get(f"/verdicts/2/{number}").status == 200, "the verdict is explained")
+        it.wait(f"document.querySelector('#events a')?.pathname === '/verdicts/2/{number}'")
+        must_fit(it)
+        follow(it, number)
+        heading = f"Member 2 was judged failed in period {number}"
+        it.wait(f"document.querySelector('h1')?.textContent === '{heading}'")
+        words = it.value("document.querySelector('pre').textContent")
+        must(words.startswith(f"judged 2 in period {number}: probed at entry "), f"the evidence is {words}")
+        must(it.value("document.querySelector('svg').getBoundingClientRect().height") > 100, "there is no picture")
+        must(it.value("document.title") == f"Member 2, period {number}", "the page has another title")
+        must(not it.faults, f"the page says {it.faults}")
+        elsewhere = [url for url in it.asked if not url.startswith((home, "data:"))]
+        must(not elsewhere, f"{elsewhere} is asked for")
+    must([daemon.stop().status for daemon in (first, third)] == [0, 0], "a daemon ended otherwise")
+
+
+def no_dead_links(machine):
+    """Without journal files a verdict is shown without a link."""
+    if not chromium():
+        return leave_out("chromium is not on PATH, so no browser shows the page of swimd web")
+    daemon = machine.started(members=[(2, "127.0.0.1:9")], k=0, rtt=1, period=3, tick_ms=20)
+    until(lambda: daemon.states() == {2: "failed"}, "a verdict")
+    with WebServer(machine, daemon.control) as web, Browser(machine.folder) as it:
+        it.open(f"http://{HOST}:{web.port}/")
+        it.wait("document.getElementById('sum')?.textContent === '1 failed, 0 up'")
+        must(it.value("document.querySelectorAll('tbody a').length") == 0, "a verdict has a link")
+    must(daemon.stop().status == 0, "the daemon ended otherwise")
+
+
+BROWSED = [a_kill_is_followed_to_its_page, no_dead_links]
