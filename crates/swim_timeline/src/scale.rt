@@ -26,6 +26,8 @@ const WIDEST_TICK: u64 = 56;
 const NARROWEST_TICK: u64 = 16;
 
 const NARROWEST_PERIOD: u64 = 96;
+/// The first period number that is too long for the ruler: one of thirteen digits, as the clock's are.
+const LONG_NUMBER: u64 = 1_000_000_000_000;
 
 /// The scale of a picture that shows so many ticks and lanes, behind some ticks that it leaves out.
 #[derive(Clone, Copy)]
@@ -184,10 +186,25 @@ impl Scale {
             .saturating_add(1)
     }
 
-    /// The number of a period, counted from 0 at the first that is shown.
+    /// The number that the ruler gives a period, counted from 0 at the first that is shown. Where numbers are long, the
+    /// run's first period has 1.
     pub(crate) fn number(&self, period: u32) -> u64 {
         let before = u64::from(self.before / self.period);
-        self.last.saturating_add(before + 1 + u64::from(period))
+        let last = if self.first_long_number().is_some() {
+            0
+        } else {
+            self.last
+        };
+        last.saturating_add(before + 1 + u64::from(period))
+    }
+
+    /// The number of the run's first period, if that is too long for the ruler.
+    pub(crate) fn first_long_number(&self) -> Option<u64> {
+        let first = self.last.checked_add(1)?;
+        if first < LONG_NUMBER {
+            return None;
+        }
+        Some(first)
     }
 }
 

@@ -29,12 +29,17 @@ fn address(last: u8) -> Peer {
 // Of member 1, which asks one relay, with a timeout of one tick and a period of three, after period 7. Members 2, 3 and
 // 4 are up.
 fn opening(version: Version) -> Result<Opening, Fail> {
+    opening_after(7, version)
+}
+
+// The same after that period.
+fn opening_after(last: u64, version: Version) -> Result<Opening, Fail> {
     let rows = [
         (id(2), address(2)),
         (id(3), address(3)),
         (id(4), address(4)),
     ];
-    Ok(Opening::check(id(1), 1, 1, 3, &rows, 7, version).map_err(|_| "an opening")?)
+    Ok(Opening::check(id(1), 1, 1, 3, &rows, last, version).map_err(|_| "an opening")?)
 }
 
 // The ack of member 2 for period 8, as member 3 forwards it.
@@ -239,7 +244,11 @@ fn picture_of(alloc: Global, journal: &Journal) -> Result<Page, Fail> {
 
 // Whether these words stand in the picture of a run without calls, where the member's own messages have that version.
 fn has_words(alloc: Global, version: Version, words: &[u8]) -> Result<bool, Fail> {
-    let journal = Journal::new(alloc, opening(version)?);
+    has_words_of(alloc, opening(version)?, words)
+}
+
+fn has_words_of(alloc: Global, opening: Opening, words: &[u8]) -> Result<bool, Fail> {
+    let journal = Journal::new(alloc, opening);
     let page = picture_of(alloc, &journal)?;
     Ok(stands_in(page.text(), words))
 }
@@ -261,6 +270,17 @@ fn the_head_tells_the_second_version_alone(rt: HostRuntime) -> Result<(), Fail> 
     assert!(rt; !has_words(rt.alloc(), Version::One, second)?);
     assert!(rt; has_words(rt.alloc(), Version::Two, second)?);
     assert!(rt; !has_words(rt.alloc(), Version::Two, first)?);
+    Ok(())
+}
+
+#[test]
+fn the_head_tells_a_long_first_number_alone(rt: HostRuntime) -> Result<(), Fail> {
+    let long = b", relays 1, period 1 is 1000000000000</text>\n";
+    let short = b", relays 1</text>\n";
+    let opening = opening_after(999_999_999_999, Version::One)?;
+    assert!(rt; has_words_of(rt.alloc(), opening, long)?);
+    let opening = opening_after(999_999_999_998, Version::One)?;
+    assert!(rt; has_words_of(rt.alloc(), opening, short)?);
     Ok(())
 }
 

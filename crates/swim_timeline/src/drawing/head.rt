@@ -90,7 +90,7 @@ pub(crate) fn draw_head(
     text.push_str(STYLE)?;
     text.push_str("<rect class=\"paper\" width=\"100%\" height=\"100%\"/>\n")?;
     put_heading(text, journal, shown)?;
-    put_setting(text, journal.opening())?;
+    put_setting(text, journal.opening(), scale)?;
     put_remark(text, cut)?;
     put_legend(text, scale.top().saturating_sub(LEGEND_RISE))
 }
@@ -145,7 +145,7 @@ fn put_heading(text: &mut String, journal: &Journal, shown: &Picture) -> Result<
     write!(text, "{ticks} ticks, {entries} entries</text>\n")
 }
 
-fn put_setting(text: &mut String, opening: &Opening) -> Result<(), AllocError> {
+fn put_setting(text: &mut String, opening: &Opening, scale: &Scale) -> Result<(), AllocError> {
     let period = opening.period();
     let rtt = opening.rtt();
     let k = opening.k();
@@ -154,7 +154,16 @@ fn put_setting(text: &mut String, opening: &Opening) -> Result<(), AllocError> {
         r##"<text x="{NAMES}" y="54">period {period} ticks, timeout {rtt}, relays {k}"##
     )?;
     put_version(text, opening.version())?;
+    put_first_number(text, scale)?;
     text.push_str("</text>\n")
+}
+
+/// Which number the period has that is 1 in the ruler, where that isn't 1.
+fn put_first_number(text: &mut String, scale: &Scale) -> Result<(), AllocError> {
+    match scale.first_long_number() {
+        None => Ok(()),
+        Some(number) => write!(text, ", period 1 is {number}"),
+    }
 }
 
 /// The version of this member's own messages, where it is the second.
