@@ -2,17 +2,17 @@
 use Rattle.std.proofs.Common.{◌≡◌, ℕ, Bool, true, false, ◌||◌, List, [], ◌∷◌, ◌++◌, Option, Some, None, Ok, Err}
 use Rattle.std.proofs.Common.{refl, sym, ap, ◌∙◌, append_assoc, append-nil, inl, inr}
 use Rattle.std.proofs.lemmas.Grind.{flat_map-append}
-use Rattle.std.proofs.lemmas.List.{map-append}
 use Rattle.std.proofs.lemmas.List.Folds.{list_any-append}
 use Rattle.std.specs.List.{flat_map}
 use Rattle.std.specs.Io.KnownBytes.{Appends, Consumes}
 use Rattle.swim_text.specs.Streams.{appends_both, appends_none, keeps_self}
 use Rattle.swim_commands.specs.Answers.{is_stopping}
-use Rattle.swim_commands.specs.Forms.{is_unmet, shown}
+use Rattle.swim_commands.specs.Forms.{is_unmet}
 use Rattle.swim_commands.specs.Asking.{Asker, Asking, EndsInStop, Exchange, Grows, HasAsked, IsDone, IsStopped}
 use Rattle.swim_commands.specs.Asking.{Passes, Reads, Sent, asked_so, bytes_of, has_refusal}
-use Rattle.swim_commands.specs.Asking.{sent, stopped_so}
+use Rattle.swim_commands.specs.Asking.{sent, shown_of, stopped_so}
 use Rattle.swim_commands.proofs.ControlLines.{all_taken}
+use Rattle.swim_commands.proofs.Growing.{grows_both, grows_none}
 use Rattle.swim_commands.specs.declared.askers.Came.{Came}
 use Rattle.swim_commands.specs.declared.askers.Came.TheVariants as came
 use Rattle.swim_commands.specs.declared.control_lines.NextLine.TheVariants.{Line, Over, Fault}
@@ -39,19 +39,9 @@ consumes_both (Some x) None n xs ys p q = absurd p
 consumes_both (Some x) (Some y) None xs ys p q = absurd q
 consumes_both (Some x) (Some y) (Some z) xs ys p q = p ∙ ap (λ l. xs ++ l) q ∙ sym (append_assoc xs ys z)
 
-grows_none : (o : Option (List Sent)) → Grows o o []
-grows_none None = tt
-grows_none (Some xs) = sym (append-nil xs)
-
-grows_both : (o m n : Option (List Sent)) (xs ys : List Sent) → Grows o m xs → Grows m n ys → Grows o n (xs ++ ys)
-grows_both None m n xs ys p q = tt
-grows_both (Some x) None n xs ys p q = absurd p
-grows_both (Some x) (Some y) None xs ys p q = absurd q
-grows_both (Some x) (Some y) (Some z) xs ys p q = q ∙ ap (λ l. l ++ ys) p ∙ append_assoc x xs ys
-
 -- lines were asked, and this is known of their answers
 pub record Going (form : Form) (old new : Asker) (refused : Bool) : Type 0 where
-  pub exchanges : List Exchange
+  pub exchanges : List (Exchange form)
   pub asked : HasAsked form exchanges old new
   pub refused_is : has_refusal form exchanges ≡ refused
 
@@ -67,25 +57,23 @@ none_asked form o = record {
 }
 
 -- one exchange more
-more_asked : (form : Form) (exchanges : List Exchange) (e : Exchange) (o m n : Asker) → HasAsked form exchanges o m →
-    Consumes m.left n.left (bytes_of e.line) → Appends m.written n.written (shown form e.answer) →
-    Grows m.asked n.asked (sent e ∷ []) → HasAsked form (exchanges ++ e ∷ []) o n
+more_asked : (form : Form) (exchanges : List (Exchange form)) (e : Exchange form) (o m n : Asker) →
+    HasAsked form exchanges o m →
+    Consumes m.left n.left (bytes_of e.line) → Appends m.written n.written (shown_of form e) →
+    Grows m.asked n.asked (sent form e) → HasAsked form (exchanges ++ e ∷ []) o n
 more_asked form exchanges e o m n has read wrote asked = record {
-  read = rw (flat_map-append (λ (x : Exchange). bytes_of x.line) exchanges (e ∷ []), append-nil (bytes_of e.line))
+  read = rw (flat_map-append (λ (x : Exchange form). bytes_of x.line) exchanges (e ∷ []), append-nil (bytes_of e.line))
       (consumes_both o.left m.left n.left _ (bytes_of e.line) has.read read);
-  wrote = rw (
-    flat_map-append (λ (x : Exchange). shown form x.answer) exchanges (e ∷ []),
-    append-nil (shown form e.answer),
-  )
-      (appends_both o.written m.written n.written _ (shown form e.answer) has.wrote wrote);
-  asked = rw (map-append sent exchanges (e ∷ []))
-      (grows_both o.asked m.asked n.asked _ (sent e ∷ []) has.asked asked);
+  wrote = rw (flat_map-append (shown_of form) exchanges (e ∷ []), append-nil (shown_of form e))
+      (appends_both o.written m.written n.written _ (shown_of form e) has.wrote wrote);
+  asked = rw (flat_map-append (sent form) exchanges (e ∷ []), append-nil (sent form e))
+      (grows_both o.asked m.asked n.asked _ (sent form e) has.asked asked);
 }
 
 -- what a line that was answered whole came to
 pub record OneMore (form : Form) (old new : Asker) (refused : Bool) (answer : List ℕ) : Type 0 where
-  pub before : List Exchange
-  pub last : Exchange
+  pub before : List (Exchange form)
+  pub last : Exchange form
   pub asked : HasAsked form (before ++ last ∷ []) old new
   pub refused_is : has_refusal form (before ++ last ∷ []) ≡ refused
   pub answer_is : last.answer ≡ answer
@@ -96,14 +84,21 @@ pub one_more_asked : (form : Form) (o : Asker) (l1 l2 w1 w2 : Option (List ℕ))
     Reads Line l1 l2 line →
     Passes form line (Ok tt) answer w1 w2 a1 a2 → more ≡ (refused || is_unmet form answer) →
     OneMore form o (record { left = l2; written = w2; asked = a2 }) more answer
-one_more_asked form o l1 l2 w1 w2 a1 a2 line answer refused more going (input, taken, sent_is) (whole, wrote, asked) e =
-    let last : Exchange = record { line = input; answer = answer; whole = rw (← sent_is) whole } in
+one_more_asked form o l1 l2 w1 w2 a1 a2 line answer refused more going (input, taken, sent_is)
+    (beside, whole, is_beside, wrote, asked) e =
+    let last : Exchange form = record {
+      line = input;
+      answer = answer;
+      whole = rw (← sent_is) whole;
+      beside = beside;
+      is_beside = is_beside;
+    } in
     record {
       before = going.exchanges;
       last = last;
       asked = more_asked form going.exchanges last o (record { left = l1; written = w1; asked = a1 })
           (record { left = l2; written = w2; asked = a2 }) going.asked taken.taken wrote (rw (← sent_is) asked);
-      refused_is = list_any-append (λ (x : Exchange). is_unmet form x.answer) going.exchanges (last ∷ [])
+      refused_is = list_any-append (λ (x : Exchange form). is_unmet form x.answer) going.exchanges (last ∷ [])
           ∙ last_of (has_refusal form going.exchanges) (is_unmet form answer) ∙
           ap (λ b. b || is_unmet form answer) going.refused_is ∙ sym e;
       answer_is = refl;
@@ -133,7 +128,7 @@ ends_asked form o l1 l2 w1 a1 line refused going (over, none) =
     done_so form o (record { left = l2; written = w1; asked = a1 }) refused (record {
       exchanges = going.exchanges;
       asked = record {
-        read = rw (← append-nil (flat_map (λ (x : Exchange). bytes_of x.line) going.exchanges))
+        read = rw (← append-nil (flat_map (λ (x : Exchange form). bytes_of x.line) going.exchanges))
             (consumes_both o.left l1 l2 _ [] going.asked.read none);
         wrote = going.asked.wrote;
         asked = going.asked.asked;
@@ -181,13 +176,19 @@ ends_broken form o l1 l2 w1 w2 a1 a2 line answer refused Unanswered going (input
       last = record { line = input; answer = answer; taken = taken; asked = rw (← sent_is) asked; kept = kept };
     }
 ends_broken form o l1 l2 w1 w2 a1 a2 line answer refused AskUnwritten going (input, taken, sent_is)
-    (whole, wrote, asked) =
+    (beside, whole, is_beside, wrote, asked) =
     record {
       exchanges = going.exchanges;
       mid = record { left = l1; written = w1; asked = a1 };
       asked = going.asked;
       last = record {
-        exchange = record { line = input; answer = answer; whole = rw (← sent_is) whole };
+        exchange = record {
+          line = input;
+          answer = answer;
+          whole = rw (← sent_is) whole;
+          beside = beside;
+          is_beside = is_beside;
+        };
         taken = taken;
         asked = rw (← sent_is) asked;
         wrote = wrote;
@@ -229,7 +230,7 @@ stop_of form o n refused answer more is = (
   record { exchanges = more.before ++ more.last ∷ []; asked = more.asked; last = last },
 )
   where
-    last : EndsInStop (more.before ++ more.last ∷ [])
+    last : EndsInStop form (more.before ++ more.last ∷ [])
     last = (more.before, more.last, refl, ap is_stopping more.answer_is ∙ is)
 
 pub ends_stopped : (form : Form) (o : Asker) (l w : Option (List ℕ)) (a a' : Option (List Sent)) (refused : Bool)

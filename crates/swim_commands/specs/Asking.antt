@@ -1,6 +1,6 @@
 -- What asking a daemon does.
-use Rattle.std.specs.Prelude.{◌≡◌, ◌⊎◌, ℕ, ◌<◌, Bool, true, false, List, [], ◌∷◌, ◌++◌, length, take, drop, map}
-use Rattle.std.specs.Prelude.{Option, Some, None, Result, Ok, Err}
+use Rattle.std.specs.Prelude.{◌≡◌, ◌⊎◌, ℕ, ◌<◌, Bool, true, false, List, [], ◌∷◌, ◌++◌, length, take, drop}
+use Rattle.std.specs.Prelude.{Option, Some, None, Result, Ok, Err, codes}
 use Rattle.std.specs.List.{flat_map, list_any}
 use Rattle.std.specs.Io.KnownBytes.{Appends, Consumes, IsAtEnd, Keeps}
 use Rattle.swim_text.specs.Cutting.{feed_if}
@@ -16,7 +16,7 @@ use Rattle.swim_commands.specs.declared.outcomes.Outcome.TheVariants.{Asked, Ask
 use Rattle.swim_commands.specs.declared.outcomes.Outcome.TheVariants.{Unanswered, AskUnwritten}
 use Rattle.swim_commands.specs.declared.outcomes.Outcome.TheVariants.{AskUnread, NoDaemon}
 use Rattle.swim_commands.specs.Answers.{is_answer_to, is_stopping}
-use Rattle.swim_commands.specs.Forms.{is_unmet, shown}
+use Rattle.swim_commands.specs.Forms.{is_unmet, needs_counts, shown}
 
 -- ---- lines
 
@@ -77,14 +77,46 @@ Grows None new more = Unit {0}
 Grows (Some old) None more = ⊥
 Grows (Some old) (Some new) more = new ≡ old ++ more
 
--- a line and its answer, which is whole and one to that line
-pub record Exchange : Type 0 where
+-- what came of an answer that was waited for: nothing of one that did not come
+abbrev pub text_by : Came → List ℕ → List ℕ
+text_by came.Answer answer = answer
+text_by came.Late answer = []
+text_by came.Nothing answer = []
+
+-- the daemon's counts, where they were asked for
+abbrev pub counts_of : Option Sent → List ℕ
+counts_of None = []
+counts_of (Some asked) = text_by asked.came asked.answer
+
+-- what was asked beside a line, to write its answer: the counts, once, where they are needed, and else nothing
+abbrev pub IsAskedBeside : Bool → Option Sent → Type 0
+IsAskedBeside true (Some asked) = asked.line ≡ codes "stats\n"
+IsAskedBeside true None = ⊥
+IsAskedBeside false (Some asked) = ⊥
+IsAskedBeside false None = Unit {0}
+
+abbrev pub listed : Option Sent → List Sent
+listed None = []
+listed (Some asked) = asked ∷ []
+
+-- a line and its answer, which is whole and one to that line, and what was asked to write it in a form
+pub record Exchange (form : Form) : Type 0 where
   pub line : InputLine
   pub answer : List ℕ
   pub whole : is_answer_to (sent_of line) answer ≡ true
+  pub beside : Option Sent
+  pub is_beside : IsAskedBeside (needs_counts form answer) beside
 
-abbrev pub sent : Exchange → Sent
-sent e = record { line = sent_of e.line; came = came.Answer; answer = e.answer }
+-- what was sent for a line with that answer
+abbrev pub sent_with : List ℕ → List ℕ → Option Sent → List Sent
+sent_with line answer beside = record { line = line; came = came.Answer; answer = answer } ∷ listed beside
+
+abbrev pub sent : (form : Form) → Exchange form → List Sent
+sent form e = sent_with (sent_of e.line) e.answer e.beside
+
+-- what was written of it
+abbrev pub shown_of : (form : Form) → Exchange form → List ℕ
+shown_of form e = shown form (counts_of e.beside) e.answer
 
 -- ---- asking
 
@@ -94,32 +126,32 @@ pub record Asker : Type 0 where
   pub written : Option (List ℕ)
   pub asked : Option (List Sent)
 
--- line after line was read and sent, once each and in order, and the answers to them were written in this form, and
--- nothing else
-pub record HasAsked (form : Form) (exchanges : List Exchange) (old new : Asker) : Type 0 where
+-- line after line was read and sent, once each and in order, with what is asked to write its answer, and the answers to
+-- them were written in this form, and nothing else
+pub record HasAsked (form : Form) (exchanges : List (Exchange form)) (old new : Asker) : Type 0 where
   pub read : Consumes old.left new.left (flat_map (λ e. bytes_of e.line) exchanges)
-  pub wrote : Appends old.written new.written (flat_map (λ e. shown form e.answer) exchanges)
-  pub asked : Grows old.asked new.asked (map sent exchanges)
+  pub wrote : Appends old.written new.written (flat_map (shown_of form) exchanges)
+  pub asked : Grows old.asked new.asked (flat_map (sent form) exchanges)
 
 -- an answer says that something was not done, or isn't what its form is made of
-abbrev pub has_refusal : Form → List Exchange → Bool
+abbrev pub has_refusal : (form : Form) → List (Exchange form) → Bool
 has_refusal form exchanges = list_any (λ e. is_unmet form e.answer) exchanges
 
 -- the last answer says that the daemon stops
-abbrev pub EndsInStop : List Exchange → Type 0
-EndsInStop exchanges = (before : List Exchange) × (last : Exchange) × (exchanges ≡ before ++ last ∷ [])
-    × (is_stopping last.answer ≡ true)
+abbrev pub EndsInStop : (form : Form) → List (Exchange form) → Type 0
+EndsInStop form exchanges = (before : List (Exchange form)) × (last : Exchange form)
+    × (exchanges ≡ before ++ last ∷ []) × (is_stopping last.answer ≡ true)
 
 -- all lines of the input were asked, or those up to a `stop`, and an answer was a refusal, or none was
 pub record IsDone (form : Form) (refused : Bool) (old new : Asker) : Type 0 where
-  pub exchanges : List Exchange
+  pub exchanges : List (Exchange form)
   pub asked : HasAsked form exchanges old new
   pub refused_is : has_refusal form exchanges ≡ refused
-  pub whole : IsAll old.left (flat_map (λ e. bytes_of e.line) exchanges) ⊎ EndsInStop exchanges
+  pub whole : IsAll old.left (flat_map (λ e. bytes_of e.line) exchanges) ⊎ EndsInStop form exchanges
 
 -- lines were asked, and then this became of one more
 pub record IsBroken (form : Form) (Last : Asker → Asker → Type 0) (old new : Asker) : Type 0 where
-  pub exchanges : List Exchange
+  pub exchanges : List (Exchange form)
   pub mid : Asker
   pub asked : HasAsked form exchanges old mid
   pub last : Last mid new
@@ -134,10 +166,10 @@ pub record Misses (met : Came) (old new : Asker) : Type 0 where
 
 -- a line was answered, and not all of the answer could be written
 pub record Loses (form : Form) (old new : Asker) : Type 0 where
-  pub exchange : Exchange
+  pub exchange : Exchange form
   pub taken : TakesLine exchange.line old.left new.left
-  pub asked : Grows old.asked new.asked (sent exchange ∷ [])
-  pub wrote : PutsFront old.written new.written (shown form exchange.answer)
+  pub asked : Grows old.asked new.asked (sent form exchange)
+  pub wrote : PutsFront old.written new.written (shown_of form exchange)
 
 -- the input could not be read on
 pub record IsUnread (old new : Asker) : Type 0 where
@@ -147,9 +179,9 @@ pub record IsUnread (old new : Asker) : Type 0 where
 
 -- all lines were asked, up to a `stop` whose end did not come in time
 pub record IsStopped (form : Form) (old new : Asker) : Type 0 where
-  pub exchanges : List Exchange
+  pub exchanges : List (Exchange form)
   pub asked : HasAsked form exchanges old new
-  pub last : EndsInStop exchanges
+  pub last : EndsInStop form exchanges
 
 -- how asking the lines of an input ends, whose answers are written in this form
 abbrev pub Asking : Form → Asker → Asker → Outcome → Type 0
@@ -173,19 +205,27 @@ Asks form left_old left_new old new outcome =
     Asking form (record { left = left_old; written = old; asked = None })
     (record { left = left_new; written = new; asked = None }) outcome
 
+-- what asking the counts does that are needed to write an answer, and the counts that are known then
+abbrev pub AsksBeside : Form → List ℕ → List ℕ → Option (List Sent) → Option (List Sent) → Type 0
+AsksBeside form answer counts asked_old asked_new =
+    (beside : Option Sent) × IsAskedBeside (needs_counts form answer) beside × (counts ≡ counts_of beside)
+    × Grows asked_old asked_new (listed beside)
+
 -- what asking one line and passing its answer on in a form does
 abbrev pub Passes : Form → List ℕ → Result (Unit {0}) Outcome → List ℕ → Option (List ℕ) → Option (List ℕ)
     → Option (List Sent) → Option (List Sent) → Type 0
 Passes form line (Ok done) answer old new asked_old asked_new =
-    (is_answer_to line answer ≡ true) × Appends old new (shown form answer)
-    × Grows asked_old asked_new (record { line = line; came = came.Answer; answer = answer } ∷ [])
+    (beside : Option Sent) × (is_answer_to line answer ≡ true) × IsAskedBeside (needs_counts form answer) beside
+    × Appends old new (shown form (counts_of beside) answer)
+    × Grows asked_old asked_new (sent_with line answer beside)
 Passes form line (Err AskTimeout) answer old new asked_old asked_new =
     Keeps old new × Grows asked_old asked_new (record { line = line; came = came.Late; answer = answer } ∷ [])
 Passes form line (Err Unanswered) answer old new asked_old asked_new =
     Keeps old new × Grows asked_old asked_new (record { line = line; came = came.Nothing; answer = answer } ∷ [])
 Passes form line (Err AskUnwritten) answer old new asked_old asked_new =
-    (is_answer_to line answer ≡ true) × PutsFront old new (shown form answer)
-    × Grows asked_old asked_new (record { line = line; came = came.Answer; answer = answer } ∷ [])
+    (beside : Option Sent) × (is_answer_to line answer ≡ true) × IsAskedBeside (needs_counts form answer) beside
+    × PutsFront old new (shown form (counts_of beside) answer)
+    × Grows asked_old asked_new (sent_with line answer beside)
 Passes form line (Err outcome) answer old new asked_old asked_new = ⊥
 
 -- how asking ends where each line was answered

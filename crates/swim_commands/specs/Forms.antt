@@ -10,6 +10,7 @@ use Rattle.swim_wire.specs.Address.{Address, address_of, address_text}
 use Rattle.swim_wire.specs.Ids.{id_of}
 use Rattle.swim_commands.specs.declared.forms.Form.{Form}
 use Rattle.swim_commands.specs.declared.forms.Form.TheVariants.{Plain, Explained, Tables}
+use Rattle.swim_commands.specs.Ages.{aged, has_failed, periods_in}
 use Rattle.swim_commands.specs.Answers.{is_over, is_refusal}
 
 -- ---- with the name of what an answer tells by its number
@@ -44,8 +45,9 @@ name_of answer =
 abbrev pub named : List ℕ → List ℕ → List ℕ
 named answer name = take (length answer - 1) answer ++ (codes " " ++ (name ++ codes "\n"))
 
-abbrev pub explained : List ℕ → List ℕ
-explained answer = if length (name_of answer) == 0 then answer else named answer (name_of answer)
+-- an answer with the name of what it tells by a number, if it tells anything so
+abbrev pub with_name : List ℕ → List ℕ
+with_name answer = if length (name_of answer) == 0 then answer else named answer (name_of answer)
 
 -- ---- as the tables of a configuration
 
@@ -81,11 +83,22 @@ tables_text answer = flat_map table_line (words_by 10 answer)
 
 -- ---- an answer
 
--- what is written of it; of what is no member table no tables are made
-abbrev pub shown : Form → List ℕ → List ℕ
-shown Plain answer = answer
-shown Explained answer = explained answer
-shown Tables answer = if is_table answer then tables_text answer else answer
+-- a member table with the ages of its verdicts, by the daemon's counts, and any other answer with its name
+abbrev pub explained : List ℕ → List ℕ → List ℕ
+explained counts answer =
+    if is_table answer then aged (periods_in counts) answer else with_name answer
+
+-- what is written of it, where the daemon has these counts; of what is no member table no tables are made
+abbrev pub shown : Form → List ℕ → List ℕ → List ℕ
+shown Plain counts answer = answer
+shown Explained counts answer = explained counts answer
+shown Tables counts answer = if is_table answer then tables_text answer else answer
+
+-- counts of the daemon are needed to write it: it is a member table with a member that failed
+abbrev pub needs_counts : Form → List ℕ → Bool
+needs_counts Plain answer = false
+needs_counts Explained answer = is_table answer && has_failed (words_by 10 answer)
+needs_counts Tables answer = false
 
 -- it says that what was asked was not done, or isn't the table that was asked for
 abbrev pub is_unmet : Form → List ℕ → Bool

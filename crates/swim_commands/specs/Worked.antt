@@ -5,6 +5,7 @@ use Rattle.clap.proofs.OnLiterals.{clap_on_literals}
 use Rattle.clap.specs.declared.error.kind.ErrorKind.TheVariants.{DisplayHelp, DisplayVersion}
 use Rattle.clap.specs.declared.error.kind.ErrorKind.TheVariants.{UnknownArgument}
 use Rattle.swim_commands.specs.declared.forms.Form.TheVariants.{Plain, Explained, Tables}
+use Rattle.swim_commands.specs.Ages.{span_of}
 use Rattle.swim_commands.specs.Forms.{explained, shown}
 use Rattle.swim_commands.specs.Words.{Around, Check, CheckFile, Run, Ask, MakeKey, Help, Version, IsAsked}
 
@@ -107,14 +108,18 @@ tells_the_version = (DisplayVersion, inl refl, refl)
 
 -- ---- what is written of an answer
 
-a_refusal_has_a_name : explained (codes "refused 4\n") ≡ codes "refused 4 unknown\n"
+a_refusal_has_a_name : explained [] (codes "refused 4\n") ≡ codes "refused 4 unknown\n"
 a_refusal_has_a_name = refl
 
-a_join_has_a_name : explained (codes "joined 2\n") ≡ codes "joined 2 the place in the round\n"
+a_join_has_a_name : explained [] (codes "joined 2\n") ≡ codes "joined 2 the place in the round\n"
 a_join_has_a_name = refl
 
-a_gap_has_none : explained (codes "gap none\n") ≡ codes "gap none\n"
+a_gap_has_none : explained [] (codes "gap none\n") ≡ codes "gap none\n"
 a_gap_has_none = refl
 
-what_is_no_list_makes_none : shown Tables (codes "closed\n") ≡ codes "closed\n"
+what_is_no_list_makes_none : shown Tables [] (codes "closed\n") ≡ codes "closed\n"
 what_is_no_list_makes_none = refl
+
+a_span_has_two_units_at_least : span_of 119 ∷ span_of 120 ∷ span_of 7199 ∷ span_of 7200 ∷ span_of 172800 ∷ [] ≡
+    (119, codes "s") ∷ (2, codes "min") ∷ (119, codes "min") ∷ (2, codes "h") ∷ (2, codes "days") ∷ []
+a_span_has_two_units_at_least = refl

@@ -2,14 +2,14 @@
 
 ghost use Rattle.std.specs.Prelude.{◌≡◌, ◌||◌};
 ghost use Rattle.swim_text.specs.Streams.{Puts};
-ghost use Rattle.swim_commands.specs.Asking.{Asking, Asks, Passes, asked_so, stopped_so};
+ghost use Rattle.swim_commands.specs.Asking.{Asking, Asks, AsksBeside, Passes, asked_so, stopped_so};
 ghost use Rattle.swim_commands.specs.Forms.{shown};
 
 use crate::answers::{ControlAnswer, is_stopping};
 use crate::askers::{Asker, Came};
 use crate::control_lines::{ControlLine, NextLine, read_line};
 use crate::details::{Details, words_of};
-use crate::forms::{Form, is_unmet, put_shown};
+use crate::forms::{Form, is_unmet, needs_counts, put_shown};
 use crate::outcomes::Outcome;
 use crate::sockets::ControlSocket;
 use std::io::ErrorKind;
@@ -56,6 +56,7 @@ fn ask_lines<S: Source, A: Asker, W: Sink>(
 {
     let mut line = ControlLine::new();
     let mut answer = ControlAnswer::new();
+    let mut counts = ControlAnswer::new();
     let mut is_refused = false;
     for _turn in 0..u64::MAX {
         match read_line(reader, &mut line) {
@@ -63,7 +64,14 @@ fn ask_lines<S: Source, A: Asker, W: Sink>(
             NextLine::Over => return asked(is_refused),
             NextLine::Fault => return Outcome::AskUnread,
         }
-        if let Err(outcome) = pass(form, line.as_slice(), asker, &mut answer, writer) {
+        if let Err(outcome) = pass(
+            form,
+            line.as_slice(),
+            asker,
+            &mut answer,
+            &mut counts,
+            writer,
+        ) {
             return outcome;
         }
         is_refused = is_either(is_refused, is_unmet(form, answer.as_slice()));
@@ -74,12 +82,13 @@ fn ask_lines<S: Source, A: Asker, W: Sink>(
     Outcome::AskUnread
 }
 
-/// Asks a line, and passes its answer on in a form.
+/// Asks a line, and passes its answer on in a form, by the daemon's counts if they are needed.
 fn pass<A: Asker, W: Sink>(
     form: Form,
     line: &[u8],
     asker: &mut A,
     answer: &mut ControlAnswer,
+    counts: &mut ControlAnswer,
     writer: &mut W,
 ) -> Result<(), Outcome>
     ensures { Passes form line.now result answer.new.items (W.written writer.old) (W.written writer.new)
@@ -90,18 +99,36 @@ fn pass<A: Asker, W: Sink>(
         Came::Late => return Err(Outcome::AskTimeout),
         Came::Nothing => return Err(Outcome::Unanswered),
     }
-    if !put_answer(form, answer.as_slice(), writer) {
+    ask_beside(form, answer.as_slice(), asker, counts);
+    if !put_answer(form, answer.as_slice(), counts.as_slice(), writer) {
         return Err(Outcome::AskUnwritten);
     }
     Ok(())
 }
 
-/// Writes an answer in a form, and hands it on. Whether all of it was taken.
-#[tactic(auto, using(swim_streams::proofs::Taken::put_and_flushed))]
-fn put_answer<W: Sink>(form: Form, answer: &[u8], writer: &mut W) -> bool
-    ensures { Puts (W.written writer.old) (W.written writer.new) (shown form answer.now) result }
+/// Asks for the daemon's counts if they are needed to write an answer. Leaves none if they don't come: the answer is
+/// written without them.
+#[tactic(auto, using(crate::proofs::Beside::none_beside))]
+fn ask_beside<A: Asker>(form: Form, answer: &[u8], asker: &mut A, counts: &mut ControlAnswer)
+    ensures { AsksBeside form answer.now counts.new.items (A.asked asker.old) (A.asked asker.new) }
 {
-    if !put_shown(form, answer, writer) {
+    counts.clear();
+    if !needs_counts(form, answer) {
+        return;
+    }
+    match asker.ask(b"stats\n", counts) {
+        Came::Answer => {}
+        Came::Late => counts.clear(),
+        Came::Nothing => counts.clear(),
+    }
+}
+
+/// Writes an answer in a form, by these counts of the daemon, and hands it on. Whether all of it was taken.
+#[tactic(auto, using(swim_streams::proofs::Taken::put_and_flushed))]
+fn put_answer<W: Sink>(form: Form, answer: &[u8], counts: &[u8], writer: &mut W) -> bool
+    ensures { Puts (W.written writer.old) (W.written writer.new) (shown form counts.now answer.now) result }
+{
+    if !put_shown(form, answer, counts, writer) {
         return false;
     }
     writer.flush()

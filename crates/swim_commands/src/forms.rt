@@ -1,10 +1,11 @@
-//! How the answers of a daemon are written: as they are, with names behind their numbers, or as the tables of a
-//! configuration.
+//! How the answers of a daemon are written: as they are, with names behind their numbers and the ages of verdicts, or as
+//! the tables of a configuration.
 
-ghost use Rattle.std.specs.Prelude.{◌≡◌};
+ghost use Rattle.std.specs.Prelude.{◌≡◌, []};
 ghost use Rattle.swim_text.specs.Streams.{Puts};
-ghost use Rattle.swim_commands.specs.Forms.{explained, is_unmet, named, shown};
+ghost use Rattle.swim_commands.specs.Forms.{explained, is_unmet, named, needs_counts, shown, with_name};
 
+use crate::ages::{has_failed, put_aged};
 use crate::answers::is_refusal;
 use crate::member_tables::{is_table, put_tables};
 use crate::names::name_of;
@@ -16,20 +17,32 @@ use swim_wire::{Piece, put_pieces};
 pub enum Form {
     /// As they are.
     Plain,
-    /// With the name of what they tell by a number behind it.
+    /// With the name of what they tell by a number behind it, and in a member table with the ages of its verdicts.
     Explained,
     /// As the tables of a configuration, one for each member.
     Tables,
 }
 
-/// Writes an answer in a form. Whether the sink took all of it.
-pub fn put_shown<W: Sink>(form: Form, answer: &[u8], writer: &mut W) -> bool
-    ensures { Puts (W.written writer.old) (W.written writer.new) (shown form answer.now) result }
+/// Writes an answer in a form, with the ages of verdicts by these counts of its daemon. Returns whether the sink took
+/// all of it.
+pub fn put_shown<W: Sink>(form: Form, answer: &[u8], counts: &[u8], writer: &mut W) -> bool
+    ensures { Puts (W.written writer.old) (W.written writer.new) (shown form counts.now answer.now) result }
 {
     match form {
         Form::Plain => writer.put(answer),
-        Form::Explained => put_explained(answer, writer),
+        Form::Explained => put_explained(answer, counts, writer),
         Form::Tables => put_table(answer, writer),
+    }
+}
+
+/// Returns whether the daemon's counts are needed to write an answer: it is a member table with a verdict, to be
+/// explained.
+pub fn needs_counts(form: Form, answer: &[u8]) -> bool
+    ensures { result ≡ needs_counts form answer.now }
+{
+    match form {
+        Form::Explained => is_table(answer) && has_failed(answer),
+        Form::Plain | Form::Tables => false,
     }
 }
 
@@ -43,9 +56,19 @@ pub fn is_unmet(form: Form, answer: &[u8]) -> bool
     }
 }
 
-/// Writes an answer with the name of what it tells by a number.
-fn put_explained<W: Sink>(answer: &[u8], writer: &mut W) -> bool
-    ensures { Puts (W.written writer.old) (W.written writer.new) (explained answer.now) result }
+/// Writes an answer with the name of what it tells by a number, and a member table with the ages of its verdicts.
+fn put_explained<W: Sink>(answer: &[u8], counts: &[u8], writer: &mut W) -> bool
+    ensures { Puts (W.written writer.old) (W.written writer.new) (explained counts.now answer.now) result }
+{
+    if !is_table(answer) {
+        return put_with_name(answer, writer);
+    }
+    put_aged(answer, counts, writer)
+}
+
+/// Writes an answer with the name of what it tells by a number, if it tells anything so.
+fn put_with_name<W: Sink>(answer: &[u8], writer: &mut W) -> bool
+    ensures { Puts (W.written writer.old) (W.written writer.new) (with_name answer.now) result }
 {
     let name = name_of(answer);
     if name.is_empty() {
@@ -70,7 +93,7 @@ fn put_named<'x, W: Sink>(answer: &'x [u8], name: &'x str, writer: &mut W) -> bo
 
 /// Writes an answer as tables, and one that is no member table as it is.
 fn put_table<W: Sink>(answer: &[u8], writer: &mut W) -> bool
-    ensures { Puts (W.written writer.old) (W.written writer.new) (shown Form.Tables answer.now) result }
+    ensures { Puts (W.written writer.old) (W.written writer.new) (shown Form.Tables [] answer.now) result }
 {
     if is_table(answer) {
         put_tables(answer, writer)

@@ -2,6 +2,7 @@
 //! of a daemon that runs (`ask`, `watch`, `web`).
 #![tactic(auto)]
 
+mod ages;
 mod answers;
 mod ask;
 mod ask_words;

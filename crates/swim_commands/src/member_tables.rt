@@ -22,7 +22,7 @@ pub fn is_table(answer: &[u8]) -> bool
 }
 
 /// Writes a table for each row of an answer. Whether the sink took all of them.
-#[tactic(auto, using(crate::proofs::Tables::none_tabled, crate::proofs::Tables::one_tabled, crate::proofs::Tables::all_tabled, crate::proofs::Tables::tabled_failed))]
+#[tactic(auto, using(crate::proofs::LineTexts::none_written, crate::proofs::LineTexts::all_written, crate::proofs::LineTexts::write_failed))]
 pub fn put_tables<W: Sink>(answer: &[u8], writer: &mut W) -> bool
     ensures { Puts (W.written writer.old) (W.written writer.new) (tables_text answer.now) result }
 {
