@@ -1,7 +1,7 @@
 //! Where figures are laid for the thread that writes the metrics file, which alone waits for its disk.
 
 use crate::counting::counters::Figures;
-use crate::counting::metrics_files::{Unwritten, write_metrics};
+use crate::counting::metrics_files::{MetricsFiles, Unwritten};
 use arrayvec::ArrayString;
 use std::fs::File;
 use std::io::ErrorKind;
@@ -94,12 +94,13 @@ impl MetricsDesk {
 
     /// Writes the file each time figures are handed over, until the desk is closed.
     pub fn write_on<R: Files<File = File> + Wait>(&self, rt: &R) {
+        let mut files = MetricsFiles::new(rt);
         for _turn in rt.forever() {
             let Some(Handed { path, figures }) = self.take(rt) else {
                 return;
             };
             let outside = figures.outside();
-            let written = write_metrics(rt, path.as_str(), figures.measures(), &outside);
+            let written = files.write(path.as_str(), figures.measures(), &outside);
             self.report(rt, written);
         }
     }

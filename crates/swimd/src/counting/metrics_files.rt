@@ -1,5 +1,11 @@
 //! The file where metrics are told.
 
+ghost use Rattle.std.specs.Prelude.{◌≡◌, ◌∷◌, [], IfOk, MatchResult, Some, map};
+ghost use Rattle.swim_metrics.specs.Texts.{exposition_text};
+ghost use Rattle.swim_work.specs.Posts.{Grows};
+ghost use Rattle.swimd.specs.Documents.{document, document_in};
+
+use crate::counting::new_files::{GivenText, NewFile};
 use arrayvec::ArrayString;
 use std::fs;
 use std::fs::{File, Permissions};
@@ -9,7 +15,8 @@ use std::rt::Files;
 use swim_commands::words_of;
 use swim_disk::{is_file, make_file};
 use swim_metrics::{Measures, Outside, put_exposition};
-use swim_text::{Sink, WriteSink};
+use swim_text::Sink;
+use swim_trail::Trail;
 
 /// The mode of the file: its owner may write it, and all may read it.
 const FOR_ALL_TO_READ: u32 = 0o644;
@@ -47,27 +54,61 @@ impl Unwritten {
     }
 }
 
-/// Writes the metrics file of that path anew, beside it, and then renames it to it, so that nobody reads half of it. It
-/// takes the place of nothing but a metrics file, by whatever name the path calls what lies there.
-pub fn write_metrics<R: Files<File = File>>(
-    rt: &R,
-    path: &str,
-    measures: &Measures,
-    outside: &Outside<'_>,
-) -> Result<(), Unwritten> {
-    if !is_free(rt, path) && !is_of_metrics(rt, path) {
-        return Err(Unwritten::Kept);
-    }
-    replace(rt, path, measures, outside).map_err(|kind| Unwritten::Refused(kind))
+/// The metrics files of a daemon. A contract sees those that were written whole and took the place at their paths, the
+/// oldest first.
+#[derive(Drop)]
+pub struct MetricsFiles<'r, R> {
+    rt: &'r R,
+    whole: Trail<GivenText>,
 }
 
-/// Writes a new file, and gives it that path.
+impl<'r, R: Files<File = File>> MetricsFiles<'r, R> {
+    /// None was written yet.
+    pub fn new(rt: &'r R) -> MetricsFiles<'r, R>
+        ensures { result.whole.items ≡ [] }
+    {
+        MetricsFiles {
+            rt,
+            whole: Trail::new(),
+        }
+    }
+
+    /// Writes the metrics file of that path anew, beside it, and then renames it to it, so that nobody reads half of
+    /// it. It takes the place of nothing but a metrics file, by whatever name the path calls what lies there.
+    #[tactic(auto, using(swim_trail::specs::Noted::map_more))]
+    pub fn write(
+        &mut self,
+        path: &str,
+        measures: &Measures,
+        outside: &Outside<'_>,
+    ) -> Result<(), Unwritten>
+        ensures { MatchResult result
+            (λ done. Grows (Some (map document_in self.old.whole.items)) (Some (map document_in self.new.whole.items))
+            (document path.now (exposition_text measures.now outside.now) ∷ []))
+            (λ why. self.new.whole.items ≡ self.old.whole.items) }
+    {
+        if !is_free(self.rt, path) && !is_of_metrics(self.rt, path) {
+            return Err(Unwritten::Kept);
+        }
+        match replace(self.rt, path, measures, outside) {
+            Ok(text) => {
+                self.whole.note(&text, path.as_bytes());
+                Ok(())
+            }
+            Err(kind) => Err(Unwritten::Refused(kind)),
+        }
+    }
+}
+
+/// Writes a new file, and gives it that path. The text that it was given.
 fn replace<R: Files<File = File>>(
     rt: &R,
     path: &str,
     measures: &Measures,
     outside: &Outside<'_>,
-) -> Result<(), ErrorKind> {
+) -> Result<GivenText, ErrorKind>
+    ensures { IfOk result (λ text. text ≡ exposition_text measures.now outside.now) }
+{
     let mut new = ArrayString::<PATH_BYTES>::new();
     for part in [path, NEW] {
         if new.try_push_str(part).is_err() {
@@ -75,11 +116,12 @@ fn replace<R: Files<File = File>>(
         }
     }
     let file = make(rt, new.as_str()).map_err(|fault| fault.kind())?;
-    let mut sink = WriteSink::new(&file);
+    let mut sink = NewFile::of(&file);
     if !put_exposition(&mut sink, measures, outside) || !sink.flush() {
         return Err(why_unwritten(&file));
     }
-    fs::rename(rt, new.as_str(), path).map_err(|fault| fault.kind())
+    fs::rename(rt, new.as_str(), path).map_err(|fault| fault.kind())?;
+    Ok(sink.into_text())
 }
 
 /// Makes a file for all to read, whatever the mask of the daemon says: whoever collects metrics is another user. A
