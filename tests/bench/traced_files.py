@@ -65,14 +65,16 @@ def period(members, number):
 
 
 def write_judged(program, path, entries):
-    """Writes the file of a member that hears pings, and judges one in its last period: that one, and the period."""
+    """Writes the file of a member that hears pings, and judges one when its first period ends: that one, and the period."""
     member, ticks, chunk = Member(program, path, 1, entries), 2 * PERIOD, 1_000
     for first in range(1, entries - ticks + 1, chunk):
         numbers = range(first, min(first + chunk, entries - ticks + 1))
         member.tell([hear(2, PING, 2, 2, 1, it) for it in numbers])
     answers = [member.tell(["tick\n"])[0].split() for _ in range(ticks)]
     member.end()
-    return next((int(words[2]), int(words[1]) - 1) for words in answers if words[:1] == ["started"] and words[2] != "-")
+    # The first start begins period 1, and the next one tells whom that period judged.
+    _, (_, _, judged, *_) = (words for words in answers if words[:1] == ["started"])
+    return int(judged), 1
 
 
 def write(program, folder, entries):
