@@ -65,7 +65,8 @@ def period(members, number):
 
 
 def write_judged(program, path, entries):
-    """Writes the file of a member that hears pings, and judges one when its first period ends: that one, and the period."""
+    """Writes the file of a member that hears pings, and judges one when its first period ends: who that is, and the
+    period."""
     member, ticks, chunk = Member(program, path, 1, entries), 2 * PERIOD, 1_000
     for first in range(1, entries - ticks + 1, chunk):
         numbers = range(first, min(first + chunk, entries - ticks + 1))
