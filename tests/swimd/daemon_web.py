@@ -1,6 +1,7 @@
 """`swimd web`: its pages, beside what the daemon answers itself, and how it starts and waits for one."""
 
 import base64
+import datetime
 import hashlib
 import json
 import os
@@ -23,6 +24,7 @@ SAFE = {"x-content-type-options": "nosniff", "cache-control": "no-store", "allow
 # The time that an answer of a daemon may take, and for which one that owes an answer isn't asked, with some room.
 LIMIT = 1.5
 NAMES_WITHOUT_FILES = {name: it for name, it in NAMES.items() if name not in FILES_NAMES}
+PROBED = re.compile(r": probed at entry \d+ \((\d+)\)")
 EVENT = re.compile(r"id: (\d+)\ndata: ([^\n]*)\n\n")
 
 
@@ -130,6 +132,8 @@ def a_verdict_is_explained(machine):
             must(part in text, f"{part} isn't in the page {text[:2_000]}")
         must(f"\nswimsim --timeline run.svg --around 2 {file.path}\n" in text, "the page has another command")
         must("<script" not in text, "the page has a script")
+        began = datetime.datetime.fromtimestamp(int(PROBED.search(line).group(1)), datetime.timezone.utc)
+        must(f", {began:%Y-%m-%dT%H:%M:%SZ}</td>" in text, f"the probe's time isn't in {text[:2_000]}")
         must(b'{"explained":true,' in web.get("/verdicts.json").body, "verdicts are told as having no pages")
         for other in (f"/verdicts/2/{number + 1}", f"/verdicts/3/{number}"):
             must_answer(web, other, 404, b"no such verdict\n")
@@ -255,6 +259,11 @@ def addresses(machine):
         found = ran(*words)
         must(found[:3] == (b"", b"usage\n", 2), f"{words}: {found}")
         must(b"swimd web --listen 127.0.0.1:8946 --control PATH" in found[3], f"{words}: {found[3]!r}")
+    found = ran("--listen", at, "--control", control, "--journals", "/" + "d" * 100)
+    must(found[:3] == (b"", b"usage\n", 2), f"a long folder: {found}")
+    must(b"  --journals takes a folder whose path has at most 100 bytes\n" in found[3], f"a long folder: {found[3]!r}")
+    with WebServer(machine, control, "--journals", "/" + "d" * 99) as web:
+        must_answer(web, "/verdicts/2/7", 404, b"no such verdict\n")
     with WebServer(machine, control, *names[:-2], host="0.0.0.0") as web:
         until(lambda: [web.hear(), web.said.endswith(b" reads the member table\n")][1], "a warning is told")
         must(f" warning: whoever reaches 0.0.0.0:{web.port} ".encode() in web.said, f"{web.said!r} is told")

@@ -223,9 +223,21 @@ names_of names = if nat_le (length names) 8 then Some names else None
 abbrev pub names_in : List Row → Option (List Text)
 names_in rows = option_map_or names_of (all_of (codes "name") rows) (Some [])
 
+-- a folder of journal files, whose path has at most 100 bytes
+abbrev pub folder_of : Text → Option (Option Text)
+folder_of path = if nat_le (length path) 100 then Some (Some path) else None
+
+abbrev pub folder_in : List Row → Option (Option Text)
+folder_in rows = option_map_or folder_of (first_of (codes "journals") rows) (Some None)
+
+abbrev pub web_with : Address → List Row → Text → List Text → Option Wanted
+web_with listen rows control names =
+    option_map (λ journals. Web listen control (first_of (codes "events") rows) journals names) (folder_in rows)
+
 abbrev pub web_by : Address → List Row → Option Wanted
-web_by listen rows = option_and_then (λ control. option_map (Web listen control (first_of (codes "events") rows)
-    (first_of (codes "journals") rows)) (names_in rows)) (first_of (codes "control") rows)
+web_by listen rows =
+    option_and_then (λ control. option_and_then (web_with listen rows control) (names_in rows))
+    (first_of (codes "control") rows)
 
 abbrev pub web_in : List Row → Option Wanted
 web_in rows = option_and_then (λ text. option_and_then (λ listen. web_by listen rows) (address_of text))

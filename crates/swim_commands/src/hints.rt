@@ -7,6 +7,7 @@ use crate::details::Details;
 use crate::options::path_in;
 use crate::outcomes::Outcome;
 use crate::surroundings::Surroundings;
+use crate::web_words::folder_in;
 use crate::words::program;
 use clap::ArgMatches;
 use std::alloc::Global;
@@ -77,12 +78,19 @@ fn add_lines(text: &str, details: &mut Details) {
 /// What is wrong with words that `clap` takes.
 fn words_of_range<'a>(matches: &ArgMatches<'a>, around: Surroundings<'a>) -> &'static str {
     match matches.subcommand() {
-        Some(("web", _)) => {
-            "--listen takes an address, as 127.0.0.1:8946, and --name stands there eight times at most"
-        }
+        Some(("web", given)) => words_of_page(given),
         Some(("ask", given)) => words_of_request(given, around),
         Some(("watch", _)) => "SWIMD_EVENTS is no text in UTF-8; --events <PATH> takes its place",
         _ => "run takes one FILE, as the last word or as --config <FILE>",
+    }
+}
+
+/// What is wrong with the words of `web`.
+fn words_of_page(given: &ArgMatches<'_>) -> &'static str {
+    if folder_in(given).is_none() {
+        "--journals takes a folder whose path has at most 100 bytes"
+    } else {
+        "--listen takes an address, as 127.0.0.1:8946, and --name stands there eight times at most"
     }
 }
 

@@ -1,41 +1,23 @@
 //! The journal files in which `web` looks verdicts up.
 
 ghost use Rattle.std.specs.Prelude.{◌≡◌, ℕ};
-ghost use Rattle.swim_commands.specs.Shelves.{IsTold};
+ghost use Rattle.swim_commands.specs.Shelves.{IsTold, IsUntold};
+ghost use Rattle.swim_verdicts.specs.VerdictPages.{IsVerdictPage};
 ghost use Rattle.swim_web.specs.declared.shelves.Found.TheVariants as finds;
 
-use arrayvec::{ArrayString, ArrayVec};
+use jiff::Timestamp;
 use std::alloc::{AllocError, Global};
-use std::fmt::Write;
 use std::fs::File;
 use std::rt::Files;
-use swim_disk::{Stamp, path_of};
-use swim_text::{Byte, Page as Text, ReadSource, Source, cut, read_number};
-use swim_verdicts::{VerdictPage, evidence_of, play};
+use swim_disk::{journals_in, judged_in, path_of};
+use swim_evidence::Evidence;
+use swim_text::Page as Text;
+use swim_verdicts::{Played, VerdictPage, evidence_of, play};
 use swim_web::{Found, Shelf};
 use swim_wire::Id;
 
 /// The most bytes of a file that is replayed.
 const MOST_BYTES: u64 = 268_435_456;
-
-/// The most bytes of the names of a folder that are looked at.
-const NAMES_BYTES: u32 = 1_048_576;
-
-/// Room for a name of a journal file, which has at most 57 bytes; of a longer name a front is looked at.
-const NAME_BYTES: usize = 64;
-
-/// Room for the path of a folder.
-const FOLDER_BYTES: usize = 107;
-
-/// The path of a folder.
-type FolderPath = ArrayString<FOLDER_BYTES>;
-
-/// A journal file by its name: its life, and whose it is. The newest is the greatest.
-#[derive(Clone, Copy, PartialEq, Eq, PartialOrd, Ord)]
-struct Journaled {
-    stamp: Stamp,
-    member: Id,
-}
 
 /// The journal files of a folder, and of the folder `judged` in it, where those with verdicts stay longer.
 #[derive(Drop)]
@@ -77,13 +59,6 @@ impl<'r, 'p, R: Files<File = File>> Shelf for FileShelf<'r, 'p, R> {
     }
 }
 
-/// The folder in which files with verdicts stay longer.
-fn judged_in(dir: &str) -> FolderPath {
-    let mut path = FolderPath::new();
-    let _is_whole = write!(path, "{dir}/judged");
-    path
-}
-
 /// Looks for the verdict in the files of a folder, the newest first.
 fn find_in<R: Files<File = File>>(
     rt: &R,
@@ -109,7 +84,6 @@ fn find_in<R: Files<File = File>>(
 }
 
 /// Looks for the verdict in a file.
-#[tactic(auto, using(crate::proofs::Shelved::told_so))]
 fn find_at<R: Files<File = File>>(
     rt: &R,
     alloc: Global,
@@ -120,24 +94,86 @@ fn find_at<R: Files<File = File>>(
 ) -> Found
     ensures { result ≡ finds.Page → IsTold member number page.new.text }
 {
-    let Some(file) = open(rt, path) else {
-        return Found::Nothing;
-    };
+    match open(rt, path) {
+        Some(file) => find_told(alloc, path, file, member, number, page),
+        None => Found::Nothing,
+    }
+}
+
+/// Looks for the verdict in a file that is open.
+fn find_told(
+    alloc: Global,
+    path: &str,
+    file: File,
+    member: Id,
+    number: u64,
+    page: &mut Text,
+) -> Found
+    // The page is about that verdict, which the file tells;
+    ensures page { result ≡ finds.Page → IsTold member number page.new.text }
+
+    // and where there is none, a file was replayed that doesn't tell it.
+    ensures nothing { result ≡ finds.Nothing → IsUntold member number }
+{
     let played = play(alloc, file);
     let Ok(found) = &played.found else {
         return Found::NoMemory;
     };
-    let Some(evidence) = evidence_of(found.findings.as_slice(), member, number) else {
-        return Found::Nothing;
+    match evidence_of(found.findings.as_slice(), member, number) {
+        Some(evidence) => show(alloc, path, &played, evidence, page),
+        None => Found::Nothing,
+    }
+}
+
+/// Makes the page about a verdict.
+fn show<'x>(
+    alloc: Global,
+    path: &'x str,
+    played: &'x Played,
+    evidence: &'x Evidence,
+    page: &mut Text,
+) -> Found
+    ensures page { result ≡ finds.Page → IsVerdictPage path.now played.now evidence.now.member evidence.now.number
+        page.new.text }
+    ensures found { result ≡ finds.Nothing → ⊥ }
+{
+    let Ok(time) = time_of(alloc, played, evidence) else {
+        return Found::NoMemory;
     };
     let about = VerdictPage {
         path,
-        played: &played,
+        played,
         evidence,
+        probed: time.as_str(),
     };
-    match about.put(alloc, page) {
-        Ok(true) => Found::Page,
-        Ok(false) | Err(_) => Found::NoMemory,
+    let mut shown = Text::new(alloc);
+    let Ok(is_whole) = about.put(alloc, &mut shown) else {
+        return Found::NoMemory;
+    };
+    if !is_whole {
+        return Found::NoMemory;
+    }
+    *page = shown;
+    Found::Page
+}
+
+/// Returns when the probe of a verdict was sent, as RFC 3339 has it; an empty text if the file tells no time that there
+/// is.
+fn time_of(alloc: Global, played: &Played, evidence: &Evidence) -> Result<String, AllocError> {
+    match played.witness.times.get(&evidence.probed) {
+        Some(seconds) => time_text(alloc, *seconds),
+        None => Ok(String::new(alloc)),
+    }
+}
+
+/// Returns the time so many seconds after 1970 began, as RFC 3339 has it; an empty text if there is no such time.
+fn time_text(alloc: Global, seconds: u64) -> Result<String, AllocError> {
+    let Ok(seconds) = i64::try_from(seconds) else {
+        return Ok(String::new(alloc));
+    };
+    match Timestamp::from_second(seconds) {
+        Ok(time) => format!(in alloc; "{time}"),
+        Err(_) => Ok(String::new(alloc)),
     }
 }
 
@@ -150,43 +186,4 @@ fn open<R: Files<File = File>>(rt: &R, path: &str) -> Option<File> {
     } else {
         None
     }
-}
-
-/// The journal files of a folder, the oldest first. Without such a folder there are none.
-fn journals_in<R: Files>(rt: &R, alloc: Global, dir: &str) -> Result<Vec<Journaled>, AllocError> {
-    let mut files = Vec::new(alloc);
-    let Ok(names) = rt.open_dir(dir) else {
-        return Ok(files);
-    };
-    let mut names = ReadSource::new(names);
-    let mut name = ArrayVec::<u8, NAME_BYTES>::new();
-    for _byte in 0..NAMES_BYTES {
-        match names.byte() {
-            Byte::One(0) => {
-                if let Some(file) = named(name.as_slice()) {
-                    files.push(file)?;
-                }
-                name.clear();
-            }
-            Byte::One(byte) => {
-                let _is_added = name.try_push(byte);
-            }
-            Byte::End | Byte::Fault => break,
-        }
-    }
-    files.sort()?;
-    Ok(files)
-}
-
-/// The journal file of that name, if it is one: ID-SECONDS-LIFE.swim.
-fn named(name: &[u8]) -> Option<Journaled> {
-    let name = name.strip_suffix(b".swim")?;
-    let (id, rest) = cut(name, b'-')?;
-    let (began, life) = cut(rest, b'-')?;
-    let stamp = Stamp {
-        began: read_number(began, u64::MAX)?,
-        life: read_number(life, u64::MAX)?,
-    };
-    let member = Id::read(id)?;
-    Some(Journaled { stamp, member })
 }

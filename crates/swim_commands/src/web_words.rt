@@ -5,13 +5,15 @@ ghost use Rattle.clap.specs.Matches.{found_of};
 ghost use Rattle.clap.specs.Simple.{app_of};
 ghost use Rattle.clap.specs.Walk.{rows_of, rule_of};
 ghost use Rattle.clap.specs.declared.builder.command.Command.TheViews.{out-Command};
-ghost use Rattle.swim_commands.specs.Words.{names_in, names_of, option_rule, repeated_rule, wanted, web_app, web_in};
+ghost use Rattle.swim_commands.specs.Words.{folder_in, folder_of, names_in, names_of, option_rule, repeated_rule};
+ghost use Rattle.swim_commands.specs.Words.{wanted, web_app, web_in};
 
 use crate::options::needed;
 use crate::words::Asked;
 use arrayvec::ArrayVec;
 use clap::{Arg, ArgAction, ArgMatches, Command};
 use std::alloc::{AllocError, Global};
+use swim_disk::DIR_BYTES;
 use swim_wire::Peer;
 
 /// How many names of its host may be given.
@@ -106,8 +108,8 @@ pub(crate) fn web_in<'a>(given: &ArgMatches<'a>) -> Option<Asked<'a>>
     let listen = Peer::read(listen.as_bytes())?;
     let control = given.get_str("control")?;
     let names = names_in(given)?;
+    let journals = folder_in(given)?;
     let events = given.get_str("events");
-    let journals = given.get_str("journals");
     Some(Asked::Web(WebRequest {
         listen,
         control,
@@ -115,6 +117,28 @@ pub(crate) fn web_in<'a>(given: &ArgMatches<'a>) -> Option<Asked<'a>>
         journals,
         names,
     }))
+}
+
+/// The folder of journal files, if one was given; `None` where its path is too long.
+#[tactic(auto, using(crate::proofs::Given::first_given))]
+pub(crate) fn folder_in<'a>(given: &ArgMatches<'a>) -> Option<Option<&'a str>>
+    ensures { option_map (λ dir. option_map (λ path. path.now) dir) result ≡ folder_in (rows_of (found_of given.now)) }
+{
+    match given.get_str("journals") {
+        None => Some(None),
+        Some(path) => folder_of(path),
+    }
+}
+
+/// The folder with this path, if that isn't too long.
+fn folder_of<'a>(path: &'a str) -> Option<Option<&'a str>>
+    ensures { option_map (λ dir. option_map (λ path. path.now) dir) result ≡ folder_of path.entry.now }
+{
+    if path.len() <= DIR_BYTES {
+        Some(Some(path))
+    } else {
+        None
+    }
 }
 
 /// The names that were given; `None` where they are too many.

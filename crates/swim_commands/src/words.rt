@@ -61,8 +61,8 @@ pub enum Unasked {
 /// What the words ask in these surroundings: `check`, or no words, a check, of standard input or of a FILE; `run FILE`
 /// or `run --config FILE`, with `--quiet` or without; `ask`, with `--control PATH`, `--timeout SECONDS`, `--explain` or
 /// `--toml` or without, and the words of a line or none; `watch`, with `--events PATH` or `--json` or without; `web
-/// --listen ADDRESS --control PATH`, with `--events PATH` or without, and with `--name HOST` up to eight times; `key`;
-/// `--help` and `--version`, alone or behind a command.
+/// --listen ADDRESS --control PATH`, with `--events PATH` or without, with `--journals DIR` of at most 100 bytes or
+/// without, and with `--name HOST` up to eight times; `key`; `--help` and `--version`, alone or behind a command.
 pub fn read_words<'a>(
     alloc: Global,
     words: &'a [&'a str],

@@ -1,17 +1,16 @@
 //! A journal file that is to be made.
 
-use crate::old_files::{FilePath, Stamp, others_in, path_of, removed};
+use crate::old_files::{FilePath, Stamp, judged_in, others_in, path_of, removed};
 use crate::plain_files::make_file;
 use arrayvec::ArrayString;
 use std::alloc::Global;
-use std::fmt::Write;
 use std::fs::File;
 use std::io::{self, ErrorKind};
 use std::rt::Files;
 use swim_wire::Id;
 
 /// How many bytes the path of a folder has at most.
-const DIR_BYTES: usize = 100;
+pub const DIR_BYTES: usize = 100;
 
 /// The path of a folder.
 pub type DirPath = ArrayString<DIR_BYTES>;
@@ -105,11 +104,4 @@ impl NewFile {
             let _is_removed = rt.remove_file(path_of(dir, self.me, *stamp).as_str());
         }
     }
-}
-
-/// The folder beside a member's files where those of lives in which a member was judged have a second name.
-fn judged_in(dir: &str) -> FilePath {
-    let mut path = FilePath::new();
-    let _is_whole = write!(path, "{dir}/judged");
-    path
 }

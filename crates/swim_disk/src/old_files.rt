@@ -8,7 +8,7 @@ use arrayvec::{ArrayString, ArrayVec};
 use std::alloc::{AllocError, Global};
 use std::fmt::Write;
 use std::rt::Files;
-use swim_text::{Byte, ReadSource, Source, read_number};
+use swim_text::{Byte, ReadSource, Source, cut, read_number};
 use swim_wire::Id;
 
 /// Room for a name of a journal file, which has at most 57 bytes; of a longer name a front is looked at.
@@ -31,6 +31,20 @@ const REMOVALS: u64 = 64;
 pub struct Stamp {
     pub began: u64,
     pub life: u64,
+}
+
+/// A journal file by its name: its life, and whose it is. An older one is less.
+#[derive(Clone, Copy, PartialEq, Eq, PartialOrd, Ord)]
+pub struct Journaled {
+    pub stamp: Stamp,
+    pub member: Id,
+}
+
+/// The folder beside a member's files where those of lives in which a member was judged have a second name.
+pub fn judged_in(dir: &str) -> FilePath {
+    let mut path = FilePath::new();
+    let _is_whole = write!(path, "{dir}/judged");
+    path
 }
 
 /// The path of a member's file in a folder.
@@ -68,6 +82,22 @@ pub fn others_in<R: Files>(
     me: Id,
     new: Stamp,
 ) -> Result<Vec<Stamp>, AllocError> {
+    let mut others = Vec::new(alloc);
+    for file in journals_in(rt, alloc, dir)? {
+        let is_other = file.member == me && file.stamp != new;
+        if is_other && is_file(rt, path_of(dir, me, file.stamp).as_str()) {
+            others.push(file.stamp)?;
+        }
+    }
+    Ok(others)
+}
+
+/// The journal files of all members in a folder, by their names, the oldest first. Without such a folder there are none.
+pub fn journals_in<R: Files>(
+    rt: &R,
+    alloc: Global,
+    dir: &str,
+) -> Result<Vec<Journaled>, AllocError> {
     let mut files = Vec::new(alloc);
     let Ok(names) = rt.open_dir(dir) else {
         return Ok(files);
@@ -77,10 +107,8 @@ pub fn others_in<R: Files>(
     for _byte in 0..MOST_BYTES {
         match names.byte() {
             Byte::One(0) => {
-                if let Some(stamp) = stamp_in(name.as_slice(), me) {
-                    if stamp != new && is_file(rt, path_of(dir, me, stamp).as_str()) {
-                        files.push(stamp)?;
-                    }
+                if let Some(file) = named(name.as_slice()) {
+                    files.push(file)?;
                 }
                 name.clear();
             }
@@ -94,22 +122,15 @@ pub fn others_in<R: Files>(
     Ok(files)
 }
 
-/// Which life of a member a file of this name is of, if it is one: ID-SECONDS-LIFE.swim.
-fn stamp_in(name: &[u8], me: Id) -> Option<Stamp> {
+/// The journal file of this name, if it is one: ID-SECONDS-LIFE.swim.
+fn named(name: &[u8]) -> Option<Journaled> {
     let name = name.strip_suffix(b".swim")?;
-    let (id, rest) = parted(name)?;
-    let (began, life) = parted(rest)?;
-    if Id::read(id)? != me {
-        return None;
-    }
-    Some(Stamp {
+    let (id, rest) = cut(name, b'-')?;
+    let (began, life) = cut(rest, b'-')?;
+    let stamp = Stamp {
         began: read_number(began, u64::MAX)?,
         life: read_number(life, u64::MAX)?,
-    })
-}
-
-/// What stands before the first `-` of a text, and behind it.
-fn parted(text: &[u8]) -> Option<(&[u8], &[u8])> {
-    let place = text.iter().position(|byte| *byte == b'-')?;
-    Some((&text[..place], &text[place + 1..]))
+    };
+    let member = Id::read(id)?;
+    Some(Journaled { stamp, member })
 }

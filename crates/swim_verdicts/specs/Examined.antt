@@ -1,6 +1,7 @@
 -- What is seen of a journal file that was played.
 use Rattle.std.specs.Prelude.{◌≡◌, ◌↔◌, ◌⊎◌, ◌||◌, ℕ, Bool, List, [], reverse, take, Option, Some, None, IfOk, is_err}
 use Rattle.std.specs.Prelude.{Contains}
+use Rattle.std.specs.List.{All}
 use Rattle.swim_evidence.specs.Evidence.{findings}
 use Rattle.swim_evidence.specs.declared.findings.Evidence.{Evidence}
 use Rattle.swim_evidence.specs.declared.findings.Finding.{Finding}
@@ -31,6 +32,14 @@ FindsConfirmed p = IfOk p.found (λ found. found.findings.items ≡ told_by p.jo
 abbrev pub TellsVerdict : Played → ℕ → ℕ → Type 0
 TellsVerdict p member number = (e : Evidence) × (e.member ≡ member) × (e.number ≡ number)
     × Contains (told_by p.journal p.witness.confirmations.confirmed) (Judged e)
+
+-- a finding is no evidence of that verdict
+abbrev pub IsOther : ℕ → ℕ → Finding → Type 0
+IsOther member number finding = (e : Evidence) → finding ≡ Judged e → e.member ≡ member → e.number ≡ number → ⊥
+
+-- none of these findings is
+abbrev pub LacksVerdict : List Finding → ℕ → ℕ → Type 0
+LacksVerdict found member number = All (IsOther member number) found
 
 -- memory was refused: to play the file, to keep a time, or to find out what its entries tell
 abbrev pub is_starved : Played → Bool

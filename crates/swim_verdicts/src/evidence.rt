@@ -1,23 +1,36 @@
 //! The evidence of one verdict.
 
-ghost use Rattle.std.specs.Prelude.{◌≡◌, IfSome, Contains};
+ghost use Rattle.std.specs.Prelude.{◌≡◌, IfSome, Contains, None};
 ghost use Rattle.swim_evidence.specs.declared.findings.Finding.TheVariants.{Judged};
+ghost use Rattle.swim_verdicts.specs.Examined.{IsOther, LacksVerdict};
 
 use swim_evidence::{Evidence, Finding};
 use swim_wire::Id;
 
 /// The evidence of the verdict on a member at the end of the period with this number, if it is among these findings.
 pub fn evidence_of<'f>(findings: &'f [Finding], member: Id, number: u64) -> Option<&'f Evidence>
-    ensures { IfSome result (λ e. (e.now.member ≡ member) × (e.now.number ≡ number)
+    ensures found { IfSome result (λ e. (e.now.member ≡ member) × (e.now.number ≡ number)
         × Contains findings.now (Judged e.now)) }
+    ensures none { result ≡ None → LacksVerdict findings.now member number }
 {
     for finding in findings {
-        if let Finding::Judged(evidence) = finding
-            && evidence.member == member
-            && evidence.number == number
-        {
+        if let Some(evidence) = evidence_in(finding, member, number) {
             return Some(evidence);
         }
     }
     None
+}
+
+/// The evidence that a finding is, if it is that of this verdict.
+fn evidence_in<'f>(finding: &'f Finding, member: Id, number: u64) -> Option<&'f Evidence>
+    ensures found { IfSome result (λ e. (e.now.member ≡ member) × (e.now.number ≡ number)
+        × (finding.now ≡ Judged e.now)) }
+    ensures none { result ≡ None → IsOther member number finding.now }
+{
+    match finding {
+        Finding::Judged(evidence) if evidence.member == member && evidence.number == number => {
+            Some(evidence)
+        }
+        _ => None,
+    }
 }

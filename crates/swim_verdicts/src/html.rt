@@ -1,20 +1,30 @@
 //! Texts in HTML.
 
-use std::fmt;
+ghost use Rattle.swim_text.specs.Streams.{Puts};
+ghost use Rattle.swim_verdicts.specs.VerdictPages.{html_sign, html_text};
 
-/// A text as it is shown: no sign of it is a tag or a part of one.
-#[derive(Clone, Copy)]
-pub struct HtmlText<'a>(pub &'a str);
+use swim_text::Sink;
 
-impl<'a> fmt::Display for HtmlText<'a> {
-    fn fmt<W: fmt::Write>(&self, f: &mut fmt::Formatter<W>) -> fmt::Result {
-        for letter in self.0.chars() {
-            match letter {
-                '<' => f.write_str("&lt;")?,
-                '&' => f.write_str("&amp;")?,
-                _ => f.write_char(letter)?,
-            }
-        }
-        Ok(())
+/// Puts a text as HTML shows it: no sign of it is a tag or a part of one. Returns whether the writer took all of it.
+pub fn put_html<W: Sink>(writer: &mut W, text: &[u8]) -> bool
+    ensures { Puts (W.written writer.old) (W.written writer.new) (html_text text.now) result }
+{
+    let [first, others @ ..] = text else {
+        return writer.put(b"");
+    };
+    if !put_sign(writer, *first) {
+        return false;
+    }
+    put_html(writer, others)
+}
+
+/// Puts a sign as HTML shows it.
+fn put_sign<W: Sink>(writer: &mut W, sign: u8) -> bool
+    ensures { Puts (W.written writer.old) (W.written writer.new) (html_sign sign) result }
+{
+    match sign {
+        b'<' => writer.put(b"&lt;"),
+        b'&' => writer.put(b"&amp;"),
+        _ => writer.put(&[sign]),
     }
 }

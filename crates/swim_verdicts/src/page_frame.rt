@@ -1,7 +1,7 @@
-//! What all pages about verdicts have in common.
+//! How pages about verdicts look.
 
 /// The rest of a page's head, and how its body begins.
-pub const PAGE_STYLE: &str = r##"<meta charset="utf-8">
+pub const PAGE_STYLE: &[u8] = br##"<meta charset="utf-8">
 <meta name="viewport" content="width=device-width,initial-scale=1">
 <meta name="color-scheme" content="light dark">
 <link rel="icon" href="data:,">
@@ -31,6 +31,3 @@ th { color: var(--quiet); font-weight: 500; width: 30% }
 <nav><a href="/">All members</a></nav>
 <main>
 "##;
-
-/// How a page ends.
-pub const PAGE_END: &str = "</main>\n</body>\n</html>\n";

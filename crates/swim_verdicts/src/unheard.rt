@@ -37,7 +37,7 @@ impl Sink for Unheard {
 struct MemoryTeller {}
 
 impl Teller<Unheard> for MemoryTeller {
-    #[tactic(auto, using(crate::proofs::Unseen::puts_unseen))]
+    #[tactic(auto, using(crate::specs::Unseen::puts_unseen))]
     fn put(&mut self, session: &Session, outcome: &LineOutcome, writer: &mut Unheard) -> bool
         ensures bytes { Puts None None (outcome_text session.now.recorded outcome.now) result }
         ensures failures { writer.new.failures ≡ failures_if writer.old.failures result }

@@ -1,16 +1,22 @@
 //! The page about a verdict, as HTML that needs nothing else.
 
+ghost use Rattle.std.specs.Prelude.{◌≡◌, IfOk, string_bytes};
+ghost use Rattle.swim_text.specs.Streams.{Puts};
+ghost use Rattle.swim_verdicts.specs.VerdictPages.{IsStanding, PutsPage, html_text, page_text, standing_text};
+
 use crate::examining::Played;
-use crate::html::HtmlText;
-use crate::page_frame::{PAGE_END, PAGE_STYLE};
+use crate::html::put_html;
+use crate::page_frame::PAGE_STYLE;
 use crate::reports::show_finding;
 use crate::verdict_lines::{End, Objection};
 use std::alloc::{AllocError, Global};
 use std::fmt;
 use swim_evidence::{Ask, Evidence, Finding, Verdict};
 use swim_history::Journal;
-use swim_text::Sink;
+use swim_script::ScriptFault;
+use swim_text::{Page as Text, Sink};
 use swim_timeline::{PERIODS_ASIDE, Span, View, put_timeline};
+use swim_wire::{Id, Piece, put_pieces};
 
 /// A verdict, and the file that tells it.
 #[derive(Clone, Copy)]
@@ -19,20 +25,43 @@ pub struct VerdictPage<'a> {
     pub path: &'a str,
     pub played: &'a Played,
     pub evidence: &'a Evidence,
+    /// When the probe was sent, as RFC 3339 has it; empty if the file tells no time.
+    pub probed: &'a str,
 }
 
 impl<'a> VerdictPage<'a> {
     /// Puts the page: the evidence in words and as a table, whether the file is verified, the picture round the
     /// verdict, and the commands that show the same. Returns whether the writer took all of it. Fails if memory is
-    /// refused; then a part of it may have been put.
-    pub fn put<W: Sink>(&self, alloc: Global, writer: &mut W) -> Result<bool, AllocError> {
-        let front = format!(in alloc; "{self}")?;
-        if !writer.put(front.as_str().as_bytes()) || !self.put_picture(alloc, writer)? {
-            return Ok(false);
+    /// refused; then nothing was put.
+    pub fn put<W: Sink>(&self, alloc: Global, writer: &mut W) -> Result<bool, AllocError>
+        ensures { IfOk result (λ done. PutsPage self.now.path.now self.now.played.now self.now.evidence.now.member
+            self.now.evidence.now.number (W.written writer.old) (W.written writer.new) done) }
+    {
+        let path = shown(alloc, self.path)?;
+        let standing = standing_of(alloc, self.played)?;
+        let rest = self.rest(alloc, path.text())?;
+        Ok(put_parts(
+            writer,
+            self.evidence.member,
+            self.evidence.number,
+            path.text(),
+            standing.as_str().as_bytes(),
+            rest.text(),
+        ))
+    }
+
+    /// What follows the head of the page.
+    fn rest(&self, alloc: Global, path: &[u8]) -> Result<Text, AllocError> {
+        let mut rest = Text::new(alloc);
+        let part = EvidencePart(self);
+        let words = format!(in alloc; "{part}")?;
+        if !rest.put(words.as_str().as_bytes()) || !self.put_picture(alloc, &mut rest)? {
+            return Err(AllocError);
         }
-        let hands = Commands(self);
-        let end = format!(in alloc; "{hands}{PAGE_END}")?;
-        Ok(writer.put(end.as_str().as_bytes()))
+        if !put_commands(&mut rest, self.evidence.member, path) {
+            return Err(AllocError);
+        }
+        Ok(rest)
     }
 
     /// Puts the picture of the periods round the verdict.
@@ -43,29 +72,6 @@ impl<'a> VerdictPage<'a> {
         match span_round(journal, self.evidence.number)? {
             Some(span) => put_timeline(alloc, journal, span, writer),
             None => Ok(true),
-        }
-    }
-
-    /// Says whether the file is verified, and if it isn't, what speaks against it and where.
-    fn show_standing<W: fmt::Write>(&self, f: &mut fmt::Formatter<W>) -> fmt::Result {
-        let verdict = self.played.verdict();
-        let confirmed = self.played.witness.confirmations.confirmed;
-        match verdict {
-            Verdict::Whole => f.write_str("<p>The file is verified, and whole.</p>\n"),
-            Verdict::Cut => {
-                let place = End(confirmed);
-                write!(
-                    f,
-                    "<p>The file is verified as far as it goes: cut {place}.</p>\n"
-                )
-            }
-            _ => {
-                let objection = Objection { verdict, confirmed };
-                write!(
-                    f,
-                    "<p class=\"alarm\" role=\"alert\">This file is not verified: {objection}.</p>\n"
-                )
-            }
         }
     }
 
@@ -102,8 +108,9 @@ impl<'a> VerdictPage<'a> {
         let judged = evidence.judged;
         let number = evidence.number;
         write!(f, "<tr><th scope=\"row\">Probed</th><td>at entry {probed}")?;
-        if let Some(seconds) = self.played.witness.times.get(&probed) {
-            write!(f, ", {seconds} seconds after 1970 began")?;
+        if !self.probed.is_empty() {
+            let time = self.probed;
+            write!(f, ", {time}")?;
         }
         f.write_str("</td></tr>\n<tr><th scope=\"row\">Relays asked</th><td>")?;
         match &evidence.ask {
@@ -117,44 +124,127 @@ impl<'a> VerdictPage<'a> {
     }
 }
 
-impl<'a> fmt::Display for VerdictPage<'a> {
+/// The evidence of a verdict, in words and as a table, up to the picture.
+#[derive(Clone, Copy)]
+struct EvidencePart<'p, 'a>(&'p VerdictPage<'a>);
+
+impl<'p, 'a> fmt::Display for EvidencePart<'p, 'a> {
     fn fmt<W: fmt::Write>(&self, f: &mut fmt::Formatter<W>) -> fmt::Result {
-        let member = self.evidence.member.get();
-        let number = self.evidence.number;
-        let path = HtmlText(self.path);
-        write!(
-            f,
-            "<!doctype html>\n<html lang=\"en\">\n<head>\n<title>Member {member}, period {number}</title>\n{PAGE_STYLE}"
-        )?;
-        write!(
-            f,
-            "<h1>Member {member} was judged failed in period {number}</h1>\n<p>By the file <code>{path}</code>.</p>\n"
-        )?;
-        self.show_standing(f)?;
         f.write_str("<h2>Evidence</h2>\n<pre>")?;
-        self.show_words(f)?;
+        self.0.show_words(f)?;
         f.write_str("</pre>\n<table>\n")?;
-        self.show_table(f)?;
-        write!(
-            f,
-            "</table>\n<h2>The periods round it</h2>\n<div class=\"wide\" tabindex=\"0\">\n"
+        self.0.show_table(f)?;
+        f.write_str(
+            "</table>\n<h2>The periods round it</h2>\n<div class=\"wide\" tabindex=\"0\">\n",
         )
     }
 }
 
-/// The end of a page behind its picture, with the commands that show the same.
+/// Says whether a file is verified, and if it isn't, what speaks against it and where.
 #[derive(Clone, Copy)]
-struct Commands<'p, 'a>(&'p VerdictPage<'a>);
+struct Standing {
+    verdict: Verdict<ScriptFault>,
+    confirmed: u32,
+}
 
-impl<'p, 'a> fmt::Display for Commands<'p, 'a> {
+impl fmt::Display for Standing {
+    ghost use Rattle.std.specs.Prelude.{Some};
+    ghost use Rattle.swim_verdicts.specs.VerdictPages.{standing_text};
+
+    ghost output = { λ s. Some (standing_text s.verdict s.confirmed) };
+
     fn fmt<W: fmt::Write>(&self, f: &mut fmt::Formatter<W>) -> fmt::Result {
-        let member = self.0.evidence.member.get();
-        let path = HtmlText(self.0.path);
-        write!(
-            f,
-            "</div>\n<h2>By hand</h2>\n<pre>swimsim --verify {path}\nswimsim --timeline run.svg --around {member} {path}\n</pre>\n"
-        )
+        let verdict = self.verdict;
+        let confirmed = self.confirmed;
+        match verdict {
+            Verdict::Whole => f.write_str("<p>The file is verified, and whole.</p>\n"),
+            Verdict::Cut => {
+                let place = End(confirmed);
+                write!(
+                    f,
+                    "<p>The file is verified as far as it goes: cut {place}.</p>\n"
+                )
+            }
+            _ => {
+                let objection = Objection { verdict, confirmed };
+                write!(
+                    f,
+                    "<p class=\"alarm\" role=\"alert\">This file is not verified: {objection}.</p>\n"
+                )
+            }
+        }
     }
+}
+
+/// Says whether a file that was played is verified.
+fn standing_of(alloc: Global, played: &Played) -> Result<String, AllocError>
+    ensures { IfOk result (λ text. IsStanding played.now (string_bytes text)) }
+{
+    let standing = Standing {
+        verdict: played.verdict(),
+        confirmed: played.witness.confirmations.confirmed,
+    };
+    format!(in alloc; "{standing}")
+}
+
+/// A text as HTML shows it.
+fn shown(alloc: Global, text: &str) -> Result<Text, AllocError>
+    ensures { IfOk result (λ shown. shown.text ≡ html_text text.now) }
+{
+    let mut shown = Text::new(alloc);
+    if put_html(&mut shown, text.as_bytes()) {
+        Ok(shown)
+    } else {
+        Err(AllocError)
+    }
+}
+
+/// Puts a page of these parts, and answers whether the writer took all of it.
+fn put_parts<'x, W: Sink>(
+    writer: &mut W,
+    member: Id,
+    number: u64,
+    path: &'x [u8],
+    standing: &'x [u8],
+    rest: &'x [u8],
+) -> bool
+    ensures { Puts (W.written writer.old) (W.written writer.new)
+        (page_text member number path.now standing.now rest.now) result }
+{
+    let member = u64::from(member.get());
+    let pieces = [
+        Piece::Text(b"<!doctype html>\n<html lang=\"en\">\n<head>\n<title>Member "),
+        Piece::Number(member),
+        Piece::Text(b", period "),
+        Piece::Number(number),
+        Piece::Text(b"</title>\n"),
+        Piece::Text(PAGE_STYLE),
+        Piece::Text(b"<h1>Member "),
+        Piece::Number(member),
+        Piece::Text(b" was judged failed in period "),
+        Piece::Number(number),
+        Piece::Text(b"</h1>\n<p>By the file <code>"),
+        Piece::Text(path),
+        Piece::Text(b"</code>.</p>\n"),
+        Piece::Text(standing),
+        Piece::Text(rest),
+        Piece::Text(b"</main>\n</body>\n</html>\n"),
+    ];
+    put_pieces(writer, &pieces)
+}
+
+/// Puts the commands that show the same, behind the picture.
+fn put_commands<W: Sink>(writer: &mut W, member: Id, path: &[u8]) -> bool {
+    let pieces = [
+        Piece::Text(b"</div>\n<h2>By hand</h2>\n<pre>swimsim --verify "),
+        Piece::Text(path),
+        Piece::Text(b"\nswimsim --timeline run.svg --around "),
+        Piece::Number(u64::from(member.get())),
+        Piece::Text(b" "),
+        Piece::Text(path),
+        Piece::Text(b"\n</pre>\n"),
+    ];
+    put_pieces(writer, &pieces)
 }
 
 fn show_relays<W: fmt::Write>(ask: &Ask, f: &mut fmt::Formatter<W>) -> fmt::Result {

@@ -1,4 +1,3 @@
 pub mod CommandLine
 pub mod Sighted
 pub mod Worded
-pub mod Unseen

@@ -218,7 +218,7 @@ impl WordTeller {
 
 /// No contract sees the bytes that standard output takes. What is written to any sink says `tell`.
 impl Teller<WriteSink<Stdout>> for WordTeller {
-    #[tactic(auto, using(crate::proofs::Unseen::puts_unseen))]
+    #[tactic(auto, using(swim_verdicts::specs::Unseen::puts_unseen))]
     fn put(
         &mut self,
         session: &Session,

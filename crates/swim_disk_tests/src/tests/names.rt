@@ -1,7 +1,8 @@
 //! How files are named, and which life is older.
 
 use crate::tests::{file_of, me};
-use swim_disk::{Stamp, path_of};
+use std::test::Fail;
+use swim_disk::{Journaled, Stamp, journals_in, judged_in, path_of};
 use swim_wire::Id;
 
 #[test]
@@ -26,4 +27,28 @@ fn an_older_life_is_less(rt: HostRuntime) {
     assert!(rt; stamp(100, 2) < stamp(100, 10));
     assert!(rt; stamp(100, 10) < stamp(200, 0));
     assert!(rt; stamp(200, 0) < stamp(1_000, 0));
+}
+
+// One of another member stands beside it, and that of the older life is less, whoever wrote it.
+#[test]
+fn the_older_of_two_files_is_less(rt: HostRuntime) {
+    let file = |began, life, member| Journaled {
+        stamp: Stamp { began, life },
+        member,
+    };
+    let other = Id::new(1).unwrap_or_default();
+    assert!(rt; file(100, 0, me()) < file(100, 1, other));
+    assert!(rt; file(100, 0, other) < file(100, 0, me()));
+}
+
+#[test]
+fn a_folder_has_one_of_verdicts(rt: HostRuntime) {
+    assert!(rt; judged_in("/d").as_str() == "/d/judged");
+}
+
+#[test]
+fn a_folder_that_is_not_there_has_no_files(rt: HostRuntime) -> Result<(), Fail> {
+    let files = journals_in(&rt, rt.alloc(), "/no/such/folder")?;
+    assert!(rt; files.is_empty());
+    Ok(())
 }

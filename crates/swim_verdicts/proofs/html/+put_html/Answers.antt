@@ -1,0 +1,22 @@
+use Rattle.std.proofs.Common.{◌≡◌, ℕ, ◌≤◌, List, [], ◌∷◌, length, get_or, refl, sym, ap, arith}
+use Rattle.swim_text.specs.TwoPuts.{first_failed, both_put, first_and_others, others_of}
+use Rattle.swim_verdicts.specs.VerdictPages.{html_sign, html_text}
+use Rattle.swim_verdicts.proofs.html.+put_html.Goals as goal
+
+first_is : (text : List ℕ) → 1 ≤ length text → text ≡ get_or text 0 0 ∷ others_of text
+first_is [] some = absurd (omega (arith, some))
+first_is (sign ∷ text) some = first_and_others (sign ∷ text) sign some refl
+
+pub returns-then-not-put_sign : goal.returns-then-not-put_sign
+returns-then-not-put_sign g t c =
+    first_failed (g.W.Sink.written c.args.writer.now) (g.W.Sink.written c.put_sign.new.writer)
+    (html_sign (get_or c.args.text.now 0 0)) (html_text (others_of c.args.text.now)) (html_text c.args.text.now)
+    (ap html_text (sym (first_is c.args.text.now c.in-len1-up.len_at_least))) c.if-not-put_sign.ensures
+
+pub returns : goal.returns
+returns g t c =
+    both_put (g.W.Sink.written c.args.writer.now) (g.W.Sink.written c.put_sign.new.writer)
+    (g.W.Sink.written c.put_html.new.writer) (html_sign (get_or c.args.text.now 0 0))
+    (html_text (others_of c.args.text.now)) (html_text c.args.text.now) c.put_html.result
+    (ap html_text (sym (first_is c.args.text.now c.in-len1-up.len_at_least))) c.if-not-put_sign.ensures
+    c.put_html.ensures
