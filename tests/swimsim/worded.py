@@ -1,5 +1,6 @@
 """Runs of swimsim with words on its command line, as tests/swimsim/run makes them."""
 
+import glob
 import os
 import re
 import shutil
@@ -85,6 +86,56 @@ def with_decode(program):
     unended = OPENED + b"hear 10.0.0.2:7000 535701030000000200000001000000020000000000000001"
     wanted = decoded(unended, STARTED + b"heard\n")
     return said + called(program, [Called(["--decode"], 0, re.escape(wanted), b"", unended)])
+
+
+def numbered(script, output):
+    """What is written for a script with the numbers of its entries, from what is written without, where no datagram is
+    in words."""
+    lines, wanted, entries = output.decode().splitlines(True), [], 0
+    for line in script.decode("latin-1").split("\n"):
+        word = line.split(" ")[0]
+        if word not in ("tick", "hear", "join", "remove", "table", "gap") or not lines:
+            continue
+        if word not in ("table", "gap") and not re.match("wire |journal full|no memory", lines[0]):
+            wanted.append(f"# entry {entries}\n")
+            entries += 1
+        wanted.append(lines.pop(0))
+        while word == "table" and wanted[-1] != ".\n":
+            wanted.append(lines.pop(0))
+        while lines and lines[0].startswith("> "):
+            wanted.append(lines.pop(0))
+    return "".join(wanted).encode()
+
+
+def with_numbers(program):
+    """A line with its number stands above each entry, and all other lines stay as they are; so do a fault and the
+    status."""
+    said, words = [], {}
+    cases = [it for folder in SCRIPTS for it in kept_scripts(folder)]
+    cases += [it for path in EVENTS for it in short_scripts(path, words)]
+    for case in cases:
+        ran = subprocess.run([program, "--numbers"], input=case.script, capture_output=True, timeout=SECONDS)
+        found = difference("standard output", numbered(case.script, case.stdout), ran.stdout)
+        found += difference("standard error", case.stderr, ran.stderr)
+        found += [] if ran.returncode == case.status else [f"status {ran.returncode}, and not {case.status}"]
+        said += [f"{case.name}: {it}" for it in found]
+    return said
+
+
+def with_numbers_of_journal_files(program):
+    """The numbers are those that a journal file's own lines have, also where datagrams are in words; and nothing of it
+    stands beside `--verify` and `--trace`."""
+    said = []
+    for path in sorted([*glob.glob("examples/probe/*.swim"), "examples/journal.swim"]):
+        wanted = re.findall(rb"^= (\d+) (.*)$", content(path), re.MULTILINE)
+        for words in (["--numbers"], ["--decode", "--numbers"]):
+            ran = subprocess.run([program, *words, path], capture_output=True, timeout=SECONDS)
+            found = re.findall(rb"^# entry (\d+)\n(?:  [^\n]+\n)?(.*)$", ran.stdout, re.MULTILINE)
+            if ran.returncode or not wanted or found != wanted:
+                said.append(f"{words} {path}: status {ran.returncode}, {found[:3]}, and not {wanted[:3]}")
+    mixed = rb"error: --verify and --trace each stand beside journal files alone\n(?s:.*)"
+    path = "examples/journal.swim"
+    return said + called(program, [Called(["--numbers", it, path], 2, b"", mixed) for it in ("--verify", "--trace")])
 
 
 def names_in_formats():
@@ -248,6 +299,8 @@ def with_a_file_that_cannot_be_read(program):
 ATTEMPTS = [
     with_a_file,
     with_decode,
+    with_numbers,
+    with_numbers_of_journal_files,
     with_names,
     with_explain,
     with_failures,

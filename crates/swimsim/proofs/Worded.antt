@@ -8,6 +8,7 @@ use Rattle.swim_script.specs.Texts.{send_text, sends_text}
 use Rattle.swim_script.specs.Texts.{reply_text}
 use Rattle.swim_detector.specs.Recording.{IsLatest, Recording}
 use Rattle.swim_history.specs.declared.calls.Call.{Call}
+use Rattle.swim_history.specs.declared.calls.Call.TheVariants.{Hear, Join, Remove, Tick}
 use Rattle.swim_history.specs.declared.replies.Reply.{Reply}
 use Rattle.swim_script.specs.declared.choosers.Drawer.{Drawer}
 use Rattle.swim_script.specs.Outcomes.{latest}
@@ -17,8 +18,8 @@ use Rattle.swim_history.specs.Setting.{Setting}
 use Rattle.swim_history.specs.Texts.{feed}
 use Rattle.swimsim.specs.declared.reasons.Reason.{Reason}
 use Rattle.swimsim.specs.Reasons.{reason_of}
-use Rattle.swimsim.specs.Telling.{AreSent, IsAnswer, IsEnd, IsFault, IsNewest, IsReply, IsSent, MayHear}
-use Rattle.swimsim.specs.Telling.{MayName, MayStand, PutsSome}
+use Rattle.swimsim.specs.Telling.{AreSent, IsAnswer, IsEnd, IsEntry, IsExact, IsFault, IsNewest, IsReply, IsSent}
+use Rattle.swimsim.specs.Telling.{MayHear, MayName, MayStand, PutsSome}
 
 pub nothing_put : (Is : List ℕ → Type 0) (w : Option (List ℕ)) → Is [] → PutsSome Is w w true
 nothing_put Is w is = ([], is, appends_none w w (keeps_self w))
@@ -96,6 +97,26 @@ fault_ends reasons number reason a b is end = (b, end, ap (λ (t : List ℕ). t 
 pub answer_ends : (datagrams : Bool) (call : Call) (IsRest : List ℕ → Type 0) (a b : List ℕ) →
     MayHear datagrams call a → IsRest b → IsAnswer datagrams call IsRest (a ++ b)
 answer_ends datagrams call IsRest a b heard rest = (a, b, heard, rest, refl)
+
+-- what a call that was made is answered, without words
+heard_none : (datagrams : Bool) (call : Call) → MayHear datagrams call []
+heard_none datagrams (Hear source message) = inl refl
+heard_none datagrams Tick = refl
+heard_none datagrams (Join id peer) = refl
+heard_none datagrams (Remove id) = refl
+
+pub answer_plain : (datagrams : Bool) (call : Call) (IsRest : List ℕ → Type 0) (rest : List ℕ) → IsRest rest →
+    IsAnswer datagrams call IsRest rest
+answer_plain datagrams call IsRest rest is = ([], rest, heard_none datagrams call, is, refl)
+
+-- the line of an entry, and what follows it
+pub entry_ends : (line : List ℕ) (IsRest : List ℕ → Type 0) (a b : List ℕ) → IsExact line a → IsRest b →
+    IsEntry line IsRest (a ++ b)
+entry_ends line IsRest a b is rest = (b, rest, ap (λ (t : List ℕ). t ++ b) is)
+
+pub exactly : (line : List ℕ) (o n : Option (List ℕ)) (done : Bool) → Puts o n line done →
+    PutsSome (IsExact line) o n done
+exactly line o n done puts = (line, refl, puts)
 
 -- the newest reply, without words
 pub newest_plain : (datagrams reasons : Bool) (recorded : Option (Recording Drawer)) →

@@ -57,10 +57,10 @@ file_line =
     (number_rule (codes "judged") (2 ^ 32 - 1)))
     (number_rule (codes "period") (2 ^ 64 - 1))
 
--- these, and whether the last is written as JSON, beside what clap gives each program that has a version, `--help` and
--- `--version`
+-- these, whether the last is written as JSON, and whether a script's entries are numbered, beside what clap gives each
+-- program that has a version, `--help` and `--version`
 abbrev pub command_line : App
-command_line = with_rule file_line (flag_rule (codes "json"))
+command_line = with_rule (with_rule file_line (flag_rule (codes "json"))) (flag_rule (codes "numbers"))
 
 -- the path of the script that the words name, if any
 abbrev pub script_in : List Text → Option Text
@@ -105,12 +105,14 @@ IsTwofold options = IsSome options.from × IsSome options.around
 -- something is asked that has to do with a script and its picture
 abbrev pub AsksForScript : Options → Type 0
 AsksForScript options = IsSome options.script ⊎ (options.decode ≡ true) ⊎ (options.explain ≡ true)
-    ⊎ IsSome options.timeline ⊎ IsSome options.from ⊎ IsSome options.around ⊎ (options.force ≡ true)
+    ⊎ (options.numbers ≡ true) ⊎ IsSome options.timeline ⊎ IsSome options.from ⊎ IsSome options.around
+    ⊎ (options.force ≡ true)
 
 -- something is asked that has to do with a script, and with no probe that is traced: a picture may be of either
 abbrev pub AsksForRun : Options → Type 0
 AsksForRun options = IsSome options.script ⊎ (options.decode ≡ true) ⊎ (options.explain ≡ true)
-    ⊎ IsSome options.from ⊎ IsSome options.around ⊎ ((options.force ≡ true) × (options.timeline ≡ None))
+    ⊎ (options.numbers ≡ true) ⊎ IsSome options.from ⊎ IsSome options.around
+    ⊎ ((options.force ≡ true) × (options.timeline ≡ None))
 
 -- files are to be verified, and something else is asked beside that; or they are to be traced, and something else than
 -- a picture of a probe is asked

@@ -1,5 +1,6 @@
 -- What is written with words between the answers. Words are left out where there was no memory for them.
-use Rattle.std.specs.Prelude.{◌≡◌, ◌≢◌, ◌⊎◌, ℕ, Bool, true, List, [], ◌∷◌, ◌++◌, Option, Some, None, codes, decimal}
+use Rattle.std.specs.Prelude.{◌≡◌, ◌≢◌, ◌⊎◌, ℕ, Bool, true, false, List, [], ◌∷◌, ◌++◌, Option, Some, None, codes}
+use Rattle.std.specs.Prelude.{decimal}
 use Rattle.swim_wire.specs.Address.{Address}
 use Rattle.swim_wire.specs.Layout.{fault_number}
 use Rattle.swim_wire.specs.Messages.{Message}
@@ -15,7 +16,7 @@ use Rattle.swim_script.specs.declared.outcomes.LineOutcome.{LineOutcome}
 use Rattle.swim_script.specs.declared.outcomes.LineOutcome.TheVariants.{Made, Full, NoMemory, Unread, Table, Gap}
 use Rattle.swim_script.specs.Outcomes.{latest, outcome_text}
 use Rattle.swim_script.specs.Texts.{reply_text, send_text}
-use Rattle.swim_text.specs.Streams.{Puts}
+use Rattle.swim_text.specs.Streams.{Puts, one_more}
 use Rattle.swimsim.specs.declared.reasons.Reason.{Reason}
 use Rattle.swimsim.specs.declared.reasons.Reason.TheVariants.{Wire}
 use Rattle.swim_verdicts.specs.Meanings.{message_words}
@@ -75,14 +76,33 @@ IsAnswer datagrams call IsRest text =
 abbrev pub IsExact : List ℕ → List ℕ → Type 0
 IsExact answer text = text ≡ answer
 
--- what is written for what came of a line: its answer, with words where they are asked for
-abbrev pub IsWorded : Bool → Bool → Option (Recording Drawer) → LineOutcome → List ℕ → Type 0
-IsWorded datagrams reasons recorded (Made call) text =
-    IsAnswer datagrams call (IsNewest datagrams reasons recorded) text
-IsWorded datagrams reasons recorded (Full call) text =
+-- the line with the number of an entry, which is how many were made before it, where numbers are asked for
+abbrev pub number_line : Bool → ℕ → List ℕ
+number_line true number = codes "# entry " ++ (decimal number ++ codes "\n")
+number_line false number = []
+
+-- that line, and what its entry was answered
+abbrev pub IsEntry : List ℕ → (List ℕ → Type 0) → List ℕ → Type 0
+IsEntry line IsRest text = (rest : List ℕ) × IsRest rest × (text ≡ line ++ rest)
+
+-- how many entries were made, after a line of which this came
+abbrev pub entries_with : LineOutcome → ℕ → ℕ
+entries_with (Made call) entries = one_more entries
+entries_with (Full call) entries = entries
+entries_with (NoMemory call) entries = entries
+entries_with (Unread fault) entries = entries
+entries_with Table entries = entries
+entries_with (Gap member) entries = entries
+
+-- what is written for what came of a line: its answer, with words where they are asked for, and of a call that was made
+-- below the line of its entry
+abbrev pub IsWorded : List ℕ → Bool → Bool → Option (Recording Drawer) → LineOutcome → List ℕ → Type 0
+IsWorded line datagrams reasons recorded (Made call) text =
+    IsEntry line (IsAnswer datagrams call (IsNewest datagrams reasons recorded)) text
+IsWorded line datagrams reasons recorded (Full call) text =
     IsAnswer datagrams call (IsExact (outcome_text recorded (Full call))) text
-IsWorded datagrams reasons recorded (NoMemory call) text =
+IsWorded line datagrams reasons recorded (NoMemory call) text =
     IsAnswer datagrams call (IsExact (outcome_text recorded (NoMemory call))) text
-IsWorded datagrams reasons recorded (Unread fault) text = IsFault reasons (fault_number fault) (Wire fault) text
-IsWorded datagrams reasons recorded Table text = IsExact (outcome_text recorded Table) text
-IsWorded datagrams reasons recorded (Gap member) text = IsExact (outcome_text recorded (Gap member)) text
+IsWorded line datagrams reasons recorded (Unread fault) text = IsFault reasons (fault_number fault) (Wire fault) text
+IsWorded line datagrams reasons recorded Table text = IsExact (outcome_text recorded Table) text
+IsWorded line datagrams reasons recorded (Gap member) text = IsExact (outcome_text recorded (Gap member)) text

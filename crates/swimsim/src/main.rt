@@ -19,6 +19,7 @@ mod notes;
 mod options;
 mod overhearing;
 mod reasons;
+mod refusals;
 mod showing;
 mod spelling;
 mod summaries;
@@ -34,11 +35,9 @@ use draws::warnings_of;
 use explanations::Explanation;
 use files::{Input, Script, open};
 use notes::{NoteTaker, Notes, Told};
-use options::{
-    Options, read_options, refuse_bytes, refuse_mixed, refuse_twofold, refuse_unplaced,
-    refuse_untraced,
-};
+use options::{Options, read_options};
 use overhearing::Overheard;
+use refusals::{refuse_bytes, refuse_mixed, refuse_twofold, refuse_unplaced, refuse_untraced};
 use std::alloc::AllocError;
 use std::cell::RefCell;
 use std::env;
@@ -140,7 +139,7 @@ fn play_file(rt: &HostRuntime, path: &str, options: &Options<'_>) -> ExitCode {
 
 /// Plays the script, and writes its answers on standard output.
 fn play(rt: &HostRuntime, script: Script, options: &Options<'_>) -> ExitCode {
-    if options.decode || options.explain {
+    if options.decode || options.explain || options.numbers {
         return play_in_words(rt, script, options);
     }
     let mut session = Session::new(rt.alloc());
@@ -152,7 +151,7 @@ fn play(rt: &HostRuntime, script: Script, options: &Options<'_>) -> ExitCode {
 /// Plays it, and puts into words what the options ask for.
 fn play_in_words(rt: &HostRuntime, script: Script, options: &Options<'_>) -> ExitCode {
     let mut session = Session::new(rt.alloc());
-    let mut teller = WordTeller::new(rt.alloc(), options.decode, options.explain);
+    let mut teller = WordTeller::new(rt.alloc(), options.decode, options.explain, options.numbers);
     let notes = RefCell::new(Notes::new(rt.alloc()));
     let input = Overheard::new(ReadSource::new(script), NoteTaker::new(&notes));
     let input = Input::Overheard(input);

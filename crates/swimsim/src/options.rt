@@ -3,14 +3,13 @@
 ghost use Rattle.std.specs.Prelude.{◌≡◌, ◌↔◌, ◌<◌, ◌-◌, ◌^◌, ℕ, [], None, Some, IfOk, IsTrue, codes, false, map};
 ghost use Rattle.std.specs.Prelude.{option_map};
 ghost use Rattle.std.specs.Option.{unwrap_or};
-ghost use Rattle.clap.specs.Words.{FailsBy, app_of, fault_of, kind_of, rule_of};
+ghost use Rattle.clap.specs.Words.{FailsBy, app_of, fault_of, rule_of};
 ghost use Rattle.swimsim.specs.Options.{TellsFlag, command_line, flag_in, flag_rule, script_in, script_rule, value_in};
 ghost use Rattle.swimsim.specs.Options.{AsksForRun, AsksForScript, IsMixed, IsTwofold, IsUnplaced, IsUntraced};
 ghost use Rattle.swimsim.specs.Options.{TellsNumber, number_rule};
 ghost use Rattle.swimsim.specs.Options.{value_rule, values_in, values_rule, view_of};
 
 use clap::builder::ValueParser;
-use clap::error::ErrorKind;
 use clap::{Arg, ArgAction, Command, Error};
 use std::alloc::{AllocError, Global};
 use std::convert::AsStr;
@@ -26,6 +25,8 @@ pub struct Options<'a> {
     pub decode: bool,
     /// Whether faults, numbers and the whole run are explained.
     pub explain: bool,
+    /// Whether the number of each entry is written above its answer.
+    pub numbers: bool,
     /// The path of a picture of the run, or of a probe that is traced; `None` where none is wanted.
     pub timeline: Option<&'a str>,
     /// The period with which the picture begins; `None` where no period is named.
@@ -62,6 +63,7 @@ impl<'a> Options<'a> {
         self.script.is_some()
             || self.decode
             || self.explain
+            || self.numbers
             || self.timeline.is_some()
             || self.from.is_some()
             || self.around.is_some()
@@ -75,6 +77,7 @@ impl<'a> Options<'a> {
         self.script.is_some()
             || self.decode
             || self.explain
+            || self.numbers
             || self.from.is_some()
             || self.around.is_some()
             || (self.force && self.timeline.is_none())
@@ -122,6 +125,8 @@ pub fn read_options<'a, S: AsStr>(alloc: Global, words: &'a [S]) -> Result<Optio
         (flag_in (codes "decode") (map S.text words.entry.now))) }
     ensures explain { IfOk result (λ options. TellsFlag options.explain
         (flag_in (codes "explain") (map S.text words.entry.now))) }
+    ensures numbers { IfOk result (λ options. TellsFlag options.numbers
+        (flag_in (codes "numbers") (map S.text words.entry.now))) }
     ensures timeline { IfOk result (λ options. option_map (λ path. path.now) options.timeline
         ≡ value_in (codes "timeline") (map S.text words.entry.now)) }
     ensures from { IfOk result (λ options. TellsNumber (2 ^ 64) options.from
@@ -159,6 +164,7 @@ pub fn read_options<'a, S: AsStr>(alloc: Global, words: &'a [S]) -> Result<Optio
         judged: id_of(matches.get_one("judged")),
         period: matches.get_one("period"),
         json: matches.get_flag("json"),
+        numbers: matches.get_flag("numbers"),
     })
 }
 
@@ -180,67 +186,8 @@ fn copied<'a>(alloc: Global, paths: Option<&[&'a str]>) -> Result<Vec<&'a str>, 
     }
 }
 
-/// The answer to words of which one is no text.
-pub fn refuse_bytes(alloc: Global) -> Result<Error, AllocError>
-    ensures { IfOk result (λ answer. kind_of answer ≡ ErrorKind.InvalidValue) }
-{
-    refuse(alloc, ErrorKind::InvalidValue, "a word is not UTF-8")
-}
-
-/// The answer to words that ask to verify or trace files, and for something else beside that.
-pub fn refuse_mixed(alloc: Global) -> Result<Error, AllocError>
-    ensures { IfOk result (λ answer. kind_of answer ≡ ErrorKind.ArgumentConflict) }
-{
-    refuse(
-        alloc,
-        ErrorKind::ArgumentConflict,
-        "--verify and --trace each stand beside journal files alone",
-    )
-}
-
-/// The answer to words that name judgements to be traced, and no files.
-pub fn refuse_untraced(alloc: Global) -> Result<Error, AllocError>
-    ensures { IfOk result (λ answer. kind_of answer ≡ ErrorKind.MissingRequiredArgument) }
-{
-    refuse(
-        alloc,
-        ErrorKind::MissingRequiredArgument,
-        "--judged, --period and --json stand beside --trace FILE",
-    )
-}
-
-/// The answer to words that ask for a part of a picture, and for no picture.
-pub fn refuse_unplaced(alloc: Global) -> Result<Error, AllocError>
-    ensures { IfOk result (λ answer. kind_of answer ≡ ErrorKind.MissingRequiredArgument) }
-{
-    refuse(
-        alloc,
-        ErrorKind::MissingRequiredArgument,
-        "--from and --around stand beside --timeline FILE",
-    )
-}
-
-/// The answer to words that ask for two parts of a picture.
-pub fn refuse_twofold(alloc: Global) -> Result<Error, AllocError>
-    ensures { IfOk result (λ answer. kind_of answer ≡ ErrorKind.ArgumentConflict) }
-{
-    refuse(
-        alloc,
-        ErrorKind::ArgumentConflict,
-        "--from and --around don't stand beside each other",
-    )
-}
-
-/// An answer of this kind.
-fn refuse(alloc: Global, kind: ErrorKind, text: &str) -> Result<Error, AllocError>
-    ensures { IfOk result (λ answer. kind_of answer ≡ kind) }
-{
-    let mut command = command_line(alloc)?;
-    command.error(kind, text)
-}
-
 /// What the program takes on its command line.
-fn command_line<'a>(alloc: Global) -> Result<Command<'a>, AllocError>
+pub(crate) fn command_line<'a>(alloc: Global) -> Result<Command<'a>, AllocError>
     ensures { IfOk result (λ command. app_of command ≡ command_line) }
 {
     Command::new(alloc, "swimsim")
@@ -273,7 +220,8 @@ fn command_line<'a>(alloc: Global) -> Result<Command<'a>, AllocError>
             alloc,
             "json",
             "Writes what is traced as JSON, an object a line",
-        ))
+        ))?
+        .arg(numbers(alloc))
 }
 
 /// The one word that is no option.
@@ -293,6 +241,18 @@ fn flag<'a>(alloc: Global, name: &'a str, help: &'a str) -> Arg<'a>
         .long(name)
         .action(ArgAction::SetTrue)
         .help(help)
+}
+
+/// Whether entries are numbered.
+fn numbers<'a>(alloc: Global) -> Arg<'a>
+    ensures rule { rule_of result ≡ flag_rule (codes "numbers") }
+    ensures local { result.global ≡ false }
+{
+    flag(
+        alloc,
+        "numbers",
+        "Writes the number of each entry, as --verify names it, above its answer",
+    )
 }
 
 /// Where the picture goes.

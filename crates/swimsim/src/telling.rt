@@ -1,11 +1,11 @@
 //! Answers with words between them.
 
 ghost use Rattle.std.specs.Prelude.{◌≡◌};
-ghost use Rattle.swim_text.specs.Streams.{failures_if};
+ghost use Rattle.swim_text.specs.Streams.{Puts, failures_if};
 ghost use Rattle.swim_wire.specs.Layout.{fault_number};
 ghost use Rattle.swim_script.specs.Outcomes.{outcome_text};
-ghost use Rattle.swimsim.specs.Telling.{AreSent, IsAnswer, IsEnd, IsExact, IsFault, IsNewest, IsReply, IsSent};
-ghost use Rattle.swimsim.specs.Telling.{IsWorded, MayHear, MayName, MayStand, PutsSome};
+ghost use Rattle.swimsim.specs.Telling.{AreSent, IsAnswer, IsEnd, IsEntry, IsExact, IsFault, IsNewest, IsReply, IsSent};
+ghost use Rattle.swimsim.specs.Telling.{IsWorded, MayHear, MayName, MayStand, PutsSome, entries_with, number_line};
 
 use crate::reasons::{Reason, reason_of};
 use crate::tallies::AnswerTally;
@@ -15,25 +15,35 @@ use swim_history::{Call, Opening, Reply, sends};
 use swim_script::{LineOutcome, Session, Teller, put_reply, put_send};
 use swim_text::{Sink, WriteSink, put_numbered};
 use swim_verdicts::message_words;
-use swim_wire::{Message, Peer, WireFault};
+use swim_wire::{Message, Peer, Piece, WireFault, put_pieces};
 
-/// Who writes answers with words: datagrams as they are heard and sent, or the names of reasons behind their numbers,
-/// or both. In want of memory words are left out. It counts the answers that no entry of a journal tells.
+/// Who writes answers with words: datagrams as they are heard and sent, the names of reasons behind their numbers, the
+/// numbers of entries above their answers, or several of these. In want of memory words are left out. It counts the
+/// entries so far, and the answers that no entry of a journal tells.
 #[derive(Drop)]
 pub struct WordTeller {
     alloc: Global,
     has_datagrams: bool,
     has_reasons: bool,
+    has_numbers: bool,
+    entries: u64,
     tally: AnswerTally,
 }
 
 impl WordTeller {
-    /// Who has words for datagrams, or for reasons, or for both.
-    pub fn new(alloc: Global, has_datagrams: bool, has_reasons: bool) -> WordTeller {
+    /// Who has words for datagrams, for reasons, and for the numbers of entries, for each if that is so.
+    pub fn new(
+        alloc: Global,
+        has_datagrams: bool,
+        has_reasons: bool,
+        has_numbers: bool,
+    ) -> WordTeller {
         WordTeller {
             alloc,
             has_datagrams,
             has_reasons,
+            has_numbers,
+            entries: 0,
             tally: AnswerTally::default(),
         }
     }
@@ -43,20 +53,64 @@ impl WordTeller {
         self.tally
     }
 
+    /// Counts a line behind its answer: as an entry, if it made one, and as an answer that no entry tells otherwise.
+    fn count(&mut self, outcome: &LineOutcome)
+        ensures { self.new.entries ≡ entries_with outcome.now self.old.entries }
+    {
+        self.tally.add(outcome);
+        match outcome {
+            LineOutcome::Made(_) => self.entries = self.entries.saturating_add(1),
+            LineOutcome::Full(_) | LineOutcome::NoMemory(_) | LineOutcome::Unread(_) => {}
+            LineOutcome::Table | LineOutcome::Gap(_) => {}
+        }
+    }
+
     /// What came of the newest line: its answer, with the words that are asked for.
     fn tell<W: Sink>(&self, session: &Session, outcome: &LineOutcome, writer: &mut W) -> bool
-        ensures bytes { PutsSome (IsWorded self.now.has_datagrams self.now.has_reasons session.now.recorded outcome.now)
+        ensures bytes { PutsSome (IsWorded (number_line self.now.has_numbers self.now.entries) self.now.has_datagrams
+            self.now.has_reasons session.now.recorded outcome.now)
             (W.written writer.old) (W.written writer.new) result }
         ensures failures { W.failures writer.new ≡ failures_if (W.failures writer.old) result }
     {
         match outcome {
-            LineOutcome::Made(call) => self.put_made(session, call, writer),
+            LineOutcome::Made(call) => self.put_entry(session, call, writer),
             LineOutcome::Full(call) => self.put_refused(session, outcome, call, writer),
             LineOutcome::NoMemory(call) => self.put_refused(session, outcome, call, writer),
             LineOutcome::Unread(fault) => self.put_fault(*fault, writer),
             LineOutcome::Table => session.put(outcome, writer),
             LineOutcome::Gap(_) => session.put(outcome, writer),
         }
+    }
+
+    /// The answer to a call that was made, below the number of its entry.
+    fn put_entry<W: Sink>(&self, session: &Session, call: &Call, writer: &mut W) -> bool
+        ensures bytes { PutsSome (IsEntry (number_line self.now.has_numbers self.now.entries)
+            (IsAnswer self.now.has_datagrams call.now
+            (IsNewest self.now.has_datagrams self.now.has_reasons session.now.recorded))) (W.written writer.old)
+            (W.written writer.new) result }
+        ensures failures { W.failures writer.new ≡ failures_if (W.failures writer.old) result }
+    {
+        if !self.put_number(writer) {
+            return false;
+        }
+        self.put_made(session, call, writer)
+    }
+
+    /// The line with the number of the newest entry, if numbers are asked for: how many entries were made before it.
+    fn put_number<W: Sink>(&self, writer: &mut W) -> bool
+        ensures bytes { Puts (W.written writer.old) (W.written writer.new)
+            (number_line self.now.has_numbers self.now.entries) result }
+        ensures failures { W.failures writer.new ≡ failures_if (W.failures writer.old) result }
+    {
+        if !self.has_numbers {
+            return writer.put(b"");
+        }
+        let pieces = [
+            Piece::Text(b"# entry "),
+            Piece::Number(self.entries),
+            Piece::Text(b"\n"),
+        ];
+        put_pieces(writer, &pieces)
     }
 
     /// The answer to a call that was made, behind the words of the message that it heard, if it did.
@@ -225,7 +279,8 @@ impl Teller<WriteSink<Stdout>> for WordTeller {
         outcome: &LineOutcome,
         writer: &mut WriteSink<Stdout>,
     ) -> bool {
-        self.tally.add(outcome);
-        self.tell(session, outcome, writer)
+        let is_put = self.tell(session, outcome, writer);
+        self.count(outcome);
+        is_put
     }
 }

@@ -33,6 +33,8 @@ returns c =
     ap₂ with_rule tracing_is c.judged.ensures.rule in
     let numbering_is = c.in_ok-arg-11.ensures.shape c.period.ensures.local ∙
     ap₂ with_rule naming_is c.period.ensures.rule in
-    IfOk-weaker c.arg-12.result _ _
-    (λ command added. added.shape c.flag-4.ensures.local ∙ ap₂ with_rule numbering_is c.flag-4.ensures.rule)
-    c.arg-12.ensures
+    let writing_is = c.in_ok-arg-12.ensures.shape c.flag-4.ensures.local ∙
+    ap₂ with_rule numbering_is c.flag-4.ensures.rule in
+    IfOk-weaker c.arg-13.result _ _
+    (λ command added. added.shape c.numbers.ensures.local ∙ ap₂ with_rule writing_is c.numbers.ensures.rule)
+    c.arg-13.ensures

@@ -177,6 +177,19 @@ returns-clause-json g c =
       λ e. c.get_flag-4.ensures.other (written ∙ e),
     )
 
+pub returns-clause-numbers : goal.returns-clause-numbers
+returns-clause-numbers g c =
+    let words = map g.S.AsStr.text c.args.words.now in
+    let rows = (c.in_ok-matches.ensures.matches (ap is_simple c.in_ok-command.ensures ∙ is_simple_line)).0 in
+    let written : one_text (found_of c.in_ok-matches.matches) (codes "numbers") ≡
+    one_of (codes "numbers") (matches_of command_line words)
+    = one_text-rows (found_of c.in_ok-matches.matches) (codes "numbers")
+    ∙ ap (one_of (codes "numbers")) (rows ∙ ap (λ (a : App). matches_of a words) c.in_ok-command.ensures) in (
+      λ e. c.get_flag-5.ensures.none (written ∙ e),
+      λ e. c.get_flag-5.ensures.value (written ∙ e),
+      λ e. c.get_flag-5.ensures.other (written ∙ e),
+    )
+
 pub returns-clause-refused : goal.returns-clause-refused
 returns-clause-refused g c =
     let words = map g.S.AsStr.text c.args.words.now in
