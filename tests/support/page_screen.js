@@ -29,7 +29,8 @@ async function show() {
     const text = await (await fetch(new URL(path, url))).text();
     for (const found of text.matchAll(/^data: (.*)$/gm)) stream.onmessage({ data: found[1] });
   }
-  await new Promise(done => setTimeout(done, 1000));
+  const isTold = () => id("at").textContent || id("alarm").textContent;
+  for (let tries = 0; tries < 100 && !isTold(); tries++) await new Promise(done => setTimeout(done, 100));
   const rows = name => id(name).kids.map(row => row.kids.map(cell => cell.textContent));
   const told = { title: document.title, sum: id("sum").textContent, alarm: id("alarm").textContent };
   console.log(JSON.stringify({ ...told, members: rows("members"), events: rows("events"), counts: rows("counts") }));

@@ -25,6 +25,7 @@ SAFE = {"x-content-type-options": "nosniff", "cache-control": "no-store", "allow
 LIMIT = 1.5
 NAMES_WITHOUT_FILES = {name: it for name, it in NAMES.items() if name not in FILES_NAMES}
 PROBED = re.compile(r": probed at entry \d+ \((\d+)\)")
+AGE = re.compile(r" about (\d+) s ago$")
 EVENT = re.compile(r"id: (\d+)\ndata: ([^\n]*)\n\n")
 
 
@@ -283,14 +284,19 @@ def what_the_page_shows(machine):
     """The members, the failed one first, the changes, the newest first, and counts; without a daemon the alarm."""
     if not shutil.which("node"):
         return leave_out("node is not on PATH, so the script of the page of swimd web isn't run")
+    began = time.monotonic()
     daemon, path = watched(machine, members=[(2, "127.0.0.1:9"), (30, "127.0.0.1:9")], k=0, rtt=1, period=3, tick_ms=20)
     with WebServer(machine, daemon.control, "--events", path) as web:
         until(lambda: set(daemon.states().values()) == {"failed"}, "two verdicts")
         must(daemon.ask(b"join 4 127.0.0.1:7\nremove 2\n").endswith(b"removed\n"), "a removal is refused")
         until(lambda: daemon.states() == {4: "failed", 30: "failed"}, "a third verdict")
+        until(lambda: b"swimd_period_number" in daemon.ask(b"stats\n"), "the daemon has counts")
         page, numbers = shown(web), {id: row.state.split(" ")[1] for id, row in daemon.table().items()}
         rows = [[str(id), f"127.0.0.1:{7 if id == 4 else 9}", f"failed in period {it}"] for id, it in numbers.items()]
-        must(sorted(page["members"]) == sorted(rows), f"the members are shown as {page['members']}")
+        shown_rows = [[*row[:2], AGE.sub("", row[2])] for row in page["members"]]
+        must(sorted(shown_rows) == sorted(rows), f"the members are shown as {page['members']}")
+        ages = [int(found[1]) for row in page["members"] if (found := AGE.search(row[2]))]
+        must(len(ages) == 2 and max(ages) <= time.monotonic() - began, f"the ages of verdicts are shown as {ages}")
         must(page["sum"] == "2 failed, 0 up", f"their sum is shown as {page['sum']}")
         must(page["title"] == "(2 failed) Member 1\u2019s view of its group", f"the title is {page['title']}")
         changes = [row[:2] for row in page["events"]][:3]

@@ -1,4 +1,7 @@
-"""The page of `swimd web` in a browser: a kill that shows, its link, and the page about the verdict."""
+"""The page of `swimd web` in a browser: a kill that shows, how long ago it was, its link, and the page about the
+verdict."""
+
+import time
 
 from tests.support.browsers import Browser, chromium
 from tests.support.configurations import HOST
@@ -11,6 +14,8 @@ from tests.swimd.daemon_watchers import watched
 CALM = {"k": 0, "rtt": 20, "period": 60, "tick_ms": 10}
 ROOM = 1.5
 TABS = 10
+# The page asks every five seconds; on a machine with much to do what it shows comes later.
+NEXT = 15
 
 
 def group_of_three(machine):
@@ -29,6 +34,20 @@ def follow(browser, number):
     must(False, "no key leads to the verdict")
 
 
+def must_tell_an_age(browser, daemon, killed):
+    """The row tells how long ago the verdict was, and by itself that it is longer ago, as the time by the viewer's
+    clock."""
+    row = "document.querySelector('#members .age')"
+    first = browser.wait(f"/^about \\d+ s ago$/.exec({row}.textContent)?.[0]", NEXT)
+    must(browser.value(f"{row}.parentNode.textContent").endswith(f" {first}"), "the age isn't behind the state")
+    second = browser.wait(f"{row}.textContent !== '{first}' && {row}.textContent", NEXT)
+    ages, ago = [int(it.split(" ")[1]) for it in (first, second)], time.monotonic() - killed
+    must(0 <= ages[0] < ages[1] <= ago + daemon.period_seconds, f"a kill {ago:.1f} s ago is told as {ages} s ago")
+    # From the daemon's answer on the age stays as it is told.
+    times = f"[...Array({NEXT}).keys()].map(it => clock(Date.now() - 1000 * ({ages[1]} + it)))"
+    must(browser.value(f"{times}.includes({row}.title)"), "the time of the verdict is another")
+
+
 def must_fit(browser):
     """On a narrow screen nothing is beside it, and the ids stand below one another."""
     browser.call("Emulation.setDeviceMetricsOverride", width=400, height=800, deviceScaleFactor=1, mobile=False)
@@ -36,6 +55,8 @@ def must_fit(browser):
     found = browser.value(lefts)
     must(len(found) == 2 and len(set(found)) == 1, f"ids begin at {found}")
     must(browser.value("document.documentElement.scrollWidth") <= 400, "the page is wider than the screen")
+    found = browser.value("document.querySelector('#members .age').getBoundingClientRect().right")
+    must(0 < found <= 400, f"an age ends at {found}")
     browser.call("Emulation.setEmulatedMedia", features=[{"name": "prefers-color-scheme", "value": "dark"}])
     found = browser.value("getComputedStyle(document.body).backgroundColor")
     must(found == "rgb(13, 17, 23)", f"in the dark the page is {found}")
@@ -52,6 +73,7 @@ def a_kill_is_followed_to_its_page(machine):
         home = f"http://{HOST}:{web.port}/"
         it.open(home)
         it.wait("document.getElementById('sum')?.textContent === 'All 2 members up'")
+        killed = time.monotonic()
         second.kill()
         link = it.wait("document.querySelector('#members a')?.textContent", 2 * first.period_seconds + 2 + ROOM)
         number = int(link.removeprefix("failed in period "))
@@ -59,6 +81,7 @@ def a_kill_is_followed_to_its_page(machine):
         must(name == f"Member 2 failed in period {number}: the evidence", f"the link is named {name}")
         until(lambda: web.get(f"/verdicts/2/{number}").status == 200, "the verdict is explained")
         it.wait(f"document.querySelector('#events a')?.pathname === '/verdicts/2/{number}'")
+        must_tell_an_age(it, first, killed)
         must_fit(it)
         follow(it, number)
         heading = f"Member 2 was judged failed in period {number}"

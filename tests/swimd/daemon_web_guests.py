@@ -25,6 +25,7 @@ class FakeDaemon:
     """Somebody who answers at a control socket as a daemon does, and notes each line."""
 
     def __init__(self, path):
+        self.answers = {b"list\n": TABLE, b"stats\n": STATS, b"stop\n": b"stopping\n"}
         self.lines, self.listener = [], socket.socket(socket.AF_UNIX)
         self.listener.bind(path)
         self.listener.listen(64)
@@ -39,11 +40,10 @@ class FakeDaemon:
             threading.Thread(target=self.serve, args=(connection,), daemon=True).start()
 
     def serve(self, connection):
-        answers = {b"list\n": TABLE, b"stats\n": STATS, b"stop\n": b"stopping\n"}
         with connection, connection.makefile("rb") as lines:
             for line in lines:
                 self.lines.append(line)
-                connection.sendall(answers.get(line, b"fault 2\n"))
+                connection.sendall(self.answers.get(line, b"fault 2\n"))
 
     def close(self):
         self.listener.close()

@@ -3,8 +3,8 @@
 /// What the page may do: its own script runs, its own style is shown, and it asks nobody but its server. The hashes are
 /// those of the texts between `<script>` and `</script>`, and between `<style>` and `</style>`.
 pub(crate) const FRONT_POLICY: &str = "default-src 'none'; \
-    script-src 'sha256-HkSip0PMEOLSZnzlTwIFx2+0xmijuWBJLTm+lbjOfb8='; \
-    style-src 'sha256-wTixHHAP+0ZnxtbF5pGxaTxKJK9B9xeQ2x2zgJXHGvI='; \
+    script-src 'sha256-wlX5KmheMAI1jODxLHJ37xdKiB//2ywISXoBSpDciuI='; \
+    style-src 'sha256-7IplzbKOX5TGKGjnFzDH7r2VseL/LzSCpNlSTYVxi+Y='; \
     connect-src 'self'; img-src 'self' data:; base-uri 'none'; form-action 'none'; frame-ancestors 'none'";
 
 /// The page, which needs nothing but itself, `/members.json`, `/verdicts.json`, `/metrics` and `/events`.
@@ -54,6 +54,7 @@ tr.is-failed th:first-child { box-shadow: inset 3px 0 var(--failed) }
 td svg { width: 11px; height: 11px; margin-right: .45rem; fill: none; stroke-width: 2.2; vertical-align: -.05em }
 .u svg { stroke: var(--up) }
 .f svg { stroke: var(--failed) }
+.age { display: inline-block }
 .none td { color: var(--quiet); padding-left: .75rem }
 meter { width: 10rem; max-width: 50%; margin-right: .5rem; vertical-align: middle }
 footer { color: var(--quiet); font-size: .87rem; padding-top: 1.5rem; padding-bottom: 2.5rem }
@@ -115,8 +116,8 @@ const EVERY = 5000, LIMIT = 3000, CHANGES = 20;
 const id = name => document.getElementById(name);
 const shapes = { up: "M1 6 4 9 10 1.5", failed: "M1 1 10 10M1 10 10 1" };
 const roles = { tr: "row", th: "rowheader", td: "cell" };
-const changes = [];
-let last = "", asked = 0, held = false, soon = 0, explained;
+const changes = [], ages = [];
+let last = "", asked = 0, held = false, soon = 0, explained, periods;
 
 function put(parent, tag, text, cls) {
   const e = document.createElement(tag);
@@ -137,6 +138,8 @@ function shape(state) {
 }
 const clock = time => new Date(time).toLocaleString(undefined, { dateStyle: "medium", timeStyle: "medium" });
 const many = (n, one) => n + " " + one + (n === 1 ? "" : "s");
+// The number of a period stays a text, since it has up to 64 bits, and a Number holds 53.
+const read = text => JSON.parse(text.replace(/"period":(\d+)/g, '"period":"$1"'));
 function rowsOf(body, list, none, fill) {
   const old = document.activeElement, focused = old && body.contains(old) ? old.href : undefined;
   body.textContent = "";
@@ -152,13 +155,37 @@ function putState(tr, state, text) {
 // Links to its page, if the server explains verdicts.
 function putFailed(tr, verdict) {
   const text = "failed in period " + verdict.period;
-  if (!explained) {
-    putState(tr, "failed", text);
-    return;
-  }
-  const link = put(putState(tr, "failed", ""), "a", text);
+  if (!explained) return putState(tr, "failed", text);
+  const told = putState(tr, "failed", ""), link = put(told, "a", text);
   link.href = "/verdicts/" + verdict.id + "/" + verdict.period;
   link.setAttribute("aria-label", "Member " + verdict.id + " " + text + ": the evidence");
+  return told;
+}
+// showAge fills it.
+function putAge(parent, period) {
+  parent.append(" ");
+  ages.push({ age: put(parent, "span", "", "age quiet"), period: BigInt(period) });
+}
+// Since the end of a period, where the one that runs counts as over.
+function secondsSince(period) {
+  const ms = (periods.running - period) * periods.ms, most = 2n ** 64n - 1n;
+  return (ms < 0n ? 0n : ms > most ? most : ms) / 1000n;
+}
+function spanOf(seconds) {
+  if (seconds < 120n) return seconds + " s";
+  if (seconds < 7200n) return seconds / 60n + " min";
+  if (seconds < 172800n) return seconds / 3600n + " h";
+  return seconds / 86400n + " days";
+}
+function showAge({ age, period }) {
+  if (!periods) {
+    age.textContent = age.title = "";
+    return;
+  }
+  const seconds = secondsSince(period), text = "about " + spanOf(seconds) + " ago";
+  const time = Date.now() - 1000 * Number(seconds);
+  if (age.textContent !== text) age.textContent = text;
+  age.title = time > 0 ? clock(time) : "";
 }
 function showMembers(members) {
   const failed = members.filter(m => m.state === "failed"), up = members.length - failed.length;
@@ -173,11 +200,12 @@ function showMembers(members) {
     put(sum, "b", up ? "All " + many(up, "member") + " up" : "No other member is known", "u");
   }
   const order = failed.concat(members.filter(m => m.state === "up"));
+  ages.length = 0;
   rowsOf(id("members"), order, "No other member is known.", (tr, m) => {
     tr.className = m.state === "failed" ? "is-failed" : "";
     put(tr, "th", m.id, "number").scope = "row";
     put(put(tr, "td"), "code", m.peer);
-    if (m.state === "failed") putFailed(tr, m); else putState(tr, "up", "up");
+    if (m.state === "failed") putAge(putFailed(tr, m), m.period); else putState(tr, "up", "up");
   });
 }
 const words = { up: e => "up at " + e.peer, gone: () => "removed",
@@ -196,7 +224,7 @@ function showChanges() {
 }
 function follow() {
   new EventSource("/events").onmessage = m => {
-    changes.unshift(JSON.parse(m.data));
+    changes.unshift(read(m.data));
     changes.length = Math.min(changes.length, CHANGES);
     showChanges();
     clearTimeout(soon);
@@ -210,9 +238,14 @@ function samplesOf(text) {
     if (end < 1 || line[0] === "#") continue;
     // All are this member's.
     const key = line.slice(0, end).replace(/\{member="\d+",?/, "{").replace("{}", "");
-    found.set(key, Number(line.slice(end + 1)));
+    found.set(key, line.slice(end + 1));
   }
   return found;
+}
+function periodsOf(found) {
+  const running = found.get("swimd_period_number"), seconds = found.get("swimd_period_seconds");
+  if (!/^\d+$/.test(running) || !/^\d+\.\d{3}$/.test(seconds)) return undefined;
+  return { running: BigInt(running), ms: BigInt(seconds.replace(".", "")) };
 }
 const figures = [["swimd_period_number", "Period"], ["swimd_period_seconds", "Seconds of a period"],
   ["swimd_verdicts_total", "Verdicts"], ["swimd_journal_entries", "Entries of this life"],
@@ -221,6 +254,7 @@ const figures = [["swimd_period_number", "Period"], ["swimd_period_seconds", "Se
   ["swimd_fenced_total", "Datagrams above the rate"], ["swimd_lost_watchers_total", "Watchers that didn’t keep up"]];
 function showFigures(text) {
   const found = samplesOf(text), me = found.get("swimd_member_id"), body = id("counts");
+  periods = periodsOf(found);
   if (me) id("me").textContent = "Member " + me + "’s view of its group";
   id("figures").hidden = false;
   body.textContent = "";
@@ -229,18 +263,19 @@ function showFigures(text) {
     put(tr, "th", name).scope = "row";
     return put(tr, "td", undefined, "number");
   };
-  for (const [key, name] of figures) if (found.has(key)) figure(name).textContent = found.get(key);
+  const shown = value => value.includes(".") ? Number(value) : value;
+  for (const [key, name] of figures) if (found.has(key)) figure(name).textContent = shown(found.get(key));
   for (const [key, n] of found) {
     const reason = /^swimd_dropped_total\{reason="(.*)"\}$/.exec(key);
-    if (reason && n) figure("Messages dropped, " + reason[1].replaceAll("_", " ")).textContent = n;
+    if (reason && n !== "0") figure("Messages dropped, " + reason[1].replaceAll("_", " ")).textContent = n;
   }
   showWaits(found, figure);
 }
 function showWaits(found, figure) {
-  const all = found.get("swimd_ack_wait_ticks_count");
+  const all = Number(found.get("swimd_ack_wait_ticks_count"));
   let below = 0;
-  for (const [key, n] of found) {
-    const bound = /^swimd_ack_wait_ticks_bucket\{le="(.*)"\}$/.exec(key);
+  for (const [key, value] of found) {
+    const bound = /^swimd_ack_wait_ticks_bucket\{le="(.*)"\}$/.exec(key), n = Number(value);
     if (!bound || !all || n === below) continue;
     const td = figure(bound[1] === "+Inf" ? "Acks after that" : "Acks within " + many(Number(bound[1]), "tick"));
     const bar = put(td, "meter");
@@ -275,13 +310,16 @@ async function ask() {
     await learn();
     showFigures(await get("/metrics"));
     const text = await get("/members.json");
-    if (text !== last) showMembers(JSON.parse(text).members);
+    if (text !== last) showMembers(read(text).members);
+    ages.forEach(showAge);
     last = text;
     asked = Date.now();
     tell("");
     id("at").textContent = "As the daemon answered at " + new Date().toLocaleTimeString();
   } catch (e) {
     if (e.message !== "The daemon") explained = undefined;
+    periods = undefined;
+    ages.forEach(showAge);
     const who = e.message === "The daemon" ? e.message : "This page’s server";
     tell(asked ? who + " hasn’t answered since " + clock(asked) + ". What is below is as it was then."
       : who + " doesn’t answer.");
