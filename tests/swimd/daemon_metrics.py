@@ -1,5 +1,6 @@
 """What a daemon counts: the metrics' file and `stats` beside what its journal files say."""
 
+import hashlib
 import os
 import re
 import shutil
@@ -12,7 +13,7 @@ from tests.support.daemons import SECONDS, introduced, must, until
 from tests.support.datagrams import ACK, PING, datagram, fields
 from tests.support.journals import journals
 from tests.support.parts import leave_out
-from tests.support.tags import FIRST, key_texts
+from tests.support.tags import FIRST, SECOND, THIRD, key_texts
 from tests.support.watchers import Watcher
 from tests.swimd.daemon_groups import Answerer
 from tests.swimd.daemon_returning import Silent
@@ -41,15 +42,18 @@ NAMES = {
 OF_MEMBERS = [it for it in NAMES if it.startswith("swimd_member_") and it != "swimd_member_id"]
 # Those of journal files, which a daemon has none of that writes none.
 FILES_NAMES = ["swimd_journal_file_ok", "swimd_journal_files_cut_total"]
+# Those of a daemon with keys.
+KEYED_NAMES = {**NAMES, "swimd_key": "gauge"}
 SAMPLE = re.compile(
-    r'(?P<name>[a-z_]+)\{member="(?P<member>\d+)"(?:,id="(?P<id>\d+)")?'
+    r'(?P<name>[a-z_]+)\{member="(?P<member>\d+)"(?:,(?:id|place)="(?P<id>\d+)")?'
     r'(?:,[a-z]+="(?P<label>(?:[^"\\]|\\["\\n])*)")?\} (?P<value>[0-9.]+)'
 )
 ENTRY = re.compile(r"= \d+ (.*)")
 
 
 def key_of(found):
-    """The name of a sample, and its label; of a member, its id and then its label, if it has one."""
+    """The name of a sample, and its label; of a member, its id and then its label, if it has one; of a key, its place
+    and then its fingerprint."""
     labels = [it for it in (found["id"], found["label"]) if it is not None]
     return found["name"], " ".join(labels) or None
 
@@ -311,7 +315,7 @@ def what_is_thrown_away_is_counted_apart(machine):
         peer.sendto(datagram(PING, 9, 9, 1, number), sealed_one.address)
     until(lambda: stats_of(sealed_one)["swimd_forged_total", None] == 5, "five are counted", AT_ONCE)
     must(sealed_one.stop().entries == 0, "one of them is an entry")
-    must_be_counted(written(path), sealed_one, forged_total=5, fenced_total=0, wire_total=0)
+    must_be_counted(written(path, names=KEYED_NAMES), sealed_one, forged_total=5, fenced_total=0, wire_total=0)
     fenced_one, path = counted(machine, 2, fence=1, tick_ms=MINUTE)
     for number in range(1, 51):
         peer.sendto(datagram(PING, 9, 9, 2, number), fenced_one.address)
@@ -320,6 +324,24 @@ def what_is_thrown_away_is_counted_apart(machine):
     entries = fenced_one.stop().entries
     must(0 < entries < 10, f"of fifty at once {entries} pass")
     must_be_counted(written(path), fenced_one, forged_total=0, fenced_total=50 - entries, wire_total=0)
+
+
+def keys_are_told_by_their_fingerprints(machine):
+    """Each key has a sample with its place and its fingerprint, in the order of the configuration. Without keys nothing is
+    told of them."""
+    rings = [(), (FIRST,), (FIRST, SECOND), (SECOND, FIRST), (SECOND, THIRD, bytes(32), FIRST)]
+    for id, ring in enumerate(rings, 1):
+        keys, names = ({"keys": key_texts(*ring)}, KEYED_NAMES) if ring else ({}, NAMES)
+        daemon, path = counted(machine, id, tick_ms=MINUTE, **keys)
+        file, stats = written(path, names=names), stats_of(daemon)
+        prints = [(place, hashlib.sha256(key).hexdigest()[:8]) for place, key in enumerate(ring, 1)]
+        wanted = {("swimd_key", f"{place} {it}"): 1 for place, it in prints}
+        for samples in (file, stats):
+            found = {key: value for key, value in samples.items() if key[0] == "swimd_key"}
+            must([*found.items()] == [*wanted.items()], f"of keys it tells {found}, and not {wanted}")
+        lines = "".join(f'swimd_key{{member="{id}",place="{place}",fingerprint="{it}"}} 1\n' for place, it in prints)
+        must(f"\n{lines}swimd_watchers{{" in daemon.ask(b"stats\n").decode(), f"`stats` hasn't {lines}")
+        must(daemon.stop().status == 0, "it ended otherwise")
 
 
 def knocks_and_own_joins_are_counted(machine):
@@ -388,6 +410,7 @@ METRICS = [
     stats_say_the_same,
     what_nobody_sent_is_counted,
     what_is_thrown_away_is_counted_apart,
+    keys_are_told_by_their_fingerprints,
     knocks_and_own_joins_are_counted,
     watchers_are_counted,
     promtool_agrees,

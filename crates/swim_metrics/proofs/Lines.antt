@@ -1,6 +1,6 @@
 -- The lines of samples, as they are written.
-use Rattle.std.proofs.Common.{◌≡◌, ℕ, ◌≤◌, List, [], ◌∷◌, ◌++◌, append_assoc, append-nil, codes, decimal, get_or}
-use Rattle.std.proofs.Common.{length, map, refl, sym, ap, ◌∙◌, arith}
+use Rattle.std.proofs.Common.{◌≡◌, ℕ, suc, ◌≤◌, Bool, true, false, cond, List, [], ◌∷◌, ◌++◌, append_assoc, append-nil}
+use Rattle.std.proofs.Common.{codes, decimal, get_or, length, map, filter, refl, sym, ap, ◌∙◌, arith}
 use Rattle.swim_text.specs.TwoPuts.{first_and_others, others_of}
 use Rattle.swim_history.specs.Texts.{feed}
 use Rattle.swim_metrics.specs.declared.heads.MetricKind.{MetricKind}
@@ -9,7 +9,8 @@ use Rattle.swim_metrics.specs.declared.outside.Outside.{Outside}
 use Rattle.swim_metrics.specs.declared.wait_histograms.HistogramBucket.{HistogramBucket}
 use Rattle.swim_metrics.specs.declared.wait_histograms.Waits.{Waits}
 use Rattle.swim_metrics.specs.Families.{Family, Sample, bucket_sample, escaped, escaped_one, family_of, total_samples}
-use Rattle.swim_metrics.specs.Families.{column_of, member_acks, member_sample, member_samples}
+use Rattle.swim_metrics.specs.Families.{column_of, is_told, key_sample, key_samples, member_acks, member_sample}
+use Rattle.swim_metrics.specs.Families.{member_samples}
 use Rattle.swim_metrics.specs.Families.{version_sample, wait_samples}
 use Rattle.swim_metrics.specs.declared.families.Column.{Column}
 use Rattle.swim_metrics.specs.declared.member_figures.MemberFigures.{MemberFigures}
@@ -94,6 +95,27 @@ ack_lines me id directly by_relay name =
     samples_append me name (member_sample id (codes ",from=\"target\"") directly ∷ [])
     (member_sample id (codes ",from=\"relay\"") by_relay ∷ [])
 
+-- the line of a key
+key_line_of : (me place : ℕ) (bytes name fingerprint : List ℕ) → bytes ≡ name →
+    bytes ++ (codes "{member=\"" ++ (decimal me ++ (codes "\",place=\"" ++ (decimal place ++
+    (codes "\",fingerprint=\"" ++ (fingerprint ++ (codes "\"} 1\n" ++ []))))))) ≡
+    sample_text me name (key_sample place fingerprint)
+key_line_of me place bytes name fingerprint is =
+    let rest = codes "} 1\n" in
+    ap (λ t. t ++ (codes "{member=\"" ++ (decimal me ++ (codes "\",place=\"" ++ (decimal place ++
+    (codes "\",fingerprint=\"" ++ (fingerprint ++ (codes "\"" ++ rest)))))))) is
+    ∙ ap (λ t. name ++ (codes "{member=\"" ++ (decimal me ++ (codes "\",place=\"" ++ (decimal place ++
+    (codes "\",fingerprint=\"" ++ t))))))
+    (sym (append_assoc fingerprint (codes "\"") rest))
+    ∙ ap (λ t. name ++ (codes "{member=\"" ++ (decimal me ++ (codes "\",place=\"" ++ t))))
+    (sym (append_assoc (decimal place) (codes "\",fingerprint=\"" ++ (fingerprint ++ codes "\"")) rest))
+
+pub key_line : (me number place : ℕ) (bytes name fingerprint : List ℕ) → number ≡ me → bytes ≡ name →
+    bytes ++ (codes "{member=\"" ++ (decimal number ++ (codes "\",place=\"" ++ (decimal place ++
+    (codes "\",fingerprint=\"" ++ (fingerprint ++ (codes "\"} 1\n" ++ []))))))) ≡
+    sample_text me name (key_sample place fingerprint)
+key_line me number place bytes name fingerprint same is = rw same (key_line_of me place bytes name fingerprint is)
+
 -- ---- the first and the others
 
 same_first : {X : Type 0} (xs : List X) (d : X) → 1 ≤ length xs → get_or xs 0 d ≡ get_or xs 0 (get_or xs 0 d)
@@ -116,21 +138,48 @@ first_member column me name rows first some is =
     samples_append me name (column_of column first) (member_samples column (others_of rows))
     ∙ ap (λ l. samples_text me name (member_samples column l)) (sym (first_and_others rows first some is))
 
+pub first_key : (me : ℕ) (name : List ℕ) (before place : ℕ) (keys : List (List ℕ)) (d : List ℕ) →
+    place ≡ suc before → 1 ≤ length keys →
+    sample_text me name (key_sample place (get_or keys 0 d))
+    ++ samples_text me name (key_samples place (others_of keys)) ≡ samples_text me name (key_samples before keys)
+first_key me name before place keys d next some =
+    rw next (ap (λ l. samples_text me name (key_samples before l))
+    (sym (first_and_others keys (get_or keys 0 d) some (same_first keys d some))))
+
 pub first_escaped : (text : List ℕ) (d : ℕ) → 1 ≤ length text →
     escaped_one (get_or text 0 d) ++ escaped (others_of text) ≡ escaped text
 first_escaped text d some = ap escaped (sym (first_and_others text (get_or text 0 d) some (same_first text d some)))
 
-pub first_family : (m : Measures) (out : Outside) (told : List Metric) (d : Metric) → 1 ≤ length told →
-    family_text out.me (family_of m out (get_or told 0 d)) ++ families_text m out (others_of told) ≡
-    families_text m out told
-first_family m out told d some =
-    ap (families_text m out) (sym (first_and_others told (get_or told 0 d) some (same_first told d some)))
+-- the text of a metric and those of others, where it stands in front of them if it is told
+text_if : (m : Measures) (out : Outside) (is : Bool) (metric : Metric) (others : List Metric) →
+    cond is (family_text out.me (family_of m out metric)) [] ++ families_text m out others ≡
+    families_text m out (cond is (metric ∷ others) others)
+text_if m out true metric others = refl
+text_if m out false metric others = refl
 
-pub first_lines : (m : Measures) (out : Outside) (told : List Metric) (d : Metric) → 1 ≤ length told →
-    family_lines out.me (family_of m out (get_or told 0 d)) ++ families_lines m out (others_of told) ≡
-    families_lines m out told
-first_lines m out told d some =
-    ap (families_lines m out) (sym (first_and_others told (get_or told 0 d) some (same_first told d some)))
+lines_if : (m : Measures) (out : Outside) (is : Bool) (metric : Metric) (others : List Metric) →
+    cond is (family_lines out.me (family_of m out metric)) [] ++ families_lines m out others ≡
+    families_lines m out (cond is (metric ∷ others) others)
+lines_if m out true metric others = refl
+lines_if m out false metric others = refl
+
+pub first_family : (m : Measures) (out : Outside) (metrics : List Metric) (d : Metric) → 1 ≤ length metrics →
+    cond (is_told out (get_or metrics 0 d)) (family_text out.me (family_of m out (get_or metrics 0 d))) []
+    ++ families_text m out (filter (is_told out) (others_of metrics)) ≡
+    families_text m out (filter (is_told out) metrics)
+first_family m out metrics d some =
+    text_if m out (is_told out (get_or metrics 0 d)) (get_or metrics 0 d) (filter (is_told out) (others_of metrics))
+    ∙ ap (λ l. families_text m out (filter (is_told out) l))
+    (sym (first_and_others metrics (get_or metrics 0 d) some (same_first metrics d some)))
+
+pub first_lines : (m : Measures) (out : Outside) (metrics : List Metric) (d : Metric) → 1 ≤ length metrics →
+    cond (is_told out (get_or metrics 0 d)) (family_lines out.me (family_of m out (get_or metrics 0 d))) []
+    ++ families_lines m out (filter (is_told out) (others_of metrics)) ≡
+    families_lines m out (filter (is_told out) metrics)
+first_lines m out metrics d some =
+    lines_if m out (is_told out (get_or metrics 0 d)) (get_or metrics 0 d) (filter (is_told out) (others_of metrics))
+    ∙ ap (λ l. families_lines m out (filter (is_told out) l))
+    (sym (first_and_others metrics (get_or metrics 0 d) some (same_first metrics d some)))
 
 -- ---- a metric, as it is written
 

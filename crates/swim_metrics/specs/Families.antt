@@ -1,6 +1,6 @@
 -- The metrics, as one table: of each its name, what it tells, its type and its samples.
-use Rattle.std.specs.Prelude.{Bool, false, ℕ, ◌==◌, if◌then◌else◌, ◌*◌, ◌/◌, ◌%◌, List, [], ◌∷◌, ◌++◌, map, codes}
-use Rattle.std.specs.Prelude.{Option, Some, None, decimal}
+use Rattle.std.specs.Prelude.{Bool, true, false, not, ℕ, suc, ◌==◌, if◌then◌else◌, ◌*◌, ◌/◌, ◌%◌, List, [], ◌∷◌, ◌++◌}
+use Rattle.std.specs.Prelude.{map, filter, length, codes, decimal, Option, Some, None, is_some}
 use Rattle.std.specs.Int.{from_bool}
 use Rattle.swim_metrics.specs.declared.dropped.Dropped.{Dropped}
 use Rattle.swim_metrics.specs.declared.wait_histograms.HistogramBucket.{HistogramBucket}
@@ -132,6 +132,21 @@ abbrev pub member_samples : Column → List MemberFigures → List Sample
 member_samples column [] = []
 member_samples column (row ∷ rows) = column_of column row ++ member_samples column rows
 
+-- ---- keys
+
+-- of the key of the group at a place, by its fingerprint
+abbrev pub key_sample : ℕ → List ℕ → Sample
+key_sample place fingerprint = record {
+  suffix = [];
+  labels = codes ",place=\"" ++ (decimal place ++ (codes "\",fingerprint=\"" ++ (fingerprint ++ codes "\"")));
+  value = codes "1";
+}
+
+-- of each key, in turn, where so many stand in front of them
+abbrev pub key_samples : ℕ → List (List ℕ) → List Sample
+key_samples before [] = []
+key_samples before (fingerprint ∷ others) = key_sample (suc before) fingerprint ∷ key_samples (suc before) others
+
 -- ---- journal files
 
 -- whether the newest life's file is whole so far; not where lives have none
@@ -178,6 +193,7 @@ samples_by m out metrics.Wire = one out.wire
 samples_by m out metrics.Refused = one out.refused
 samples_by m out metrics.Forged = one out.forged
 samples_by m out metrics.Fenced = one out.fenced
+samples_by m out metrics.Key = key_samples 0 out.fingerprints.now.items
 samples_by m out metrics.Watchers = one out.watchers
 samples_by m out metrics.LostWatchers = one out.lost_watchers
 samples_by m out metrics.Unwritten = one out.unwritten
@@ -198,23 +214,26 @@ family_of m out metric = record {
   samples = samples_by m out metric;
 }
 
--- those that are told also where lives have no journal files, in the order in which they are told
-abbrev pub without_files : List Metric
-without_files =
+-- all of them, in the order in which they are told
+abbrev pub all : List Metric
+all =
     metrics.Build ∷ metrics.Member ∷ metrics.Members ∷ metrics.PeriodNumber ∷ metrics.PeriodSeconds
     ∷ metrics.TickSeconds ∷ metrics.Ticks ∷ metrics.PingsSent ∷ metrics.PingsHeard ∷ metrics.AcksHeard
     ∷ metrics.LateAcks ∷ metrics.AsksSent ∷ metrics.RequestsServed ∷ metrics.Dropped
     ∷ metrics.OddSenders ∷ metrics.AckWait
     ∷ metrics.Verdicts ∷ metrics.Joins ∷ metrics.OwnJoins ∷ metrics.Removals ∷ metrics.Knocks ∷ metrics.Lives
     ∷ metrics.Entries ∷ metrics.EntriesLimit ∷ metrics.EntriesBehind ∷ metrics.Unsent ∷ metrics.Wire ∷ metrics.Refused
-    ∷ metrics.Forged ∷ metrics.Fenced ∷ metrics.Watchers ∷ metrics.LostWatchers ∷ metrics.Unwritten ∷ metrics.MemberUp
-    ∷ metrics.MemberHeard ∷ metrics.MemberAcks ∷ metrics.MemberVerdicts ∷ metrics.MemberAsked ∷ []
+    ∷ metrics.Forged ∷ metrics.Fenced ∷ metrics.Key ∷ metrics.Watchers ∷ metrics.LostWatchers ∷ metrics.Unwritten
+    ∷ metrics.MemberUp ∷ metrics.MemberHeard ∷ metrics.MemberAcks ∷ metrics.MemberVerdicts ∷ metrics.MemberAsked
+    ∷ metrics.JournalFileOk ∷ metrics.JournalFilesCut ∷ []
 
--- all of them
-abbrev pub all : List Metric
-all = without_files ++ metrics.JournalFileOk ∷ metrics.JournalFilesCut ∷ []
+-- a metric is told of a daemon: that of keys only where it has some, and those of journal files only where it has some
+abbrev pub is_told : Outside → Metric → Bool
+is_told out metrics.Key = not (length out.fingerprints.now.items == 0)
+is_told out metrics.JournalFileOk = is_some out.files
+is_told out metrics.JournalFilesCut = is_some out.files
+is_told out metric = true
 
--- those that are told of a daemon whose journal files stand so, if it has some
-abbrev pub told : Option FileFigures → List Metric
-told None = without_files
-told (Some files) = all
+-- those that are told of a daemon
+abbrev pub told : Outside → List Metric
+told out = filter (is_told out) all

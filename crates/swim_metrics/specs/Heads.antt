@@ -56,6 +56,8 @@ head_of metrics.Forged =
     head Counter (codes "swimd_forged_total") (codes "Datagrams that came without a tag by a key of the group.")
 head_of metrics.Fenced =
     head Counter (codes "swimd_fenced_total") (codes "Datagrams that came above the rate and were thrown away.")
+head_of metrics.Key =
+    head Gauge (codes "swimd_key") (codes "A key of the group, by its fingerprint. The one at place 1 signs.")
 head_of metrics.Watchers = head Gauge (codes "swimd_watchers") (codes "Watchers of the member table now.")
 head_of metrics.LostWatchers = head Counter (codes "swimd_lost_watchers_total") (codes "Watchers that did not keep up.")
 head_of metrics.Unwritten =

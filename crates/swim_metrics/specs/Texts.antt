@@ -47,7 +47,7 @@ families_lines m out (metric ∷ others) = family_lines out.me (family_of m out 
 
 -- the whole texts
 abbrev pub exposition_text : Measures → Outside → List ℕ
-exposition_text m out = families_text m out (told out.files)
+exposition_text m out = families_text m out (told out)
 
 abbrev pub stats_text : Measures → Outside → List ℕ
-stats_text m out = families_lines m out (told out.files) ++ codes ".\n"
+stats_text m out = families_lines m out (told out) ++ codes ".\n"

@@ -8,7 +8,7 @@ use crate::dropped::Dropped;
 use crate::heads::{Metric, MetricKind};
 use crate::measures::Measures;
 use crate::member_figures::MemberFigures;
-use crate::outside::Outside;
+use crate::outside::{Fingerprints, Outside};
 use crate::wait_histograms::Waits;
 
 /// What is told of each member.
@@ -37,6 +37,8 @@ pub(crate) enum Samples<'a> {
         by_relay: u64,
     },
     Dropped(&'a Dropped),
+    /// The keys of the group.
+    Keys(&'a Fingerprints),
     Waits(&'a Waits),
     Members(Column, &'a [MemberFigures]),
     OddSenders {
@@ -121,6 +123,7 @@ impl Metric {
             Metric::Refused => Samples::One(outside.refused),
             Metric::Forged => Samples::One(outside.forged),
             Metric::Fenced => Samples::One(outside.fenced),
+            Metric::Key => Samples::Keys(outside.fingerprints),
             Metric::Watchers => Samples::One(outside.watchers),
             Metric::LostWatchers => Samples::One(outside.lost_watchers),
             Metric::Unwritten => Samples::One(outside.unwritten),

@@ -66,6 +66,8 @@ pub enum Metric {
     Forged,
     /// Datagrams above the rate.
     Fenced,
+    /// The keys of the group.
+    Key,
     /// Who watches now.
     Watchers,
     /// Watchers that didn't keep up.
@@ -111,7 +113,7 @@ pub struct Head {
 }
 
 /// All metrics, in the order in which they are told.
-pub const ALL_METRICS: [Metric; 40] = [
+pub const ALL_METRICS: [Metric; 41] = [
     Metric::Build,
     Metric::Member,
     Metric::Members,
@@ -142,6 +144,7 @@ pub const ALL_METRICS: [Metric; 40] = [
     Metric::Refused,
     Metric::Forged,
     Metric::Fenced,
+    Metric::Key,
     Metric::Watchers,
     Metric::LostWatchers,
     Metric::Unwritten,
@@ -307,6 +310,11 @@ impl Metric {
                 "swimd_fenced_total",
                 "Datagrams that came above the rate and were thrown away.",
                 MetricKind::Counter,
+            ),
+            Metric::Key => Head::of(
+                "swimd_key",
+                "A key of the group, by its fingerprint. The one at place 1 signs.",
+                MetricKind::Gauge,
             ),
             Metric::Watchers => Head::of(
                 "swimd_watchers",

@@ -1,20 +1,17 @@
 //! The texts that tell the metrics, written to a sink. Each function answers whether the sink took its text.
 
-ghost use Rattle.std.specs.Prelude.{◌≡◌};
+ghost use Rattle.std.specs.Prelude.{◌≡◌, [], filter, if◌then◌else◌};
 ghost use Rattle.swim_text.specs.Streams.{Puts, failures_if};
-ghost use Rattle.swim_metrics.specs.Families.{family_of, told};
+ghost use Rattle.swim_metrics.specs.Families.{family_of, is_told};
 ghost use Rattle.swim_metrics.specs.Texts.{exposition_text, families_lines, families_text, family_lines, family_text};
 ghost use Rattle.swim_metrics.specs.Texts.{head_text, kind_text, samples_text, stats_text};
 
 use crate::heads::{ALL_METRICS, Metric, MetricKind};
 use crate::measures::Measures;
-use crate::outside::{FileFigures, Outside};
+use crate::outside::Outside;
 use crate::samples::{Series, put_samples};
 use swim_text::Sink;
 use swim_wire::{Piece, put_pieces};
-
-/// How many metrics, the first, are told also where lives have no journal files.
-const WITHOUT_FILES: usize = 38;
 
 /// Writes the metrics in the exposition format of Prometheus: of each what it tells, its type, and its values.
 pub fn put_exposition<W: Sink>(writer: &mut W, measures: &Measures, outside: &Outside<'_>) -> bool
@@ -22,7 +19,7 @@ pub fn put_exposition<W: Sink>(writer: &mut W, measures: &Measures, outside: &Ou
         (exposition_text measures.now outside.now) result }
     ensures failures { W.failures writer.new ≡ failures_if (W.failures writer.old) result }
 {
-    put_families(writer, measures, outside, told(&outside.files))
+    put_families(writer, measures, outside, &ALL_METRICS)
 }
 
 /// Writes the values of the metrics, a line for each, and a dot.
@@ -30,60 +27,86 @@ pub fn put_stats<W: Sink>(writer: &mut W, measures: &Measures, outside: &Outside
     ensures bytes { Puts (W.written writer.old) (W.written writer.new) (stats_text measures.now outside.now) result }
     ensures failures { W.failures writer.new ≡ failures_if (W.failures writer.old) result }
 {
-    if !put_lines(writer, measures, outside, told(&outside.files)) {
+    if !put_lines(writer, measures, outside, &ALL_METRICS) {
         return false;
     }
     writer.put(b".\n")
 }
 
-/// The metrics that are told of a daemon whose journal files stand so, if it has some.
-fn told(files: &Option<FileFigures>) -> &'static [Metric]
-    ensures { result.now ≡ told files.now }
-{
-    match files {
-        Some(_) => &ALL_METRICS,
-        None => &ALL_METRICS[..WITHOUT_FILES],
-    }
-}
-
-/// These metrics, each with what it tells and its type.
+/// Those of these metrics that are told, each with what it tells and its type.
 fn put_families<W: Sink>(
     writer: &mut W,
     measures: &Measures,
     outside: &Outside<'_>,
-    told: &[Metric],
+    metrics: &[Metric],
 ) -> bool
     ensures bytes { Puts (W.written writer.old) (W.written writer.new)
-        (families_text measures.now outside.now told.now) result }
+        (families_text measures.now outside.now (filter (is_told outside.now) metrics.now)) result }
     ensures failures { W.failures writer.new ≡ failures_if (W.failures writer.old) result }
 {
-    let [first, others @ ..] = told else {
+    let [first, others @ ..] = metrics else {
         return writer.put(b"");
     };
-    if !put_metric(writer, measures, outside, *first) {
+    if !put_metric_if(writer, measures, outside, *first) {
         return false;
     }
     put_families(writer, measures, outside, others)
 }
 
-/// These metrics, their values alone.
+/// The values of those of these metrics that are told.
 fn put_lines<W: Sink>(
     writer: &mut W,
     measures: &Measures,
     outside: &Outside<'_>,
-    told: &[Metric],
+    metrics: &[Metric],
 ) -> bool
     ensures bytes { Puts (W.written writer.old) (W.written writer.new)
-        (families_lines measures.now outside.now told.now) result }
+        (families_lines measures.now outside.now (filter (is_told outside.now) metrics.now)) result }
     ensures failures { W.failures writer.new ≡ failures_if (W.failures writer.old) result }
 {
-    let [first, others @ ..] = told else {
+    let [first, others @ ..] = metrics else {
         return writer.put(b"");
     };
-    if !put_values(writer, measures, outside, *first) {
+    if !put_values_if(writer, measures, outside, *first) {
         return false;
     }
     put_lines(writer, measures, outside, others)
+}
+
+/// A metric, if it is told.
+fn put_metric_if<W: Sink>(
+    writer: &mut W,
+    measures: &Measures,
+    outside: &Outside<'_>,
+    metric: Metric,
+) -> bool
+    ensures bytes { Puts (W.written writer.old) (W.written writer.new)
+        (if is_told outside.now metric then family_text outside.now.me (family_of measures.now outside.now metric) else [])
+        result }
+    ensures failures { W.failures writer.new ≡ failures_if (W.failures writer.old) result }
+{
+    if !outside.tells(metric) {
+        return writer.put(b"");
+    }
+    put_metric(writer, measures, outside, metric)
+}
+
+/// The values of a metric, if it is told.
+fn put_values_if<W: Sink>(
+    writer: &mut W,
+    measures: &Measures,
+    outside: &Outside<'_>,
+    metric: Metric,
+) -> bool
+    ensures bytes { Puts (W.written writer.old) (W.written writer.new)
+        (if is_told outside.now metric then family_lines outside.now.me (family_of measures.now outside.now metric) else [])
+        result }
+    ensures failures { W.failures writer.new ≡ failures_if (W.failures writer.old) result }
+{
+    if !outside.tells(metric) {
+        return writer.put(b"");
+    }
+    put_values(writer, measures, outside, metric)
 }
 
 /// A metric: what it tells, its type, and its values.

@@ -1,9 +1,20 @@
 //! What is told beside what entries count.
 
 ghost use Rattle.std.specs.Prelude.{◌≡◌};
-ghost use Rattle.swim_metrics.specs.Families.{cut_in, is_ok};
+ghost use Rattle.swim_metrics.specs.Families.{cut_in, is_ok, is_told};
 
+use crate::heads::Metric;
+use arrayvec::ArrayVec;
 use swim_wire::Id;
+
+/// How many keys a group has at most.
+pub const MOST_FINGERPRINTS: usize = 4;
+
+/// The fingerprint of a key: 8 hexadecimal digits, as characters. They are told as they are.
+pub type Fingerprint = [u8; 8];
+
+/// Those of a group's keys, of which the first signs.
+pub type Fingerprints = ArrayVec<Fingerprint, MOST_FINGERPRINTS>;
 
 /// How the journal files of a daemon stand.
 #[derive(Clone, Copy, Debug, PartialEq, Eq)]
@@ -39,6 +50,8 @@ pub struct Outside<'a> {
     pub forged: u64,
     /// Datagrams that came above the rate.
     pub fenced: u64,
+    /// The fingerprints of the group's keys. Without keys there are none.
+    pub fingerprints: &'a Fingerprints,
     /// How many watch now.
     pub watchers: u64,
     /// Watchers that didn't keep up.
@@ -54,6 +67,18 @@ pub struct Outside<'a> {
 }
 
 impl<'a> Outside<'a> {
+    /// Whether a metric is told: that of keys only where there are some, and those of journal files only where lives have
+    /// some.
+    pub(crate) fn tells(&self, metric: Metric) -> bool
+        ensures { result ≡ is_told self.now metric }
+    {
+        match metric {
+            Metric::Key => !self.fingerprints.is_empty(),
+            Metric::JournalFileOk | Metric::JournalFilesCut => self.files.is_some(),
+            _ => true,
+        }
+    }
+
     /// Whether the newest life's file is whole so far; not where lives have none.
     pub(crate) fn is_file_ok(&self) -> bool
         ensures { result ≡ is_ok self.now.files }

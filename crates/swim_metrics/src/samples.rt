@@ -9,6 +9,7 @@ ghost use Rattle.swim_metrics.specs.Told.{labelled_of, samples_of};
 
 use crate::dropped::Dropped;
 use crate::families::Samples;
+use crate::key_samples::put_keys;
 use crate::member_samples::put_members;
 use crate::wait_histograms::{HistogramBucket, Waits};
 use swim_text::Sink;
@@ -26,10 +27,10 @@ pub(crate) struct Series<'a> {
 pub(crate) struct Labelled(&'static str, &'static str, u64);
 
 /// A line for each value of a metric.
-pub(crate) fn put_samples<W: Sink>(
+pub(crate) fn put_samples<'a, W: Sink>(
     writer: &mut W,
-    series: &Series<'_>,
-    samples: &Samples<'_>,
+    series: &Series<'a>,
+    samples: &Samples<'a>,
 ) -> bool
     ensures bytes { Puts (W.written writer.old) (W.written writer.new)
         (samples_text series.now.me series.now.name.now (samples_of samples.now)) result }
@@ -54,6 +55,7 @@ pub(crate) fn put_samples<W: Sink>(
             put_each(writer, series, &acks)
         }
         Samples::Dropped(dropped) => put_dropped(writer, series, dropped),
+        Samples::Keys(fingerprints) => put_keys(writer, series, fingerprints),
         Samples::Waits(waits) => put_waits(writer, series, waits),
         Samples::Members(column, members) => put_members(writer, series, &column, members),
         Samples::OddSenders {

@@ -5,19 +5,38 @@ use crate::tests::entries::{
     address, asked, dropped, first_opening, heard, id, message, outside, second_opening, sent,
     start,
 };
-use crate::tests::expected::{exposition, stats};
+use crate::tests::expected::{exposition, key_lines, keys, stats};
+use std::alloc::Global;
 use std::fmt::Debug;
 use std::process::Abort;
 use std::test::Fail;
 use swim_doubles::FailingPage;
 use swim_history::{Call, DropReason, Refusal, Reply};
-use swim_metrics::{Hearings, HistogramBucket, Metrics, OddMessage, put_exposition, put_stats};
-use swim_text::Page;
+use swim_metrics::{
+    Fingerprints, Hearings, HistogramBucket, Metrics, OddMessage, put_exposition, put_stats,
+};
+use swim_text::{Page, Sink};
 use swim_wire::Kind;
 
 // The two are the same. A call of this is proved at once, and an `assert_eq!` in some seconds.
 fn assert_same<T: PartialEq + Debug, R: Abort>(rt: &R, left: &T, right: &T) {
     assert_eq!(rt; *left, *right);
+}
+
+fn two_keys() -> Fingerprints {
+    let mut fingerprints = Fingerprints::new();
+    let _ = fingerprints.try_push(*b"66687aad");
+    let _ = fingerprints.try_push(*b"0a1b2c3d");
+    fingerprints
+}
+
+// These texts, one behind the other.
+fn page_of(alloc: Global, texts: &[&str]) -> Page {
+    let mut page = Page::new(alloc);
+    for text in texts {
+        let _ = page.put(text.as_bytes());
+    }
+    page
 }
 
 // Reads an entry. It says nothing of what it does, so that the proofs of long tests stay short.
@@ -116,22 +135,54 @@ fn read_lives() -> Result<Metrics, Fail> {
 #[test]
 fn tells_two_lives(rt: HostRuntime) -> Result<(), Fail> {
     let metrics = read_lives()?;
-    let outside = outside("0.9.1", id(1));
+    let no_keys = Fingerprints::new();
+    let outside = outside("0.9.1", id(1), &no_keys);
     let mut page = Page::new(rt.alloc());
     let is_told = put_exposition(&mut page, &metrics.measures(), &outside);
     assert!(rt; is_told);
-    assert_same(&rt, &page.text(), &exposition().as_bytes());
+    let wanted = page_of(rt.alloc(), &exposition());
+    assert_same(&rt, &page.text(), &wanted.text());
     Ok(())
 }
 
 #[test]
 fn tells_the_stats_of_who_begins(rt: HostRuntime) -> Result<(), Fail> {
     let metrics = Metrics::new(&first_opening()?);
-    let outside = outside("a\"b\\c\nd", id(1));
+    let no_keys = Fingerprints::new();
+    let outside = outside("a\"b\\c\nd", id(1), &no_keys);
     let mut page = Page::new(rt.alloc());
     let is_told = put_stats(&mut page, &metrics.measures(), &outside);
     assert!(rt; is_told);
-    assert_same(&rt, &page.text(), &stats().as_bytes());
+    let wanted = page_of(rt.alloc(), &stats());
+    assert_same(&rt, &page.text(), &wanted.text());
+    Ok(())
+}
+
+#[test]
+fn tells_the_keys(rt: HostRuntime) -> Result<(), Fail> {
+    let metrics = read_lives()?;
+    let fingerprints = two_keys();
+    let outside = outside("0.9.1", id(1), &fingerprints);
+    let mut page = Page::new(rt.alloc());
+    let is_told = put_exposition(&mut page, &metrics.measures(), &outside);
+    assert!(rt; is_told);
+    let [front, behind] = exposition();
+    let wanted = page_of(rt.alloc(), &[front, keys(), behind]);
+    assert_same(&rt, &page.text(), &wanted.text());
+    Ok(())
+}
+
+#[test]
+fn tells_the_keys_in_stats(rt: HostRuntime) -> Result<(), Fail> {
+    let metrics = Metrics::new(&first_opening()?);
+    let fingerprints = two_keys();
+    let outside = outside("a\"b\\c\nd", id(1), &fingerprints);
+    let mut page = Page::new(rt.alloc());
+    let is_told = put_stats(&mut page, &metrics.measures(), &outside);
+    assert!(rt; is_told);
+    let [front, behind] = stats();
+    let wanted = page_of(rt.alloc(), &[front, key_lines(), behind]);
+    assert_same(&rt, &page.text(), &wanted.text());
     Ok(())
 }
 
@@ -201,7 +252,8 @@ fn periods_by_relays_alone_are_counted(rt: HostRuntime) -> Result<(), Fail> {
 #[test]
 fn a_sink_that_fails_is_told(rt: HostRuntime) -> Result<(), Fail> {
     let metrics = Metrics::new(&first_opening()?);
-    let outside = outside("0.9.1", id(1));
+    let no_keys = Fingerprints::new();
+    let outside = outside("0.9.1", id(1), &no_keys);
     for puts in 0..20 {
         let mut page = FailingPage::new(rt.alloc(), Some(puts), None);
         let is_told = put_exposition(&mut page, &metrics.measures(), &outside);

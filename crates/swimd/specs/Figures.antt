@@ -20,6 +20,7 @@ pub record IsOutside (f : Figures) (out : Outside) : Type 0 where
   pub refused : out.refused ≡ f.counted.totals.refused
   pub forged : out.forged ≡ f.strangers.forged
   pub fenced : out.fenced ≡ f.strangers.fenced
+  pub fingerprints : out.fingerprints.now ≡ f.fingerprints
   pub watchers : out.watchers ≡ f.counted.watchers
   pub lost_watchers : out.lost_watchers ≡ f.counted.totals.lost
   pub knocks : out.knocks ≡ f.counted.totals.knocks

@@ -3,7 +3,7 @@
 use arrayvec::ArrayVec;
 use std::test::Fail;
 use swim_history::{Call, DropReason, Opening, Probe, Relay, Reply};
-use swim_metrics::{FileFigures, Outside};
+use swim_metrics::{FileFigures, Fingerprints, Outside};
 use swim_wire::{Id, Kind, Message, Peer, PeriodNumber, Version};
 
 pub(crate) fn id(member: u8) -> Id {
@@ -44,7 +44,7 @@ pub(crate) fn second_opening() -> Result<Opening, Fail> {
     opening([3, 5], 2, 10, 11)
 }
 
-pub(crate) fn outside(version: &str, me: Id) -> Outside<'_> {
+pub(crate) fn outside<'a>(version: &'a str, me: Id, fingerprints: &'a Fingerprints) -> Outside<'a> {
     Outside {
         version,
         me,
@@ -57,6 +57,7 @@ pub(crate) fn outside(version: &str, me: Id) -> Outside<'_> {
         refused: 7,
         forged: 8,
         fenced: 9,
+        fingerprints,
         watchers: 10,
         lost_watchers: 11,
         knocks: 12,

@@ -119,7 +119,9 @@ swimd_forged_total{member=\"1\"} 8
 # HELP swimd_fenced_total Datagrams that came above the rate and were thrown away.
 # TYPE swimd_fenced_total counter
 swimd_fenced_total{member=\"1\"} 9
-# HELP swimd_watchers Watchers of the member table now.
+";
+
+const EXPOSITION_BEHIND: &str = "# HELP swimd_watchers Watchers of the member table now.
 # TYPE swimd_watchers gauge
 swimd_watchers{member=\"1\"} 10
 # HELP swimd_lost_watchers_total Watchers that did not keep up.
@@ -227,7 +229,9 @@ swimd_wire_total{member=\"1\"} 6
 swimd_refused_total{member=\"1\"} 7
 swimd_forged_total{member=\"1\"} 8
 swimd_fenced_total{member=\"1\"} 9
-swimd_watchers{member=\"1\"} 10
+";
+
+const STATS_BEHIND: &str = "swimd_watchers{member=\"1\"} 10
 swimd_lost_watchers_total{member=\"1\"} 11
 swimd_metrics_unwritten_total{member=\"1\"} 14
 swimd_member_up{member=\"1\",id=\"2\"} 1
@@ -250,10 +254,32 @@ swimd_journal_files_cut_total{member=\"1\"} 15
 .
 ";
 
-pub(crate) fn exposition() -> &'static str {
-    EXPOSITION
+// What two keys come to, in the exposition format.
+const KEYS: &str =
+    "# HELP swimd_key A key of the group, by its fingerprint. The one at place 1 signs.
+# TYPE swimd_key gauge
+swimd_key{member=\"1\",place=\"1\",fingerprint=\"66687aad\"} 1
+swimd_key{member=\"1\",place=\"2\",fingerprint=\"0a1b2c3d\"} 1
+";
+
+// The same in `stats`.
+const KEY_LINES: &str = "swimd_key{member=\"1\",place=\"1\",fingerprint=\"66687aad\"} 1
+swimd_key{member=\"1\",place=\"2\",fingerprint=\"0a1b2c3d\"} 1
+";
+
+// The text in front of what is told of keys, and behind it.
+pub(crate) fn exposition() -> [&'static str; 2] {
+    [EXPOSITION, EXPOSITION_BEHIND]
 }
 
-pub(crate) fn stats() -> &'static str {
-    STATS
+pub(crate) fn stats() -> [&'static str; 2] {
+    [STATS, STATS_BEHIND]
+}
+
+pub(crate) fn keys() -> &'static str {
+    KEYS
+}
+
+pub(crate) fn key_lines() -> &'static str {
+    KEY_LINES
 }

@@ -12,7 +12,7 @@ use std::sync::Wait;
 use swim_commands::VERSION;
 use swim_config::Config;
 use swim_control::StatsText;
-use swim_metrics::{FileFigures, Measures, Outside, put_stats};
+use swim_metrics::{FileFigures, Fingerprints, Measures, Outside, put_stats};
 use swim_wire::Id;
 
 /// What the metrics tell of a configuration.
@@ -86,6 +86,7 @@ impl Counters {
             counted: self.bulletin.counted(rt)?,
             strangers: self.strangers.counts(),
             unwritten: self.bulletin.unwritten(),
+            fingerprints: Fingerprints::new(),
             files,
             facts: self.facts,
         })
@@ -99,6 +100,7 @@ pub struct Figures {
     counted: Counted,
     strangers: StrangerCounts,
     unwritten: u64,
+    fingerprints: Fingerprints,
     files: Option<FileFigures>,
     facts: Facts,
 }
@@ -112,7 +114,7 @@ impl Figures {
     }
 
     /// What is told beside them.
-    pub fn outside(&self) -> Outside<'static>
+    pub fn outside(&self) -> Outside<'_>
         ensures { IsOutside self.now result }
     {
         let (facts, counted) = (&self.facts, &self.counted);
@@ -129,6 +131,7 @@ impl Figures {
             refused: totals.refused,
             forged: self.strangers.forged,
             fenced: self.strangers.fenced,
+            fingerprints: &self.fingerprints,
             watchers: counted.watchers,
             lost_watchers: totals.lost,
             knocks: totals.knocks,

@@ -1,25 +1,18 @@
-use Rattle.std.proofs.Common.{List, ◌++◌, codes, false, subst}
-use Rattle.swim_text.specs.Streams.{Puts, puts_less, puts_then}
-use Rattle.swim_metrics.specs.declared.heads.Metric.{Metric}
+use Rattle.std.proofs.Common.{codes}
+use Rattle.swim_text.specs.Streams.{puts_less, puts_then}
+use Rattle.swim_metrics.specs.Families.{told}
 use Rattle.swim_metrics.specs.Texts.{families_lines}
 use Rattle.swim_metrics.proofs.metric_texts.put_stats.Goals as goal
 
 pub returns-then-not-put_lines-clause-bytes : goal.returns-then-not-put_lines-clause-bytes
 returns-then-not-put_lines-clause-bytes g c =
-    subst (λ (metrics : List Metric). Puts (g.W.Sink.written c.args.writer.now)
-    (g.W.Sink.written c.put_lines.new.writer)
-    (families_lines c.args.measures.now c.args.outside.now metrics ++ codes ".\n") false)
-    c.told.ensures
-    (puts_less (g.W.Sink.written c.args.writer.now) (g.W.Sink.written c.put_lines.new.writer)
-    (families_lines c.args.measures.now c.args.outside.now c.told.result.now) (codes ".\n")
-    c.if-not-put_lines.ensures.bytes)
+    puts_less (g.W.Sink.written c.args.writer.now) (g.W.Sink.written c.put_lines.new.writer)
+    (families_lines c.args.measures.now c.args.outside.now (told c.args.outside.now)) (codes ".\n")
+    c.if-not-put_lines.ensures.bytes
 
 pub returns-clause-bytes : goal.returns-clause-bytes
 returns-clause-bytes g c =
-    subst (λ (metrics : List Metric). Puts (g.W.Sink.written c.args.writer.now) (g.W.Sink.written c.put.new.self)
-    (families_lines c.args.measures.now c.args.outside.now metrics ++ codes ".\n") c.put.result)
-    c.told.ensures
-    (puts_then (g.W.Sink.written c.args.writer.now) (g.W.Sink.written c.put_lines.new.writer)
+    puts_then (g.W.Sink.written c.args.writer.now) (g.W.Sink.written c.put_lines.new.writer)
     (g.W.Sink.written c.put.new.self)
-    (families_lines c.args.measures.now c.args.outside.now c.told.result.now) (codes ".\n")
-    c.put.result c.if-not-put_lines.ensures.bytes c.put.ensures.bytes)
+    (families_lines c.args.measures.now c.args.outside.now (told c.args.outside.now)) (codes ".\n")
+    c.put.result c.if-not-put_lines.ensures.bytes c.put.ensures.bytes

@@ -18,6 +18,9 @@ returns-in-Acks-clause-bytes g c = rw (c.in-Acks.is) c.put_each-in-Acks.ensures.
 pub returns-in-Dropped-clause-bytes : goal.returns-in-Dropped-clause-bytes
 returns-in-Dropped-clause-bytes g c = rw (c.in-Dropped.is) c.put_dropped.ensures.bytes
 
+pub returns-in-Keys-clause-bytes : goal.returns-in-Keys-clause-bytes
+returns-in-Keys-clause-bytes g c = rw (c.in-Keys.is) c.put_keys.ensures.bytes
+
 pub returns-in-Waits-clause-bytes : goal.returns-in-Waits-clause-bytes
 returns-in-Waits-clause-bytes g c = rw (c.in-Waits.is) c.put_waits.ensures.bytes
 
