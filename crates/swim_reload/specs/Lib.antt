@@ -1,0 +1,4 @@
+pub mod Comparing
+pub mod InForce
+pub mod Reloaded
+pub mod Rereading

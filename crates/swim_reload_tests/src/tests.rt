@@ -1,0 +1,4 @@
+mod answers;
+mod documents;
+mod faults;
+mod keys;
