@@ -14,6 +14,7 @@ BAD_LINES = [
 BAD_LINES += [
     "table", "stop stop", "gap", "join", "remove", "join ", "gap  2", "list ", "a" * 127, "a" * 128, "list" + " " * 124
 ]
+BAD_LINES += ["reload ", "reload swimd.toml", "reloaded", "Reload"]
 
 
 class Life(NamedTuple):
@@ -40,7 +41,9 @@ def a_line(r, ids):
         return f"join {id} {a_peer(r)}"
     if step < 0.5:
         return f"remove {id}"
-    return "list" if step < 0.6 else f"gap {id}" if step < 0.65 else a_bad_line(r, id)
+    if step < 0.65:
+        return "list" if step < 0.58 else "reload" if step < 0.6 else f"gap {id}"
+    return a_bad_line(r, id)
 
 
 def a_bad_line(r, id):

@@ -11,7 +11,7 @@ READS = 1_048_576
 MYSELF, LISTED, FULL, UNKNOWN = 1, 2, 3, 4
 LONG, WORD, BAD_ID, BAD_PEER, EXTRA, UNENDED = 1, 2, 3, 4, 5, 6
 JOURNAL_FULL, STOPPING = b"journal full", b"stopping"
-WORDS = {b"list": "", b"join": "ip", b"remove": "i", b"gap": "i", b"stop": ""}
+WORDS = {b"list": "", b"join": "ip", b"remove": "i", b"gap": "i", b"reload": "", b"stop": ""}
 
 
 class Model:
@@ -93,6 +93,10 @@ class Model:
 
     def gap(self, _text):
         return [b"gap none"]
+
+    def reload(self):
+        """The configuration is as it was."""
+        return [b"reloaded"]
 
     def stop(self):
         return [STOPPING]

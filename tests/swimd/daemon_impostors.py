@@ -158,16 +158,18 @@ def one_limit_for_both(machine):
             it.close()
 
 
+def answering(text):
+    """A server that answers each line so."""
+
+    def serve(server, connection):
+        while server.take(connection):
+            connection.sendall(text)
+
+    return serve
+
+
 def stops_that_are_not_answered(machine):
     """Nobody ends well who isn't told that the daemon stops, or met its end."""
-
-    def answering(text):
-        def serve(server, connection):
-            while server.take(connection):
-                connection.sendall(text)
-
-        return serve
-
     for text in (b"x\n", b"gap none\n", b"stopped\n", b"2 10.0.0.2:7000 up\n.\n"):
         found, lines, _ = against(machine, "answering", answering(text), "stop")
         must_be((found, lines), ((b"", b"ask unanswered\n", 5), [b"stop\n"]), f"a `stop` answered {text!r}")
@@ -192,10 +194,24 @@ def stops_that_are_not_answered(machine):
     must_be((found, lines), ((b"stopping\n", b"", 0), [b"stop\n"]), "a `stop` behind which nobody listens")
 
 
+def what_came_of_a_reload(machine):
+    """A configuration that was refused is something that wasn't done; keys that need a start aren't."""
+    answers = [
+        (b"reloaded\n", 0), (b"reloaded; tick_ms needs a start; wire needs a start\n", 0),
+        (b"configuration 6 keys\n", 3), (b"configuration file\n", 3), (b"no memory\n", 3),
+    ]
+    for text, status in answers:
+        for words in (["reload"], ["--explain", "reload"]):
+            found, lines, _ = against(machine, "answering", answering(text), *words)
+            must_be((found, lines), ((text, b"", status), [b"reload\n"]), f"a `reload` answered {text!r}")
+            os.remove(f"{machine.folder}/answering.sock")
+
+
 IMPOSTORS = [
     answers_that_are_no_tables,
     servers_that_answer_badly,
     answers_that_do_not_come,
     one_limit_for_both,
     stops_that_are_not_answered,
+    what_came_of_a_reload,
 ]

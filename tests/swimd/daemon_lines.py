@@ -13,7 +13,7 @@ LISTED = b"2 10.0.0.2:7000 up\n3 10.0.0.3:7000 up\n.\n"
 READS = 1_048_576
 # Each command, with the fault that each of its words may have.
 WORD, BAD_ID, BAD_PEER = 2, 3, 4
-COMMANDS = [(b"list", [WORD]), (b"stats", [WORD]), (b"stop", [WORD])]
+COMMANDS = [(b"list", [WORD]), (b"stats", [WORD]), (b"reload", [WORD]), (b"stop", [WORD])]
 COMMANDS += [(b"remove 2", [WORD, BAD_ID]), (b"gap 2", [WORD, BAD_ID])]
 COMMANDS += [(b"join 5 10.0.0.5:7000", [WORD, BAD_ID, BAD_PEER])]
 
@@ -40,6 +40,7 @@ def lines_of_a_person(machine):
         (b"List", b"fault 2\n"),
         (b"list ", b"fault 5\n"),
         (b"stats 3", b"fault 5\n"),
+        (b"reload 3", b"fault 5\n"),
         (b"list", LISTED),
         (b"stop", b"stopping\n"),
     ]

@@ -31,6 +31,7 @@ abbrev pub is_refusal : List ℕ → Bool
 is_refusal answer =
     starts_with (λ a b. a == b) answer (codes "refused ")
     || starts_with (λ a b. a == b) answer (codes "fault ")
+    || starts_with (λ a b. a == b) answer (codes "configuration ")
     || bytes_eq answer (codes "journal full\n")
     || bytes_eq answer (codes "no memory\n")
 

@@ -6,7 +6,8 @@ use Rattle.clap.specs.declared.error.kind.ErrorKind.TheVariants.{DisplayHelp, Di
 use Rattle.clap.specs.declared.error.kind.ErrorKind.TheVariants.{UnknownArgument}
 use Rattle.swim_commands.specs.declared.forms.Form.TheVariants.{Plain, Explained, Tables}
 use Rattle.swim_commands.specs.Ages.{span_of}
-use Rattle.swim_commands.specs.Forms.{explained, shown}
+use Rattle.swim_commands.specs.Answers.{is_answer_to}
+use Rattle.swim_commands.specs.Forms.{explained, is_unmet, shown}
 use Rattle.swim_commands.specs.Words.{Around, Check, CheckFile, Run, Ask, MakeKey, Help, Version, IsAsked}
 
 -- standard input is a terminal, standard output isn't one, and the environment has a path that is no text
@@ -116,6 +117,15 @@ a_join_has_a_name = refl
 
 a_gap_has_none : explained [] (codes "gap none\n") ≡ codes "gap none\n"
 a_gap_has_none = refl
+
+a_reload_is_told_by_one_line : is_answer_to (codes "reload\n") (codes "reloaded; tick_ms needs a start\n") ≡ true
+a_reload_is_told_by_one_line = refl
+
+a_reload_is_met : is_unmet Explained (codes "reloaded; tick_ms needs a start\n") ≡ false
+a_reload_is_met = refl
+
+a_refused_configuration_is_unmet : is_unmet Plain (codes "configuration 6 keys\n") ≡ true
+a_refused_configuration_is_unmet = refl
 
 what_is_no_list_makes_none : shown Tables [] (codes "closed\n") ≡ codes "closed\n"
 what_is_no_list_makes_none = refl

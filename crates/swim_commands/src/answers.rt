@@ -77,6 +77,7 @@ pub fn is_refusal(answer: &[u8]) -> bool
 {
     answer.starts_with(b"refused ")
         || answer.starts_with(b"fault ")
+        || answer.starts_with(b"configuration ")
         || answer == b"journal full\n".as_slice()
         || answer == b"no memory\n".as_slice()
 }

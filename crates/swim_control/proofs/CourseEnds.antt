@@ -16,7 +16,7 @@ use Rattle.swim_control.specs.declared.faults.Fault.TheVariants.{LongLine, Unend
 use Rattle.swim_control.specs.declared.serving.Served.{Served}
 use Rattle.swim_control.specs.declared.serving.Served.TheVariants as ends
 use Rattle.swim_control.specs.Commands.{said, said_by, line_said}
-use Rattle.swim_control.specs.Desks.{Told, Shows, Measures, Answers, Counts}
+use Rattle.swim_control.specs.Desks.{Told, Shows, Measures, Answers, Counts, Reloads}
 use Rattle.swim_control.specs.Texts.{fault_text}
 use Rattle.swim_control.specs.Serving.{Course, lines_of, line_text, output_of, end_at, GoesOn, EndsWith, AreCutOff}
 use Rattle.swim_control.specs.Serving.{NewestHas, IsPart, IsServed, Ends}
@@ -127,6 +127,7 @@ end_of_line (Ok (Asks command)) (Answers answers.NoMemory ∷ t) end is = absurd
 end_of_line (Ok (Asks command)) (Shows table ∷ t) end is = absurd (cc is)
 end_of_line (Ok (Asks command)) (Measures gap ∷ t) end is = absurd (cc is)
 end_of_line (Ok (Asks command)) (Counts text ∷ t) end is = absurd (cc is)
+end_of_line (Ok (Asks command)) (Reloads text ∷ t) end is = absurd (cc is)
 
 -- a front of a text stays so
 front_kept : (old mid new : Option (List ℕ)) (text : List ℕ) → PutsFront old mid text → Keeps mid new →

@@ -11,7 +11,7 @@ use Rattle.swim_control.specs.declared.faults.WordFault.{WordFault}
 use Rattle.swim_control.specs.declared.faults.WordFault.TheVariants.{UnknownWord, BadId, BadPeer, Extra}
 use Rattle.swim_control.specs.declared.faults.Fault.{Fault}
 use Rattle.swim_control.specs.declared.faults.Fault.TheVariants.{LongLine, Unended, Words}
-use Rattle.swim_control.specs.declared.desks.DeskCommand.TheVariants.{List as Lists, Join, Remove, Gap, Stats}
+use Rattle.swim_control.specs.declared.desks.DeskCommand.TheVariants.{List as Lists, Join, Remove, Gap, Stats, Reload}
 use Rattle.swim_control.specs.declared.commands.ControlWord.{ControlWord}
 use Rattle.swim_control.specs.declared.commands.ControlWord.TheVariants as words
 use Rattle.swim_control.specs.declared.commands.Said.{Said}
@@ -34,7 +34,8 @@ word_of text =
     else (if bytes_eq text (codes "remove") then Some words.Remove
     else (if bytes_eq text (codes "gap") then Some words.Gap
     else (if bytes_eq text (codes "stats") then Some words.Stats
-    else (if bytes_eq text (codes "stop") then Some words.Stop else None)))))
+    else (if bytes_eq text (codes "reload") then Some words.Reload
+    else (if bytes_eq text (codes "stop") then Some words.Stop else None))))))
 
 -- an id, an address
 abbrev pub take_id : List (List ℕ) → Result (ℕ × List (List ℕ)) WordFault
@@ -61,6 +62,7 @@ said_after words.Gap given = do
   id ← take_id given
   alone (Asks (Gap id.0)) id.1
 said_after words.Stats given = alone (Asks Stats) given
+said_after words.Reload given = alone (Asks Reload) given
 said_after words.Stop given = alone Stop given
 
 -- what the words after the first say, if that is known

@@ -7,7 +7,7 @@ use Rattle.swim_control.specs.declared.desks.Answer.{Answer}
 use Rattle.swim_control.specs.declared.desks.Answer.TheVariants.{Joined, Removed, Refused, JournalFull, NoMemory}
 use Rattle.swim_control.specs.declared.faults.Fault.{Fault}
 use Rattle.swim_control.specs.Commands.{fault_number}
-use Rattle.swim_control.specs.Desks.{Told, Shows, Measures, Answers, Counts}
+use Rattle.swim_control.specs.Desks.{Told, Shows, Measures, Answers, Counts, Reloads}
 
 abbrev pub fault_text : Fault → List ℕ
 fault_text fault = codes "fault " ++ (decimal (fault_number fault) ++ feed)
@@ -32,3 +32,4 @@ told_text (Shows table) = list_text table
 told_text (Measures gap) = gap_text gap
 told_text (Answers answer) = answer_text answer
 told_text (Counts text) = text.items
+told_text (Reloads text) = text.items

@@ -1,6 +1,6 @@
 -- Worked lines: the definitions, evaluated on texts that were written down by hand.
 use Rattle.std.specs.Prelude.{◌≡◌, ℕ, List, [], ◌∷◌, ◌++◌, None, Ok, Err, codes, refl}
-use Rattle.swim_control.specs.declared.desks.DeskCommand.TheVariants.{List as Lists}
+use Rattle.swim_control.specs.declared.desks.DeskCommand.TheVariants.{List as Lists, Reload}
 use Rattle.swim_control.specs.declared.commands.Said.TheVariants.{Stop, Asks}
 use Rattle.swim_control.specs.declared.faults.WordFault.TheVariants.{UnknownWord, BadId, Extra}
 use Rattle.swim_control.specs.declared.faults.Fault.TheVariants as faults
@@ -17,6 +17,14 @@ says_list = refl
 says_stop : said (codes "stop\n") ≡ Ok Stop
 unfolding said_after
 says_stop = refl
+
+says_reload : said (codes "reload\n") ≡ Ok (Asks Reload)
+unfolding said_after
+says_reload = refl
+
+says_no_file : said (codes "reload swimd.toml\n") ≡ Err (faults.Words Extra)
+unfolding said_after
+says_no_file = refl
 
 says_too_much : said (codes "list \n") ≡ Err (faults.Words Extra)
 unfolding said_after

@@ -19,6 +19,7 @@ pub enum ControlWord {
     Remove,
     Gap,
     Stats,
+    Reload,
     Stop,
 }
 
@@ -55,6 +56,8 @@ fn first_word(text: &[u8]) -> Option<ControlWord>
         Some(ControlWord::Gap)
     } else if text == b"stats".as_slice() {
         Some(ControlWord::Stats)
+    } else if text == b"reload".as_slice() {
+        Some(ControlWord::Reload)
     } else if text == b"stop".as_slice() {
         Some(ControlWord::Stop)
     } else {
@@ -91,6 +94,10 @@ fn read_command(word: ControlWord, words: &mut Words<'_>) -> Result<Said, WordFa
         ControlWord::Stats => {
             nothing_left(words, WordFault::Extra)?;
             Ok(Said::Asks(DeskCommand::Stats))
+        }
+        ControlWord::Reload => {
+            nothing_left(words, WordFault::Extra)?;
+            Ok(Said::Asks(DeskCommand::Reload))
         }
         ControlWord::Stop => {
             nothing_left(words, WordFault::Extra)?;

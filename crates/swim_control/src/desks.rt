@@ -1,7 +1,7 @@
 //! Who is asked what control lines ask.
 
 ghost use Rattle.swim_control.specs.declared.desks.DeskCommand.{DeskCommand};
-ghost use Rattle.swim_control.specs.Desks.{Told, Shows, Measures, Answers, Counts};
+ghost use Rattle.swim_control.specs.Desks.{Told, Shows, Measures, Answers, Counts, Reloads};
 
 use arrayvec::ArrayVec;
 use std::alloc::Global;
@@ -22,6 +22,8 @@ pub enum DeskCommand {
     Gap(Id),
     /// What was counted?
     Stats,
+    /// Is the configuration read again?
+    Reload,
 }
 
 /// How many bytes a text of counts has at most: some 80 lines of the node, and at most 499 bytes of each of 128 members.
@@ -29,6 +31,12 @@ pub const STATS_BYTES: usize = 73_728;
 
 /// A text of counts: lines, and a dot in the last one.
 pub type StatsText = ArrayVec<u8, STATS_BYTES>;
+
+/// How many bytes the line that tells what came of a reload has at most, with its line feed.
+pub const RELOAD_BYTES: usize = 1_024;
+
+/// The line that tells what came of a reload, with its line feed.
+pub type ReloadText = ArrayVec<u8, RELOAD_BYTES>;
 
 /// What a desk answers to a join or a removal.
 #[derive(Clone, Copy, Debug, PartialEq, Eq)]
@@ -70,4 +78,8 @@ pub trait Desk {
     /// What was counted.
     fn stats<R: Wait>(&mut self, rt: &R) -> StatsText
         ensures { asks self.old DeskCommand.Stats (Counts result) self.new };
+
+    /// Reads the configuration again, and returns the line that tells what came of it.
+    fn reload<R: Wait>(&mut self, rt: &R) -> ReloadText
+        ensures { asks self.old DeskCommand.Reload (Reloads result) self.new };
 }

@@ -11,6 +11,6 @@ mod texts;
 mod turns;
 
 pub use connections::{Close, MOST_SILENT_MS, MOST_UNTAKEN_MS, Stand};
-pub use desks::{Answer, Desk, DeskCommand, STATS_BYTES, StatsText};
+pub use desks::{Answer, Desk, DeskCommand, RELOAD_BYTES, ReloadText, STATS_BYTES, StatsText};
 pub use queues::{Connections, MOST_CONNECTIONS};
 pub use serving::{Served, serve};

@@ -85,6 +85,7 @@ fn carry_out<R: Wait, W: Sink, D: Desk>(
             close(put_gap(writer, gap), None)
         }
         DeskCommand::Stats => answer_stats(rt, writer, desk),
+        DeskCommand::Reload => answer_reload(rt, writer, desk),
         DeskCommand::Join(id, peer) => {
             let answer = desk.join(rt, alloc, id, peer);
             close(put_answer(writer, answer), end_of(answer))
@@ -118,6 +119,18 @@ fn answer_stats<R: Wait, W: Sink, D: Desk>(rt: &R, writer: &mut W, desk: &mut D)
 {
     let text = desk.stats(rt);
     close(put_counts(writer, &text), None)
+}
+
+/// Has the configuration read again, and writes what came of it.
+// Kept out of line, since the text is large.
+#[inline(never)]
+fn answer_reload<R: Wait, W: Sink, D: Desk>(rt: &R, writer: &mut W, desk: &mut D) -> Option<Served>
+    ensures turned { Turned D.asks (Ok (Asks DeskCommand.Reload)) desk.old desk.new (W.written writer.old)
+        (W.written writer.new) result }
+    ensures failures { W.failures writer.new ≡ failures_if (W.failures writer.old) (not (is_write_fault result)) }
+{
+    let text = desk.reload(rt);
+    close(writer.put(text.as_slice()), None)
 }
 
 /// How serving ends with an answer, if it does.

@@ -10,7 +10,7 @@ use Rattle.swim_control.specs.declared.desks.Answer.{Answer}
 use Rattle.swim_control.specs.declared.desks.Answer.TheVariants as answers
 use Rattle.swim_control.specs.declared.desks.DeskCommand.{DeskCommand}
 use Rattle.swim_control.specs.declared.desks.DeskCommand.TheVariants as commands
-use Rattle.swim_control.specs.Desks.{Told, Shows, Measures, Answers, Counts as Counted}
+use Rattle.swim_control.specs.Desks.{Told, Shows, Measures, Answers, Counts as Counted, Reloads}
 use Rattle.swim_control.specs.SideBySide.{Called, Leads}
 use Rattle.swim_desk.specs.Connected.{BecomeSo, BecomesSo, IsMade, unmade_by, unmade_in}
 use Rattle.swim_desk.specs.Desk.{AtDesk, Asks, Calls, Tells}
@@ -96,23 +96,35 @@ asks_made o limit (commands.Gap member) (Measures gap) old new is =
 asks_made o limit commands.Stats (Counted text) old new is =
     makes_none (BecomesSo commands.Stats (Counted text)) old new refl (ap (λ (d : AtDesk). d.seat.calls) is)
     (ap (λ (d : AtDesk). d.refused) is)
+asks_made o limit commands.Reload (Reloads text) old new is =
+    makes_none (BecomesSo commands.Reload (Reloads text)) old new refl (ap (λ (d : AtDesk). d.seat.calls) is)
+    (ap (λ (d : AtDesk). d.refused) is)
 asks_made o limit (commands.Join id peer) (Answers answer) old new is = call_made o limit _ answer old new is
 asks_made o limit (commands.Remove id) (Answers answer) old new is = call_made o limit _ answer old new is
 asks_made o limit commands.List (Measures gap) old new is = absurd is
 asks_made o limit commands.List (Answers answer) old new is = absurd is
 asks_made o limit commands.List (Counted text) old new is = absurd is
+asks_made o limit commands.List (Reloads text) old new is = absurd is
 asks_made o limit (commands.Gap member) (Shows table) old new is = absurd is
 asks_made o limit (commands.Gap member) (Answers answer) old new is = absurd is
 asks_made o limit (commands.Gap member) (Counted text) old new is = absurd is
+asks_made o limit (commands.Gap member) (Reloads text) old new is = absurd is
 asks_made o limit commands.Stats (Shows table) old new is = absurd is
 asks_made o limit commands.Stats (Measures gap) old new is = absurd is
 asks_made o limit commands.Stats (Answers answer) old new is = absurd is
+asks_made o limit commands.Stats (Reloads text) old new is = absurd is
+asks_made o limit commands.Reload (Shows table) old new is = absurd is
+asks_made o limit commands.Reload (Measures gap) old new is = absurd is
+asks_made o limit commands.Reload (Answers answer) old new is = absurd is
+asks_made o limit commands.Reload (Counted text) old new is = absurd is
 asks_made o limit (commands.Join id peer) (Shows table) old new is = absurd is
 asks_made o limit (commands.Join id peer) (Measures gap) old new is = absurd is
 asks_made o limit (commands.Join id peer) (Counted text) old new is = absurd is
+asks_made o limit (commands.Join id peer) (Reloads text) old new is = absurd is
 asks_made o limit (commands.Remove id) (Shows table) old new is = absurd is
 asks_made o limit (commands.Remove id) (Measures gap) old new is = absurd is
 asks_made o limit (commands.Remove id) (Counted text) old new is = absurd is
+asks_made o limit (commands.Remove id) (Reloads text) old new is = absurd is
 
 -- one call after the other
 next_made : (log : List Called) (c : Called) (old mid new : AtDesk) → Makes (BecomeSo log) (unmade_in log) old mid →

@@ -20,7 +20,7 @@ use Rattle.swim_control.specs.declared.serving.Served.{Served}
 use Rattle.swim_control.specs.declared.serving.Served.TheVariants as served
 use Rattle.swim_control.specs.Commands.{said_by, line_said}
 use Rattle.swim_control.specs.Connections.{TakesTurn}
-use Rattle.swim_control.specs.Desks.{Told, Shows, Measures, Answers, Counts as Counted}
+use Rattle.swim_control.specs.Desks.{Told, Shows, Measures, Answers, Counts as Counted, Reloads}
 use Rattle.swim_control.specs.Serving.{end_at}
 use Rattle.swim_control.specs.Talks.{Talks}
 use Rattle.swim_control.specs.Turns.{Asked, Meets, closed}
@@ -51,6 +51,7 @@ asked_full : (o : Setting) (limit : ℕ) (command : DeskCommand) (desk after : A
 asked_full o limit commands.List desk after is = absurd is
 asked_full o limit (commands.Gap member) desk after is = absurd is
 asked_full o limit commands.Stats desk after is = absurd is
+asked_full o limit commands.Reload desk after is = absurd is
 asked_full o limit (commands.Join id peer) desk after is = called_full o limit _ desk after is
 asked_full o limit (commands.Remove id) desk after is = called_full o limit _ desk after is
 
@@ -60,6 +61,7 @@ answer_full : (o : Setting) (limit : ℕ) (command : DeskCommand) (told : Told) 
 answer_full o limit command (Shows table) desk after is ends = absurd (cc ends)
 answer_full o limit command (Measures gap) desk after is ends = absurd (cc ends)
 answer_full o limit command (Counted text) desk after is ends = absurd (cc ends)
+answer_full o limit command (Reloads text) desk after is ends = absurd (cc ends)
 answer_full o limit command (Answers (answers.Joined place)) desk after is ends = absurd (cc ends)
 answer_full o limit command (Answers answers.Removed) desk after is ends = absurd (cc ends)
 answer_full o limit command (Answers (answers.Refused why)) desk after is ends = absurd (cc ends)

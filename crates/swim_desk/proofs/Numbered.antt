@@ -17,7 +17,7 @@ use Rattle.swim_control.specs.declared.faults.Fault.{Fault}
 use Rattle.swim_control.specs.declared.serving.Served.{Served}
 use Rattle.swim_control.specs.Commands.{said_by, line_said}
 use Rattle.swim_control.specs.Connections.{TakesTurn, Turns}
-use Rattle.swim_control.specs.Desks.{Told, Shows, Measures, Answers, Counts as Counted}
+use Rattle.swim_control.specs.Desks.{Told, Shows, Measures, Answers, Counts as Counted, Reloads}
 use Rattle.swim_control.specs.Talks.{Talk, Talks}
 use Rattle.swim_control.specs.Turns.{Asked, Meets}
 use Rattle.swim_desk.specs.Desk.{AtDesk, Asks, Calls}
@@ -43,23 +43,33 @@ asks_same : (o : Setting) (limit : ℕ) (command : DeskCommand) (told : Told) (d
 asks_same o limit commands.List (Shows table) desk after is = ap (λ (d : AtDesk). d.seat.number) is.0
 asks_same o limit (commands.Gap member) (Measures gap) desk after is = same desk after is.0
 asks_same o limit commands.Stats (Counted text) desk after is = same desk after is
+asks_same o limit commands.Reload (Reloads text) desk after is = same desk after is
 asks_same o limit (commands.Join id peer) (Answers answer) desk after is = refused_same o limit _ answer desk after is
 asks_same o limit (commands.Remove id) (Answers answer) desk after is = refused_same o limit _ answer desk after is
 asks_same o limit commands.List (Measures gap) desk after is = absurd is
 asks_same o limit commands.List (Answers answer) desk after is = absurd is
 asks_same o limit commands.List (Counted text) desk after is = absurd is
+asks_same o limit commands.List (Reloads text) desk after is = absurd is
 asks_same o limit (commands.Gap member) (Shows table) desk after is = absurd is
 asks_same o limit (commands.Gap member) (Answers answer) desk after is = absurd is
 asks_same o limit (commands.Gap member) (Counted text) desk after is = absurd is
+asks_same o limit (commands.Gap member) (Reloads text) desk after is = absurd is
 asks_same o limit commands.Stats (Shows table) desk after is = absurd is
 asks_same o limit commands.Stats (Measures gap) desk after is = absurd is
 asks_same o limit commands.Stats (Answers answer) desk after is = absurd is
+asks_same o limit commands.Stats (Reloads text) desk after is = absurd is
+asks_same o limit commands.Reload (Shows table) desk after is = absurd is
+asks_same o limit commands.Reload (Measures gap) desk after is = absurd is
+asks_same o limit commands.Reload (Answers answer) desk after is = absurd is
+asks_same o limit commands.Reload (Counted text) desk after is = absurd is
 asks_same o limit (commands.Join id peer) (Shows table) desk after is = absurd is
 asks_same o limit (commands.Join id peer) (Measures gap) desk after is = absurd is
 asks_same o limit (commands.Join id peer) (Counted text) desk after is = absurd is
+asks_same o limit (commands.Join id peer) (Reloads text) desk after is = absurd is
 asks_same o limit (commands.Remove id) (Shows table) desk after is = absurd is
 asks_same o limit (commands.Remove id) (Measures gap) desk after is = absurd is
 asks_same o limit (commands.Remove id) (Counted text) desk after is = absurd is
+asks_same o limit (commands.Remove id) (Reloads text) desk after is = absurd is
 
 line_same : (o : Setting) (limit : ℕ) (read : Result Said Fault) (told : List Told) (desk after : AtDesk) →
     Asked (Asks o limit) read desk told after → IsSame desk after

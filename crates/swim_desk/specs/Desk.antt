@@ -14,7 +14,8 @@ use Rattle.swim_control.specs.declared.desks.Answer.{Answer}
 use Rattle.swim_control.specs.declared.desks.Answer.TheVariants.{Joined, Removed, Refused, JournalFull, NoMemory}
 use Rattle.swim_control.specs.declared.desks.DeskCommand.{DeskCommand}
 use Rattle.swim_control.specs.declared.desks.DeskCommand.TheVariants.{List as Lists, Join, Remove, Gap, Stats}
-use Rattle.swim_control.specs.Desks.{Told, Shows, Measures, Answers, Counts}
+use Rattle.swim_control.specs.declared.desks.DeskCommand.TheVariants.{Reload}
+use Rattle.swim_control.specs.Desks.{Told, Shows, Measures, Answers, Counts, Reloads}
 use Rattle.swim_node.specs.declared.receipts.CallFault.{CallFault}
 use Rattle.swim_node.specs.declared.receipts.CallFault.TheVariants as faults
 use Rattle.swim_node.specs.Seats.{Seated}
@@ -78,6 +79,7 @@ Asks o limit old Lists (Shows table) new =
     × IfSome table (λ rows. rows.items ≡ table_after o new.seen)
 Asks o limit old (Gap member) (Measures gap) new = (new ≡ old) × IsGapAtMoment o old.seat member gap
 Asks o limit old Stats (Counts text) new = new ≡ old
+Asks o limit old Reload (Reloads text) new = new ≡ old
 Asks o limit old (Join id peer) (Answers answer) new = Calls o limit old (calls.Join id peer) answer new
 Asks o limit old (Remove id) (Answers answer) new = Calls o limit old (calls.Remove id) answer new
 Asks o limit old command told new = ⊥

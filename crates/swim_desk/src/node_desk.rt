@@ -3,7 +3,7 @@
 ghost use Rattle.std.specs.Prelude.{◌≡◌};
 ghost use Rattle.swim_history.specs.declared.calls.Call.TheVariants as calls;
 ghost use Rattle.swim_control.specs.declared.desks.DeskCommand.{DeskCommand as Asked};
-ghost use Rattle.swim_control.specs.Desks.{Shows, Measures, Answers, Counts as Counted};
+ghost use Rattle.swim_control.specs.Desks.{Shows, Measures, Answers, Counts as Counted, Reloads};
 ghost use Rattle.swim_node.specs.Answered.{MayRefuse};
 ghost use Rattle.swim_node.specs.News.{IsLongerOf};
 ghost use Rattle.swim_node.specs.Seats.{Seated};
@@ -13,7 +13,7 @@ use crate::speakers::Speaker;
 use std::alloc::Global;
 use std::marker::Model;
 use std::sync::Wait;
-use swim_control::{Answer, Desk, StatsText};
+use swim_control::{Answer, Desk, ReloadText, StatsText};
 use swim_history::{Gap, Reply, Table};
 use swim_node::{CallFault, Naming, Node, Receipt, Seat, Viewer};
 use swim_targets::{Chooser, Seeded};
@@ -217,5 +217,11 @@ impl<'n, 'k, N: Naming, H: Wait + Drop, K: Speaker> Desk for NodeDesk<'n, 'k, N,
         ensures { Asks N.opening N.limit self.old Asked.Stats (Counted result) self.new }
     {
         self.speaker.stats(rt)
+    }
+
+    fn reload<R: Wait>(&mut self, rt: &R) -> ReloadText
+        ensures { Asks N.opening N.limit self.old Asked.Reload (Reloads result) self.new }
+    {
+        self.speaker.reload(rt)
     }
 }

@@ -1,9 +1,10 @@
 -- What a fence keeps, and that it is what its history comes to.
-use Rattle.std.specs.Prelude.{ℕ, ◌≡◌, ◌<◌, List, length, Bool, if◌then◌else◌}
+use Rattle.std.specs.Prelude.{ℕ, ◌≡◌, ◌<◌, List, [], ◌∷◌, length, Bool, if◌then◌else◌}
 use Rattle.std.specs.Prelude.{Option, Some, None, option_map, position, slice_index_or, slice_set, unwrap_or}
 use Rattle.swim_wire.specs.Address.{Address}
 use Rattle.swim_fence.specs.Buckets.{after, amount_at, bucket_of, full, pays}
 use Rattle.swim_fence.specs.Histories.{Event, is_listed, is_same, own_times, strange_times}
+use Rattle.swim_fence.specs.Histories.Event.{Listed}
 use Rattle.swim_fence.specs.declared.buckets.Bucket.{Bucket}
 
 -- the rate, the members' addresses and their buckets in the same order, and the bucket of all other addresses
@@ -50,3 +51,9 @@ after_asked k a now = put_at (position (is_same a) k.members) (after k.rate now 
 pub record Follows (k : Kept) (h : List Event) : Type 0 where
   pub members : 0 < k.rate → (a : Address) → bucket_at k a ≡ bucket_by k.rate h a
   pub strangers : 0 < k.rate → k.strangers ≡ bucket_of k.rate (strange_times h)
+
+-- the rate is that one from now on: where it was another, all that happened before is forgotten, but for who is listed
+pub record TakesRate (old : Kept) (rate : ℕ) (new : Kept) : Type 0 where
+  pub same : old.rate ≡ rate → new ≡ old
+  pub rated : new.rate ≡ rate
+  pub anew : (old.rate ≡ rate → ⊥) → Follows new (Listed old.members ∷ [])

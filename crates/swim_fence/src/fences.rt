@@ -2,7 +2,7 @@
 
 ghost use Rattle.std.specs.Prelude.{◌≡◌, ◌<◌, ◌≤◌, ℕ, List, [], ◌∷◌, length, slice_index_or};
 ghost use Rattle.swim_fence.specs.Buckets.{full};
-ghost use Rattle.swim_fence.specs.Fences.{Follows, HasRoom, bucket_for, after_asked, passes_by};
+ghost use Rattle.swim_fence.specs.Fences.{Follows, HasRoom, TakesRate, bucket_for, after_asked, passes_by};
 ghost use Rattle.swim_fence.specs.Histories.{Event, passes};
 ghost use Rattle.swim_fence.specs.Histories.Event.{Asked, Listed};
 ghost use Rattle.swim_wire.specs.Address.{Address};
@@ -50,6 +50,27 @@ impl Fence {
             buckets: [Bucket::full(rate); KNOWN_MEMBERS],
             strangers: Bucket::full(rate),
         }
+    }
+
+    /// From now on that is the rate. Where it was another, each address begins with a second's datagrams.
+    pub fn set_rate(&mut self, rate: u32)
+        ensures { TakesRate self.old rate self.new }
+    {
+        if rate != self.rate {
+            self.begin_anew(rate);
+        }
+    }
+
+    /// The fence begins anew, with that rate and the same members.
+    // Kept out of line, as a fence is large, and `set_rate` runs for each datagram.
+    #[inline(never)]
+    fn begin_anew(&mut self, rate: u32)
+        ensures rate { self.new.rate ≡ rate }
+        ensures follows { Follows self.new (Listed self.old.members ∷ []) }
+    {
+        let mut fence = Fence::new(rate);
+        fence.list(self.places.as_slice());
+        *self = fence;
     }
 
     /// These are the addresses of the members, at most 128. One that was a member's stays as it is; any other begins

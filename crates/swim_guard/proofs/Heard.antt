@@ -1,7 +1,6 @@
 -- What is heard over a line is the texts of the datagrams of the line below.
 use Rattle.std.proofs.Common.{◌≡◌, ℕ, List, [], ◌∷◌, ◌++◌, length, take, drop, map, Option, Some, None, refl, sym}
 use Rattle.std.proofs.Common.{subst, ◌∙◌, ap, append_assoc, append-nil}
-use Rattle.std.proofs.lemmas.Grind.{flat_map-append}
 use Rattle.std.specs.Option.{option_map, option_to_list}
 use Rattle.std.proofs.lemmas.List.{take-append-drop, length-take, take_min}
 use Rattle.std.proofs.Math.Seq.{take-append_seam}
@@ -10,8 +9,8 @@ use Rattle.swim_keys.specs.Sealing.{Keyring, tag_of}
 use Rattle.swim_keys.proofs.Opening.{sealed_when_opened}
 use Rattle.swim_work.specs.declared.lines.Got.{Got}
 use Rattle.swim_work.specs.declared.lines.Got.TheVariants.{Datagram, Idle, Fault}
-use Rattle.swim_work.specs.Gates.{Received}
-use Rattle.swim_guard.specs.Guarded.{text_by, with_text, given, handed_on, datagram_in, text_of, datagrams, texts_of}
+use Rattle.swim_guard.specs.Guarded.{Judged, text_by, with_text, given, handed, datagram_in, text_of, datagrams}
+use Rattle.swim_guard.specs.Guarded.{texts_judged, texts_of}
 
 -- what begins a part of the bytes begins them
 in_front : (text tag bytes : List ℕ) (count : ℕ) → take count bytes ≡ text ++ tag → take (length text) bytes ≡ text
@@ -48,11 +47,9 @@ heard_as_text keys (Datagram count source) bytes =
 heard_as_text keys Idle bytes = refl
 heard_as_text keys Fault bytes = refl
 
-pub heard_are_the_texts : (keys : Option Keyring) (rs : List Received) →
-    datagrams (map (handed_on keys) rs) ≡ texts_of keys (datagrams rs)
-heard_are_the_texts keys [] = refl
-heard_are_the_texts keys (r ∷ rs) =
-    ap (λ front. front ++ datagrams (map (handed_on keys) rs)) (heard_as_text keys r.got r.bytes)
-    ∙ ap (λ rest. texts_of keys (option_to_list (datagram_in r.got r.bytes)) ++ rest) (heard_are_the_texts keys rs)
-    ∙ sym (flat_map-append (λ d. option_to_list (text_of keys d)) (option_to_list (datagram_in r.got r.bytes))
-    (datagrams rs))
+pub heard_are_the_texts : (js : List Judged) → datagrams (map handed js) ≡ texts_judged js
+heard_are_the_texts [] = refl
+heard_are_the_texts (j ∷ js) =
+    ap (λ front. front ++ datagrams (map handed js)) (heard_as_text j.keys j.below.got j.below.bytes)
+    ∙ ap (λ rest. texts_of j.keys (option_to_list (datagram_in j.below.got j.below.bytes)) ++ rest)
+    (heard_are_the_texts js)

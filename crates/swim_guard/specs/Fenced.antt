@@ -1,8 +1,8 @@
 -- What is handed on over a fence.
-use Rattle.std.specs.Prelude.{◌≡◌, ℕ, ◌+◌, ◌≤◌, Bool, true, false, ◌&&◌, List, [], ◌∷◌, Option, Some, None}
+use Rattle.std.specs.Prelude.{◌≡◌, ℕ, ◌+◌, ◌≤◌, Bool, true, false, ◌&&◌, List, [], ◌∷◌, ◌++◌, Option, Some, None}
 use Rattle.std.specs.Prelude.{if◌then◌else◌}
 use Rattle.swim_wire.specs.Address.{Address}
-use Rattle.swim_fence.specs.Fences.{Kept, Follows}
+use Rattle.swim_fence.specs.Fences.{Kept, Follows, TakesRate}
 use Rattle.swim_fence.specs.Histories.{Event, is_same, passes}
 use Rattle.swim_fence.specs.Histories.Event.{Asked, Listed}
 use Rattle.swim_work.specs.declared.lines.Got.{Got}
@@ -13,10 +13,12 @@ use Rattle.swim_guard.specs.declared.thrown.Thrown.{Thrown}
 use Rattle.swim_guard.specs.Thrown.{one_thrown}
 
 -- what a contract sees of a line over another with a fence between them: the line below, the time that it asked at
--- last, the fence, what was thrown away, and what it answered so far, oldest first
+-- last, the rates that it was told so far, oldest first, the fence, what was thrown away, and what it answered so far,
+-- oldest first
 pub record AtFence (L : Type 0) : Type 0 where
   pub line : L
   pub time : ℕ
+  pub rates : List ℕ
   pub fence : Kept
   pub fenced : Thrown
   pub answered : List Received
@@ -36,24 +38,34 @@ abbrev pub thrown_if : Bool → Address → Option Address
 thrown_if true source = None
 thrown_if false source = Some source
 
+-- a datagram from that address asked the fence: at the rate that was told then, at a time that isn't before the last
+-- one
+pub record AsksFence {L : Type 0} (old new : AtFence L) (source : Address) (passed : Bool) : Type 0 where
+  pub rate : ℕ
+  pub told : new.rates ≡ old.rates ++ rate ∷ []
+  pub rated : Kept
+  pub takes : TakesRate old.fence rate rated
+  pub later : old.time ≤ new.time
+  pub asked : IsAsked rated new.fence source new.time passed
+
 -- the line below got a datagram: it is handed on as it is where it passes at that time, and else nothing is, and it is
 -- counted
-pub record AsksFence {L : Type 0} (old new : AtFence L) (below : Got) (source : Address) (got : Got) : Type 0 where
+pub record LetsThrough {L : Type 0} (old new : AtFence L) (below : Got) (source : Address) (got : Got) : Type 0 where
   pub passed : Bool
-  pub later : old.time ≤ new.time
-  pub asked : IsAsked old.fence new.fence source new.time passed
+  pub asks : AsksFence old new source passed
   pub is : got ≡ (if passed then below else Idle)
   pub fenced : new.fenced ≡ one_thrown (thrown_if passed source) old.fenced
 
 -- the line below got nothing: that is told as it is
 pub record TellsOn {L : Type 0} (old new : AtFence L) (below got : Got) : Type 0 where
   pub time : new.time ≡ old.time
+  pub rates : new.rates ≡ old.rates
   pub fence : new.fence ≡ old.fence
   pub is : got ≡ below
   pub fenced : new.fenced ≡ old.fenced
 
 abbrev pub LetsIn : {L : Type 0} → AtFence L → AtFence L → Got → Got → Type 0
-LetsIn old new (Datagram count source) got = AsksFence old new (Datagram count source) source got
+LetsIn old new (Datagram count source) got = LetsThrough old new (Datagram count source) source got
 LetsIn old new below got = TellsOn old new below got
 
 -- the line below was asked once: each datagram of it asks the fence, and what passes is handed on
@@ -68,6 +80,7 @@ pub record LetsOn {L : Type 0} (received : L → Option (List Received)) (old ne
 pub record IsShown {L : Type 0} (old new : AtFence L) (members : List Address) : Type 0 where
   pub happens : Happens old.fence new.fence (Listed members)
   pub time : new.time ≡ old.time
+  pub rates : new.rates ≡ old.rates
   pub fenced : new.fenced ≡ old.fenced
 
 -- what happened at a fenced line: a datagram came from that address at that time, and passed or didn't; or it was shown

@@ -1,5 +1,6 @@
 -- What is handed on where a group has keys.
-use Rattle.std.specs.Prelude.{◌≡◌, ℕ, ◌<◌, ◌≤◌, Bool, false, List, [], ◌∷◌, length, take, flat_map, Option, Some, None}
+use Rattle.std.specs.Prelude.{◌≡◌, ℕ, ◌<◌, ◌≤◌, Bool, false, List, [], ◌∷◌, ◌++◌, length, take, flat_map}
+use Rattle.std.specs.Prelude.{Option, Some, None}
 use Rattle.std.specs.Option.{option_map, option_to_list}
 use Rattle.swim_wire.specs.Address.{Address}
 use Rattle.swim_keys.specs.Sealing.{Keyring, opened, sealed}
@@ -38,6 +39,15 @@ given keys got bytes = got
 abbrev pub handed_on : Option Keyring → Received → Received
 handed_on keys r = record { got = given keys r.got r.bytes; bytes = r.bytes }
 
+-- what the line below got, and the keys by which it was judged
+pub record Judged : Type 0 where
+  pub keys : Option Keyring
+  pub below : Received
+
+-- what is handed on of it
+abbrev pub handed : Judged → Received
+handed j = handed_on j.keys j.below
+
 -- where a datagram without a text came from
 abbrev pub stranger_of : Address → Option (List ℕ) → Option Address
 stranger_of source None = Some source
@@ -48,35 +58,67 @@ abbrev pub stranger : Option Keyring → Got → List ℕ → Option Address
 stranger keys (Datagram count source) bytes = stranger_of source (text_by keys (take count bytes))
 stranger keys got bytes = None
 
--- what a contract sees of a line over another
+-- what a contract sees of who looks up the keys that are in force: those that it has, and what it answered so far,
+-- oldest first
+pub record AtKeys : Type 0 where
+  pub keys : Option Keyring
+  pub answered : List (Option Keyring)
+
+-- it was asked once, and answered these
+abbrev pub Answers : AtKeys → Option Keyring → AtKeys → Type 0
+Answers old keys new = new.answered ≡ old.answered ++ keys ∷ []
+
+-- what a contract sees of a line over another: that one, who looks up its keys, what was thrown away, and what the line
+-- below got so far, oldest first
 pub record AtLine (L : Type 0) : Type 0 where
   pub line : L
-  pub keys : Option Keyring
+  pub keys : AtKeys
   pub forged : Thrown
+  pub judged : List Judged
 
--- what a contract sees of a post over another: that one, the keys, and what it was handed so far, oldest first
+-- what a contract sees of a post over another: that one, who looks up its keys, and what it was handed so far, oldest
+-- first
 pub record AtPost (O : Type 0) : Type 0 where
   pub post : O
-  pub keys : Option Keyring
+  pub keys : AtKeys
   pub handed : List Posted
 
--- the line below was asked once: what it got is handed on, and counted where it is thrown away
+-- what the line below got was judged by the keys that were had: it is handed on, and counted where it is thrown away
+abbrev pub Judges : {L : Type 0} → AtLine L → AtLine L → Got → List ℕ → Got → Type 0
+Judges old new below bytes got =
+    (got ≡ given old.keys.keys below bytes)
+    × (new ≡ record old {
+      forged = one_thrown (stranger old.keys.keys below bytes) old.forged;
+      judged = old.judged ++ record { keys = old.keys.keys; below = record { got = below; bytes = bytes } } ∷ [];
+    })
+
+-- the line below was asked once, and then the keys: what it got is judged by these
 pub record HandsOn {L : Type 0} (received : L → Option (List Received)) (old new : AtLine L) (got : Got)
     (bytes : List ℕ)
     : Type 0 where
   pub below : Got
+  pub keys : Option Keyring
   pub grows : Grows (received old.line) (received new.line) (record { got = below; bytes = bytes } ∷ [])
-  pub is : got ≡ given old.keys below bytes
-  pub forged : new.forged ≡ one_thrown (stranger old.keys below bytes) old.forged
-  pub keys : new.keys ≡ old.keys
+  pub asked : Answers old.keys keys new.keys
+  pub is : got ≡ given keys below bytes
+  pub forged : new.forged ≡ one_thrown (stranger keys below bytes) old.forged
+  pub judged : new.judged
+      ≡ old.judged ++ record { keys = keys; below = record { got = below; bytes = bytes } } ∷ []
+
+-- the keys were asked once, and the post below was handed the text as it is sent by these
+pub record HandsSigned {O : Type 0} (posted : O → Option (List Posted)) (old new : AtPost O) (text : List ℕ)
+    (to : Address) (is_taken : Bool) : Type 0 where
+  pub keys : Option Keyring
+  pub asked : Answers old.keys keys new.keys
+  pub grows : Grows (posted old.post) (posted new.post)
+      (record { bytes = signed_by keys text; to = to; is_taken = is_taken } ∷ [])
 
 -- the post below was handed a text as it is sent, or where that is longer than a datagram nothing
 abbrev pub Hands : {O : Type 0} → (O → Option (List Posted)) → AtPost O → AtPost O → List ℕ → Address → Bool → Type 0
 Hands posted old new text to is_taken =
-    (length text ≤ longest_datagram_bytes → Grows (posted old.post) (posted new.post)
-    (record { bytes = signed_by old.keys text; to = to; is_taken = is_taken } ∷ []))
-    × (longest_datagram_bytes < length text → (new.post ≡ old.post) × (is_taken ≡ false))
-    × (new.keys ≡ old.keys)
+    (length text ≤ longest_datagram_bytes → HandsSigned posted old new text to is_taken)
+    × (longest_datagram_bytes < length text →
+    (new.post ≡ old.post) × (new.keys ≡ old.keys) × (is_taken ≡ false))
 
 -- the datagram that was got, and where it came from
 abbrev pub datagram_in : Got → List ℕ → Option (Address × List ℕ)
@@ -94,3 +136,7 @@ datagrams rs = flat_map (λ r. option_to_list (datagram_in r.got r.bytes)) rs
 -- the texts of datagrams, without those that have none
 abbrev pub texts_of : Option Keyring → List (Address × List ℕ) → List (Address × List ℕ)
 texts_of keys ds = flat_map (λ d. option_to_list (text_of keys d)) ds
+
+-- the texts of what the line below got, each by the keys by which it was judged
+abbrev pub texts_judged : List Judged → List (Address × List ℕ)
+texts_judged js = flat_map (λ j. texts_of j.keys (option_to_list (datagram_in j.below.got j.below.bytes))) js

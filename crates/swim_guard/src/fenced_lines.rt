@@ -4,9 +4,11 @@ ghost use Rattle.std.specs.Prelude.{◌≡◌, ◌≤◌, ◌∷◌, ◌++◌, [
 ghost use Rattle.swim_fence.specs.Fences.{Follows};
 ghost use Rattle.swim_work.specs.Gates.{FitsInto};
 ghost use Rattle.swim_work.specs.Posts.{Grows};
-ghost use Rattle.swim_guard.specs.Fenced.{IsAsked, IsShown, LetsOn, thrown_if};
+ghost use Rattle.swim_guard.specs.Fenced.{AsksFence, IsShown, LetsOn, thrown_if};
 ghost use Rattle.swim_guard.specs.Thrown.{one_thrown};
 
+use crate::rule_books::RuleBook;
+use crate::rule_watches::RateWatch;
 use crate::thrown::{Sieve, Thrown};
 use crate::timepieces::Timepiece;
 use std::marker::Model;
@@ -17,18 +19,20 @@ use swim_wire::{KNOWN_MEMBERS, Peer};
 use swim_work::{Got, Line};
 
 /// A line over another, with a fence between them. It hands on each datagram that the fence lets in, as it is, and
-/// throws the others away, before anything is looked at but where they came from. A contract sees the line below, the
-/// time of the newest datagram, the fence, what was thrown away, and what it answered so far.
+/// throws the others away, before anything is looked at but where they came from. The rate is that of the rules that are
+/// in force once the datagram came. A contract sees the line below, the time of the newest datagram, the rates that were
+/// asked for, the fence, what was thrown away, and what it answered so far.
 #[derive(Drop)]
-pub struct FencedLine<L: Line, T: Timepiece> {
+pub struct FencedLine<'k, L: Line, T: Timepiece> {
     line: L,
     timepiece: T,
+    rates: RateWatch<'k>,
     fence: Fence,
     fenced: Thrown,
     answered: Trail<Got>,
 }
 
-impl<L: Line, T: Timepiece> Model for FencedLine<L, T> {
+impl<'k, L: Line, T: Timepiece> Model for FencedLine<'k, L, T> {
     ghost use Rattle.std.specs.Prelude.{map};
     ghost use Rattle.swim_guard.specs.Fenced.{AtFence};
 
@@ -37,25 +41,29 @@ impl<L: Line, T: Timepiece> Model for FencedLine<L, T> {
     ghost view = { λ f. record {
       line = f.line;
       time = T.time f.timepiece;
+      rates = f.rates;
       fence = f.fence;
       fenced = f.fenced;
       answered = map (λ i. record { got = i.0; bytes = i.1 }) f.answered.items;
     } };
 }
 
-impl<L: Line, T: Timepiece> FencedLine<L, T> {
-    /// A line over that one with a fence of that rate. It was shown no member and threw nothing away yet.
-    pub fn new(line: L, timepiece: T, rate: u32) -> FencedLine<L, T>
+impl<'k, L: Line, T: Timepiece> FencedLine<'k, L, T> {
+    /// A line over that one with a fence of the rate of that book. It was shown no member and threw nothing away yet.
+    pub fn new(line: L, timepiece: T, book: &'k RuleBook) -> FencedLine<'k, L, T>
         ensures line { result.line ≡ line }
         ensures time { result.time ≡ T.time timepiece }
-        ensures rate { result.fence.rate ≡ rate }
+        ensures rates { result.rates ≡ result.fence.rate ∷ [] }
         ensures fence { Follows result.fence [] }
         ensures fenced { result.fenced ≡ record { count = 0; newest = None } }
         ensures answered { result.answered ≡ [] }
     {
+        let mut rates = RateWatch::new(book);
+        let rate = rates.rate();
         FencedLine {
             line,
             timepiece,
+            rates,
             fence: Fence::new(rate),
             fenced: Thrown::none(),
             answered: Trail::new(),
@@ -65,11 +73,12 @@ impl<L: Line, T: Timepiece> FencedLine<L, T> {
     /// Whether a datagram that came now from that address passes. Where it doesn't it is counted.
     fn admits(&mut self, source: Peer) -> bool
         ensures line { self.new.line ≡ self.old.line }
-        ensures later { self.old.time ≤ self.new.time }
-        ensures asked { IsAsked self.old.fence self.new.fence source self.new.time result }
+        ensures asks { AsksFence self.old self.new source result }
         ensures fenced { self.new.fenced ≡ one_thrown (thrown_if result source) self.old.fenced }
         ensures answered { self.new.answered ≡ self.old.answered }
     {
+        let rate = self.rates.rate();
+        self.fence.set_rate(rate);
         let now = self.timepiece.now();
         let passes = self.fence.admits(&source, now);
         if !passes {
@@ -91,7 +100,7 @@ impl<L: Line, T: Timepiece> FencedLine<L, T> {
     }
 }
 
-impl<L: Line, T: Timepiece> Line for FencedLine<L, T> {
+impl<'k, L: Line, T: Timepiece> Line for FencedLine<'k, L, T> {
     ghost received = { λ f. Some f.answered };
 
     ghost listed = { λ f. L.listed f.line };
@@ -121,7 +130,7 @@ impl<L: Line, T: Timepiece> Line for FencedLine<L, T> {
     }
 }
 
-impl<L: Line, T: Timepiece> Sieve for FencedLine<L, T> {
+impl<'k, L: Line, T: Timepiece> Sieve for FencedLine<'k, L, T> {
     ghost thrown_away = { λ f. f.fenced };
 
     fn thrown(&self) -> Thrown

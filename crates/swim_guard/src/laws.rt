@@ -1,25 +1,22 @@
 //! Laws of who is heard. Each is the contract of a function that does nothing, so that it stays proved.
 
-ghost use Rattle.std.specs.Prelude.{◌≡◌, ◌+◌, ◌-◌, ◌*◌, ◌<◌, ◌≤◌, ℕ, List, Option, map};
+ghost use Rattle.std.specs.Prelude.{◌≡◌, ◌+◌, ◌-◌, ◌*◌, ◌<◌, ◌≤◌, ℕ, List, map};
 ghost use Rattle.swim_fence.specs.Buckets.{price};
 ghost use Rattle.swim_fence.specs.Fences.{Follows, Kept};
 ghost use Rattle.swim_fence.specs.Histories.{AreAskedWithin, Event, StaysListed};
-ghost use Rattle.swim_keys.specs.Sealing.{Keyring};
-ghost use Rattle.swim_work.specs.Gates.{Received};
 ghost use Rattle.swim_wire.specs.Address.{Address};
 ghost use Rattle.swim_guard.specs.Fenced.{AreSteps, Step, event_of, passed_from};
-ghost use Rattle.swim_guard.specs.Guarded.{datagrams, handed_on, texts_of};
+ghost use Rattle.swim_guard.specs.Guarded.{Judged, datagrams, handed, texts_judged};
 
-/// The datagrams that a line hands on are those of the line below that have a tag by one of the keys, in their order,
-/// each without its tag.
+/// The datagrams that a line hands on are those of the line below that have a tag by one of the keys that were in force
+/// when they were judged, in their order, each without its tag.
 #[tactic(auto, using(crate::proofs::Heard::heard_are_the_texts))]
 pub fn who_is_heard_has_a_key()
-    ensures { (keys : Option Keyring) (received : List Received) →
-        datagrams (map (handed_on keys) received) ≡ texts_of keys (datagrams received) }
+    ensures { (judged : List Judged) → datagrams (map handed judged) ≡ texts_judged judged }
 {}
 
-/// Whatever comes over a fenced line, of the datagrams that come from a member's address within a span at most as many
-/// pass as the rate, and as many more as the rate says of the span.
+/// Whatever comes over a fenced line while its rate stays, of the datagrams that come from a member's address within a
+/// span at most as many pass as the rate, and as many more as the rate says of the span.
 #[tactic(auto, using(crate::proofs::Steps::passed_within_a_span))]
 pub fn a_span_lets_so_many_through()
     ensures { (old new : Kept) (steps : List Step) (before : List Event) (a : Address) (start end : ℕ) → 0 < old.rate

@@ -3,12 +3,15 @@
 
 mod fenced_lines;
 pub mod laws;
+mod rule_books;
+mod rule_watches;
 mod sealed_lines;
 mod sealed_posts;
 mod thrown;
 mod timepieces;
 
 pub use fenced_lines::FencedLine;
+pub use rule_books::{RingKeys, RuleBook};
 pub use sealed_lines::SealedLine;
 pub use sealed_posts::SealedPost;
 pub use thrown::{Sieve, Thrown};

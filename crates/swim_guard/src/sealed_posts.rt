@@ -1,29 +1,29 @@
 //! A post that signs what it is handed.
 
-ghost use Rattle.std.specs.Prelude.{◌≡◌, ◌∷◌, ◌++◌, [], None, Some, map};
-ghost use Rattle.std.specs.Option.{option_map};
+ghost use Rattle.std.specs.Prelude.{◌≡◌, ◌∷◌, ◌++◌, [], Some, map};
 ghost use Rattle.swim_work.specs.Posts.{IsFresh};
 ghost use Rattle.swim_guard.specs.Guarded.{Hands};
 
+use crate::rule_books::RuleBook;
+use crate::rule_watches::KeyWatch;
 use std::marker::Model;
 use std::sync::Wait;
-use swim_keys::Keys;
 use swim_trail::Trail;
 use swim_wire::{LONGEST_DATAGRAM_BYTES, Peer};
 use swim_work::Post;
 
-/// A post over another. Where there are keys, it hands on each datagram with its tag by the first of them; where there
-/// are none, as it is. Bytes that are longer than a datagram aren't taken. A contract sees the post below, the keys, and
-/// what it was handed so far.
+/// A post over another. Where the rules have keys, it hands on each datagram with its tag by the first of them; where
+/// they have none, as it is. The keys are those that are in force when it is handed the datagram. Bytes that are longer
+/// than a datagram aren't taken. A contract sees the post below, the keys that were asked for, and what it was handed so
+/// far.
 #[derive(Drop)]
 pub struct SealedPost<'k, O: Post + Drop> {
     post: O,
-    keys: Option<&'k Keys>,
+    keys: KeyWatch<'k>,
     handed: Trail<(Peer, bool)>,
 }
 
 impl<'k, O: Post + Drop> Model for SealedPost<'k, O> {
-    ghost use Rattle.std.specs.Option.{option_map};
     ghost use Rattle.std.specs.Prelude.{map};
     ghost use Rattle.swim_guard.specs.Guarded.{AtPost};
 
@@ -31,19 +31,21 @@ impl<'k, O: Post + Drop> Model for SealedPost<'k, O> {
 
     ghost view = { λ s. record {
       post = s.post;
-      keys = option_map (λ keys. keys.now) s.keys;
+      keys = s.keys;
       handed = map (λ i. record { bytes = i.1; to = i.0.0; is_taken = i.0.1 }) s.handed.items;
     } };
 }
 
 impl<'k, O: Post + Drop> SealedPost<'k, O> {
-    /// A post over that one, which was handed nothing yet.
-    pub fn new(post: O, keys: Option<&'k Keys>) -> SealedPost<'k, O>
-        ensures { result ≡ record { post = post; keys = option_map (λ keys. keys.now) keys.entry; handed = [] } }
+    /// A post over that one by the rules of that book, which was handed nothing yet.
+    pub fn new(post: O, book: &'k RuleBook) -> SealedPost<'k, O>
+        ensures post { result.post ≡ post }
+        ensures keys { result.keys.answered ≡ [] }
+        ensures handed { result.handed ≡ [] }
     {
         SealedPost {
             post,
-            keys,
+            keys: KeyWatch::new(book),
             handed: Trail::new(),
         }
     }
@@ -56,7 +58,8 @@ impl<'k, O: Post + Drop> SealedPost<'k, O> {
         if LONGEST_DATAGRAM_BYTES < bytes.len() {
             return false;
         }
-        match self.keys {
+        self.keys.renew(rt);
+        match self.keys.keys() {
             Some(keys) => self.post.send(rt, keys.seal(bytes).as_slice(), to),
             None => self.post.send(rt, bytes, to),
         }
@@ -69,11 +72,11 @@ impl<'k, O: Post + Drop> Post for SealedPost<'k, O> {
     fn fresh(&self) -> SealedPost<'k, O>
         ensures fresh { result.handed ≡ [] }
         ensures below { IsFresh (O.posted result.post) }
-        ensures keys { result.keys ≡ self.now.keys }
+        ensures keys { result.keys.answered ≡ [] }
     {
         SealedPost {
             post: self.post.fresh(),
-            keys: self.keys,
+            keys: self.keys.fresh(),
             handed: Trail::new(),
         }
     }

@@ -10,8 +10,8 @@ use std::process::Abort;
 use std::sync::Wait;
 use std::sync::atomic::{AtomicBool, Ordering};
 use std::test::Fail;
-use swim_guard::{SealedLine, SealedPost, Sieve};
-use swim_keys::{GroupKey, Keys};
+use swim_guard::{RingKeys, RuleBook, SealedLine, SealedPost, Sieve};
+use swim_keys::GroupKey;
 use swim_wire::Peer;
 use swim_work::{Got, Line, Post};
 
@@ -46,14 +46,26 @@ fn at(last: u8) -> Peer {
 }
 
 // The keys of the bytes 0 to 31 and 32 to 63.
-fn keys() -> Result<Keys, Fail> {
-    let first = GroupKey::read(
-        b"000102030405060708090a0b0c0d0e0f101112131415161718191a1b1c1d1e1f",
-    )?;
-    let second = GroupKey::read(
-        b"202122232425262728292a2b2c2d2e2f303132333435363738393a3b3c3d3e3f",
-    )?;
-    Ok(Keys::of(&[first, second]).ok_or("two keys")?)
+fn ring() -> Result<RingKeys, Fail> {
+    let mut ring = RingKeys::new();
+    ring.push(GroupKey::read(b"000102030405060708090a0b0c0d0e0f101112131415161718191a1b1c1d1e1f")?);
+    ring.push(second_key()?);
+    Ok(ring)
+}
+
+// The key of the bytes 32 to 63.
+fn second_key() -> Result<GroupKey, Fail> {
+    Ok(GroupKey::read(b"202122232425262728292a2b2c2d2e2f303132333435363738393a3b3c3d3e3f")?)
+}
+
+// A book with these two keys, and without a fence.
+fn book() -> Result<RuleBook, Fail> {
+    Ok(RuleBook::new(ring()?.as_slice(), 0))
+}
+
+// A book without keys, whose fence has that rate.
+fn book_of(rate: u32) -> RuleBook {
+    RuleBook::new(&[], rate)
 }
 
 // A line with one datagram, which it gives again and again.
@@ -84,16 +96,12 @@ impl<'d> Line for OneDatagram<'d> {
 }
 
 // What is heard of a datagram, and how many were thrown away.
-fn heard<R: Wait>(
-    rt: &R,
-    keys: Option<&Keys>,
-    datagram: &[u8],
-) -> (Got, [u8; 64], u64, Option<Peer>) {
+fn heard<R: Wait>(rt: &R, book: &RuleBook, datagram: &[u8]) -> (Got, [u8; 64], u64, Option<Peer>) {
     let line = OneDatagram {
         datagram,
         source: at(3),
     };
-    let mut line = SealedLine::new(line, keys);
+    let mut line = SealedLine::new(line, book);
     let mut bytes = [0; 64];
     let got = line.receive(rt, &mut bytes);
     let thrown = line.thrown();
@@ -102,9 +110,9 @@ fn heard<R: Wait>(
 
 #[test]
 fn who_has_a_key_is_heard(rt: HostRuntime) -> Result<(), Fail> {
-    let keys = keys()?;
+    let book = book()?;
     for datagram in [BY_FIRST, BY_SECOND] {
-        let (got, bytes, forged, newest) = heard(&rt, Some(&keys), datagram);
+        let (got, bytes, forged, newest) = heard(&rt, &book, datagram);
         assert_same(&rt, &got, &Got::Datagram(24, at(3)));
         assert_same(&rt, &bytes.get(..24), &Some(PING.as_slice()));
         assert_same(&rt, &forged, &0);
@@ -115,14 +123,14 @@ fn who_has_a_key_is_heard(rt: HostRuntime) -> Result<(), Fail> {
 
 #[test]
 fn who_has_none_is_not_heard(rt: HostRuntime) -> Result<(), Fail> {
-    let keys = keys()?;
+    let book = book()?;
     for datagram in [
         BY_THIRD.as_slice(),
         PING.as_slice(),
         &BY_FIRST[..39],
         &BY_FIRST[..0],
     ] {
-        let (got, _, forged, newest) = heard(&rt, Some(&keys), datagram);
+        let (got, _, forged, newest) = heard(&rt, &book, datagram);
         assert_same(&rt, &got, &Got::Idle);
         assert_same(&rt, &forged, &1);
         assert_same(&rt, &newest, &Some(at(3)));
@@ -132,7 +140,7 @@ fn who_has_none_is_not_heard(rt: HostRuntime) -> Result<(), Fail> {
 
 #[test]
 fn without_keys_all_are_heard(rt: HostRuntime) {
-    let (got, bytes, forged, _) = heard(&rt, None, BY_THIRD);
+    let (got, bytes, forged, _) = heard(&rt, &book_of(0), BY_THIRD);
     assert_same(&rt, &got, &Got::Datagram(40, at(3)));
     assert_same(&rt, &bytes.get(..40), &Some(BY_THIRD.as_slice()));
     assert_same(&rt, &forged, &0);
@@ -163,13 +171,13 @@ impl<'s> Post for WantingPost<'s> {
 }
 
 // Whether these bytes go out where the ping is sent, also by a fresh post.
-fn goes_out<R: Wait>(rt: &R, keys: Option<&Keys>, wanted: &[u8]) -> bool {
+fn goes_out<R: Wait>(rt: &R, book: &RuleBook, wanted: &[u8]) -> bool {
     let was_handed = AtomicBool::new(false);
     let post = WantingPost {
         wanted,
         was_handed: &was_handed,
     };
-    let mut post = SealedPost::new(post, keys);
+    let mut post = SealedPost::new(post, book);
     let mut fresh = post.fresh();
     let is_taken = post.send(rt, PING, at(2)) && fresh.send(rt, PING, at(2));
     is_taken && was_handed.load(Ordering::SeqCst)
@@ -177,24 +185,55 @@ fn goes_out<R: Wait>(rt: &R, keys: Option<&Keys>, wanted: &[u8]) -> bool {
 
 #[test]
 fn what_goes_out_has_a_tag_by_the_first_key(rt: HostRuntime) -> Result<(), Fail> {
-    let keys = keys()?;
-    assert!(rt; goes_out(&rt, Some(&keys), BY_FIRST));
-    assert!(rt; !goes_out(&rt, Some(&keys), BY_SECOND));
-    assert!(rt; goes_out(&rt, None, PING));
+    let book = book()?;
+    assert!(rt; goes_out(&rt, &book, BY_FIRST));
+    assert!(rt; !goes_out(&rt, &book, BY_SECOND));
+    assert!(rt; goes_out(&rt, &book_of(0), PING));
     Ok(())
 }
 
 // More than a datagram has.
 #[test]
 fn more_bytes_do_not_go_out(rt: HostRuntime) -> Result<(), Fail> {
-    let keys = keys()?;
+    let book = book()?;
     let was_handed = AtomicBool::new(false);
     let post = WantingPost {
         wanted: BY_FIRST,
         was_handed: &was_handed,
     };
-    let mut post = SealedPost::new(post, Some(&keys));
+    let mut post = SealedPost::new(post, &book);
     assert!(rt; !post.send(&rt, &[0; 31], at(2)));
     assert!(rt; !was_handed.load(Ordering::SeqCst));
+    Ok(())
+}
+
+// What was signed by a key that is no longer in force isn't heard from the next datagram on, and what goes out has a tag
+// by the new one.
+#[test]
+fn keys_change_while_it_runs(rt: HostRuntime) -> Result<(), Fail> {
+    let book = book()?;
+    let line = OneDatagram {
+        datagram: BY_FIRST,
+        source: at(3),
+    };
+    let mut line = SealedLine::new(line, &book);
+    let mut bytes = [0; 64];
+    assert_same(
+        &rt,
+        &line.receive(&rt, &mut bytes),
+        &Got::Datagram(24, at(3)),
+    );
+    let was_handed = AtomicBool::new(false);
+    let post = WantingPost {
+        wanted: BY_SECOND,
+        was_handed: &was_handed,
+    };
+    let mut post = SealedPost::new(post, &book);
+    assert!(rt; !post.send(&rt, PING, at(2)));
+    let mut second = RingKeys::new();
+    second.push(second_key()?);
+    book.change(&rt, second, 0);
+    assert_same(&rt, &line.receive(&rt, &mut bytes), &Got::Idle);
+    assert!(rt; post.send(&rt, PING, at(2)));
     Ok(())
 }

@@ -1,7 +1,6 @@
 -- That a crew of a receiver, a ticker and a controller, and a keeper, live the lives of a daemon.
 use Rattle.std.proofs.Common.{◌≡◌, ◌⊎◌, ℕ, Bool, List, [], ◌∷◌, map, Option, None, Some}
 use Rattle.std.proofs.Common.{refl, sym, ap, subst, ◌∙◌, inl, inr}
-use Rattle.std.specs.Option.{option_map}
 use Rattle.swim_history.specs.declared.rows.Change.{Change}
 use Rattle.swim_history.specs.Setting.{Setting}
 use Rattle.swim_node.specs.Seats.{Seated}
@@ -13,7 +12,7 @@ use Rattle.swim_work.specs.declared.workers.End.{End}
 use Rattle.swim_work.specs.Gates.{Received}
 use Rattle.swim_work.specs.Posts.{Grows, Posted}
 use Rattle.swim_guard.specs.Fenced.{AtFence}
-use Rattle.swim_guard.specs.Guarded.{AtLine, AtPost, handed_on}
+use Rattle.swim_guard.specs.Guarded.{AtLine, AtPost, handed as judged_so}
 use Rattle.swim_devices.specs.Pacing.{Pacing}
 use Rattle.swim_receiver.specs.declared.receivers.Receiver.{Receiver}
 use Rattle.swim_ticker.specs.declared.tickers.Ticker.{Ticker}
@@ -250,7 +249,7 @@ module _ {A B C W F H S V Q E I Y O : Type 0} (out : Outlets W F H S V Y) (poste
 
 abbrev pub receiving : {L P : Type 0} → Receiver (AtLine (AtFence L)) (AtPost P) → Receiving (AtPost P)
 receiving r = record {
-  received = option_map (map (handed_on r.line.keys)) (Some r.line.line.answered);
+  received = Some (map judged_so r.line.judged);
   listed = None;
   post = r.post;
   returning = r.returning;

@@ -1,6 +1,7 @@
 pub mod Booking
 pub mod Checked
 pub mod DaemonLives
+pub mod Documented
 pub mod Done
 pub mod Explained
 pub mod HeldTexts
@@ -8,3 +9,4 @@ pub mod Keys
 pub mod Kept
 pub mod Lines
 pub mod Noticed
+pub mod Reloading

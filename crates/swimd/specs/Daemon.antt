@@ -19,10 +19,12 @@ use Rattle.swimd.specs.Checking.{Warned}
 use Rattle.swimd.specs.DaemonLives.{AreDaemonLives, AtDaemon, IsBeginning}
 use Rattle.swimd.specs.Documents.{Document, document}
 
--- the file at this path was read, and nothing else, and this is the configuration that its text is
+-- the file at this path was read, and nothing else; this was its text, and this is the configuration that it is
+abbrev pub IsWritten : List ℕ → List ℕ → Option (List Document) → Option (List Document) → Config → Type 0
+IsWritten path text old new config = Grows old new (document path text ∷ []) × (config_of text ≡ Ok config)
+
 abbrev pub IsConfiguration : List ℕ → Option (List Document) → Option (List Document) → Config → Type 0
-IsConfiguration path old new config =
-    (text : List ℕ) × Grows old new (document path text ∷ []) × (config_of text ≡ Ok config)
+IsConfiguration path old new config = (text : List ℕ) × IsWritten path text old new config
 
 -- why there is none: the file at this path couldn't be read; or it was, and its text has this fault, or memory was
 -- refused

@@ -1,5 +1,6 @@
 -- What is reported of what a daemon counted at a moment.
-use Rattle.std.specs.Prelude.{◌≡◌, ◌⊎◌, ℕ, List, codes, Option}
+use Rattle.std.specs.Prelude.{◌≡◌, ◌⊎◌, ℕ, List, codes, map, Option}
+use Rattle.swim_config.specs.Fingerprints.{fingerprint_of}
 use Rattle.swim_metrics.specs.declared.outside.FileFigures.{FileFigures}
 use Rattle.swim_metrics.specs.declared.outside.Outside.{Outside}
 use Rattle.swim_metrics.specs.Texts.{stats_text}
@@ -7,7 +8,7 @@ use Rattle.swimd.specs.declared.counting.counters.Facts.{Facts}
 use Rattle.swimd.specs.declared.counting.counters.Figures.{Figures}
 
 -- beside the entries each count is reported as itself: those of the configuration, of the lives, of the datagrams that
--- were thrown away, of the metrics' file and of the journal files
+-- were thrown away, of the keys, of the metrics' file and of the journal files
 pub record IsOutside (f : Figures) (out : Outside) : Type 0 where
   pub version : out.version.now ≡ codes "1.0"
   pub me : out.me ≡ f.facts.me
@@ -28,10 +29,11 @@ pub record IsOutside (f : Figures) (out : Outside) : Type 0 where
   pub unwritten : out.unwritten ≡ f.unwritten
   pub files : out.files ≡ f.files
 
--- the values of all metrics and a dot, by some counts under this configuration, while journal files stand so; or the
--- dot alone
-abbrev pub IsStats : Facts → Option FileFigures → List ℕ → Type 0
-IsStats facts files text =
+-- the values of all metrics and a dot, by some counts under this configuration, while journal files stand so and these
+-- keys are in force; or the dot alone
+abbrev pub IsStats : Facts → Option FileFigures → List (List ℕ) → List ℕ → Type 0
+IsStats facts files keys text =
     (text ≡ codes ".\n")
-    ⊎ ((f : Figures) × (out : Outside) × (f.facts ≡ facts) × (f.files ≡ files) × IsOutside f out
+    ⊎ ((f : Figures) × (out : Outside) × (f.facts ≡ facts) × (f.files ≡ files)
+    × (f.fingerprints.items ≡ map fingerprint_of keys) × IsOutside f out
     × (text ≡ stats_text f.counted.measures out))

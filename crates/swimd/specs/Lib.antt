@@ -9,5 +9,6 @@ pub mod Documents
 pub mod Figures
 pub mod Folders
 pub mod HeldTexts
+pub mod Reloading
 pub mod Served
 pub mod Totals

@@ -3,6 +3,7 @@
 pub(crate) mod crews;
 pub(crate) mod doors;
 pub(crate) mod lives;
+pub(crate) mod reloading;
 
 ghost use Rattle.std.specs.Prelude.{◌≡◌, []};
 ghost use Rattle.swim_keeper.specs.Notices.{Notices};
@@ -10,17 +11,19 @@ ghost use Rattle.swimd.specs.Daemon.{Runs, Starts, outcome_of};
 ghost use Rattle.swim_commands.specs.Details.{Explains};
 
 use crate::commands::checking::warn;
-use crate::commands::configurations::configuration;
+use crate::commands::configurations::read_configuration;
 use crate::commands::documents::Documents;
 use crate::counting::counters::Counters;
 use crate::counting::metrics_times::MetricsTimes;
 use crate::daemon::crews::{Shared, leave};
 use crate::daemon::doors::open_door;
 use crate::daemon::lives::keep_lives;
+use crate::daemon::reloading::Reloading;
 use crate::journals::folders::Folder;
 use crate::telling::clerks::Clerk;
 use crate::telling::entrances::open_entrance;
 use crate::telling::notices::{Announcer, Notice};
+use arrayvec::ArrayVec;
 use jiff::Timestamp;
 use std::alloc::Global;
 use std::fs::File;
@@ -30,12 +33,12 @@ use std::rt::{Clock, Files};
 use std::sync::Wait;
 use std::thread::Threads;
 use swim_commands::{Details, Outcome, words_why};
-use swim_config::{Config, ConfigFault, JournalFiles};
+use swim_config::{Config, ConfigFault, INPUT_BYTES, JournalFiles};
 use swim_crew::{LivesEnd, Terms};
 use swim_desk::Door;
 use swim_devices::{UdpEndpoint, UnixEntrance};
+use swim_guard::RuleBook;
 use swim_keeper::LifeKeeper;
-use swim_keys::Keys;
 use swim_streams::Timely;
 use swim_text::Sink;
 use swim_wire::Peer;
@@ -49,11 +52,13 @@ pub struct Launch<'p, 'x, X> {
     pub documents: &'x mut X,
 }
 
-/// A daemon that is to be started.
+/// A daemon that is to be started, and the path and the text of its configuration file.
 #[derive(Drop)]
-struct Planned {
+struct Planned<'p> {
     config: Config,
     is_quiet: bool,
+    path: &'p str,
+    text: &'p [u8],
 }
 
 /// The sockets of a daemon.
@@ -92,7 +97,8 @@ pub fn run<
         (F.written faults.old, F.failures faults.old) (F.written faults.new, F.failures faults.new) result }
     ensures explains { Explains result details.new }
 {
-    match configuration(alloc, launch.documents, launch.path, details) {
+    let mut text = ArrayVec::<u8, INPUT_BYTES>::new();
+    match read_configuration(alloc, launch.documents, launch.path, &mut text, details) {
         Ok(config) => {
             writer.hurry();
             faults.hurry();
@@ -100,6 +106,8 @@ pub fn run<
             let planned = Planned {
                 config: config.begun_at(milliseconds(rt)),
                 is_quiet: launch.is_quiet,
+                path: launch.path,
+                text: text.as_slice(),
             };
             run_configured(rt, alloc, planned, writer, faults, log, details)
         }
@@ -110,21 +118,22 @@ pub fn run<
 /// Runs the daemon of a configuration, and tells how many lines of its lives weren't taken.
 #[tactic(auto, using(swim_keeper::specs::Notices::no_notices, crate::proofs::Noticed::two_noticed))]
 fn run_configured<
+    'g,
     R: Files<File = File> + Net + Clock + Threads + Wait + Sync,
     W: Timely,
     F: Sink,
     G: Sink + Clerk + Drop,
 >(
-    rt: &R,
+    rt: &'g R,
     alloc: Global,
-    planned: Planned,
+    planned: Planned<'g>,
     writer: &mut W,
     faults: &mut F,
     log: G,
     details: &mut Details,
 ) -> Outcome
     requires { details.old ≡ [] }
-    ensures starts { Starts planned.config (W.written writer.old, W.failures writer.old)
+    ensures starts { Starts planned.entry.config (W.written writer.old, W.failures writer.old)
         (W.written writer.new, W.failures writer.new) result }
     ensures notices { Notices (F.written faults.old, F.failures faults.old)
         (F.written faults.new, F.failures faults.new) }
@@ -149,21 +158,22 @@ fn tell_left_out<R: Net + Clock, F: Sink>(rt: &R, alloc: Global, count: u64, fau
 /// Opens the gates of a configuration, and lives over them.
 #[tactic(auto, using(swim_keeper::specs::Notices::no_notices, crate::proofs::Noticed::two_noticed, crate::proofs::Noticed::no_door, crate::proofs::Noticed::no_entrance, crate::proofs::Explained::nothing_explains))]
 fn start<
+    'g,
     R: Files<File = File> + Net + Clock + Threads + Wait + Sync,
     W: Sink,
     F: Sink,
     G: Sink + Clerk + Drop,
 >(
-    rt: &R,
+    rt: &'g R,
     alloc: Global,
-    planned: Planned,
+    planned: Planned<'g>,
     writer: &mut W,
     faults: &mut F,
     log: G,
     details: &mut Details,
 ) -> Outcome
     requires { details.old ≡ [] }
-    ensures starts { Starts planned.config (W.written writer.old, W.failures writer.old)
+    ensures starts { Starts planned.entry.config (W.written writer.old, W.failures writer.old)
         (W.written writer.new, W.failures writer.new) result }
     ensures notices { Notices (F.written faults.old, F.failures faults.old)
         (F.written faults.new, F.failures faults.new) }
@@ -197,6 +207,7 @@ fn start<
 /// Lives over these sockets, and the other gates of a configuration.
 #[tactic(auto, using(swim_keeper::specs::Notices::no_notices))]
 fn live<
+    'g,
     R: Files<File = File> + Net + Clock + Threads + Wait + Sync,
     W: Sink,
     F: Sink,
@@ -204,15 +215,15 @@ fn live<
     D: Door + Drop,
     K: Clock + Drop + Send,
 >(
-    rt: &R,
+    rt: &'g R,
     alloc: Global,
-    planned: Planned,
+    planned: Planned<'g>,
     sockets: Sockets<D, K>,
     writer: &mut W,
     faults: &mut F,
     log: G,
 ) -> Outcome
-    ensures starts { Starts planned.config (W.written writer.old, W.failures writer.old)
+    ensures starts { Starts planned.entry.config (W.written writer.old, W.failures writer.old)
         (W.written writer.new, W.failures writer.new) result }
     ensures notices { Notices (F.written faults.old, F.failures faults.old)
         (F.written faults.new, F.failures faults.new) }
@@ -222,14 +233,18 @@ fn live<
         door,
         entrance,
     } = sockets;
-    let keys = Keys::of(planned.config.keys.as_slice());
+    let book = RuleBook::new(planned.config.keys.as_slice(), planned.config.fence);
     let counters = Counters::new(&planned.config);
     let board = TidingsBoard::new(planned.config.opening.last());
     let shared = Shared {
         rt,
         alloc,
         endpoint: &endpoint,
-        keys: &keys,
+        reloading: Reloading {
+            path: planned.path,
+            started: planned.text,
+            book: &book,
+        },
         counters: &counters,
         board: &board,
     };
@@ -248,14 +263,14 @@ fn live_shared<
     K: Clock + Drop + Send,
 >(
     shared: Shared<'g, R>,
-    planned: Planned,
+    planned: Planned<'g>,
     door: D,
     entrance: UnixEntrance<K>,
     writer: &'g mut W,
     faults: &'g mut F,
     log: G,
 ) -> Outcome
-    ensures starts { Starts planned.config (W.written writer.old, W.failures writer.old)
+    ensures starts { Starts planned.entry.config (W.written writer.old, W.failures writer.old)
         (W.written writer.new, W.failures writer.new) result }
     ensures notices { Notices (F.written faults.old, F.failures faults.old)
         (F.written faults.new, F.failures faults.new) }
@@ -263,6 +278,8 @@ fn live_shared<
     let Planned {
         mut config,
         is_quiet,
+        path: _,
+        text: _,
     } = planned;
     let (rt, alloc) = (shared.rt, shared.alloc);
     let terms = terms_of(&config);
@@ -296,7 +313,7 @@ fn live_shared<
 
 /// Tells that a daemon of this configuration listens, unless it is to be quiet.
 #[tactic(auto, using(swim_keeper::specs::Notices::no_notices))]
-fn announce<R: Net + Clock, F: Sink>(rt: &R, alloc: Global, planned: &Planned, faults: &mut F)
+fn announce<R: Net + Clock, F: Sink>(rt: &R, alloc: Global, planned: &Planned<'_>, faults: &mut F)
     ensures { Notices (F.written faults.old, F.failures faults.old)
         (F.written faults.new, F.failures faults.new) }
 {

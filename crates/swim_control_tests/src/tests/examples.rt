@@ -57,6 +57,8 @@ fn answers_one_after_another(rt: HostRuntime) {
         (b"gap 3\n", b"gap 2 4 3\n"),
         (b"stats\n", b"swimd_ticks_total 5\n.\n"),
         (b"stats 3\n", b"fault 5\n"),
+        (b"reload\n", b"reloaded\n"),
+        (b"reload 3\n", b"fault 5\n"),
     ];
     let mut group = Group::of_two();
     for (text, answer) in table {

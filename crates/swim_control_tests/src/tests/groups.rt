@@ -5,7 +5,7 @@ use std::alloc::Global;
 use std::process::Abort;
 use std::sync::Wait;
 use std::test::*;
-use swim_control::{Answer, Desk, Served, StatsText, serve};
+use swim_control::{Answer, Desk, ReloadText, Served, StatsText, serve};
 use swim_doubles::Text;
 use swim_history::{Gap, Row, RowState, Table};
 use swim_text::{Page, ReadSource, Sink, Source};
@@ -146,6 +146,12 @@ impl Desk for Group {
     fn stats<R: Wait>(&mut self, _rt: &R) -> StatsText {
         let mut text = StatsText::new();
         let _is_added = text.try_extend_from_slice(b"swimd_ticks_total 5\n.\n");
+        text
+    }
+
+    fn reload<R: Wait>(&mut self, _rt: &R) -> ReloadText {
+        let mut text = ReloadText::new();
+        let _is_added = text.try_extend_from_slice(b"reloaded\n");
         text
     }
 }

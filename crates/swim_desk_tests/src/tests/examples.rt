@@ -9,13 +9,13 @@ const ANSWERS: &[u8] = b"2 10.0.0.2:7000 up\n3 10.0.0.3:7000 up\n.\nfault 3\nfau
 // Line by line, with lists behind a join and a removal, and a stop.
 const CALLS: &[u8] =
     b"gap 2\njoin 5 10.0.0.5:7000\nlist\njoin 5 10.0.0.5:7000\njoin 6\njoin 6 10.0.0.6:7000 x\n\
-remove 9\nremove 5\nlist\nList\nlist \nstats 3\nstats\nstop\nlist\n";
+remove 9\nremove 5\nlist\nList\nlist \nstats 3\nstats\nreload\nstop\nlist\n";
 
 // Of a seed of zeros the first place drawn of three is the last: the first word of its stream is 0xade0b876.
 const THEIR_ANSWERS: &[u8] =
     b"gap none\njoined 2\n2 10.0.0.2:7000 up\n3 10.0.0.3:7000 up\n5 10.0.0.5:7000 up\n.\n\
 refused 2\nfault 4\nfault 5\nrefused 4\nremoved\n2 10.0.0.2:7000 up\n3 10.0.0.3:7000 up\n.\n\
-fault 2\nfault 5\nfault 5\nlives 7\n.\nstopping\n";
+fault 2\nfault 5\nfault 5\nlives 7\n.\nreloaded; wire needs a start\nstopping\n";
 
 // A life in which an operator types these lines, and how it ended.
 fn typed<R: Wait + Copy + Drop>(

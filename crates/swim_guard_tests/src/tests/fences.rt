@@ -3,14 +3,14 @@
 ghost use Rattle.std.specs.Prelude.{◌≡◌, ◌≤◌, None};
 ghost use Rattle.swim_work.specs.Gates.{FitsInto};
 
-use super::{BY_FIRST, PING, assert_same, at, keys};
+use super::{BY_FIRST, PING, assert_same, at, book_of, ring};
 use std::io;
 use std::rt::Clock;
 use std::sync::Wait;
 use std::sync::atomic::{AtomicU64, Ordering};
 use std::test::Fail;
 use std::time::Duration;
-use swim_guard::{ClockTimepiece, FencedLine, SealedLine, Sieve, Timepiece};
+use swim_guard::{ClockTimepiece, FencedLine, RingKeys, RuleBook, SealedLine, Sieve, Timepiece};
 use swim_wire::Peer;
 use swim_work::{Got, Line};
 
@@ -119,7 +119,8 @@ fn heard<R: Wait, L: Line>(rt: &R, line: &mut L, count: u32) -> (u32, u32) {
 // Members have a bucket each: of three datagrams of each two pass.
 #[test]
 fn each_member_has_a_bucket(rt: HostRuntime) {
-    let mut line = FencedLine::new(in_turn(PING), Still {}, 2);
+    let book = book_of(2);
+    let mut line = FencedLine::new(in_turn(PING), Still {}, &book);
     line.list(&[at(2), at(3)]);
     assert_same(&rt, &heard(&rt, &mut line, 6), &(2, 2));
     assert_same(&rt, &line.thrown().count, &2);
@@ -129,7 +130,8 @@ fn each_member_has_a_bucket(rt: HostRuntime) {
 // All others have one together: of six datagrams two pass.
 #[test]
 fn strangers_have_one_bucket(rt: HostRuntime) {
-    let mut line = FencedLine::new(in_turn(PING), Still {}, 2);
+    let book = book_of(2);
+    let mut line = FencedLine::new(in_turn(PING), Still {}, &book);
     line.list(&[at(4)]);
     assert_same(&rt, &heard(&rt, &mut line, 6), &(1, 1));
     assert_same(&rt, &line.thrown().count, &4);
@@ -139,7 +141,8 @@ fn strangers_have_one_bucket(rt: HostRuntime) {
 // do, and then each second one.
 #[test]
 fn the_bucket_fills_again(rt: HostRuntime) {
-    let mut line = FencedLine::new(in_turn(PING), Quarters { time: 0 }, 2);
+    let book = book_of(2);
+    let mut line = FencedLine::new(in_turn(PING), Quarters { time: 0 }, &book);
     assert_same(&rt, &heard(&rt, &mut line, 4), &(2, 1));
     assert_same(&rt, &heard(&rt, &mut line, 40), &(20, 0));
 }
@@ -151,7 +154,8 @@ fn the_time_of_day_is_set_back(rt: HostRuntime) {
     let clock = SetBack {
         reads: AtomicU64::new(0),
     };
-    let mut line = FencedLine::new(in_turn(PING), ClockTimepiece::new(clock), 2);
+    let book = book_of(2);
+    let mut line = FencedLine::new(in_turn(PING), ClockTimepiece::new(clock), &book);
     assert_same(&rt, &heard(&rt, &mut line, 4), &(2, 1));
     assert_same(&rt, &heard(&rt, &mut line, 40), &(20, 0));
 }
@@ -159,7 +163,8 @@ fn the_time_of_day_is_set_back(rt: HostRuntime) {
 // With a fence of 0 all pass.
 #[test]
 fn no_fence(rt: HostRuntime) {
-    let mut line = FencedLine::new(in_turn(PING), Still {}, 0);
+    let book = book_of(0);
+    let mut line = FencedLine::new(in_turn(PING), Still {}, &book);
     assert_same(&rt, &heard(&rt, &mut line, 100), &(50, 50));
     assert_same(&rt, &line.thrown().count, &0);
 }
@@ -167,15 +172,30 @@ fn no_fence(rt: HostRuntime) {
 // The fence stands below the keys: what it refuses is not looked at, and what it lets in has to have a tag.
 #[test]
 fn a_fence_below_the_keys(rt: HostRuntime) -> Result<(), Fail> {
-    let keys = keys()?;
-    let fenced = FencedLine::new(in_turn(PING), Still {}, 2);
-    let mut line = SealedLine::new(fenced, Some(&keys));
+    let book = RuleBook::new(ring()?.as_slice(), 2);
+    let fenced = FencedLine::new(in_turn(PING), Still {}, &book);
+    let mut line = SealedLine::new(fenced, &book);
     assert_same(&rt, &heard(&rt, &mut line, 6), &(0, 0));
     assert_same(&rt, &line.thrown().count, &2);
-    let fenced = FencedLine::new(in_turn(BY_FIRST), Still {}, 2);
-    let mut line = SealedLine::new(fenced, Some(&keys));
+    let fenced = FencedLine::new(in_turn(BY_FIRST), Still {}, &book);
+    let mut line = SealedLine::new(fenced, &book);
     line.list(&[at(2)]);
     assert_same(&rt, &heard(&rt, &mut line, 6), &(2, 2));
     assert_same(&rt, &line.thrown().count, &0);
     Ok(())
+}
+
+// Where another rate comes into force all begin with a second's datagrams by it, and members stay listed.
+#[test]
+fn the_rate_changes_while_it_runs(rt: HostRuntime) {
+    let book = book_of(2);
+    let mut line = FencedLine::new(in_turn(PING), Still {}, &book);
+    line.list(&[at(2), at(3)]);
+    assert_same(&rt, &heard(&rt, &mut line, 6), &(2, 2));
+    book.change(&rt, RingKeys::new(), 2);
+    assert_same(&rt, &heard(&rt, &mut line, 6), &(0, 0));
+    book.change(&rt, RingKeys::new(), 3);
+    assert_same(&rt, &heard(&rt, &mut line, 10), &(3, 3));
+    book.change(&rt, RingKeys::new(), 0);
+    assert_same(&rt, &heard(&rt, &mut line, 10), &(5, 5));
 }

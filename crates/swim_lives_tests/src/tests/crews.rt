@@ -2,7 +2,7 @@
 
 use super::*;
 use std::alloc::AllocError;
-use swim_control::StatsText;
+use swim_control::{ReloadText, StatsText};
 use swim_desk::Speaker;
 
 /// What a crew asks, and what it sends by: where datagrams come in; where they go out, by two posts of the ticker; what
@@ -16,6 +16,10 @@ pub struct Mute {}
 impl Speaker for Mute {
     fn stats<R: Wait>(&self, _rt: &R) -> StatsText {
         StatsText::new()
+    }
+
+    fn reload<R: Wait>(&mut self, _rt: &R) -> ReloadText {
+        ReloadText::new()
     }
 
     fn tell<R: Wait>(&mut self, _rt: &R, _turned_away: u64) {}

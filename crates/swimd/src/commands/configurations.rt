@@ -1,7 +1,7 @@
 //! The configuration that a daemon runs with, in a file.
 
 ghost use Rattle.std.specs.Prelude.{◌≡◌, [], MatchResult};
-ghost use Rattle.swimd.specs.Daemon.{IsConfiguration, IsNoConfiguration};
+ghost use Rattle.swimd.specs.Daemon.{IsConfiguration, IsNoConfiguration, IsWritten};
 ghost use Rattle.swim_commands.specs.Details.{Explains};
 
 use crate::commands::documents::Documents;
@@ -23,7 +23,25 @@ pub fn configuration<X: Documents>(
     ensures details { MatchResult result (λ config. details.new ≡ []) (λ outcome. Explains outcome details.new) }
 {
     let mut text = ArrayVec::<u8, INPUT_BYTES>::new();
-    if let Err(why) = documents.read_text(path, &mut text) {
+    read_configuration(alloc, documents, path, &mut text, details)
+}
+
+/// The same, with the file's text.
+pub fn read_configuration<X: Documents>(
+    alloc: Global,
+    documents: &mut X,
+    path: &str,
+    text: &mut ArrayVec<u8, INPUT_BYTES>,
+    details: &mut Details,
+) -> Result<Config, Outcome>
+    requires text { text.old.items ≡ [] }
+    requires details { details.old ≡ [] }
+    ensures read { MatchResult result
+        (IsWritten path.now text.new.items (X.read documents.old) (X.read documents.new))
+        (IsNoConfiguration path.now (X.read documents.old) (X.read documents.new)) }
+    ensures details { MatchResult result (λ config. details.new ≡ []) (λ outcome. Explains outcome details.new) }
+{
+    if let Err(why) = documents.read_text(path, text) {
         details.add_of(path, why);
         return Err(Outcome::Unread);
     }

@@ -1,6 +1,7 @@
 //! What a daemon counts, as it is told to whoever asks for it, and in the metrics' file.
 
-ghost use Rattle.std.specs.Prelude.{◌≡◌, IfSome, codes};
+ghost use Rattle.std.specs.Prelude.{◌≡◌, ◌≤◌, IfSome, codes, length, map};
+ghost use Rattle.swim_config.specs.Fingerprints.{fingerprint_of};
 ghost use Rattle.swimd.specs.Figures.{IsOutside, IsStats};
 
 use crate::counting::text_sinks::TextSink;
@@ -10,8 +11,10 @@ use crate::telling::refusals::Refusals;
 use crate::telling::strangers::{StrangerCounts, Strangers};
 use std::sync::Wait;
 use swim_commands::VERSION;
-use swim_config::Config;
+use swim_config::{Config, fingerprint};
 use swim_control::StatsText;
+use swim_guard::RingKeys;
+use swim_keys::{GroupKey, MOST_KEYS};
 use swim_metrics::{FileFigures, Fingerprints, Measures, Outside, put_stats};
 use swim_wire::Id;
 
@@ -64,12 +67,12 @@ impl Counters {
     }
 
     /// What was counted by now, as it is told to an operator: lines, and a dot in the last one. Beside that, how journal
-    /// files stand, where lives have some.
-    pub fn stats<R: Wait>(&self, rt: &R, files: Option<FileFigures>) -> StatsText
-        ensures { IsStats self.now.facts files result.items }
+    /// files stand, where lives have some, and which keys are in force.
+    pub fn stats<R: Wait>(&self, rt: &R, files: Option<FileFigures>, keys: &RingKeys) -> StatsText
+        ensures { IsStats self.now.facts files keys.now.items result.items }
     {
         let mut sink = TextSink::new();
-        if let Some(figures) = self.figures(rt, files) {
+        if let Some(figures) = self.figures(rt, files, keys) {
             if put_stats(&mut sink, figures.measures(), &figures.outside()) {
                 return sink.into_text();
             }
@@ -77,17 +80,23 @@ impl Counters {
         no_stats()
     }
 
-    /// What was counted by now, with how journal files stand. `None` before the first life.
-    pub fn figures<R: Wait>(&self, rt: &R, files: Option<FileFigures>) -> Option<Figures>
+    /// What was counted by now, with how journal files stand and which keys are in force. `None` before the first life.
+    pub fn figures<R: Wait>(
+        &self,
+        rt: &R,
+        files: Option<FileFigures>,
+        keys: &RingKeys,
+    ) -> Option<Figures>
         ensures facts { IfSome result (λ figures. figures.facts ≡ self.now.facts) }
         ensures files { IfSome result (λ figures. figures.files ≡ files) }
+        ensures keys { IfSome result (λ figures. figures.fingerprints.items ≡ map fingerprint_of keys.now.items) }
     {
         Some(Figures {
             counted: self.bulletin.counted(rt)?,
             strangers: self.strangers.counts(),
             unwritten: self.bulletin.unwritten(),
-            fingerprints: Fingerprints::new(),
             files,
+            fingerprints: fingerprints_of(keys.as_slice()),
             facts: self.facts,
         })
     }
@@ -140,6 +149,18 @@ impl Figures {
             files: self.files,
         }
     }
+}
+
+/// The fingerprints of these keys, in their order.
+fn fingerprints_of(keys: &[GroupKey]) -> Fingerprints
+    requires { length keys.now ≤ MOST_KEYS }
+    ensures { result.items ≡ map fingerprint_of keys.now }
+{
+    let mut fingerprints = Fingerprints::new();
+    for key in keys {
+        fingerprints.push(fingerprint(key));
+    }
+    fingerprints
 }
 
 /// Where nothing was counted yet: no lines, and a dot.

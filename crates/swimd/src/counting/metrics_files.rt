@@ -75,7 +75,6 @@ impl<'r, R: Files<File = File>> MetricsFiles<'r, R> {
 
     /// Writes the metrics file of that path anew, beside it, and then renames it to it, so that nobody reads half of
     /// it. It takes the place of nothing but a metrics file, by whatever name the path calls what lies there.
-    #[tactic(auto, using(swim_trail::specs::Noted::map_more))]
     pub fn write(
         &mut self,
         path: &str,

@@ -1,38 +1,38 @@
-//! A sink that keeps a text of counts.
+//! A sink that keeps a text.
 
 ghost use Rattle.std.specs.Prelude.{◌≡◌, [], Some};
 ghost use Rattle.swim_text.specs.Streams.{Puts, failures_if};
 
-use swim_control::StatsText;
+use arrayvec::ArrayVec;
 use swim_text::Sink;
 
 /// A sink that keeps what it is given, as long as there is room.
 #[derive(Drop)]
-pub struct TextSink {
-    text: StatsText,
+pub struct TextSink<const BYTES: usize> {
+    text: ArrayVec<u8, BYTES>,
     failures: u64,
 }
 
-impl TextSink {
+impl<const BYTES: usize> TextSink<BYTES> {
     /// It was given nothing yet.
-    pub fn new() -> TextSink
+    pub fn new() -> TextSink<BYTES>
         ensures { result.text.items ≡ [] }
     {
         TextSink {
-            text: StatsText::new(),
+            text: ArrayVec::new(),
             failures: 0,
         }
     }
 
     /// What it was given.
-    pub fn into_text(self) -> StatsText
-        ensures { result ≡ self.text }
+    pub fn into_text(self) -> ArrayVec<u8, BYTES>
+        ensures { result ≡ self.entry.text }
     {
         self.text
     }
 }
 
-impl Sink for TextSink {
+impl<const BYTES: usize> Sink for TextSink<BYTES> {
     ghost written = { λ s. Some s.text.items };
 
     ghost failures = { λ s. s.failures };

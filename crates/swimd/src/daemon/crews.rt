@@ -7,6 +7,7 @@ ghost use Rattle.swimd.specs.DaemonLives.{at_receiving, at_ticking, none_connect
 
 use crate::counting::counters::Counters;
 use crate::counting::metrics_times::MetricsTimes;
+use crate::daemon::reloading::Reloading;
 use crate::journals::journal_files::JournalFile;
 use crate::telling::chroniclers::Chronicler;
 use crate::telling::clerks::Clerk;
@@ -28,7 +29,6 @@ use swim_devices::{
 };
 use swim_events::{Entrance, Gallery};
 use swim_guard::{ClockTimepiece, FencedLine, SealedLine, SealedPost};
-use swim_keys::Keys;
 use swim_receiver::{Receiver, Returning};
 use swim_recorder::{JournalRecorder, Reporter};
 use swim_text::Sink;
@@ -39,7 +39,7 @@ use swim_work::{Line, Pace, Post, TidingsBoard};
 /// key of the group. Of both is noted how many there were.
 pub type GuardedLine<'g, R> = NotingLine<
     'g,
-    SealedLine<'g, NotingLine<'g, FencedLine<UdpLine<'g>, ClockTimepiece<&'g R>>>>,
+    SealedLine<'g, NotingLine<'g, FencedLine<'g, UdpLine<'g>, ClockTimepiece<&'g R>>>>,
 >;
 
 /// By which it sends, with a tag where the group has keys.
@@ -71,7 +71,7 @@ pub struct Shared<'g, R> {
     pub rt: &'g R,
     pub alloc: Global,
     pub endpoint: &'g UdpEndpoint,
-    pub keys: &'g Option<Keys>,
+    pub reloading: Reloading<'g>,
     pub counters: &'g Counters,
     pub board: &'g TidingsBoard,
 }
@@ -121,13 +121,14 @@ impl<'g, R: Files<File = File> + Net + Clock + Wait> Shared<'g, R> {
             (⟦<GuardedPost<'g> as Post>⟧.posted (box_value receiver).post) ≡ none_received) }
     {
         let strangers = &self.counters.strangers;
+        let book = self.reloading.book;
         let timepiece = ClockTimepiece::new(self.rt);
-        let line = FencedLine::new(self.endpoint.line(), timepiece, config.fence);
+        let line = FencedLine::new(self.endpoint.line(), timepiece, book);
         let line = NotingLine::new(line, &strangers.fenced);
-        let line = SealedLine::new(line, self.keys.as_ref());
+        let line = SealedLine::new(line, book);
         let receiver = Receiver {
             line: NotingLine::new(line, &strangers.forged),
-            post: SealedPost::new(self.endpoint.post(), self.keys.as_ref()),
+            post: SealedPost::new(self.endpoint.post(), book),
             returning: Returning::new(rejoin_of(config), config.opening.me()),
             board: self.board,
         };
@@ -144,10 +145,11 @@ impl<'g, R: Files<File = File> + Net + Clock + Wait> Shared<'g, R> {
             (⟦<GuardedPost<'g> as Post>⟧.posted (box_value ticker).knock_post)
             (box_value ticker).rejoin (box_value ticker).knocks ≡ none_ticked (rejoin_of config.now)) }
     {
+        let book = self.reloading.book;
         let ticker = Ticker {
             pace: SleepingPace::new(ClockSleeper::new(self.rt), config.tick_ms),
-            post: SealedPost::new(self.endpoint.post(), self.keys.as_ref()),
-            knock_post: SealedPost::new(self.endpoint.post(), self.keys.as_ref()),
+            post: SealedPost::new(self.endpoint.post(), book),
+            knock_post: SealedPost::new(self.endpoint.post(), book),
             rejoin: rejoin_of(config),
             knocks: 0,
             board: self.board,
@@ -165,7 +167,15 @@ impl<'g, R: Files<File = File> + Net + Clock + Wait> Shared<'g, R> {
     ) -> Result<Box<Controller<D, LogSpeaker<'g, 'g, R, G>>>, AllocError>
         ensures { IfOk result (λ controller. (box_value controller).hall.connections ≡ none_connected) }
     {
-        let speaker = LogSpeaker::new(self.rt, self.alloc, self.counters, metrics, log, is_quiet);
+        let speaker = LogSpeaker::new(
+            self.rt,
+            self.alloc,
+            self.reloading,
+            self.counters,
+            metrics,
+            log,
+            is_quiet,
+        );
         let controller = Controller {
             alloc: self.alloc,
             hall: Hall::new(self.alloc, door),

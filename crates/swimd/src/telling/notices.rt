@@ -98,11 +98,24 @@ impl Notice {
             opening.rows().len(),
             period_ms
         );
-        if !config.keys.as_slice().is_empty() {
-            let _is_added = notice.write_str(" keys");
-        }
-        notice.add_keys(config.keys.as_slice());
+        notice.add_ring(config.keys.as_slice());
         notice
+    }
+
+    /// That a configuration file was read again, and the fingerprints of the group's keys by then, if it has some.
+    pub fn reloaded<K: Clock>(clock: &K, path: &str, keys: &[GroupKey]) -> Notice {
+        let mut notice = Notice::begun(clock);
+        let _is_added = write!(notice, "reloaded {path}");
+        notice.add_ring(keys);
+        notice
+    }
+
+    /// Adds which keys there are, if there are some.
+    fn add_ring(&mut self, keys: &[GroupKey]) {
+        if !keys.is_empty() {
+            let _is_added = self.write_str(" keys");
+        }
+        self.add_keys(keys);
     }
 
     /// Adds the fingerprints of these keys, in their order, each behind a space.

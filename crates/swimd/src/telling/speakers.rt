@@ -3,6 +3,7 @@
 
 use crate::counting::counters::Counters;
 use crate::counting::metrics_times::MetricsTimes;
+use crate::daemon::reloading::{Reloaded, Reloading};
 use crate::journals::file_faults::words_for;
 use crate::telling::clerks::Clerk;
 use crate::telling::happenings::tell_changes;
@@ -15,7 +16,7 @@ use std::net::Net;
 use std::rt::{Clock, Files};
 use std::sync::Wait;
 use std::time::{Duration, Instant};
-use swim_control::StatsText;
+use swim_control::{ReloadText, StatsText};
 use swim_desk::Speaker;
 use swim_disk::MOST_FILES;
 use swim_metrics::{OddCount, OddMessage};
@@ -95,6 +96,7 @@ impl Telling {
 pub struct LogSpeaker<'s, 'r, R, G: Sink + Clerk + Drop> {
     rt: &'r R,
     alloc: Global,
+    reloading: Reloading<'s>,
     counters: &'s Counters,
     metrics: MetricsTimes,
     log: G,
@@ -110,10 +112,11 @@ pub struct LogSpeaker<'s, 'r, R, G: Sink + Clerk + Drop> {
 }
 
 impl<'s, 'r, R: Files<File = File> + Net + Clock, G: Sink + Clerk + Drop> LogSpeaker<'s, 'r, R, G> {
-    /// One who tells in the log and in the metrics' file.
+    /// One who tells in the log and in the metrics' file, and has the configuration read again.
     pub fn new(
         rt: &'r R,
         alloc: Global,
+        reloading: Reloading<'s>,
         counters: &'s Counters,
         metrics: MetricsTimes,
         log: G,
@@ -122,6 +125,7 @@ impl<'s, 'r, R: Files<File = File> + Net + Clock, G: Sink + Clerk + Drop> LogSpe
         LogSpeaker {
             rt,
             alloc,
+            reloading,
             counters,
             metrics,
             log,
@@ -159,6 +163,15 @@ impl<'s, 'r, R: Files<File = File> + Net + Clock, G: Sink + Clerk + Drop> LogSpe
         self.tell_unwritten(rt);
         for _file in 0..=MOST_FILES {
             self.tell_lost(rt);
+        }
+    }
+
+    /// Tells that the configuration was read again, and which keys are in force.
+    fn tell_reloaded<W: Wait>(&mut self, rt: &W) {
+        if !self.is_quiet {
+            let keys = self.reloading.keys(rt);
+            let notice = Notice::reloaded(self.rt, self.reloading.path, keys.as_slice());
+            notice.tell_notice(self.rt, self.alloc, &mut self.log);
         }
     }
 
@@ -227,7 +240,8 @@ impl<'s, 'r, R: Files<File = File> + Net + Clock, G: Sink + Clerk + Drop> LogSpe
 
     /// Has the metrics file written, once something was counted.
     fn tell_metrics<W: Wait>(&mut self, rt: &W) {
-        let Some(figures) = self.counters.figures(rt, self.log.files(rt)) else {
+        let keys = self.reloading.keys(rt);
+        let Some(figures) = self.counters.figures(rt, self.log.files(rt), &keys) else {
             return;
         };
         if let Some(path) = self.metrics.path_now(self.rt) {
@@ -258,7 +272,16 @@ impl<'s, 'r, R: Files<File = File> + Net + Clock, G: Sink + Clerk + Drop> LogSpe
 impl<'s, 'r, R: Files<File = File> + Net + Clock, G: Sink + Clerk + Drop> Speaker
     for LogSpeaker<'s, 'r, R, G> {
     fn stats<W: Wait>(&self, rt: &W) -> StatsText {
-        self.counters.stats(rt, self.log.files(rt))
+        let keys = self.reloading.keys(rt);
+        self.counters.stats(rt, self.log.files(rt), &keys)
+    }
+
+    fn reload<W: Wait>(&mut self, rt: &W) -> ReloadText {
+        let Reloaded { line, is_taken } = self.reloading.reload(self.rt, rt, self.alloc);
+        if is_taken {
+            self.tell_reloaded(rt);
+        }
+        line
     }
 
     fn tell<W: Wait>(&mut self, rt: &W, turned_away: u64) {

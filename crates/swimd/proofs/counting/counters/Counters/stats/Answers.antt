@@ -10,6 +10,7 @@ returns-then-put_stats g c =
       out,
       c.in-Some.ensures.facts,
       c.in-Some.ensures.files,
+      c.in-Some.ensures.keys,
       c.outside.ensures,
       ap (λ t. t.items) c.into_text.ensures ∙
           (c.if-put_stats.ensures.bytes
