@@ -4,6 +4,7 @@ changed is told, and a file with a fault changes nothing."""
 import hashlib
 import os
 import re
+import threading
 
 from tests.support.daemons import must, stop_all, until
 from tests.support.datagrams import ACK, PING, datagram
@@ -94,16 +95,40 @@ def came(peer):
     return count
 
 
+class Load:
+    """A stranger who has the new key and pings each daemon some hundred times a second, until it is over."""
+
+    def __init__(self, peer, daemons):
+        self.peer, self.daemons, self.answers = peer, daemons, 0
+        self.over, self.thread = threading.Event(), threading.Thread(target=self.send_on, daemon=True)
+
+    def __enter__(self):
+        self.thread.start()
+        return self
+
+    def __exit__(self, *_):
+        self.over.set()
+        self.thread.join()
+
+    def send_on(self):
+        number = 0
+        while not self.over.wait(0.005):
+            number += 1
+            for it in self.daemons:
+                ping(self.peer, it, SECOND, number)
+            self.answers += came(self.peer)
+
+
 def keys_are_changed_over_by_reloads(machine):
-    """In a group of five, in three steps, in each of which one member after the other reads its file again: nobody is
-    judged, nothing is thrown away, and no daemon was started anew."""
+    """In a group of five under load, in three steps, in each of which one member after the other reads its file again:
+    nobody is judged, nothing is thrown away, and no daemon was started anew."""
     daemons = machine.group(5, keys=key_texts(FIRST), tick_ms=50)
     started = [it.child.pid for it in daemons]
-    for ring in STEPS:
-        for it in daemons:
-            reload(it, keys=key_texts(*ring))
-            must_have(it, ring)
-        must_stay_up(daemons, PERIODS)
+    change_over(daemons, STEPS[0])
+    with Load(machine.socket(), daemons) as load:
+        for ring in STEPS[1:]:
+            change_over(daemons, ring)
+    must(load.answers > 0, "no ping of the load is answered")
     must([it.child.pid for it in daemons] == started, "a daemon was started anew")
     for it in daemons:
         other = 1 if it.id != 1 else 2
@@ -120,6 +145,14 @@ def keys_are_changed_over_by_reloads(machine):
             f"reloaded {it.file} keys " + " ".join(fingerprint(key).decode() for key in ring) for ring in STEPS
         ]
         must(found == wanted, f"member {it.id} tells {found}, and not {wanted}")
+
+
+def change_over(daemons, ring):
+    """One after the other takes these keys over, and then nobody is judged for some periods."""
+    for it in daemons:
+        reload(it, keys=key_texts(*ring))
+        must_have(it, ring)
+    must_stay_up(daemons, PERIODS)
 
 
 def the_next_datagram_has_the_new_keys(machine):
