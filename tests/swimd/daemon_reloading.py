@@ -47,9 +47,14 @@ def fingerprint(key):
     return hashlib.sha256(key).hexdigest()[:8].encode()
 
 
+def stats_of(daemon):
+    """What it counted, once it tells something: in its first moments that is a dot alone."""
+    return until(lambda: daemon.ask(b"stats\n")[:-2], f"member {daemon.id} tells what it counted")
+
+
 def must_have(daemon, ring):
     """By its own word these keys are in force, in this order."""
-    found = FINGERPRINT.findall(daemon.ask(b"stats\n"))
+    found = FINGERPRINT.findall(stats_of(daemon))
     wanted = [(b"%d" % place, fingerprint(key)) for place, key in enumerate(ring, 1)]
     must(found == wanted, f"member {daemon.id} tells the keys {found}, and not {wanted}")
 
@@ -133,7 +138,7 @@ def keys_are_changed_over_by_reloads(machine):
     for it in daemons:
         other = 1 if it.id != 1 else 2
         until(lambda: was_probed(it, other), f"member {it.id} probes member {other} twice")
-        judged = re.findall(rb"(?m)^swimd_member_verdicts_total\{.*\} (\d+)$", it.ask(b"stats\n"))
+        judged = re.findall(rb"(?m)^swimd_member_verdicts_total\{.*\} (\d+)$", stats_of(it))
         must(judged == [b"0"] * 4, f"member {it.id} judged so often: {judged}")
     for it, closing in zip(daemons, stop_all(daemons)):
         # Of those that are stopped later some may judge one that was stopped before.
