@@ -5,6 +5,7 @@ import hashlib
 import os
 import re
 import threading
+import time
 
 from tests.support.daemons import must, stop_all, until
 from tests.support.datagrams import ACK, PING, datagram
@@ -20,6 +21,9 @@ FINGERPRINT = re.compile(rb'^swimd_key\{member="\d+",place="(\d)",fingerprint="(
 PERIODS = 4
 # A fence of so many lets a burst of as many in, and in the second in which they are sent as many more.
 RATE, PINGS = 5, 40
+# So many reloads an operator sends at once, a list is answered within so many seconds meanwhile, and so often a file is
+# read that is being written.
+MANY, AT_ONCE, HALVES = 2_000, 2, 300
 # Each key whose value the daemon takes from a start alone, with another value; in the order in which they are told.
 OTHERS = {
     "id": 7,
@@ -290,6 +294,56 @@ def places_without_a_file(peer, daemon, number):
             os.remove(daemon.file)
 
 
+def many_reloads_at_once(machine):
+    """Five operators send two thousand of them each, as fast as they are answered: others are answered meanwhile, and
+    nobody is judged."""
+    daemons = machine.group(3, keys=key_texts(FIRST, SECOND), tick_ms=50)
+    answers, longest = [], 0
+    ask_on = lambda: answers.append(daemons[0].ask(b"reload\n" * MANY))
+    threads = [threading.Thread(target=ask_on, daemon=True) for _ in range(5)]
+    for it in threads:
+        it.start()
+    while any(it.is_alive() for it in threads):
+        began = time.monotonic()
+        must(daemons[0].states() == {2: "up", 3: "up"}, "it judges somebody meanwhile")
+        longest = max(longest, time.monotonic() - began)
+        # Nobody else reads what it tells of each.
+        daemons[0].told_so_far()
+    must(answers == [RELOADED * MANY] * 5, f"it answers {[it[:100] for it in answers]}")
+    must(longest < AT_ONCE, f"meanwhile a list takes {longest} seconds")
+    must_stay_up(daemons, PERIODS)
+    for closing in stop_all(daemons):
+        must_be_quiet(closing, 0)
+
+
+def a_file_that_is_being_written(machine):
+    """Who doesn't rename it into its place may have half of it read: that has a fault here, and changes nothing."""
+    daemon, over, answers = machine.started(1, keys=key_texts(FIRST)), threading.Event(), set()
+    with open(daemon.file, encoding="utf-8") as file:
+        text = file.read()
+    half = text.index("rtt")
+
+    def write_on():
+        while not over.is_set():
+            with open(daemon.file, "w", encoding="utf-8") as file:
+                file.write(text[:half])
+                file.flush()
+                time.sleep(0.001)
+                file.write(text[half:])
+
+    thread = threading.Thread(target=write_on, daemon=True)
+    thread.start()
+    for _ in range(HALVES):
+        answers.add(daemon.ask(b"reload\n"))
+        must_have(daemon, [FIRST])
+    over.set()
+    thread.join()
+    faults = {b"configuration 4 id\n", b"configuration 4 rtt\n"}
+    must(answers <= {RELOADED, *faults}, f"it answers {answers}")
+    reload(daemon)
+    must(daemon.stop().status == 0, "it ended otherwise")
+
+
 def words_behind_it(machine):
     """`reload` stands alone in its line, and a quiet daemon tells nothing of it."""
     daemon = machine.started(1, how={"words": ["--quiet"]})
@@ -305,5 +359,7 @@ RELOADING = [
     other_keys_need_a_start,
     the_last_number_by_the_clock,
     a_refused_file_changes_nothing,
+    many_reloads_at_once,
+    a_file_that_is_being_written,
     words_behind_it,
 ]
