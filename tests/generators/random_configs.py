@@ -16,7 +16,7 @@ MODES = ["control_mode", "events_mode"]
 STRINGS = ["listen", "seed", "at", *PATHS, *MODES]
 # Keys that may be left out, with values.
 OPTIONAL = {"last": "0", "wire": "2", "keys": f"['{'0fA9' * 16}']", "journal_dir": "'files'", "journal_keep": "3"}
-OPTIONAL.update(fence="7", rejoin="3", events="'events'", metrics="'metrics'")
+OPTIONAL.update(fence="7", rejoin="3", events="'events'", metrics="'metrics'", journal_ms="1")
 OPTIONAL.update(control_mode="'0660'", events_mode='"0606"')
 # A brace that isn't closed in its line could be one of a newer TOML where the text around it is changed.
 PRINTABLE = "".join(map(chr, range(0x20, 0x7F))).replace("{", "")
@@ -32,6 +32,7 @@ UNKNOWN = [
     "journal_dirs",
     "journal-keep",
     "journal.dir",
+    "journal_mss",
     "name",
     "ID",
     "members",
@@ -121,6 +122,8 @@ class Config:
             values["wire"] = r.choice([1, 2])
         if r.random() < 0.3:
             values["journal_keep"] = r.choice([0, 1, 16, 10**6, LARGEST_ID])
+        if r.random() < 0.3:
+            values["journal_ms"] = r.choice([0, 1])
         if r.random() < 0.6:
             values["fence"] = r.choice([0, 0, 1, 10, 1_000, 10**6, LARGEST_ID])
         if r.random() < 0.4:

@@ -38,6 +38,7 @@ TOP = [
     Key("rejoin", "integer", (0, 65_535), 0, "periods between knocks at failed members, 0 for none"),
     Key("journal_dir", "path", (), "", "the folder of the journal files, not the path of another key"),
     Key("journal_keep", "integer", (0, LARGEST_ID), 16, "how many journal files stay, 0 for all"),
+    Key("journal_ms", "integer", (0, 1), 0, "times in journal files: 0 in seconds, 1 with milliseconds"),
     Key("member", "members", (), [], "the other members, at most 128"),
 ]
 MEMBER = [

@@ -235,7 +235,8 @@ def summary(config):
     paths = [key for key in ("events", "metrics") if config[key] != ""]
     paths += [*config["modes_given"], *["journal_dir"] * files]
     lines = [f"{key} {config[key]}" for key in ("id", "listen", "control", *paths)]
-    lines += [numbers, *[f"journal_keep {config['journal_keep']}"] * files]
+    times = " journal_ms 1" if config["journal_ms"] == 1 else ""
+    lines += [numbers, *[f"journal_keep {config['journal_keep']}{times}"] * files]
     lines += [*(f"key {fingerprint(key)}" for key in config["keys"]), f"members {len(config['member'])}"]
     return "".join(f"{line}\n" for line in lines + [f"{id} {at}" for id, at in sorted(config["member"])])
 

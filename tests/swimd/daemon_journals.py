@@ -166,30 +166,69 @@ def restarts_are_verified_together(machine):
     must(found == firsts[1:], f"of the starts {firsts} it tells {found}")
 
 
-def comments_tell_the_time(machine):
-    """Behind the first line the program, its version and the time; behind each started period the seconds, and nowhere
-    else."""
+def probed_for_a_while(machine, **more):
+    """When pings came in, by their numbers, at a member that answers them; when its daemon began; and the lines of the
+    daemon's file."""
     member, arrivals = machine.socket(), {}
     began = time.time()
-    daemon = machine.started(members=[(2, member.getsockname()[1])], k=0, rtt=1, period=3, tick_ms=100)
+    daemon = machine.started(members=[(2, member.getsockname()[1])], k=0, rtt=1, period=3, tick_ms=100, **more)
     while time.time() < began + 3:
         number = fields(member.recv(100))[4]
         arrivals[number] = time.time()
         member.sendto(datagram(ACK, 2, 1, 2, number), daemon.address)
     daemon.stop()
-    lines = journals(machine.journals)[0].text.decode().splitlines()
+    return arrivals, began, journals(machine.journals)[0].text.decode().splitlines()
+
+
+def starts_of(lines):
+    """The places of the lines of started periods. Behind each stands a comment, and elsewhere none but the first."""
+    started = [at for at, line in enumerate(lines) if re.match(r"= \d+ started", line)]
+    must({at for at, line in enumerate(lines) if line.startswith("#")} == {1, *(at + 1 for at in started)},
+         "comments stand elsewhere")
+    return started
+
+
+def comments_tell_the_time(machine):
+    """Behind the first line the program, its version and the time; behind each started period the seconds, and nowhere
+    else."""
+    arrivals, began, lines = probed_for_a_while(machine)
     version = subprocess.run([machine.program, "--version"], capture_output=True, text=True,
                              timeout=SECONDS).stdout.strip()
     found = re.fullmatch(rf"# {re.escape(version)} ({TIME.decode()})", lines[1])
     must(found, f"behind the first line stands {lines[1]!r}, and the version is {version!r}")
     at = datetime.datetime.strptime(found[1], "%Y-%m-%dT%H:%M:%S.%fZ").replace(tzinfo=datetime.timezone.utc).timestamp()
     must(abs(at - began) < OFF, f"the file is of {at}, and the daemon began at {began}")
-    started = [at for at, line in enumerate(lines) if re.match(r"= \d+ started", line)]
-    must({at for at, line in enumerate(lines) if line.startswith("#")} == {1, *(at + 1 for at in started)},
-         "comments stand elsewhere")
-    times = {int(lines[at].split()[-1]): int(lines[at + 1][2:]) for at in started}
+    times = {int(lines[at].split()[-1]): int(lines[at + 1][2:]) for at in starts_of(lines)}
     off = [times[number] - at for number, at in arrivals.items()]
     must(len(off) >= 5 and all(abs(it) < OFF for it in off), f"the times of periods are off by {off}")
+
+
+def comments_tell_milliseconds(machine):
+    """With `journal_ms = 1` each of these times has three digits behind a point. Those of successive periods are a period
+    apart, which whole seconds couldn't tell."""
+    arrivals, _, lines = probed_for_a_while(machine, journal_ms=1)
+    told = {int(lines[at].split()[-1]): lines[at + 1] for at in starts_of(lines)}
+    must(all(re.fullmatch(r"# (0|[1-9]\d*)\.\d{3}", it) for it in told.values()), f"comments are {told}")
+    must(len({it[-3:] for it in told.values()}) > 2, f"the milliseconds of all are alike: {told}")
+    times = {number: float(it[2:]) for number, it in told.items()}
+    off = [times[number] - at for number, at in arrivals.items()]
+    must(len(off) >= 5 and all(abs(it) < OFF for it in off), f"the times of periods are off by {off}")
+    apart = sorted(times[number + 1] - times[number] for number in times if number + 1 in times)
+    must(apart and 0.2 < apart[len(apart) // 2] < 0.4, f"periods of 0.3 s are {apart} apart")
+
+
+def a_verdict_tells_milliseconds(machine):
+    """The line of a judgement has the time of its probe as the comment has it."""
+    daemon = machine.started(members=[(2, 9)], k=0, rtt=1, period=3, tick_ms=20, journal_ms=1)
+    until(lambda: "failed" in daemon.states().values(), "member 2 is judged")
+    daemon.stop()
+    file = journals(machine.journals)[0]
+    ran = subprocess.run([machine.simulator, "--verify", file.path], capture_output=True, text=True, timeout=SECONDS)
+    found = re.search(r"^judged 2 in period (\d+): probed at entry (\d+) \((\d+\.\d{3})\),", ran.stdout, re.MULTILINE)
+    must(ran.returncode == 0 and found, f"it tells {ran}")
+    number, entry, told = found.groups()
+    line = f"\n= {entry} started judged - probe 2 {number}\n# {told}\n".encode()
+    must(line in file.text, f"{line!r} isn't in the file")
 
 
 def a_call_is_soon_in_its_file(machine):
@@ -346,6 +385,8 @@ JOURNALS = [
         a_life_begins_with_what_was_left,
         restarts_are_verified_together,
         comments_tell_the_time,
+        comments_tell_milliseconds,
+        a_verdict_tells_milliseconds,
         a_call_is_soon_in_its_file,
         a_player_of_ones_own,
         killed_at_any_moment,

@@ -1,5 +1,5 @@
-"""A daemon that reads its configuration file again: its keys and its fence are taken over while it runs, what else
-changed is told, and a file with a fault changes nothing."""
+"""A daemon that reads its configuration file again: its keys and its fence are taken over while it runs, what needs a
+start is told, and a file with a fault changes nothing. daemon_rules.py has `rejoin`."""
 
 import hashlib
 import os
@@ -41,9 +41,9 @@ OTHERS = {
     "journal": 999_999,
     "last": 5,
     "wire": 2,
-    "rejoin": 3,
     "journal_dir": "/tmp/journals",
     "journal_keep": 3,
+    "journal_ms": 1,
 }
 
 
@@ -211,7 +211,7 @@ def other_keys_need_a_start(machine):
     values, members = dict(daemon.values), daemon.members
     for key, other in OTHERS.items():
         daemon.values = dict(values)
-        if key in ("events_mode", "journal_keep"):
+        if key in ("events_mode", "journal_keep", "journal_ms"):
             # They say something of another key's path, and are told all the same.
             must(key not in values, f"{key} is given")
         reload(daemon, b"reloaded; %s needs a start\n" % key.encode(), **{key: other})
@@ -220,7 +220,7 @@ def other_keys_need_a_start(machine):
     daemon.members = [(2, 9), (3, 9)]
     reload(daemon, b"reloaded; member needs a start\n")
     must(sorted(daemon.table()) == [2], "a member of the file is listed without a start")
-    daemon.values = {**values, **OTHERS, "keys": key_texts(FIRST), "fence": 3}
+    daemon.values = {**values, **OTHERS, "keys": key_texts(FIRST), "fence": 3, "rejoin": 3}
     told = "".join(f"; {key} needs a start" for key in [*OTHERS, "member"])
     reload(daemon, f"reloaded{told}\n".encode())
     must_have(daemon, [FIRST])

@@ -103,9 +103,9 @@ def a_verdict_is_shown(machine):
     must(daemon.stop().status == 0, "the daemon ended otherwise")
 
 
-def judged_and_ended(machine, *words):
+def judged_and_ended(machine, **more):
     """A daemon that judged member 2 and ended, its journal file, and the number of the period."""
-    daemon = machine.started(members=[(2, "127.0.0.1:9")], k=0, rtt=1, period=3, tick_ms=20)
+    daemon = machine.started(members=[(2, "127.0.0.1:9")], k=0, rtt=1, period=3, tick_ms=20, **more)
     found = until(lambda: [it for it in daemon.table().values() if it.state.startswith("failed")], "it judges")
     must(daemon.stop().status == 0, "the daemon ended otherwise")
     (file,) = journals(daemon.values["journal_dir"], 1)
@@ -142,6 +142,18 @@ def a_verdict_is_explained(machine):
             must_answer(web, other, 404, b"no such page\n")
     with WebServer(machine, daemon.control) as web:
         must_answer(web, f"/verdicts/2/{number}", 404, b"no such verdict\n")
+
+
+def a_verdict_tells_milliseconds(machine):
+    """With `journal_ms = 1` the page has the probe's time with milliseconds, in both places."""
+    daemon, file, number = judged_and_ended(machine, journal_ms=1)
+    with WebServer(machine, daemon.control, "--journals", os.path.dirname(file.path)) as web:
+        text = must_answer(web, f"/verdicts/2/{number}", 200).body.decode()
+    line, _ = lines_on(machine, file.path, number)
+    must(f"<pre>{line}\n" in text, f"{line} isn't in the page {text[:2_000]}")
+    seconds, milliseconds = re.search(r" \((\d+)\.(\d{3})\)", line).groups()
+    began = datetime.datetime.fromtimestamp(int(seconds), datetime.timezone.utc)
+    must(f", {began:%Y-%m-%dT%H:%M:%S}.{milliseconds}Z</td>" in text, f"the probe's time isn't in {text[:2_000]}")
 
 
 def a_verdict_in_other_folders(machine):
@@ -313,6 +325,7 @@ PAGES = [
     the_page_and_its_policy,
     a_verdict_is_shown,
     a_verdict_is_explained,
+    a_verdict_tells_milliseconds,
     a_verdict_in_other_folders,
     events_are_passed_on,
     no_daemon_at_first,

@@ -33,6 +33,7 @@ def keys():
     table = FULL + "\n[[jurnal]]\nsize = 3\n"
     yield caused("an unknown table", table, "3", "found: jurnal; the nearest known key: journal", "line 19: [[jurnal]]")
     near = {"journal_dirs": "journal_dir", "journal-keep": "journal_keep", "journals": "journal"}
+    near["journal_mss"] = "journal_ms"
     near.update(wires="wire", wir="wire", Wire="wire", wier="wire")
     near.update(
         fences="fence", fenc="fence", Fence="fence", fnece="fence", event="events", Events="events", evetns="events"
@@ -132,6 +133,9 @@ def values():
     yield caused(
         "files in quotes", with_keys('journal_keep = "1"'), "5 journal_keep", keep, 'line 1: journal_keep = "1"'
     )
+    times = "expected: an integer from 0 to 1 (times in journal files: 0 in seconds, 1 with milliseconds)"
+    yield caused("a unit too many", with_keys("\njournal_ms = 2"), "6 journal_ms", times, "line 2: journal_ms = 2")
+    yield caused("a unit in words", with_keys("journal_ms = 'ms'"), "5 journal_ms", times, "line 1: journal_ms = 'ms'")
     text = with_value("control", '"""\\\nlisten = 1"""', replaced(LINES["listen"], "")) + ""
     hidden = text.replace("k = 1\n", "listen = 2 # \u00e9\nk = 1\n")
     yield caused("a key within a text", hidden, "5 listen", port, "line 4: listen = 2 # ??")

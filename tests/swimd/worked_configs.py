@@ -171,6 +171,28 @@ def files():
     yield bad("a folder of a member", FULL + 'journal_dir = "x"\n', "3")
 
 
+def times():
+    """The key of times in journal files: where it is 1, the line of `journal_keep` ends with it."""
+    told = lambda keep: with_summary("\nk 1 ", "\njournal_dir files\nk 1 ").replace(
+        "\nmembers", f"\njournal_keep {keep}\nmembers"
+    )
+    folder = 'journal_dir = "files"\n'
+    yield good("milliseconds", with_keys(folder + "journal_ms = 1"), told("16 journal_ms 1"))
+    yield good("milliseconds, and how many", with_keys(f"journal_ms = 0x1\n{folder}journal_keep = 3"),
+               told("3 journal_ms 1"))
+    yield good("seconds", with_keys(folder + "journal_ms = 0"), told("16"))
+    yield good("no folder, and milliseconds", with_keys("journal_ms = 1"), SUMMARY)
+    for text in ('"1"', "1.0", "true", "[1]"):
+        yield bad(f"`journal_ms` is {text}", with_keys(f"journal_ms = {text}"), "5 journal_ms")
+    for text in ("-1", "2", "1000", "9223372036854775807"):
+        yield bad(f"`journal_ms` is {text}", with_keys(f"journal_ms = {text}"), "6 journal_ms")
+    yield bad("how many before milliseconds", with_keys("journal_ms = 2\njournal_keep = -1"), "6 journal_keep")
+    yield bad("milliseconds before a member", with_keys("journal_ms = 2", with_member("id = 0")), "6 journal_ms")
+    for name in ("journal-ms", "journal_Ms", "journal_mss", "journal_milliseconds", "ms"):
+        yield bad(f"`{name}`", with_keys(f"{name} = 1"), "3")
+    yield bad("milliseconds of a member", FULL + "journal_ms = 1\n", "3")
+
+
 def versions():
     """Version 2 stands in the summary, at the end of the line of numbers; version 1, told or not, doesn't."""
     of_2 = with_summary("journal 1000\n", "journal 1000 wire 2\n")
@@ -378,5 +400,5 @@ def openings():
 
 
 def worked_configs():
-    for part in (accepted, files, versions, group_keys, fences, texts, keys, ranges, members, openings):
+    for part in (accepted, files, times, versions, group_keys, fences, texts, keys, ranges, members, openings):
         yield from part()

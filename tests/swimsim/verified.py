@@ -95,14 +95,24 @@ def of_version_2(file):
 
 
 def times():
-    """The time of a probe stands right behind the line of its start, and is a number and nothing else."""
+    """The time of a probe stands right behind the line of its start, and is a number and nothing else, or a number, a
+    point and three digits. It is told as it stands there."""
     at = lambda comment: [*HEAD, *WHOLE[4:6], *comment, *WHOLE[6:]]
-    timed = TELLS.replace("entry 0,", "entry 0 (1764072000),")
-    yield one("a time", at(["# 1764072000\n"]), 0, timed)
+    for time in (
+        "1764072000", "0", "18446744073709551615",
+        *(f"1764072000.{it}" for it in ("000", "007", "040", "123", "999")), "0.000", "18446744073709551615.999"
+    ):
+        timed = TELLS.replace("entry 0,", f"entry 0 ({time}),")
+        yield one(f"the time {time}", at([f"# {time}\n"]), 0, timed)
     for comment in (
         "#1764072000\n", "# 01764072000\n", "# 1764072000 \n", "# about 1764072000\n", "#\n", "# 18446744073709551616\n"
     ):
         yield one(f"no time: {comment!r}", at([comment]), 0, TELLS)
+    for time in (
+        *(f"1764072000{it}" for it in (".", ".1", ".12", ".1234", ".12x", ".x12", ". 12", ".-12", ",123", ".123 ", ".1.3")),
+        "01764072000.123", "18446744073709551616.000", ".123", " .123", "-1.123", "1764072000.123.123", "17640720 00.123"
+    ):
+        yield one(f"no time: {time!r}", at([f"# {time}\n"]), 0, TELLS)
     yield one("no time: a line between", at(["\n", "# 1764072000\n"]), 0, TELLS)
     yield one("no time: behind another line", [*HEAD, *WHOLE[4:8], "# 1764072000\n", *WHOLE[8:]], 0, TELLS)
     yield one("a time of the start that judged", [*WHOLE, "# 1764072003\n"], 0, TELLS)
@@ -161,8 +171,9 @@ def differences():
     yield one("a script", WHOLE[1:4] + [TICK], 1, "", foreign)
 
 
-def expected_of_front(text):
-    """What a front of WHOLE, with times, tells: calls are `tick` lines, and lines of answers are told rightly."""
+def expected_of_front(text, time):
+    """What a front of WHOLE, with times, tells: calls are `tick` lines, and lines of answers are told rightly. Where the
+    probe's judgement stands in it, so does its time."""
     whole = text[: text.rfind("\n") + 1]
     lines = whole.splitlines()
     answers = [line.split() for line in lines if line.startswith("= ")]
@@ -172,7 +183,7 @@ def expected_of_front(text):
     opened = any(line.startswith("open ") for line in lines)
     stdout = f"a: entries {calls} confirmed {len(answers)} periods {len(starts)} judged {len(judged)}\n"
     if judged:
-        stdout += EVIDENCE.replace("entry 0,", "entry 0 (1764072000),")
+        stdout += EVIDENCE.replace("entry 0,", f"entry 0 ({time}),")
     if text != whole or calls > len(answers) or not opened:
         stdout += f"cut behind entry {len(answers) - 1}\n" if answers else "cut before entry 0\n"
     return stdout
@@ -180,10 +191,12 @@ def expected_of_front(text):
 
 def cuts():
     """Two files, of either version, cut at each byte."""
-    text = "".join([*WHOLE[:6], "# 1764072000\n", *WHOLE[6:], "# 1764072003\n"])
-    for file, name in ((text, ""), (of_version_2(text), ", of version 2")):
-        for count in range(len(file) + 1):
-            yield one(f"cut behind {count} bytes{name}", [file[:count]], 0, expected_of_front(file[:count]))
+    for time, later in (("1764072000", "1764072003"), ("1764072000.123", "1764072003.124")):
+        text = "".join([*WHOLE[:6], f"# {time}\n", *WHOLE[6:], f"# {later}\n"])
+        for file, name in ((text, ""), (of_version_2(text), ", of version 2")):
+            for count in range(len(file) + 1):
+                front, what = file[:count], f"cut behind {count} bytes, with times as {time}{name}"
+                yield one(what, [front], 0, expected_of_front(front, time))
 
 
 CASES = [judgements, versions, times, differences, lives, starts, cuts]

@@ -6,4 +6,3 @@ pub mod Growing
 pub mod Indented
 pub mod Lines
 pub mod LineTexts
-pub mod Shelved

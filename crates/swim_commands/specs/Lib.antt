@@ -8,3 +8,4 @@ pub mod Watched
 pub mod Words
 pub mod Worked
 pub mod Shelves
+pub mod Looked

@@ -1,5 +1,5 @@
 -- What a configuration says: the values of its document's keys, or its first fault.
-use Rattle.std.specs.Prelude.{ℕ, ℤ, pos, negsuc, Bool, true, not, ◌&&◌, nat_lt, nat_le, List, [], ◌∷◌, length}
+use Rattle.std.specs.Prelude.{ℕ, ℤ, pos, negsuc, Bool, true, not, ◌&&◌, ◌==◌, nat_lt, nat_le, List, [], ◌∷◌, length}
 use Rattle.std.specs.Prelude.{Option, Some, None, is_some, Result, Ok, Err, if◌then◌else◌}
 use Rattle.std.specs.List.{list_all, list_any}
 use Rattle.std.specs.Option.{ok_or}
@@ -29,7 +29,9 @@ use Rattle.swim_config.specs.declared.config.Times.{Times}
 use Rattle.swim_config.specs.declared.config.JournalSettings.{JournalSettings}
 use Rattle.swim_config.specs.declared.config.FenceSettings.{FenceSettings}
 use Rattle.swim_config.specs.declared.config.Rejoin.{Rejoin}
-use Rattle.swim_config.specs.declared.config.JournalFiles.{JournalFiles}
+use Rattle.swim_config.specs.declared.journal_files.JournalFiles.{JournalFiles}
+use Rattle.swim_config.specs.declared.journal_files.TimeUnit.{TimeUnit}
+use Rattle.swim_config.specs.declared.journal_files.TimeUnit.TheVariants.{Seconds, Milliseconds}
 use Rattle.swim_config.specs.declared.config.Settings.{Settings}
 use Rattle.swim_config.specs.GroupKeys.{keys_at}
 use Rattle.swim_config.specs.Keys.{name_of, form_of, default_of, top_keys, member_keys}
@@ -232,12 +234,17 @@ version_in table = do
   wire ← number_at keys.Wire table
   Ok (version_of wire)
 
+-- the unit to which times are told in journal files
+abbrev pub unit_of : ℕ → TimeUnit
+unit_of number = if number == 0 then Seconds else Milliseconds
+
 -- where each life's journal is written to a file
 unfoldable pub files_in : OwnPlace → Members → Result JournalFiles ConfigFault
 files_in place table = do
   dir ← dir_at place table
   keep ← number_at keys.JournalKeep table
-  Ok (record { dir = dir; keep = keep })
+  ms ← number_at keys.JournalMs table
+  Ok (record { dir = dir; keep = keep; unit = unit_of ms })
 
 -- how many datagrams a second of an address are handed on
 unfoldable pub fence_in : Members → Result FenceSettings ConfigFault
@@ -322,6 +329,15 @@ config_in table = do
 abbrev pub told_keep : JournalFiles → Option ℕ
 told_keep files = if is_some files.dir then Some files.keep else None
 
+-- that times have milliseconds, where they do; the number of `journal_ms` that is its default goes without saying
+abbrev pub told_unit : TimeUnit → Option ℕ
+told_unit Seconds = None
+told_unit Milliseconds = Some 1
+
+-- the same where some files are made
+abbrev pub told_ms : JournalFiles → Option ℕ
+told_ms files = if is_some files.dir then told_unit files.unit else None
+
 -- the number of a version that isn't the first one
 abbrev pub told_version : Version → Option ℕ
 told_version One = None
@@ -356,6 +372,7 @@ number_of keys.Keys config = told_count (length config.keys.items)
 number_of keys.Fence config = told_fence config
 number_of keys.Rejoin config = told_rejoin config
 number_of keys.JournalKeep config = told_keep config.files
+number_of keys.JournalMs config = told_ms config.files
 number_of key config = None
 
 -- the table that the bytes are as a TOML document

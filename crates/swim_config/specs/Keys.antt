@@ -87,6 +87,14 @@ entry_of keys.JournalKeep =
       about = codes "how many journal files stay, 0 for all";
       begins_line = true;
     }
+entry_of keys.JournalMs =
+    record {
+      name = codes "journal_ms";
+      form = Number 0 1;
+      default = Some 0;
+      about = codes "times in journal files: 0 in seconds, 1 with milliseconds";
+      begins_line = false;
+    }
 entry_of keys.Member = required (codes "member") Members (codes "the other members, at most 128")
 entry_of keys.MemberId = required (codes "id") (Number 1 4294967295) (codes "another member")
 entry_of keys.MemberAt = required (codes "at") Peer (codes "where another member listens")
@@ -96,7 +104,7 @@ abbrev pub top_keys : List ConfigKey
 top_keys =
     keys.Id ∷ keys.Listen ∷ keys.Control ∷ keys.Events ∷ keys.Metrics ∷ keys.ControlMode ∷ keys.EventsMode ∷ keys.K ∷
     keys.Rtt ∷ keys.Period ∷ keys.TickMs ∷ keys.Seed ∷ keys.Journal ∷ keys.Last ∷ keys.Wire ∷ keys.Keys ∷ keys.Fence ∷
-    keys.Rejoin ∷ keys.JournalDir ∷ keys.JournalKeep ∷ keys.Member ∷ []
+    keys.Rejoin ∷ keys.JournalDir ∷ keys.JournalKeep ∷ keys.JournalMs ∷ keys.Member ∷ []
 
 abbrev pub member_keys : List ConfigKey
 member_keys = keys.MemberId ∷ keys.MemberAt ∷ []
@@ -105,7 +113,7 @@ member_keys = keys.MemberId ∷ keys.MemberAt ∷ []
 abbrev pub number_keys : List ConfigKey
 number_keys =
     keys.K ∷ keys.Rtt ∷ keys.Period ∷ keys.TickMs ∷ keys.Last ∷ keys.Journal ∷ keys.Wire ∷ keys.Keys ∷ keys.Fence ∷
-    keys.Rejoin ∷ keys.JournalKeep ∷ []
+    keys.Rejoin ∷ keys.JournalKeep ∷ keys.JournalMs ∷ []
 
 -- ---- what follows of a key
 

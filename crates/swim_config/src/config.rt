@@ -6,12 +6,13 @@ ghost use Rattle.swim_wire.specs.Layout.{version_of};
 ghost use Rattle.swim_config.specs.Configuration.{config_with, fence_in, files_in};
 ghost use Rattle.swim_config.specs.Configuration.{journal_settings_in, number_of, place_in, rejoin_in, settings_in};
 ghost use Rattle.swim_config.specs.Configuration.{times_in};
-ghost use Rattle.swim_config.specs.Configuration.{told_count, told_fence, told_keep, told_last, told_rejoin};
+ghost use Rattle.swim_config.specs.Configuration.{told_count, told_fence, told_last, told_rejoin};
 ghost use Rattle.swim_config.specs.Configuration.{told_version};
 ghost use Rattle.swim_config.specs.Configuration.{version_in};
 
 use crate::config_fault::ConfigFault;
 use crate::group_keys::{GroupKeys, take_keys};
+use crate::journal_files::{JournalFiles, TimeUnit};
 use crate::keys::ConfigKey;
 use crate::modes::{SocketModes, take_modes};
 use crate::paths::{take_dir, take_events, take_metrics};
@@ -51,7 +52,7 @@ pub struct Config {
     pub fence: u32,
     /// Whether `fence` stands in the document.
     pub is_fence_given: bool,
-    /// At every how manieth start of a period a failed member is knocked at: 0 to 65535, 0 for none.
+    /// Every how many starts of a period a failed member is knocked at: 0 to 65535, 0 for none.
     pub rejoin: u32,
     /// Whether `rejoin` stands in the document.
     pub is_rejoin_given: bool,
@@ -102,19 +103,10 @@ pub struct FenceSettings {
 /// How members come back.
 #[derive(Clone, Copy)]
 pub struct Rejoin {
-    /// At every how manieth start of a period a failed member is knocked at; 0 for none.
+    /// Every how many starts of a period a failed member is knocked at; 0 for none.
     pub periods: u32,
     /// Whether it stands in the document.
     pub is_given: bool,
-}
-
-/// The journal files.
-#[derive(Debug, Drop)]
-pub struct JournalFiles {
-    /// The folder in which they are made; not the path of another key. `None`: none are.
-    pub dir: Option<SocketPath>,
-    /// How many of them stay, the newest; 0 for all.
-    pub keep: u64,
 }
 
 /// All of it, but for the members.
@@ -150,6 +142,7 @@ impl Config {
             ConfigKey::Fence => self.told_fence(),
             ConfigKey::Rejoin => self.told_rejoin(),
             ConfigKey::JournalKeep => self.files.told_keep(),
+            ConfigKey::JournalMs => self.files.told_ms(),
             _ => None,
         }
     }
@@ -182,19 +175,6 @@ impl Config {
     {
         if self.is_rejoin_given {
             Some(u64::from(self.rejoin))
-        } else {
-            None
-        }
-    }
-}
-
-impl JournalFiles {
-    /// How many files stay, where some are made.
-    fn told_keep(&self) -> Option<u64>
-        ensures { result ≡ told_keep self.now }
-    {
-        if self.dir.is_some() {
-            Some(self.keep)
         } else {
             None
         }
@@ -338,7 +318,12 @@ fn take_files(table: &Table, place: &OwnPlace) -> Result<JournalFiles, ConfigFau
 {
     let dir = take_dir(table, place)?;
     let keep = take_number(table, ConfigKey::JournalKeep)?;
-    Ok(JournalFiles { dir, keep })
+    let ms = take_number(table, ConfigKey::JournalMs)?;
+    Ok(JournalFiles {
+        dir,
+        keep,
+        unit: TimeUnit::of(ms),
+    })
 }
 
 /// The configuration of these settings and members, if the detector can start so.

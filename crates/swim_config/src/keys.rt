@@ -41,12 +41,14 @@ pub enum ConfigKey {
     Keys,
     /// How many datagrams a second of an address are handed on, and a burst of as many.
     Fence,
-    /// At every how manieth start of a period a failed member is knocked at.
+    /// Every how many starts of a period a failed member is knocked at.
     Rejoin,
     /// The folder of the journal files.
     JournalDir,
     /// How many journal files stay.
     JournalKeep,
+    /// Whether times in journal files have milliseconds.
+    JournalMs,
     /// The other members.
     Member,
     /// Another member's id.
@@ -90,7 +92,7 @@ struct KeyEntry {
 }
 
 /// The keys of a configuration, in the order in which their faults are told.
-pub const TOP_KEYS: [ConfigKey; 21] = [
+pub const TOP_KEYS: [ConfigKey; 22] = [
     ConfigKey::Id,
     ConfigKey::Listen,
     ConfigKey::Control,
@@ -111,11 +113,12 @@ pub const TOP_KEYS: [ConfigKey; 21] = [
     ConfigKey::Rejoin,
     ConfigKey::JournalDir,
     ConfigKey::JournalKeep,
+    ConfigKey::JournalMs,
     ConfigKey::Member,
 ];
 
 /// The keys whose numbers a summary tells behind its first three lines, in this order.
-pub const NUMBER_KEYS: [ConfigKey; 11] = [
+pub const NUMBER_KEYS: [ConfigKey; 12] = [
     ConfigKey::K,
     ConfigKey::Rtt,
     ConfigKey::Period,
@@ -127,6 +130,7 @@ pub const NUMBER_KEYS: [ConfigKey; 11] = [
     ConfigKey::Fence,
     ConfigKey::Rejoin,
     ConfigKey::JournalKeep,
+    ConfigKey::JournalMs,
 ];
 
 /// The keys of a member, in the order in which their faults are told.
@@ -245,6 +249,13 @@ impl ConfigKey {
                 default: Some(16),
                 about: "how many journal files stay, 0 for all",
                 begins_line: true,
+            },
+            ConfigKey::JournalMs => KeyEntry {
+                name: "journal_ms",
+                form: ValueForm::Number(0, 1),
+                default: Some(0),
+                about: "times in journal files: 0 in seconds, 1 with milliseconds",
+                begins_line: false,
             },
             ConfigKey::Member => required(
                 "member",

@@ -4,6 +4,7 @@ mod configurations;
 mod events;
 mod fences;
 mod hiding;
+mod journal_times;
 mod keys;
 mod modes;
 mod paths;

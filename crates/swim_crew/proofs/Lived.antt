@@ -10,7 +10,7 @@ use Rattle.swim_work.specs.Callers.{fresh_seat}
 use Rattle.swim_crew.specs.declared.pasts.Past.{Past}
 use Rattle.swim_crew.specs.Crews.{CrewAt, Records, Works}
 use Rattle.swim_crew.specs.Ends.{why_ended}
-use Rattle.swim_crew.specs.Life.{IsLife}
+use Rattle.swim_crew.specs.Life.{IsLife, WorkedIn}
 
 -- a life whose fourth seat nobody called with
 pub is_life : {A B C D : Type 0} (a : Works A) (b : Works B) (c : Works C) (d : Records D) (from o : Setting)
@@ -19,8 +19,10 @@ pub is_life : {A B C D : Type 0} (a : Works A) (b : Works B) (c : Works C) (d : 
     AreTheSeats (one ∷ two ∷ three ∷ four ∷ []) →
     IsOneHistory o past.journal.past (one ∷ two ∷ three ∷ four ∷ []) (changes o past.journal.past) →
     AreFullWhereMet l past.journal.past (one ∷ two ∷ three ∷ four ∷ []) →
-    a old.first o l one past.ends.first new.first → b old.second o l two past.ends.second new.second →
-    c old.third o l three past.ends.third new.third → d old.recorder o (filings_of past.journal.past) new.recorder →
+    WorkedIn a o l past.journal.past old.first one past.ends.first new.first →
+    WorkedIn b o l past.journal.past old.second two past.ends.second new.second →
+    WorkedIn c o l past.journal.past old.third three past.ends.third new.third →
+    d old.recorder o (filings_of past.journal.past) new.recorder →
     past.why ≡ why_ended past.ends → (past.why ≡ JournalFull → length past.journal.past ≡ l) →
     IsLife a b c d from limit old past new
 is_life a b c d from o limit l old past new one two three four from_is limit_is idle opening within seats history met

@@ -1,5 +1,6 @@
 -- What a crew and its keeper do, and what is compared of them.
 use Rattle.std.specs.Prelude.{ℕ, List, box_value}
+use Rattle.swim_history.specs.declared.rows.Change.{Change}
 use Rattle.swim_history.specs.Setting.{Setting}
 use Rattle.swim_node.specs.Cells.{Filing}
 use Rattle.swim_node.specs.Seats.{Seated}
@@ -9,7 +10,7 @@ use Rattle.swim_crew.specs.declared.pasts.Past.{Past}
 
 -- what a worker does in a life, and what a recorder does
 abbrev pub Works : Type 0 → Type 1
-Works A = A → Setting → ℕ → Seated → End → A → Type 0
+Works A = A → Setting → ℕ → Seated → List Change → End → A → Type 0
 
 abbrev pub Records : Type 0 → Type 1
 Records D = D → Setting → List Filing → D → Type 0

@@ -21,10 +21,11 @@ pub(crate) struct Job<'n, 'o, 'm, N: Naming, H: Wait + Drop, A: Worker> {
     pub(crate) worker: Box<A>,
     pub(crate) seat: Seat<N>,
     pub(crate) viewer: Viewer<N>,
+    ghost unseen: { viewer ≡ [] },
 }
 
 impl<'n, 'o, 'm, N: Naming, H: Wait + Drop, A: Worker> Job<'n, 'o, 'm, N, H, A> {
-    /// The job of this worker at a node, with a seat and a viewer of the node.
+    /// The job of this worker at a node, with a seat of the node, and a viewer that has seen nothing.
     pub(crate) fn new(
         node: &'n Node<N, Seeded, H>,
         over: &'o AtomicBool,
@@ -33,6 +34,7 @@ impl<'n, 'o, 'm, N: Naming, H: Wait + Drop, A: Worker> Job<'n, 'o, 'm, N, H, A> 
         seat: Seat<N>,
         viewer: Viewer<N>,
     ) -> Job<'n, 'o, 'm, N, H, A>
+        requires { viewer ≡ [] }
         ensures worker { box_value result.worker ≡ box_value worker }
         ensures seat { result.seat ≡ seat }
     {
@@ -52,6 +54,7 @@ impl<'n, 'o, 'm, N: Naming, H: Wait + Drop, A: Worker> Job<'n, 'o, 'm, N, H, A> 
 pub(crate) struct Worked<N: Naming, A: Worker> {
     pub(crate) worker: Box<A>,
     pub(crate) seat: Seat<N>,
+    pub(crate) viewer: Viewer<N>,
     pub(crate) end: End,
 }
 
@@ -67,7 +70,7 @@ impl<N: Naming, A: Worker> Promise<Worked<N, A>> for Began<A> {
     ghost use Rattle.std.specs.Prelude.{box_value};
     ghost use Rattle.swim_crew.specs.Working.{IsDone};
 
-    ghost kept_by = { λ p r. IsDone A.works N.opening N.limit p.number p.worker.value r.seat r.end
+    ghost kept_by = { λ p r. IsDone A.works N.opening N.limit p.number p.worker.value r.seat r.viewer r.end
         (box_value r.worker) };
 }
 
@@ -77,8 +80,8 @@ pub(crate) fn run_job<'n, 'o, 'm, N: Naming, H: Wait + Drop, A: Worker, R: Wait>
     job: Job<'n, 'o, 'm, N, H, A>,
 ) -> Worked<N, A>
     requires { (job.seat.calls ≡ []) × (job.seat.full ≡ 0) }
-    ensures { IsDone A.works N.opening N.limit job.entry.seat.number (box_value job.entry.worker) result.seat result.end
-        (box_value result.worker) }
+    ensures { IsDone A.works N.opening N.limit job.entry.seat.number (box_value job.entry.worker) result.seat
+        result.viewer result.end (box_value result.worker) }
 {
     let Job {
         node,
@@ -94,6 +97,7 @@ pub(crate) fn run_job<'n, 'o, 'm, N: Naming, H: Wait + Drop, A: Worker, R: Wait>
     Worked {
         worker,
         seat: done.seat,
+        viewer: done.viewer,
         end: done.end,
     }
 }

@@ -3,10 +3,12 @@
 ghost use Rattle.std.specs.Prelude.{◌≡◌, ◌≤◌, ◌<◌, [], ◌∷◌, length, Some, box_value};
 ghost use Rattle.swim_history.specs.Changes.{changes};
 ghost use Rattle.swim_node.specs.Following.{filings_of};
+ghost use Rattle.swim_node.specs.News.{HaveSeen, SawNothing};
 ghost use Rattle.swim_node.specs.OneHistory.{AreFullWhereMet, IsOneHistory};
 ghost use Rattle.swim_node.specs.Seats.{AreNew, AreTheSeats};
 ghost use Rattle.swim_work.specs.Callers.{fresh_seat};
 ghost use Rattle.swim_crew.specs.Ends.{why_ended};
+ghost use Rattle.swim_crew.specs.Life.{WorkedIn};
 
 use crate::crews::{Crew, Seats, seats_of};
 use crate::jobs::Read;
@@ -32,8 +34,8 @@ pub struct Life<N: Naming, A: Worker, B: Worker, C: Worker, D: Recorder> {
 
 /// Runs a node with its crew until one of the workers ends, and the others with it, and closes the node. Whatever the
 /// crew is, and in whatever order their threads run: the journal is one run of the detector. Its calls are those of the
-/// three workers, each of which did what it does with the calls of its own seat; nobody called with the fourth seat.
-/// The recorder has recorded all of the journal.
+/// three workers, each of which did what it does with the calls of its own seat, and by the changes of the member table
+/// that the journal makes; nobody called with the fourth seat. The recorder has recorded all of the journal.
 pub fn run_life<
     N: Naming + Send + Sync,
     H: Wait + Drop + Send,
@@ -50,7 +52,8 @@ pub fn run_life<
     viewers: [Viewer<N>; 4],
     crew: Crew<A, B, C, D>,
 ) -> Life<N, A, B, C, D>
-    requires { AreNew seats }
+    requires seats { AreNew seats }
+    requires viewers { SawNothing viewers }
     ensures opening { result.past.journal.opening ≡ N.opening }
     ensures within { length result.past.journal.past ≤ N.limit }
     ensures seats { let s = result.seats in AreTheSeats (s.first ∷ s.second ∷ s.third ∷ s.fourth ∷ []) }
@@ -59,12 +62,12 @@ pub fn run_life<
     ensures met { let s = result.seats in AreFullWhereMet N.limit result.past.journal.past
         (s.first ∷ s.second ∷ s.third ∷ s.fourth ∷ []) }
     ensures drawn { N.drawn result.past.journal.past }
-    ensures first { A.works (box_value crew.first) N.opening N.limit result.seats.first result.past.ends.first
-        (box_value result.crew.first) }
-    ensures second { B.works (box_value crew.second) N.opening N.limit result.seats.second result.past.ends.second
-        (box_value result.crew.second) }
-    ensures third { C.works (box_value crew.third) N.opening N.limit result.seats.third result.past.ends.third
-        (box_value result.crew.third) }
+    ensures first { WorkedIn A.works N.opening N.limit result.past.journal.past (box_value crew.first)
+        result.seats.first result.past.ends.first (box_value result.crew.first) }
+    ensures second { WorkedIn B.works N.opening N.limit result.past.journal.past (box_value crew.second)
+        result.seats.second result.past.ends.second (box_value result.crew.second) }
+    ensures third { WorkedIn C.works N.opening N.limit result.past.journal.past (box_value crew.third)
+        result.seats.third result.past.ends.third (box_value result.crew.third) }
     ensures fourth { result.seats.fourth ≡ fresh_seat 3 }
     ensures recorder { D.records (box_value crew.recorder) N.opening (filings_of result.past.journal.past)
         (box_value result.crew.recorder) }
@@ -105,6 +108,8 @@ fn closed<N: Naming, H: Wait + Drop, R: Wait, A: Worker, B: Worker, C: Worker, D
     ensures third { (result.seats.third ≡ over.third.seat) × (result.past.ends.third ≡ over.third.end)
         × (box_value result.crew.third ≡ box_value over.third.worker) }
     ensures fourth { result.seats.fourth ≡ over.fourth }
+    ensures seen { HaveSeen (changes N.opening result.past.journal.past)
+        (over.first.viewer ∷ over.second.viewer ∷ over.third.viewer ∷ []) }
     ensures recorder { (old : D) → D.records old N.opening over.read.follower (box_value over.read.recorder)
         → D.records old N.opening (filings_of result.past.journal.past) (box_value result.crew.recorder) }
     ensures why { result.past.why ≡ why_ended result.past.ends }
@@ -122,7 +127,8 @@ fn closed<N: Naming, H: Wait + Drop, R: Wait, A: Worker, B: Worker, C: Worker, D
     let mut recorder = recorder;
     let count = follower.len();
     let seats = [first.seat, second.seat, third.seat, fourth];
-    let (journal, seats, _news) = node.close_followed(rt, seats, follower);
+    let viewers = [first.viewer, second.viewer, third.viewer];
+    let (journal, seats, _news) = node.close_followed(rt, seats, follower, &viewers);
     recorder.finish(rt, &journal, count, meters);
     let ends = Ends {
         first: first.end,

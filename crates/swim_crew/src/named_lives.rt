@@ -3,6 +3,7 @@
 ghost use Rattle.std.specs.Prelude.{◌≡◌, IfOk, MatchResult, Ok};
 ghost use Rattle.swim_targets.specs.Draws.{DrawsOrder, DrawsPlace};
 ghost use Rattle.swim_node.specs.Draws.{DrawsAll};
+ghost use Rattle.swim_node.specs.News.{SawNothing};
 ghost use Rattle.swim_node.specs.Seats.{AreNew};
 ghost use Rattle.swim_crew.specs.Crews.{crew_at};
 ghost use Rattle.swim_crew.specs.Life.{IsLife};
@@ -82,6 +83,7 @@ fn opened<'r, N: Naming, R: Wait>(
     requires limit { limit ≡ N.limit }
     requires drawn { DrawsAll DrawsOrder DrawsPlace N.opening chooser N.drawn }
     ensures seats { IfOk result (λ opened. AreNew opened.1) }
+    ensures viewers { IfOk result (λ opened. SawNothing opened.2) }
 {
     let (node, seats, viewers) = Node::open(alloc, rt, parts, opening, chooser, limit)?;
     Ok((node, seats, viewers))

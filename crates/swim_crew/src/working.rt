@@ -2,6 +2,7 @@
 
 ghost use denote.Param.Send.{IsSend};
 ghost use Rattle.std.specs.Prelude.{◌≡◌, [], box_value};
+ghost use Rattle.swim_node.specs.News.{SawNothing};
 ghost use Rattle.swim_node.specs.Seats.{AreNew};
 ghost use Rattle.swim_crew.specs.Working.{IsDone, IsUncalled};
 
@@ -28,6 +29,29 @@ pub(crate) struct Over<N: Naming, A: Worker, B: Worker, C: Worker, D: Recorder> 
     pub(crate) all_began: bool,
 }
 
+/// The seats of a node that nobody has called, each with its number.
+fn new_seats<N: Naming>(seats: [Seat<N>; 4]) -> (Seat<N>, Seat<N>, Seat<N>, Seat<N>)
+    requires { AreNew seats }
+    ensures first { IsUncalled 0 result.0 }
+    ensures second { IsUncalled 1 result.1 }
+    ensures third { IsUncalled 2 result.2 }
+    ensures fourth { IsUncalled 3 result.3 }
+{
+    let [one, two, three, fourth] = seats;
+    (one, two, three, fourth)
+}
+
+/// The viewers of the three workers. Nobody looks through the fourth.
+fn viewers_of<N: Naming>(viewers: [Viewer<N>; 4]) -> (Viewer<N>, Viewer<N>, Viewer<N>)
+    requires { SawNothing viewers }
+    ensures first { result.0 ≡ [] }
+    ensures second { result.1 ≡ [] }
+    ensures third { result.2 ≡ [] }
+{
+    let [first, second, third, _fourth] = viewers;
+    (first, second, third)
+}
+
 /// Runs the crew at a node until all of them have ended. One of them ends the others.
 pub(crate) fn work<
     N: Naming + Send + Sync,
@@ -46,20 +70,21 @@ pub(crate) fn work<
     viewers: [Viewer<N>; 4],
     crew: Crew<A, B, C, D>,
 ) -> Over<N, A, B, C, D>
-    requires { AreNew seats }
-    ensures first { IsDone A.works N.opening N.limit 0 (box_value crew.first) result.first.seat result.first.end
-        (box_value result.first.worker) }
-    ensures second { IsDone B.works N.opening N.limit 1 (box_value crew.second) result.second.seat result.second.end
-        (box_value result.second.worker) }
-    ensures third { IsDone C.works N.opening N.limit 2 (box_value crew.third) result.third.seat result.third.end
-        (box_value result.third.worker) }
+    requires seats { AreNew seats }
+    requires viewers { SawNothing viewers }
+    ensures first { IsDone A.works N.opening N.limit 0 (box_value crew.first) result.first.seat result.first.viewer
+        result.first.end (box_value result.first.worker) }
+    ensures second { IsDone B.works N.opening N.limit 1 (box_value crew.second) result.second.seat result.second.viewer
+        result.second.end (box_value result.second.worker) }
+    ensures third { IsDone C.works N.opening N.limit 2 (box_value crew.third) result.third.seat result.third.viewer
+        result.third.end (box_value result.third.worker) }
     ensures fourth { IsUncalled 3 result.fourth }
     ensures read { D.records (box_value crew.recorder) N.opening result.read.follower (box_value result.read.recorder) }
 {
     let flag = AtomicBool::new(false);
     let over = &flag;
-    let [one, two, three, fourth] = seats;
-    let [first_view, second_view, third_view, _fourth_view] = viewers;
+    let (one, two, three, fourth) = new_seats(seats);
+    let (first_view, second_view, third_view) = viewers_of(viewers);
     let Crew {
         first,
         second,
@@ -123,9 +148,9 @@ fn work_on<
     requires third { IsUncalled 2 third.seat }
     requires read { reading.follower ≡ [] }
     ensures second { IsDone B.works N.opening N.limit 1 (box_value second.entry.worker) result.second.seat
-        result.second.end (box_value result.second.worker) }
+        result.second.viewer result.second.end (box_value result.second.worker) }
     ensures third { IsDone C.works N.opening N.limit 2 (box_value third.entry.worker) result.third.seat
-        result.third.end (box_value result.third.worker) }
+        result.third.viewer result.third.end (box_value result.third.worker) }
     ensures read { D.records (box_value reading.entry.recorder) N.opening result.read.follower
         (box_value result.read.recorder) }
 {
@@ -167,8 +192,8 @@ fn work_and_read<
 ) -> (Worked<N, C>, Read<N, D>)
     requires third { IsUncalled 2 third.seat }
     requires read { reading.follower ≡ [] }
-    ensures third { IsDone C.works N.opening N.limit 2 (box_value third.entry.worker) result.0.seat result.0.end
-        (box_value result.0.worker) }
+    ensures third { IsDone C.works N.opening N.limit 2 (box_value third.entry.worker) result.0.seat result.0.viewer
+        result.0.end (box_value result.0.worker) }
     ensures read { D.records (box_value reading.entry.recorder) N.opening result.1.follower
         (box_value result.1.recorder) }
 {

@@ -122,12 +122,12 @@ stay_answered o limit (Turned now stand ∷ steps) old new is = λ b log brings 
 
 -- ---- a life
 
-lines_answered : (o : Setting) (limit : ℕ) (b : Brought) (log : List Called) (saw seen : List Change) (seat : Seated)
+lines_answered : (o : Setting) (limit : ℕ) (b : Brought) (log : List Called) (seen : List Change) (seat : Seated)
     (count : ℕ) (new : Talks) (more : List Called) →
-    Leads (Asks o limit) (at_desk (fresh_seat seat.number) saw 0) more (at_desk seat seen count) →
-    AreAnswered b (more ++ log) new → AnswersLines o limit b log saw seen seat count new
-lines_answered o limit b log saw seen seat count new more leads answered =
-    let is = led_made o limit more (at_desk (fresh_seat seat.number) saw 0) (at_desk seat seen count) leads in
+    Leads (Asks o limit) (at_desk (fresh_seat seat.number) [] 0) more (at_desk seat seen count) →
+    AreAnswered b (more ++ log) new → AnswersLines o limit b log seen seat count new
+lines_answered o limit b log seen seat count new more leads answered =
+    let is = led_made o limit more (at_desk (fresh_seat seat.number) [] 0) (at_desk seat seen count) leads in
     record {
       more = more;
       answered = answered;
@@ -140,17 +140,18 @@ lines_answered o limit b log saw seen seat count new more leads answered =
 
 -- each line of a life became its calls
 pub life_answered : (o : Setting) (limit : ℕ) (before after : Option (List Bool)) (old new : Talks) (seat : Seated)
-    (end : End) (life : ControlsLife o limit before after old seat end new) → (steps : List Step)
-    × TakesSteps o limit steps (at_control old (at_desk (fresh_seat seat.number) life.first 0) 0)
-    (at_control new (at_desk seat life.seen end.counts.refused) life.row)
+    (seen : List Change) (end : End) (life : ControlsLife o limit before after old seat seen end new) →
+    (steps : List Step)
+    × TakesSteps o limit steps (at_control old (at_desk (fresh_seat seat.number) [] 0) 0)
+    (at_control new (at_desk seat seen end.counts.refused) life.row)
     × ((b : Brought) (log : List Called) → BringsSo b old.count steps → AreAnswered b log old →
-    AnswersLines o limit b log life.first life.seen seat end.counts.refused new)
-life_answered o limit before after old new seat end life =
+    AnswersLines o limit b log seen seat end.counts.refused new)
+life_answered o limit before after old new seat seen end life =
     let all = all_steps o limit life.controlled.turns _ end.why _ life.controlled.ends in
     let stay = stay_answered o limit all.0 _ _ all.1 in (
       all.0,
       all.1,
       λ b log brings was.
           let is = stay b log brings was in
-          lines_answered o limit b log life.first life.seen seat end.counts.refused new is.0 is.1 is.2,
+          lines_answered o limit b log seen seat end.counts.refused new is.0 is.1 is.2,
     )

@@ -215,26 +215,32 @@ abbrev seated : ℕ → List Kept → ℕ → Seated
 seated number calls full = record { number = number; calls = calls; full = full }
 
 pub life_controlled : (o : Setting) (limit : ℕ) (before after : Option (List Bool)) (old new : Talks)
-    (first seat : Seated) (began desk : AtDesk) (saw : List Change) (begins row : ℕ) (why : Option Why) (end : End) →
-    first.calls ≡ [] → first.full ≡ 0 → seat.number ≡ first.number → began ≡ at_desk first saw 0 → begins ≡ 0 →
-    seat ≡ desk.seat →
+    (first seat : Seated) (began desk : AtDesk) (saw seen : List Change) (begins row : ℕ)
+    (why : Option Why) (end : End) →
+    first.calls ≡ [] → first.full ≡ 0 → saw ≡ [] → seat.number ≡ first.number → began ≡ at_desk first saw 0 →
+    begins ≡ 0 → seat ≡ desk.seat → seen ≡ desk.seen →
     end ≡ record { why = why; counts = record { unsent = 0; wire = 0; refused = desk.refused } } →
     HasControlled o limit before after (at_control old began begins) why (at_control new desk row) →
-    ControlsLife o limit before after old seat end new
-life_controlled o limit before after old new first seat began desk saw begins row why end no_calls unmet same began_is
-    at_none seat_is is has =
+    ControlsLife o limit before after old seat seen end new
+life_controlled o limit before after old new first seat began desk saw seen begins row why end no_calls unmet unseen
+    same began_is at_none seat_is seen_is is has =
     let first_is : first ≡ fresh_seat seat.number =
     ap (λ (cs : List Kept). seated first.number cs first.full) no_calls
     ∙ (ap (λ (n : ℕ). seated first.number [] n) unmet ∙ sym (ap fresh_seat same)) in
-    let desk_is : desk ≡ at_desk seat desk.seen desk.refused =
-    ap (λ (s : Seated). at_desk s desk.seen desk.refused) (sym seat_is) in
-    let start = at_control old (at_desk (fresh_seat seat.number) saw 0) 0 in
+    let desk_is : desk ≡ at_desk seat seen desk.refused =
+    ap (λ (s : Seated). at_desk s desk.seen desk.refused) (sym seat_is)
+    ∙ ap (λ (l : List Change). at_desk seat l desk.refused) (sym seen_is) in
+    let start = at_control old (at_desk (fresh_seat seat.number) [] 0) 0 in
     let now = at_control new desk row in
     let from_none : HasControlled o limit before after (at_control old began 0) why now =
     subst (λ (n : ℕ). HasControlled o limit before after (at_control old began n) why now) at_none has in
+    let from_nothing : HasControlled o limit before after (at_control old (at_desk first [] 0) 0) why now =
+    subst (λ (l : List Change). HasControlled o limit before after (at_control old (at_desk first l 0) 0) why now)
+    unseen (subst (λ (d : AtDesk). HasControlled o limit before after (at_control old d 0) why now) began_is from_none)
+    in
     let from_fresh : HasControlled o limit before after start why now =
-    subst (λ (s : Seated). HasControlled o limit before after (at_control old (at_desk s saw 0) 0) why now) first_is
-    (subst (λ (d : AtDesk). HasControlled o limit before after (at_control old d 0) why now) began_is from_none) in
-    let whole : HasControlled o limit before after start why (at_control new (at_desk seat desk.seen desk.refused) row)
+    subst (λ (s : Seated). HasControlled o limit before after (at_control old (at_desk s [] 0) 0) why now) first_is
+    from_nothing in
+    let whole : HasControlled o limit before after start why (at_control new (at_desk seat seen desk.refused) row)
     = subst (λ (d : AtDesk). HasControlled o limit before after start why (at_control new d row)) desk_is from_fresh in
-    rw is (record { first = saw; seen = desk.seen; row = row; controlled = whole; counted = refl })
+    rw is (record { row = row; controlled = whole; counted = refl })

@@ -2,6 +2,7 @@
 use Rattle.std.proofs.Common.{◌≡◌, ◌≢◌, ℕ, Bool, true, false, List, [], ◌∷◌, length, Option, Some, None, refl, sym}
 use Rattle.std.proofs.Common.{subst, arith, if◌then◌else◌, nat_lt}
 use Rattle.std.proofs.lemmas.Option.{same_Some}
+use Rattle.swim_history.specs.declared.rows.Change.{Change}
 use Rattle.swim_history.specs.Setting.{Setting}
 use Rattle.swim_node.specs.Seats.{Seated}
 use Rattle.swim_control.specs.Talks.{Talk, Talks}
@@ -40,11 +41,11 @@ turns_ended o limit turns old why new other is =
     let steps = is.5.1 in step_ended o limit steps.1 steps.2 why new other steps.5
 
 pub life_ended : (o : Setting) (limit : ℕ) (before after : Option (List Bool)) (old new : Talks) (seat : Seated)
-    (end : End) (why : Why) → ControlsLife o limit before after old seat end new → end.why ≡ Some why → why ≢ Socket →
-    EndsByTurn o limit why new
-life_ended o limit before after old new seat end why life ends other =
-    let first = at_control old (at_desk (fresh_seat seat.number) life.first 0) 0 in
-    let last = at_control new (at_desk seat life.seen end.counts.refused) life.row in
+    (seen : List Change) (end : End) (why : Why) → ControlsLife o limit before after old seat seen end new →
+    end.why ≡ Some why → why ≢ Socket → EndsByTurn o limit why new
+life_ended o limit before after old new seat seen end why life ends other =
+    let first = at_control old (at_desk (fresh_seat seat.number) [] 0) 0 in
+    let last = at_control new (at_desk seat seen end.counts.refused) life.row in
     turns_ended o limit life.controlled.turns first why last other
     (subst (λ (e : Option Why). EndsSo (ControlsNext o limit) life.controlled.turns first e last) ends
     life.controlled.ends)

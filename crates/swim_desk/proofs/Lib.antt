@@ -6,6 +6,7 @@ pub mod Ended
 pub mod Fullness
 pub mod Given
 pub mod Numbered
+pub mod Shown
 pub mod Since
 pub mod SoFar
 pub mod Steps

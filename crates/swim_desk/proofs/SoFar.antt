@@ -26,6 +26,7 @@ use Rattle.swim_desk.specs.Given.{AnswersGiven, AreAnsweredSoFar, IsAnsweredSoFa
 use Rattle.swim_desk.proofs.Becoming.{led_made}
 use Rattle.swim_desk.proofs.Connected.{TakesSteps, led_both, life_answered}
 use Rattle.swim_desk.proofs.Given.{given_on, given_still, newcomer_given}
+use Rattle.swim_desk.proofs.Shown.{led_shown}
 
 -- ---- lists of connections
 
@@ -296,17 +297,17 @@ stay_given o limit (Turned now stand ∷ steps) old new is = λ log all.
 -- ---- a life
 
 -- what was given in the steps of a life became its calls
-steps_given : (o : Setting) (limit : ℕ) (steps : List Step) (old new : AtControl) (saw seen : List Change)
+steps_given : (o : Setting) (limit : ℕ) (steps : List Step) (old new : AtControl) (seen : List Change)
     (seat : Seated) (count : ℕ) → TakesSteps o limit steps old new →
-    old.desk ≡ at_desk (fresh_seat seat.number) saw 0 → new.desk ≡ at_desk seat seen count →
+    old.desk ≡ at_desk (fresh_seat seat.number) [] 0 → new.desk ≡ at_desk seat seen count →
     (log : List Called) → AreAnsweredSoFar log old.connections →
-    AnswersGiven o limit log saw seen seat count new.connections
-steps_given o limit steps old new saw seen seat count is began ended log all =
+    AnswersGiven o limit log seen seat count new.connections
+steps_given o limit steps old new seen seat count is began ended log all =
     let stay = stay_given o limit steps old new is log all in
-    let leads : Leads (Asks o limit) (at_desk (fresh_seat seat.number) saw 0) stay.0 (at_desk seat seen count) =
+    let leads : Leads (Asks o limit) (at_desk (fresh_seat seat.number) [] 0) stay.0 (at_desk seat seen count) =
     subst (λ (d : AtDesk). Leads (Asks o limit) d stay.0 (at_desk seat seen count)) began
     (subst (λ (d : AtDesk). Leads (Asks o limit) old.desk stay.0 d) ended stay.1) in
-    let made = led_made o limit stay.0 (at_desk (fresh_seat seat.number) saw 0) (at_desk seat seen count) leads in
+    let made = led_made o limit stay.0 (at_desk (fresh_seat seat.number) [] 0) (at_desk seat seen count) leads in
     record {
       more = stay.0;
       answered = stay.2;
@@ -315,23 +316,20 @@ steps_given o limit steps old new saw seen seat count is began ended log all =
       refused =
           let counted : count ≡ min (0 + unmade_in stay.0) (2 ^ 64 - 1) = made.refused (omega arith) in
           omega (arith, counted);
+      shown = (led_shown o limit stay.0 (at_desk (fresh_seat seat.number) [] 0) (at_desk seat seen count) leads).1;
     }
 
 -- each line that was brought, or given, in a life became its calls
 pub life_given : (o : Setting) (limit : ℕ) (before after : Option (List Bool)) (old new : Talks) (seat : Seated)
-    (end : End) → ControlsLife o limit before after old seat end new →
-    (saw : List Change) × (seen : List Change) × (steps : List Step)
+    (seen : List Change) (end : End) → ControlsLife o limit before after old seat seen end new → (steps : List Step)
     × ((b : Brought) (log : List Called) → BringsSo b old.count steps → AreAnswered b log old →
-    AnswersLines o limit b log saw seen seat end.counts.refused new)
-    × ((log : List Called) → AreAnsweredSoFar log old → AnswersGiven o limit log saw seen seat end.counts.refused new)
-life_given o limit before after old new seat end life =
-    let is = life_answered o limit before after old new seat end life in
-    let first = at_control old (at_desk (fresh_seat seat.number) life.first 0) 0 in
-    let last = at_control new (at_desk seat life.seen end.counts.refused) life.row in (
-      life.first,
-      life.seen,
+    AnswersLines o limit b log seen seat end.counts.refused new)
+    × ((log : List Called) → AreAnsweredSoFar log old → AnswersGiven o limit log seen seat end.counts.refused new)
+life_given o limit before after old new seat seen end life =
+    let is = life_answered o limit before after old new seat seen end life in
+    let first = at_control old (at_desk (fresh_seat seat.number) [] 0) 0 in
+    let last = at_control new (at_desk seat seen end.counts.refused) life.row in (
       is.0,
       is.2,
-      λ log all. steps_given o limit is.0 first last life.first life.seen seat end.counts.refused is.1 refl refl log
-          all,
+      λ log all. steps_given o limit is.0 first last seen seat end.counts.refused is.1 refl refl log all,
     )

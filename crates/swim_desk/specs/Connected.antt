@@ -83,10 +83,10 @@ BringsSo b number (Turned now stand ∷ steps) = BringsSo b number steps
 -- the connections of a life were answered by these calls of its desk, and by those of the desks before it; they are all
 -- calls that the desk got, from the beginning of the life to its end; and each became its calls of the seat, in order,
 -- which has no other
-pub record AnswersLines (o : Setting) (limit : ℕ) (b : Brought) (log : List Called) (saw seen : List Change)
+pub record AnswersLines (o : Setting) (limit : ℕ) (b : Brought) (log : List Called) (seen : List Change)
     (seat : Seated) (count : ℕ) (new : Talks) : Type 0 where
   pub more : List Called
   pub answered : AreAnswered b (more ++ log) new
-  pub leads : Leads (Asks o limit) (at_desk (fresh_seat seat.number) saw 0) more (at_desk seat seen count)
+  pub leads : Leads (Asks o limit) (at_desk (fresh_seat seat.number) [] 0) more (at_desk seat seen count)
   pub become : BecomeSo more seat.calls
   pub refused : count ≡ min (unmade_in more) (2 ^ 64 - 1)

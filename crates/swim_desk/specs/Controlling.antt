@@ -118,12 +118,11 @@ at_desk seat seen refused = record { seat = seat; seen = seen; refused = refused
 
 -- what the controller has done in a life: turns, in each of which the door is asked and connections have turns of their
 -- own. Each line that ended was answered, in the order of its connection, by what the node answered to the next call of
--- the seat, where it asked for one; and nothing else was counted than calls that were refused for want of memory
+-- the seat, where it asked for one; and nothing else was counted than calls that were refused for want of memory. Its
+-- viewer had seen these changes in the end
 pub record ControlsLife (o : Setting) (limit : ℕ) (before after : Option (List Bool)) (old : Talks) (seat : Seated)
-    (end : End) (new : Talks) : Type 0 where
-  pub first : List Change
-  pub seen : List Change
+    (seen : List Change) (end : End) (new : Talks) : Type 0 where
   pub row : ℕ
-  pub controlled : HasControlled o limit before after (at_control old (at_desk (fresh_seat seat.number) first 0) 0)
+  pub controlled : HasControlled o limit before after (at_control old (at_desk (fresh_seat seat.number) [] 0) 0)
       end.why (at_control new (at_desk seat seen end.counts.refused) row)
   pub counted : end.counts ≡ record nothing { refused = end.counts.refused }

@@ -1,5 +1,5 @@
 -- What a desk over a node does.
-use Rattle.std.specs.Prelude.{◌≡◌, ◌⊎◌, ℕ, List, IfSome}
+use Rattle.std.specs.Prelude.{◌≡◌, ◌⊎◌, ℕ, List, Some, IfSome}
 use mathlib.Core.List.{IsPrefix}
 use Rattle.swim_history.specs.declared.calls.Call.{Call}
 use Rattle.swim_history.specs.declared.calls.Call.TheVariants as calls
@@ -83,3 +83,9 @@ Asks o limit old Reload (Reloads text) new = new ≡ old
 Asks o limit old (Join id peer) (Answers answer) new = Calls o limit old (calls.Join id peer) answer new
 Asks o limit old (Remove id) (Answers answer) new = Calls o limit old (calls.Remove id) answer new
 Asks o limit old command told new = ⊥
+
+-- a member table that is told is one after a beginning of these changes
+abbrev pub ShowsOf : Setting → List Change → Told → Type 0
+ShowsOf o seen (Shows (Some table)) =
+    (log : List Change) × IsPrefix log seen × (table.items ≡ table_after o log)
+ShowsOf o seen told = Unit {0}

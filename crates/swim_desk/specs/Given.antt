@@ -10,7 +10,7 @@ use Rattle.swim_control.specs.Talks.{Talk, Talks}
 use Rattle.swim_work.specs.Callers.{fresh_seat}
 use Rattle.swim_desk.specs.Connected.{BecomeSo, IsAnswered, unmade_in}
 use Rattle.swim_desk.specs.Controlling.{at_desk}
-use Rattle.swim_desk.specs.Desk.{Asks}
+use Rattle.swim_desk.specs.Desk.{Asks, ShowsOf}
 
 -- a connection brings these bytes, and nothing was written for it before
 abbrev pub brings : List ℕ → Brought
@@ -42,11 +42,13 @@ pub record AreAnsweredSoFar (log : List Called) (all : Talks) : Type 0 where
 
 -- what the connections of a life gave was answered by these calls of its desk, and by those of the desks before it;
 -- they are all calls that the desk got, from the beginning of the life to its end; and each became its calls of the
--- seat, in order, which has no other
-pub record AnswersGiven (o : Setting) (limit : ℕ) (log : List Called) (saw seen : List Change) (seat : Seated)
+-- seat, in order, which has no other. Each member table that was shown is one after a beginning of the changes that the
+-- desk had seen in the end
+pub record AnswersGiven (o : Setting) (limit : ℕ) (log : List Called) (seen : List Change) (seat : Seated)
     (count : ℕ) (new : Talks) : Type 0 where
   pub more : List Called
   pub answered : AreAnsweredSoFar (more ++ log) new
-  pub leads : Leads (Asks o limit) (at_desk (fresh_seat seat.number) saw 0) more (at_desk seat seen count)
+  pub leads : Leads (Asks o limit) (at_desk (fresh_seat seat.number) [] 0) more (at_desk seat seen count)
   pub become : BecomeSo more seat.calls
   pub refused : count ≡ min (unmade_in more) (2 ^ 64 - 1)
+  pub shown : AllByRecursion (λ c. ShowsOf o seen c.told) more

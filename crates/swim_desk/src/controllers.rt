@@ -30,8 +30,8 @@ pub struct Controller<D: Door + Drop, K: Speaker + Drop> {
 impl<D: Door + Drop, K: Speaker + Drop> Worker for Controller<D, K> {
     ghost use Rattle.swim_desk.specs.Controlling.{ControlsLife};
 
-    ghost works = { λ old o limit seat end new. ControlsLife o limit (D.faults old.hall.door) (D.faults new.hall.door)
-        old.hall.connections seat end new.hall.connections };
+    ghost works = { λ old o limit seat seen end new. ControlsLife o limit (D.faults old.hall.door)
+        (D.faults new.hall.door) old.hall.connections seat seen end new.hall.connections };
 
     fn work<N: Naming, H: Wait + Drop, R: Wait>(
         &mut self,
@@ -66,25 +66,27 @@ struct Controlling<'n, 'k, N: Naming, H: Wait + Drop, K> {
     faults: Faults,
 }
 
-/// Hands the seat back.
+/// Hands back the seat and the viewer.
 fn done<N: Naming, H: Wait + Drop, K>(
     controlling: Controlling<'_, '_, N, H, K>,
     why: Option<Why>,
 ) -> Done<N>
     ensures seat { result.seat ≡ controlling.entry.desk.seat }
+    ensures viewer { result.viewer ≡ controlling.entry.desk.seen }
     ensures end { result.end ≡ record {
       why = why;
       counts = record { unsent = 0; wire = 0; refused = controlling.entry.desk.refused };
     } }
 {
     let Controlling { desk, faults: _ } = controlling;
-    let (seat, refused) = desk.leave();
+    let (seat, viewer, refused) = desk.leave();
     let counts = Counts {
         refused,
         ..Counts::none()
     };
     Done {
         seat,
+        viewer,
         end: End { why, counts },
     }
 }

@@ -23,17 +23,17 @@ pub fn each_line_is_called()
     ensures none { (b : Brought) → AreAnswered b [] (record { talks = []; count = 0; closed = [] }) }
     ensures none_given { AreAnsweredSoFar [] (record { talks = []; count = 0; closed = [] }) }
     ensures life { (o : Setting) (limit : ℕ) (before after : Option (List Bool)) (old new : Talks) (seat : Seated)
-        (end : End) → ControlsLife o limit before after old seat end new → (saw : List Change) × (seen : List Change)
-        × (steps : List Step) × ((b : Brought) (log : List Called) → BringsSo b old.count steps
-        → AreAnswered b log old → AnswersLines o limit b log saw seen seat end.counts.refused new)
+        (seen : List Change) (end : End) → ControlsLife o limit before after old seat seen end new
+        → (steps : List Step) × ((b : Brought) (log : List Called) → BringsSo b old.count steps
+        → AreAnswered b log old → AnswersLines o limit b log seen seat end.counts.refused new)
         × ((log : List Called) → AreAnsweredSoFar log old
-        → AnswersGiven o limit log saw seen seat end.counts.refused new) }
+        → AnswersGiven o limit log seen seat end.counts.refused new) }
 {}
 
 /// The controller ends a life for its door, or with the newest turn of a connection, in which that one was answered that
 /// it is to stop, or met the full journal; and for no other reason.
 pub fn a_connection_ends_a_life()
-    ensures { (o : Setting) (limit : ℕ) (before after : Option (List Bool)) (old new : Talks) (seat : Seated) (end : End)
-        (why : Reason) → ControlsLife o limit before after old seat end new → end.why ≡ Some why → why ≢ Socket
-        → EndsByTurn o limit why new }
+    ensures { (o : Setting) (limit : ℕ) (before after : Option (List Bool)) (old new : Talks) (seat : Seated)
+        (seen : List Change) (end : End) (why : Reason) → ControlsLife o limit before after old seat seen end new
+        → end.why ≡ Some why → why ≢ Socket → EndsByTurn o limit why new }
 {}

@@ -165,12 +165,13 @@ impl<'n, 'k, N: Naming, H: Wait + Drop, K> NodeDesk<'n, 'k, N, H, K> {
         meter.show(self.asker.seat.calls().len(), counts);
     }
 
-    /// Hands back the seat, and how many calls were refused for want of memory.
-    pub(crate) fn leave(self) -> (Seat<N>, u64)
+    /// Hands back the seat and the viewer, and how many calls were refused for want of memory.
+    pub(crate) fn leave(self) -> (Seat<N>, Viewer<N>, u64)
         ensures seat { result.0 ≡ self.entry.seat }
-        ensures refused { result.1 ≡ self.entry.refused }
+        ensures seen { result.1 ≡ self.entry.seen }
+        ensures refused { result.2 ≡ self.entry.refused }
     {
-        (self.asker.seat, self.asker.refused)
+        (self.asker.seat, self.asker.viewer, self.asker.refused)
     }
 }
 

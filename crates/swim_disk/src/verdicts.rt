@@ -33,14 +33,28 @@ impl VerdictSearch {
 
     /// Looks through what is written next.
     pub fn read(&mut self, text: &[u8]) {
-        for byte in text {
-            if *byte == b'\n' {
-                self.is_found = self.is_found || tells_verdict(self.front.as_slice());
-                self.front.clear();
-            } else {
-                let _is_added = self.front.try_push(*byte);
-            }
+        let mut rest = text;
+        for _line in 0..text.len() {
+            let Some((line, others)) = cut(rest, b'\n') else {
+                break;
+            };
+            self.add(line);
+            self.end_line();
+            rest = others;
         }
+        self.add(rest);
+    }
+
+    /// Adds as much of a line as is looked at.
+    fn add(&mut self, line: &[u8]) {
+        let count = line.len().min(self.front.remaining_capacity());
+        let _is_added = self.front.try_extend_from_slice(&line[..count]);
+    }
+
+    /// Looks at the line, whose end has come.
+    fn end_line(&mut self) {
+        self.is_found = self.is_found || tells_verdict(self.front.as_slice());
+        self.front.clear();
     }
 }
 

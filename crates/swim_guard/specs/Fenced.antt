@@ -12,13 +12,18 @@ use Rattle.swim_work.specs.Posts.{Grows}
 use Rattle.swim_guard.specs.declared.thrown.Thrown.{Thrown}
 use Rattle.swim_guard.specs.Thrown.{one_thrown}
 
+-- the rate that was answered, and what asked for it, as it was then
+pub record AnsweredRate (B : Type 0) : Type 0 where
+  pub rate : ℕ
+  pub by : B
+
 -- what a contract sees of a line over another with a fence between them: the line below, the time that it asked at
 -- last, the rates that it was told so far, oldest first, the fence, what was thrown away, and what it answered so far,
 -- oldest first
 pub record AtFence (L : Type 0) : Type 0 where
   pub line : L
   pub time : ℕ
-  pub rates : List ℕ
+  pub rates : List (AnsweredRate L)
   pub fence : Kept
   pub fenced : Thrown
   pub answered : List Received
@@ -38,11 +43,11 @@ abbrev pub thrown_if : Bool → Address → Option Address
 thrown_if true source = None
 thrown_if false source = Some source
 
--- a datagram from that address asked the fence: at the rate that was told then, at a time that isn't before the last
--- one
+-- a datagram from that address asked the fence: at the rate that was told once the line below had got it, at a time
+-- that isn't before the last one
 pub record AsksFence {L : Type 0} (old new : AtFence L) (source : Address) (passed : Bool) : Type 0 where
   pub rate : ℕ
-  pub told : new.rates ≡ old.rates ++ rate ∷ []
+  pub told : new.rates ≡ old.rates ++ record { rate = rate; by = new.line } ∷ []
   pub rated : Kept
   pub takes : TakesRate old.fence rate rated
   pub later : old.time ≤ new.time

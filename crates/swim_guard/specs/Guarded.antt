@@ -58,21 +58,26 @@ abbrev pub stranger : Option Keyring → Got → List ℕ → Option Address
 stranger keys (Datagram count source) bytes = stranger_of source (text_by keys (take count bytes))
 stranger keys got bytes = None
 
+-- the keys that were answered, and what asked for them, as it was then
+pub record AnsweredKeys (B : Type 0) : Type 0 where
+  pub keys : Option Keyring
+  pub by : B
+
 -- what a contract sees of who looks up the keys that are in force: those that it has, and what it answered so far,
 -- oldest first
-pub record AtKeys : Type 0 where
+pub record AtKeys (B : Type 0) : Type 0 where
   pub keys : Option Keyring
-  pub answered : List (Option Keyring)
+  pub answered : List (AnsweredKeys B)
 
--- it was asked once, and answered these
-abbrev pub Answers : AtKeys → Option Keyring → AtKeys → Type 0
-Answers old keys new = new.answered ≡ old.answered ++ keys ∷ []
+-- it was asked once, when what asks was like that, and answered these
+abbrev pub Answers : {B : Type 0} → AtKeys B → B → Option Keyring → AtKeys B → Type 0
+Answers old by keys new = new.answered ≡ old.answered ++ record { keys = keys; by = by } ∷ []
 
 -- what a contract sees of a line over another: that one, who looks up its keys, what was thrown away, and what the line
 -- below got so far, oldest first
 pub record AtLine (L : Type 0) : Type 0 where
   pub line : L
-  pub keys : AtKeys
+  pub keys : AtKeys L
   pub forged : Thrown
   pub judged : List Judged
 
@@ -80,7 +85,7 @@ pub record AtLine (L : Type 0) : Type 0 where
 -- first
 pub record AtPost (O : Type 0) : Type 0 where
   pub post : O
-  pub keys : AtKeys
+  pub keys : AtKeys O
   pub handed : List Posted
 
 -- what the line below got was judged by the keys that were had: it is handed on, and counted where it is thrown away
@@ -92,24 +97,24 @@ Judges old new below bytes got =
       judged = old.judged ++ record { keys = old.keys.keys; below = record { got = below; bytes = bytes } } ∷ [];
     })
 
--- the line below was asked once, and then the keys: what it got is judged by these
+-- the line below was asked once, and once it had got what it got the keys were asked for: that is judged by these
 pub record HandsOn {L : Type 0} (received : L → Option (List Received)) (old new : AtLine L) (got : Got)
     (bytes : List ℕ)
     : Type 0 where
   pub below : Got
   pub keys : Option Keyring
   pub grows : Grows (received old.line) (received new.line) (record { got = below; bytes = bytes } ∷ [])
-  pub asked : Answers old.keys keys new.keys
+  pub asked : Answers old.keys new.line keys new.keys
   pub is : got ≡ given keys below bytes
   pub forged : new.forged ≡ one_thrown (stranger keys below bytes) old.forged
   pub judged : new.judged
       ≡ old.judged ++ record { keys = keys; below = record { got = below; bytes = bytes } } ∷ []
 
--- the keys were asked once, and the post below was handed the text as it is sent by these
+-- the keys were asked for once, and then the post below was handed the text as it is sent by these
 pub record HandsSigned {O : Type 0} (posted : O → Option (List Posted)) (old new : AtPost O) (text : List ℕ)
     (to : Address) (is_taken : Bool) : Type 0 where
   pub keys : Option Keyring
-  pub asked : Answers old.keys keys new.keys
+  pub asked : Answers old.keys old.post keys new.keys
   pub grows : Grows (posted old.post) (posted new.post)
       (record { bytes = signed_by keys text; to = to; is_taken = is_taken } ∷ [])
 

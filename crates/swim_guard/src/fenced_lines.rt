@@ -8,7 +8,7 @@ ghost use Rattle.swim_guard.specs.Fenced.{AsksFence, IsShown, LetsOn, thrown_if}
 ghost use Rattle.swim_guard.specs.Thrown.{one_thrown};
 
 use crate::rule_books::RuleBook;
-use crate::rule_watches::RateWatch;
+use crate::rule_lookups::RateLookup;
 use crate::thrown::{Sieve, Thrown};
 use crate::timepieces::Timepiece;
 use std::marker::Model;
@@ -26,7 +26,7 @@ use swim_work::{Got, Line};
 pub struct FencedLine<'k, L: Line, T: Timepiece> {
     line: L,
     timepiece: T,
-    rates: RateWatch<'k>,
+    rates: RateLookup<'k, L>,
     fence: Fence,
     fenced: Thrown,
     answered: Trail<Got>,
@@ -53,13 +53,13 @@ impl<'k, L: Line, T: Timepiece> FencedLine<'k, L, T> {
     pub fn new(line: L, timepiece: T, book: &'k RuleBook) -> FencedLine<'k, L, T>
         ensures line { result.line ≡ line }
         ensures time { result.time ≡ T.time timepiece }
-        ensures rates { result.rates ≡ result.fence.rate ∷ [] }
+        ensures rates { result.rates ≡ record { rate = result.fence.rate; by = line } ∷ [] }
         ensures fence { Follows result.fence [] }
         ensures fenced { result.fenced ≡ record { count = 0; newest = None } }
         ensures answered { result.answered ≡ [] }
     {
-        let mut rates = RateWatch::new(book);
-        let rate = rates.rate();
+        let mut rates = RateLookup::new(book);
+        let rate = rates.rate(&line);
         FencedLine {
             line,
             timepiece,
@@ -77,7 +77,7 @@ impl<'k, L: Line, T: Timepiece> FencedLine<'k, L, T> {
         ensures fenced { self.new.fenced ≡ one_thrown (thrown_if result source) self.old.fenced }
         ensures answered { self.new.answered ≡ self.old.answered }
     {
-        let rate = self.rates.rate();
+        let rate = self.rates.rate(&self.line);
         self.fence.set_rate(rate);
         let now = self.timepiece.now();
         let passes = self.fence.admits(&source, now);

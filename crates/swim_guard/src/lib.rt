@@ -4,7 +4,7 @@
 mod fenced_lines;
 pub mod laws;
 mod rule_books;
-mod rule_watches;
+mod rule_lookups;
 mod sealed_lines;
 mod sealed_posts;
 mod thrown;

@@ -7,7 +7,7 @@ ghost use Rattle.swim_work.specs.Posts.{Grows};
 ghost use Rattle.swim_guard.specs.Guarded.{HandsOn, Judges, handed, text_by};
 
 use crate::rule_books::RuleBook;
-use crate::rule_watches::KeyWatch;
+use crate::rule_lookups::KeyLookup;
 use crate::thrown::{Sieve, Thrown};
 use std::marker::Model;
 use std::sync::Wait;
@@ -30,7 +30,7 @@ struct Judged {
 #[derive(Drop)]
 pub struct SealedLine<'k, L: Line> {
     line: L,
-    keys: KeyWatch<'k>,
+    keys: KeyLookup<'k, L>,
     forged: Thrown,
     judged: Trail<Judged>,
 }
@@ -62,7 +62,7 @@ impl<'k, L: Line> SealedLine<'k, L> {
     {
         SealedLine {
             line,
-            keys: KeyWatch::new(book),
+            keys: KeyLookup::new(book),
             forged: Thrown::none(),
             judged: Trail::new(),
         }
@@ -129,7 +129,7 @@ impl<'k, L: Line> Line for SealedLine<'k, L> {
         ensures hands { HandsOn L.received self.old self.new result bytes.new }
     {
         let below = self.line.receive(rt, bytes);
-        self.keys.renew(rt);
+        self.keys.renew(rt, &self.line);
         self.judge(below, bytes)
     }
 

@@ -1,11 +1,11 @@
 //! A post that signs what it is handed.
 
-ghost use Rattle.std.specs.Prelude.{◌≡◌, ◌∷◌, ◌++◌, [], Some, map};
-ghost use Rattle.swim_work.specs.Posts.{IsFresh};
-ghost use Rattle.swim_guard.specs.Guarded.{Hands};
+ghost use Rattle.std.specs.Prelude.{◌≡◌, ◌≤◌, ◌∷◌, ◌++◌, [], Some, length, map};
+ghost use Rattle.swim_work.specs.Posts.{Grows, IsFresh};
+ghost use Rattle.swim_guard.specs.Guarded.{Answers, Hands, signed_by};
 
 use crate::rule_books::RuleBook;
-use crate::rule_watches::KeyWatch;
+use crate::rule_lookups::KeyLookup;
 use std::marker::Model;
 use std::sync::Wait;
 use swim_trail::Trail;
@@ -19,7 +19,7 @@ use swim_work::Post;
 #[derive(Drop)]
 pub struct SealedPost<'k, O: Post + Drop> {
     post: O,
-    keys: KeyWatch<'k>,
+    keys: KeyLookup<'k, O>,
     handed: Trail<(Peer, bool)>,
 }
 
@@ -45,7 +45,7 @@ impl<'k, O: Post + Drop> SealedPost<'k, O> {
     {
         SealedPost {
             post,
-            keys: KeyWatch::new(book),
+            keys: KeyLookup::new(book),
             handed: Trail::new(),
         }
     }
@@ -58,7 +58,25 @@ impl<'k, O: Post + Drop> SealedPost<'k, O> {
         if LONGEST_DATAGRAM_BYTES < bytes.len() {
             return false;
         }
-        self.keys.renew(rt);
+        self.look_up(rt);
+        self.sign(rt, bytes, to)
+    }
+
+    /// Looks up the keys that are in force.
+    fn look_up<R: Wait>(&mut self, rt: &R)
+        ensures asked { Answers self.old.keys self.old.post self.new.keys.keys self.new.keys }
+        ensures same { self.new ≡ record self.old { keys = self.new.keys } }
+    {
+        self.keys.renew(rt, &self.post);
+    }
+
+    /// Hands a datagram on, with its tag by the first of the keys that were looked up, if there are some.
+    fn sign<R: Wait>(&mut self, rt: &R, bytes: &[u8], to: Peer) -> bool
+        requires { length bytes.now ≤ LONGEST_DATAGRAM_BYTES }
+        ensures posted { Grows (O.posted self.old.post) (O.posted self.new.post)
+            (record { bytes = signed_by self.old.keys.keys bytes.now; to = to; is_taken = result } ∷ []) }
+        ensures same { self.new ≡ record self.old { post = self.new.post } }
+    {
         match self.keys.keys() {
             Some(keys) => self.post.send(rt, keys.seal(bytes).as_slice(), to),
             None => self.post.send(rt, bytes, to),

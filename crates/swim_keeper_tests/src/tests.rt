@@ -100,7 +100,7 @@ fn assert_told<R: Abort + Wait>(
     let mut herald = Caller { begun: 0 };
     let mut writer = Page::new(alloc);
     let mut notices = Page::new(alloc);
-    let board = TidingsBoard::new(0);
+    let board = TidingsBoard::new(0, 0);
     let mut recorder = recorder(alloc)?;
     let mut keeper = LifeKeeper {
         writer: &mut writer,

@@ -41,7 +41,7 @@ use swim_recorder::{JournalRecorder, NoEntrance, NoOutlet, NoReporter};
 use swim_text::Page;
 use swim_ticker::Ticker;
 use swim_wire::{Peer, Version};
-use swim_work::{Beat, Got, Line, Pace, Post, TidingsBoard, Why};
+use swim_work::{Beat, Got, Line, Pace, Post, RejoinLookup, TidingsBoard, Why};
 
 // The two are the same. A call of this is proved at once, and an `assert_eq!` in some seconds.
 fn assert_same<T: PartialEq + Debug, R: Abort>(rt: &R, left: &T, right: &T) {

@@ -3,6 +3,7 @@ pub mod Counted
 pub mod Sendings
 pub mod Buckets
 pub mod Lines
+pub mod Forms
 pub mod Noting
 pub mod LastHeard
 pub mod Carrying

@@ -1,21 +1,18 @@
 -- The lines of samples, as they are written.
-use Rattle.std.proofs.Common.{◌≡◌, ℕ, suc, ◌≤◌, Bool, true, false, cond, List, [], ◌∷◌, ◌++◌, append_assoc, append-nil}
-use Rattle.std.proofs.Common.{codes, decimal, get_or, length, map, filter, refl, sym, ap, ◌∙◌, arith}
+use Rattle.std.proofs.Common.{◌≡◌, ℕ, suc, ◌≤◌, List, [], ◌∷◌, ◌++◌, append_assoc, append-nil}
+use Rattle.std.proofs.Common.{codes, decimal, get_or, length, map, refl, sym, ap, ◌∙◌, arith}
 use Rattle.swim_text.specs.TwoPuts.{first_and_others, others_of}
 use Rattle.swim_history.specs.Texts.{feed}
 use Rattle.swim_metrics.specs.declared.heads.MetricKind.{MetricKind}
-use Rattle.swim_metrics.specs.declared.heads.Metric.{Metric}
-use Rattle.swim_metrics.specs.declared.outside.Outside.{Outside}
 use Rattle.swim_metrics.specs.declared.wait_histograms.HistogramBucket.{HistogramBucket}
 use Rattle.swim_metrics.specs.declared.wait_histograms.Waits.{Waits}
-use Rattle.swim_metrics.specs.Families.{Family, Sample, bucket_sample, escaped, escaped_one, family_of, total_samples}
-use Rattle.swim_metrics.specs.Families.{column_of, is_told, key_sample, key_samples, member_acks, member_sample}
+use Rattle.swim_metrics.specs.Families.{Family, Sample, bucket_sample, escaped, escaped_one, total_samples}
+use Rattle.swim_metrics.specs.Families.{column_of, key_sample, key_samples, member_acks, member_sample}
 use Rattle.swim_metrics.specs.Families.{member_samples}
 use Rattle.swim_metrics.specs.Families.{version_sample, wait_samples}
 use Rattle.swim_metrics.specs.declared.families.Column.{Column}
 use Rattle.swim_metrics.specs.declared.member_figures.MemberFigures.{MemberFigures}
-use Rattle.swim_metrics.specs.declared.measures.Measures.{Measures}
-use Rattle.swim_metrics.specs.Texts.{families_lines, families_text, family_lines, family_text, head_text, sample_text}
+use Rattle.swim_metrics.specs.Texts.{family_lines, family_text, head_text, sample_text}
 use Rattle.swim_metrics.specs.Texts.{samples_text}
 
 -- the line of a bucket
@@ -149,37 +146,6 @@ first_key me name before place keys d next some =
 pub first_escaped : (text : List ℕ) (d : ℕ) → 1 ≤ length text →
     escaped_one (get_or text 0 d) ++ escaped (others_of text) ≡ escaped text
 first_escaped text d some = ap escaped (sym (first_and_others text (get_or text 0 d) some (same_first text d some)))
-
--- the text of a metric and those of others, where it stands in front of them if it is told
-text_if : (m : Measures) (out : Outside) (is : Bool) (metric : Metric) (others : List Metric) →
-    cond is (family_text out.me (family_of m out metric)) [] ++ families_text m out others ≡
-    families_text m out (cond is (metric ∷ others) others)
-text_if m out true metric others = refl
-text_if m out false metric others = refl
-
-lines_if : (m : Measures) (out : Outside) (is : Bool) (metric : Metric) (others : List Metric) →
-    cond is (family_lines out.me (family_of m out metric)) [] ++ families_lines m out others ≡
-    families_lines m out (cond is (metric ∷ others) others)
-lines_if m out true metric others = refl
-lines_if m out false metric others = refl
-
-pub first_family : (m : Measures) (out : Outside) (metrics : List Metric) (d : Metric) → 1 ≤ length metrics →
-    cond (is_told out (get_or metrics 0 d)) (family_text out.me (family_of m out (get_or metrics 0 d))) []
-    ++ families_text m out (filter (is_told out) (others_of metrics)) ≡
-    families_text m out (filter (is_told out) metrics)
-first_family m out metrics d some =
-    text_if m out (is_told out (get_or metrics 0 d)) (get_or metrics 0 d) (filter (is_told out) (others_of metrics))
-    ∙ ap (λ l. families_text m out (filter (is_told out) l))
-    (sym (first_and_others metrics (get_or metrics 0 d) some (same_first metrics d some)))
-
-pub first_lines : (m : Measures) (out : Outside) (metrics : List Metric) (d : Metric) → 1 ≤ length metrics →
-    cond (is_told out (get_or metrics 0 d)) (family_lines out.me (family_of m out (get_or metrics 0 d))) []
-    ++ families_lines m out (filter (is_told out) (others_of metrics)) ≡
-    families_lines m out (filter (is_told out) metrics)
-first_lines m out metrics d some =
-    lines_if m out (is_told out (get_or metrics 0 d)) (get_or metrics 0 d) (filter (is_told out) (others_of metrics))
-    ∙ ap (λ l. families_lines m out (filter (is_told out) l))
-    (sym (first_and_others metrics (get_or metrics 0 d) some (same_first metrics d some)))
 
 -- ---- a metric, as it is written
 

@@ -1,11 +1,13 @@
 -- The texts that tell the metrics: Prometheus's exposition format, and the lines of `stats`.
-use Rattle.std.specs.Prelude.{ℕ, List, [], ◌∷◌, ◌++◌, codes, decimal}
+use Rattle.std.specs.Prelude.{ℕ, List, [], ◌∷◌, ◌++◌, codes, decimal, if◌then◌else◌}
 use Rattle.swim_history.specs.Texts.{feed}
 use Rattle.swim_metrics.specs.declared.heads.MetricKind.{MetricKind}
 use Rattle.swim_metrics.specs.declared.heads.MetricKind.TheVariants.{Counter, Gauge, Histogram}
 use Rattle.swim_metrics.specs.declared.heads.Metric.{Metric}
+use Rattle.swim_metrics.specs.declared.metric_texts.TextForm.{TextForm}
+use Rattle.swim_metrics.specs.declared.metric_texts.TextForm.TheVariants.{Exposition, Stats}
 use Rattle.swim_metrics.specs.declared.outside.Outside.{Outside}
-use Rattle.swim_metrics.specs.Families.{Family, Sample, family_of, told}
+use Rattle.swim_metrics.specs.Families.{Family, Sample, family_of, is_told, told}
 use Rattle.swim_metrics.specs.declared.measures.Measures.{Measures}
 
 abbrev pub kind_text : MetricKind → List ℕ
@@ -44,6 +46,19 @@ families_text m out (metric ∷ others) = family_text out.me (family_of m out me
 abbrev pub families_lines : Measures → Outside → List Metric → List ℕ
 families_lines m out [] = []
 families_lines m out (metric ∷ others) = family_lines out.me (family_of m out metric) ++ families_lines m out others
+
+-- the same in either form
+abbrev pub form_text : TextForm → ℕ → Family → List ℕ
+form_text Exposition me f = family_text me f
+form_text Stats me f = family_lines me f
+
+abbrev pub form_texts : TextForm → Measures → Outside → List Metric → List ℕ
+form_texts Exposition m out metrics = families_text m out metrics
+form_texts Stats m out metrics = families_lines m out metrics
+
+-- that of a metric, if it is told
+abbrev pub text_if_told : TextForm → Measures → Outside → Metric → List ℕ
+text_if_told form m out metric = if is_told out metric then form_text form out.me (family_of m out metric) else []
 
 -- the whole texts
 abbrev pub exposition_text : Measures → Outside → List ℕ

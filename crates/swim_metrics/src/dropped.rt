@@ -37,21 +37,19 @@ impl Dropped {
         }
     }
 
-    /// The counts after a reply.
-    pub(crate) fn after(&self, reply: &Reply) -> Dropped
+    /// Counts a reply.
+    pub(crate) fn add(&mut self, reply: &Reply)
         ensures { (h : List Entry) (e : Entry) → e.reply ≡ reply.now →
-            ((why : Reason) → dropped_for why self.now ≡ capped (count_by (dropped_as why) h)) →
-            (why : Reason) → dropped_for why result ≡ capped (count_by (dropped_as why) (e ∷ h)) }
+            ((why : Reason) → dropped_for why self.old ≡ capped (count_by (dropped_as why) h)) →
+            (why : Reason) → dropped_for why self.new ≡ capped (count_by (dropped_as why) (e ∷ h)) }
     {
-        Dropped {
-            not_for_me: more_if(self.not_for_me, is_dropped_as(DropReason::NotForMe, reply)),
-            borrowed: more_if(self.borrowed, is_dropped_as(DropReason::Borrowed, reply)),
-            about_me: more_if(self.about_me, is_dropped_as(DropReason::AboutMe, reply)),
-            unlisted: more_if(self.unlisted, is_dropped_as(DropReason::Unlisted, reply)),
-            table_full: more_if(self.table_full, is_dropped_as(DropReason::TableFull, reply)),
-            stray: more_if(self.stray, is_dropped_as(DropReason::Stray, reply)),
-            no_request: more_if(self.no_request, is_dropped_as(DropReason::NoRequest, reply)),
-        }
+        self.not_for_me = more_if(self.not_for_me, is_dropped_as(DropReason::NotForMe, reply));
+        self.borrowed = more_if(self.borrowed, is_dropped_as(DropReason::Borrowed, reply));
+        self.about_me = more_if(self.about_me, is_dropped_as(DropReason::AboutMe, reply));
+        self.unlisted = more_if(self.unlisted, is_dropped_as(DropReason::Unlisted, reply));
+        self.table_full = more_if(self.table_full, is_dropped_as(DropReason::TableFull, reply));
+        self.stray = more_if(self.stray, is_dropped_as(DropReason::Stray, reply));
+        self.no_request = more_if(self.no_request, is_dropped_as(DropReason::NoRequest, reply));
     }
 }
 

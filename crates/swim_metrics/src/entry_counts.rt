@@ -9,7 +9,7 @@ ghost use Rattle.swim_metrics.specs.Counting.{capped, comes_late};
 ghost use Rattle.swim_metrics.specs.Following.{Count, begun};
 ghost use Rattle.swim_metrics.specs.Waiting.{wait_ended};
 
-use crate::counting::{more, more_if};
+use crate::counting::{count_if, more};
 use crate::dropped::Dropped;
 use crate::tests_of_entries::{
     asks_in, is_heard_by_relay, is_heard_directly, is_join, is_pinged, is_removal, is_served,
@@ -86,35 +86,26 @@ impl EntryCounts {
         self.entries = 0;
     }
 
-    /// The counts after an entry that ended that wait, if it ended one, and was a late ack or was not.
-    pub(crate) fn after(
-        &self,
-        call: &Call,
-        reply: &Reply,
-        wait: Option<u64>,
-        is_late: bool,
-    ) -> EntryCounts
+    /// Counts an entry that ended that wait, if it ended one, and was a late ack or was not.
+    pub(crate) fn add(&mut self, call: &Call, reply: &Reply, wait: Option<u64>, is_late: bool)
         ensures { (life : Lived) (older : List Lived) (e : Entry) → e.call ≡ call.now → e.reply ≡ reply.now →
             option_to_list wait ≡ map capped (wait_ended e life.past) →
             is_late ≡ comes_late life.opening life.past e →
-            Count self.now (life ∷ older) → Count result (lived_on life e ∷ older) }
+            Count self.old (life ∷ older) → Count self.new (lived_on life e ∷ older) }
     {
-        EntryCounts {
-            ticks: more_if(self.ticks, is_tick(call, reply)),
-            pings_sent: more(self.pings_sent, pings_in(reply)),
-            pings_heard: more_if(self.pings_heard, is_pinged(call)),
-            heard_directly: more_if(self.heard_directly, is_heard_directly(call, reply)),
-            heard_by_relay: more_if(self.heard_by_relay, is_heard_by_relay(call, reply)),
-            acks_late: more_if(self.acks_late, is_late),
-            asks_sent: more(self.asks_sent, asks_in(reply)),
-            requests_served: more_if(self.requests_served, is_served(call, reply)),
-            dropped: self.dropped.after(reply),
-            verdicts: more_if(self.verdicts, is_verdict(reply)),
-            joins: more_if(self.joins, is_join(call, reply)),
-            removals: more_if(self.removals, is_removal(call, reply)),
-            lives: self.lives,
-            entries: more(self.entries, 1),
-            waits: self.waits.after(wait),
-        }
+        count_if(&mut self.ticks, is_tick(call, reply));
+        self.pings_sent = more(self.pings_sent, pings_in(reply));
+        count_if(&mut self.pings_heard, is_pinged(call));
+        count_if(&mut self.heard_directly, is_heard_directly(call, reply));
+        count_if(&mut self.heard_by_relay, is_heard_by_relay(call, reply));
+        count_if(&mut self.acks_late, is_late);
+        self.asks_sent = more(self.asks_sent, asks_in(reply));
+        count_if(&mut self.requests_served, is_served(call, reply));
+        self.dropped.add(reply);
+        count_if(&mut self.verdicts, is_verdict(reply));
+        count_if(&mut self.joins, is_join(call, reply));
+        count_if(&mut self.removals, is_removal(call, reply));
+        self.entries = more(self.entries, 1);
+        self.waits.add(wait);
     }
 }

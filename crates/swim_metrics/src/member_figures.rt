@@ -59,8 +59,18 @@ pub(crate) fn carry_over(members: &mut MemberRows, change: &Option<Change>, tabl
     ensures { members.new.items ≡ changed_then change.now table.now members.old.items }
 {
     if change.is_some() {
-        *members = carried(members.as_slice(), table);
+        replace(members, table);
     }
+}
+
+/// Puts the members of a table, each with what was counted of it until now, in the place of those that were known.
+// Kept out of line: a table is large, and most entries change none.
+#[inline(never)]
+fn replace(members: &mut MemberRows, table: &[Row])
+    requires { length table.now ≤ KNOWN_MEMBERS }
+    ensures { members.new.items ≡ carried members.old.items table.now }
+{
+    *members = carried(members.as_slice(), table);
 }
 
 /// The members of a table, each with what was counted of it until now.

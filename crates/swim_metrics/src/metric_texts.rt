@@ -1,10 +1,10 @@
 //! The texts that tell the metrics, written to a sink. Each function answers whether the sink took its text.
 
-ghost use Rattle.std.specs.Prelude.{◌≡◌, [], filter, if◌then◌else◌};
+ghost use Rattle.std.specs.Prelude.{◌≡◌, filter};
 ghost use Rattle.swim_text.specs.Streams.{Puts, failures_if};
 ghost use Rattle.swim_metrics.specs.Families.{family_of, is_told};
-ghost use Rattle.swim_metrics.specs.Texts.{exposition_text, families_lines, families_text, family_lines, family_text};
-ghost use Rattle.swim_metrics.specs.Texts.{head_text, kind_text, samples_text, stats_text};
+ghost use Rattle.swim_metrics.specs.Texts.{exposition_text, family_lines, family_text, form_texts, head_text, kind_text};
+ghost use Rattle.swim_metrics.specs.Texts.{samples_text, stats_text, text_if_told};
 
 use crate::heads::{ALL_METRICS, Metric, MetricKind};
 use crate::measures::Measures;
@@ -13,13 +13,28 @@ use crate::samples::{Series, put_samples};
 use swim_text::Sink;
 use swim_wire::{Piece, put_pieces};
 
+/// The two texts that tell the metrics.
+#[derive(Clone, Copy)]
+pub(crate) enum TextForm {
+    /// In front of the values of each metric stand what it tells and its type.
+    Exposition,
+    /// The values alone.
+    Stats,
+}
+
 /// Writes the metrics in the exposition format of Prometheus: of each what it tells, its type, and its values.
 pub fn put_exposition<W: Sink>(writer: &mut W, measures: &Measures, outside: &Outside<'_>) -> bool
     ensures bytes { Puts (W.written writer.old) (W.written writer.new)
         (exposition_text measures.now outside.now) result }
     ensures failures { W.failures writer.new ≡ failures_if (W.failures writer.old) result }
 {
-    put_families(writer, measures, outside, &ALL_METRICS)
+    put_told(
+        writer,
+        measures,
+        outside,
+        TextForm::Exposition,
+        &ALL_METRICS,
+    )
 }
 
 /// Writes the values of the metrics, a line for each, and a dot.
@@ -27,86 +42,52 @@ pub fn put_stats<W: Sink>(writer: &mut W, measures: &Measures, outside: &Outside
     ensures bytes { Puts (W.written writer.old) (W.written writer.new) (stats_text measures.now outside.now) result }
     ensures failures { W.failures writer.new ≡ failures_if (W.failures writer.old) result }
 {
-    if !put_lines(writer, measures, outside, &ALL_METRICS) {
+    if !put_told(writer, measures, outside, TextForm::Stats, &ALL_METRICS) {
         return false;
     }
     writer.put(b".\n")
 }
 
-/// Those of these metrics that are told, each with what it tells and its type.
-fn put_families<W: Sink>(
+/// Those of these metrics that are told.
+#[tactic(auto, using(crate::proofs::Forms::told_more, crate::proofs::Forms::told_failed))]
+fn put_told<W: Sink>(
     writer: &mut W,
     measures: &Measures,
     outside: &Outside<'_>,
+    form: TextForm,
     metrics: &[Metric],
 ) -> bool
     ensures bytes { Puts (W.written writer.old) (W.written writer.new)
-        (families_text measures.now outside.now (filter (is_told outside.now) metrics.now)) result }
+        (form_texts form measures.now outside.now (filter (is_told outside.now) metrics.now)) result }
     ensures failures { W.failures writer.new ≡ failures_if (W.failures writer.old) result }
 {
-    let [first, others @ ..] = metrics else {
-        return writer.put(b"");
-    };
-    if !put_metric_if(writer, measures, outside, *first) {
-        return false;
+    for metric in metrics {
+        if !put_if_told(writer, measures, outside, form, *metric) {
+            return false;
+        }
     }
-    put_families(writer, measures, outside, others)
-}
-
-/// The values of those of these metrics that are told.
-fn put_lines<W: Sink>(
-    writer: &mut W,
-    measures: &Measures,
-    outside: &Outside<'_>,
-    metrics: &[Metric],
-) -> bool
-    ensures bytes { Puts (W.written writer.old) (W.written writer.new)
-        (families_lines measures.now outside.now (filter (is_told outside.now) metrics.now)) result }
-    ensures failures { W.failures writer.new ≡ failures_if (W.failures writer.old) result }
-{
-    let [first, others @ ..] = metrics else {
-        return writer.put(b"");
-    };
-    if !put_values_if(writer, measures, outside, *first) {
-        return false;
-    }
-    put_lines(writer, measures, outside, others)
+    true
 }
 
 /// A metric, if it is told.
-fn put_metric_if<W: Sink>(
+fn put_if_told<W: Sink>(
     writer: &mut W,
     measures: &Measures,
     outside: &Outside<'_>,
+    form: TextForm,
     metric: Metric,
 ) -> bool
-    ensures bytes { Puts (W.written writer.old) (W.written writer.new)
-        (if is_told outside.now metric then family_text outside.now.me (family_of measures.now outside.now metric) else [])
+    ensures bytes { Puts (W.written writer.old) (W.written writer.new) (text_if_told form measures.now outside.now metric)
         result }
     ensures failures { W.failures writer.new ≡ failures_if (W.failures writer.old) result }
 {
     if !outside.tells(metric) {
         return writer.put(b"");
     }
-    put_metric(writer, measures, outside, metric)
-}
-
-/// The values of a metric, if it is told.
-fn put_values_if<W: Sink>(
-    writer: &mut W,
-    measures: &Measures,
-    outside: &Outside<'_>,
-    metric: Metric,
-) -> bool
-    ensures bytes { Puts (W.written writer.old) (W.written writer.new)
-        (if is_told outside.now metric then family_lines outside.now.me (family_of measures.now outside.now metric) else [])
-        result }
-    ensures failures { W.failures writer.new ≡ failures_if (W.failures writer.old) result }
-{
-    if !outside.tells(metric) {
-        return writer.put(b"");
+    match form {
+        TextForm::Exposition => put_metric(writer, measures, outside, metric),
+        TextForm::Stats => put_values(writer, measures, outside, metric),
     }
-    put_values(writer, measures, outside, metric)
 }
 
 /// A metric: what it tells, its type, and its values.

@@ -114,9 +114,9 @@ impl Metrics {
     {
         let wait = self.period.wait_ended(call, reply);
         let late = is_late(call, reply, self.watching.number());
-        self.counts = self.counts.after(call, reply, wait, late);
+        self.counts.add(call, reply, wait, late);
         self.period = self.period.after(call, reply);
-        self.odd = self.odd.after(self.me, self.watching.rows(), call);
+        self.odd.add(self.me, self.watching.rows(), call);
         count_for_members(&mut self.members, call, reply);
         let change = self.watching.next(call, reply);
         carry_over(&mut self.members, &change, self.watching.rows());

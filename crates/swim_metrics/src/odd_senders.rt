@@ -49,43 +49,37 @@ impl OddSenders {
         }
     }
 
-    /// The same after a call, while the table of this member has these rows.
-    pub(crate) fn after(&self, me: Id, rows: &[Row], call: &Call) -> OddSenders
+    /// Counts a call, while the table of this member has these rows.
+    pub(crate) fn add(&mut self, me: Id, rows: &[Row], call: &Call)
         requires { IsAscending rows.now }
-        ensures { result ≡ senders_then me rows.now call.now self.now }
+        ensures { self.new ≡ senders_then me rows.now call.now self.old }
     {
-        match call {
-            Call::Hear(source, message) => self.after_message(me, rows, source, message),
-            _ => *self,
+        if let Call::Hear(source, message) = call {
+            self.add_message(me, rows, source, message);
         }
     }
 
-    /// The same after a message.
-    fn after_message(&self, me: Id, rows: &[Row], source: &Peer, message: &Message) -> OddSenders
+    /// Counts a message.
+    fn add_message(&mut self, me: Id, rows: &[Row], source: &Peer, message: &Message)
         requires { IsAscending rows.now }
-        ensures unlisted { let listed = place_of message.now.sender rows.now in result.unlisted
+        ensures unlisted { let listed = place_of message.now.sender rows.now in self.new.unlisted
             ≡ count_then (message_if (is_unlisted me message.now listed) message.now source.now listed)
-            self.now.unlisted }
-        ensures own_id { let listed = place_of message.now.sender rows.now in result.own_id
-            ≡ count_then (message_if (message.now.sender == me) message.now source.now listed) self.now.own_id }
-        ensures elsewhere { let listed = place_of message.now.sender rows.now in result.elsewhere
+            self.old.unlisted }
+        ensures own_id { let listed = place_of message.now.sender rows.now in self.new.own_id
+            ≡ count_then (message_if (message.now.sender == me) message.now source.now listed) self.old.own_id }
+        ensures elsewhere { let listed = place_of message.now.sender rows.now in self.new.elsewhere
             ≡ count_then (message_if (is_elsewhere source.now listed) message.now source.now listed)
-            self.now.elsewhere }
+            self.old.elsewhere }
     {
         let odd = OddMessage {
             sender: message.sender,
             source: *source,
             listed: place_of(message.sender, rows),
         };
-        OddSenders {
-            unlisted: self
-                .unlisted
-                .after(is_unlisted(me, message, &odd.listed), &odd),
-            own_id: self.own_id.after(message.sender == me, &odd),
-            elsewhere: self
-                .elsewhere
-                .after(is_elsewhere(source, &odd.listed), &odd),
-        }
+        self.unlisted
+            .add(is_unlisted(me, message, &odd.listed), &odd);
+        self.own_id.add(message.sender == me, &odd);
+        self.elsewhere.add(is_elsewhere(source, &odd.listed), &odd);
     }
 }
 
@@ -100,16 +94,13 @@ impl OddCount {
         }
     }
 
-    /// With that message, if it is odd.
-    fn after(&self, is_odd: bool, message: &OddMessage) -> OddCount
-        ensures { result ≡ count_then (if is_odd then Some message.now else None) self.now }
+    /// Counts that message, if it is odd.
+    fn add(&mut self, is_odd: bool, message: &OddMessage)
+        ensures { self.new ≡ count_then (if is_odd then Some message.now else None) self.old }
     {
-        if !is_odd {
-            return *self;
-        }
-        OddCount {
-            count: more(self.count, 1),
-            newest: Some(*message),
+        if is_odd {
+            self.count = more(self.count, 1);
+            self.newest = Some(*message);
         }
     }
 }

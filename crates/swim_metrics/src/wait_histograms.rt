@@ -39,29 +39,24 @@ impl Waits {
         }
     }
 
-    /// After a wait, if one ended.
-    pub(crate) fn after(&self, wait: Option<u64>) -> Waits
+    /// Counts a wait, if one ended.
+    pub(crate) fn add(&mut self, wait: Option<u64>)
         ensures { (ended waits : List ℕ) → option_to_list wait ≡ map capped ended →
-            AreOf self.now waits → AreOf result (ended ++ waits) }
+            AreOf self.old waits → AreOf self.new (ended ++ waits) }
     {
-        match wait {
-            Some(wait) => self.with(wait),
-            None => *self,
+        if let Some(wait) = wait {
+            self.add_one(wait);
         }
     }
 
-    /// With that one.
-    fn with(&self, wait: u64) -> Waits
+    /// Counts that one.
+    fn add_one(&mut self, wait: u64)
         ensures { (ended : ℕ) (waits : List ℕ) → wait ≡ capped ended →
-            AreOf self.now waits → AreOf result (ended ∷ waits) }
+            AreOf self.old waits → AreOf self.new (ended ∷ waits) }
     {
-        let mut buckets = self.buckets;
-        count_wait(&mut buckets, wait);
-        Waits {
-            buckets,
-            sum: more(self.sum, wait),
-            count: more(self.count, 1),
-        }
+        count_wait(&mut self.buckets, wait);
+        self.sum = more(self.sum, wait);
+        self.count = more(self.count, 1);
     }
 }
 

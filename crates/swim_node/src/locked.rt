@@ -6,8 +6,9 @@ ghost use mathlib.Core.List.{IsPrefix};
 ghost use Rattle.swim_detector.specs.Recording.{IsKept};
 ghost use Rattle.swim_node.specs.Following.{filings_of, note_in};
 ghost use Rattle.swim_node.specs.Draws.{DrawsAll};
+ghost use Rattle.swim_history.specs.Changes.{changes};
 ghost use Rattle.swim_history.specs.Seats.{kept_of};
-ghost use Rattle.swim_node.specs.News.{SawNothing, EndsWithChange};
+ghost use Rattle.swim_node.specs.News.{SawNothing, EndsWithChange, HaveSeen};
 ghost use Rattle.swim_node.specs.Seats.{AreNew, AreTheSeats};
 ghost use Rattle.swim_node.specs.Cells.{noted};
 ghost use Rattle.swim_node.specs.Answered.{EndsARun, MayRefuse, refused, IsGapAtMoment};
@@ -22,7 +23,7 @@ use crate::news::News;
 use crate::parts::Parts;
 use crate::receipts::{CallFault, OpenFault};
 use crate::seats::{Seat, seats_of};
-use crate::viewers::Viewer;
+use crate::viewers::{Viewer, compare_each};
 use std::alloc::Global;
 use std::marker::Model;
 use std::sync::Wait;
@@ -264,13 +265,15 @@ impl<N: Naming, C: Chooser, H: Wait + Drop> Locked<N, C, H> {
         Some(ReadCall { followed, note })
     }
 
-    /// As `close`; and what the follower has read is a beginning of the journal, or all of it.
+    /// As `close`; and what the follower has read is a beginning of the journal, or all of it; and what these viewers
+    /// have seen is a beginning of its changes.
     #[tactic(auto, using(crate::proofs::Reading::whole_read))]
     pub(crate) fn close_followed<R: Wait>(
         self,
         rt: &R,
         seats: [Seat<N>; 4],
         follower: Follower<N>,
+        viewers: &[Viewer<N>],
     ) -> (Journal, [Seat<N>; 4], News<N>)
         requires { AreTheSeats seats }
         ensures opening { result.0.opening ≡ N.opening }
@@ -280,11 +283,14 @@ impl<N: Naming, C: Chooser, H: Wait + Drop> Locked<N, C, H> {
         ensures full { AreFullWhereMet N.limit result.0.past seats }
         ensures followed { IsPrefix follower (filings_of result.0.past) }
         ensures whole { length follower ≡ length result.0.past → follower ≡ filings_of result.0.past }
+        ensures seen { HaveSeen (changes N.opening result.0.past) viewers.now }
         ensures drawn { N.drawn result.0.past }
     {
         let mut locked = self;
         let mut follower = follower;
         locked.compare_followed(rt, &mut follower);
+        let all = locked.board.news();
+        compare_each(rt, &all, viewers);
         locked.close(rt, seats)
     }
 

@@ -9,7 +9,8 @@ ghost use Rattle.swim_wire.specs.declared.codec.WireFault.{WireFault};
 ghost use Rattle.swim_wire.specs.Messages.{Message};
 ghost use Rattle.swim_wire.specs.Layout.{IsTextOf, first_fault};
 ghost use Rattle.swim_history.specs.declared.calls.Call.TheVariants as call;
-ghost use Rattle.swim_node.specs.News.{SawNothing, EndsWithChange};
+ghost use Rattle.swim_history.specs.Changes.{changes};
+ghost use Rattle.swim_node.specs.News.{SawNothing, EndsWithChange, HaveSeen};
 ghost use Rattle.swim_node.specs.Seats.{AreNew, AreTheSeats};
 ghost use Rattle.swim_node.specs.Answered.{kept, refused, IsAnswered, MayRefuse, MayRefuseBytes, IsGapAtMoment};
 ghost use Rattle.swim_node.specs.OneHistory.{AreFullWhereMet, IsOneHistory};
@@ -217,12 +218,14 @@ impl<N: Naming, C: Chooser, H: Wait + Drop> Node<N, C, H> {
     }
 
     /// As `close`; and what the follower has read is a beginning of the journal that is handed back, and all of it
-    /// where it has read as many calls as that has entries.
+    /// where it has read as many calls as that has entries; and what these viewers have seen is a beginning of its
+    /// changes of the member table.
     pub fn close_followed<R: Wait>(
         self,
         rt: &R,
         seats: [Seat<N>; 4],
         follower: Follower<N>,
+        viewers: &[Viewer<N>],
     ) -> (Journal, [Seat<N>; 4], News<N>)
         requires { AreTheSeats seats }
         ensures opening { result.0.opening ≡ N.opening }
@@ -232,6 +235,7 @@ impl<N: Naming, C: Chooser, H: Wait + Drop> Node<N, C, H> {
         ensures full { AreFullWhereMet N.limit result.0.past seats }
         ensures followed { IsPrefix follower (filings_of result.0.past) }
         ensures whole { length follower ≡ length result.0.past → follower ≡ filings_of result.0.past }
+        ensures seen { HaveSeen (changes N.opening result.0.past) viewers.now }
         ensures drawn { N.drawn result.0.past }
     {
         let Node {
@@ -239,7 +243,9 @@ impl<N: Naming, C: Chooser, H: Wait + Drop> Node<N, C, H> {
             cells: _,
             locked,
         } = self;
-        locked.into_inner().close_followed(rt, seats, follower)
+        locked
+            .into_inner()
+            .close_followed(rt, seats, follower, viewers)
     }
 
     fn call<R: Wait>(

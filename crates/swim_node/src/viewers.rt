@@ -3,14 +3,16 @@
 ghost use Rattle.std.specs.Prelude.{◌≡◌, ◌≤◌, [], length, IfSome, IfNone};
 ghost use mathlib.Core.List.{IsPrefix};
 ghost use Rattle.swim_history.specs.Changes.{table_after};
-ghost use Rattle.swim_node.specs.News.{IsLongerOf};
+ghost use Rattle.swim_node.specs.News.{HaveSeen, IsLongerOf};
 
 use crate::naming::Naming;
 use crate::news::News;
+use crate::seats::wait_for_good;
 use crate::shown::ShownTable;
 use crossbeam_utils::rule::{Outcome, Protocol};
 use left_right::reader::Reader;
 use std::marker::{Model, PhantomData};
+use std::sync::Wait;
 use swim_history::{Row, Table, copy_table};
 use swim_wire::KNOWN_MEMBERS;
 
@@ -103,6 +105,16 @@ impl<N: Naming> Viewer<N> {
         self.seen = self.seen.longer(news);
     }
 
+    /// Compares what it has seen with all that was published: it is a beginning of that. It waits for good where it has
+    /// seen more, which never happens.
+    pub(crate) fn compare<R: Wait>(&self, rt: &R, all: &News<N>)
+        ensures { IsPrefix self.now all.now }
+    {
+        if !self.seen.begins(all) {
+            wait_for_good(rt);
+        }
+    }
+
     // Sees the rows after the changes of some news, if they aren't older than what was seen.
     fn see(&mut self, rows: &[Row], news: News<N>) -> Option<Table>
         requires rows { rows.now ≡ table_after N.opening news }
@@ -119,4 +131,15 @@ impl<N: Naming> Viewer<N> {
         self.seen = news;
         Some(copy_table(rows))
     }
+}
+
+/// Compares what viewers have seen with all that was published.
+pub(crate) fn compare_each<N: Naming, R: Wait>(rt: &R, all: &News<N>, viewers: &[Viewer<N>])
+    ensures { HaveSeen all.now viewers.now }
+{
+    let [first, others @ ..] = viewers else {
+        return;
+    };
+    first.compare(rt, all);
+    compare_each(rt, all, others);
 }

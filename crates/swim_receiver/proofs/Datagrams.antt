@@ -8,6 +8,7 @@ use Rattle.swim_wire.specs.Messages.{Message}
 use Rattle.swim_history.specs.declared.calls.Call.{Call}
 use Rattle.swim_history.specs.declared.calls.Call.TheVariants.{Hear, Join}
 use Rattle.swim_history.specs.declared.rows.Row.{Row}
+use Rattle.swim_history.specs.declared.rows.Change.{Change}
 use Rattle.swim_history.specs.declared.seats.Kept.{Kept}
 use Rattle.swim_history.specs.Setting.{Setting}
 use Rattle.swim_node.specs.declared.receipts.CallFault.{CallFault}
@@ -221,54 +222,53 @@ first_heard o limit bytes source old end new (inr (fault, may, is)) =
 
 -- ---- a turn
 
-got_heard : {O : Type 0} (o : Setting) (limit rejoin me : ℕ) (h : List Event) (got : Got) (bytes : List ℕ)
-    (old : AtReceiver O) (end : Option Why) (new : AtReceiver O) → HearsGot o limit rejoin me h got bytes old end new →
+got_heard : {O : Type 0} (o : Setting) (limit me : ℕ) (h : List Event) (got : Got) (bytes : List ℕ)
+    (old : AtReceiver O) (end : Option Why) (new : AtReceiver O) → HearsGot o limit me h got bytes old end new →
     HeardOn (datagram_by got bytes) old.sender new.sender
-got_heard o limit rejoin me h (Datagram count source) bytes old end new (is, none) =
+got_heard o limit me h (Datagram count source) bytes old end new (is, none) =
     both_heard ((take count bytes, source) ∷ []) [] old.sender is.mid new.sender
     (first_heard o limit (take count bytes) source old.sender is.heard is.mid is.hears)
     (then_joined o limit _ h is.mid is.heard end new.sender new.told is.joins)
-got_heard o limit rejoin me h Idle bytes old end new is = none_heard old.sender new.sender is.0
-got_heard o limit rejoin me h Fault bytes old end new is = none_heard old.sender new.sender is.0
+got_heard o limit me h Idle bytes old end new is = none_heard old.sender new.sender is.0
+got_heard o limit me h Fault bytes old end new is = none_heard old.sender new.sender is.0
 
-turn_heard : {O : Type 0} (o : Setting) (limit rejoin me : ℕ) (given : Received) (old : AtReceiver O) (end : Option Why)
-    (new : AtReceiver O) → HearsNext o limit rejoin me given old end new →
+turn_heard : {O : Type 0} (o : Setting) (limit me : ℕ) (given : Received) (old : AtReceiver O) (end : Option Why)
+    (new : AtReceiver O) → HearsNext o limit me given old end new →
     HeardOn (datagram_by given.got given.bytes) old.sender new.sender
-turn_heard o limit rejoin me given old end new is =
-    got_heard o limit rejoin me is.0 given.got given.bytes old end new is.2
+turn_heard o limit me given old end new is =
+    got_heard o limit me is.0 given.got given.bytes old end new is.2
 
-turns_heard : {O : Type 0} (o : Setting) (limit rejoin me : ℕ) (given : List Received) (old new : AtReceiver O) →
-    Turns (HearsNext o limit rejoin me) given old new → HeardOn (datagrams_in given) old.sender new.sender
-turns_heard o limit rejoin me [] old new is = none_heard old.sender new.sender (ap (λ (r : AtReceiver _). r.sender) is)
-turns_heard o limit rejoin me (given ∷ rest) old new is =
+turns_heard : {O : Type 0} (o : Setting) (limit me : ℕ) (given : List Received) (old new : AtReceiver O) →
+    Turns (HearsNext o limit me) given old new → HeardOn (datagrams_in given) old.sender new.sender
+turns_heard o limit me [] old new is = none_heard old.sender new.sender (ap (λ (r : AtReceiver _). r.sender) is)
+turns_heard o limit me (given ∷ rest) old new is =
     both_heard (datagram_by given.got given.bytes) (datagrams_in rest) old.sender is.0.sender new.sender
-    (turn_heard o limit rejoin me given old None is.0 is.1) (turns_heard o limit rejoin me rest is.0 new is.2)
+    (turn_heard o limit me given old None is.0 is.1) (turns_heard o limit me rest is.0 new is.2)
 
-all_heard : {O : Type 0} (o : Setting) (limit rejoin me : ℕ) (given : List Received) (old : AtReceiver O)
-    (end : Option Why) (new : AtReceiver O) → EndsSo (HearsNext o limit rejoin me) given old end new →
+all_heard : {O : Type 0} (o : Setting) (limit me : ℕ) (given : List Received) (old : AtReceiver O)
+    (end : Option Why) (new : AtReceiver O) → EndsSo (HearsNext o limit me) given old end new →
     HeardOn (datagrams_in given) old.sender new.sender
-all_heard o limit rejoin me given old None new is = turns_heard o limit rejoin me given old new is
-all_heard o limit rejoin me given old (Some why) new is =
+all_heard o limit me given old None new is = turns_heard o limit me given old new is
+all_heard o limit me given old (Some why) new is =
     let last : Received = is.1 in
     let all : datagrams_in (is.0 ++ last ∷ []) ≡ datagrams_in is.0 ++ datagram_by last.got last.bytes =
     flat_map-append (λ (r : Received). datagram_by r.got r.bytes) is.0 (last ∷ [])
     ∙ ap (λ l. datagrams_in is.0 ++ l) (append-nil (datagram_by last.got last.bytes)) in
     rw (is.3, all) (both_heard (datagrams_in is.0) (datagram_by last.got last.bytes) old.sender is.2.sender new.sender
-    (turns_heard o limit rejoin me is.0 old is.2 is.4)
-    (turn_heard o limit rejoin me last is.2 (Some why) new is.5))
+    (turns_heard o limit me is.0 old is.2 is.4)
+    (turn_heard o limit me last is.2 (Some why) new is.5))
 
 -- ---- a life
 
 -- each datagram that the line gave in a life became one call of the seat, in order, or was counted
 pub each_is_heard : {O : Type 0} (posted : O → Option (List Posted)) (o : Setting) (limit : ℕ) (old : Owned O)
-    (seat : Seated) (end : End) (new : Owned O) → HearsLife posted o limit old seat end new →
+    (seat : Seated) (seen : List Change) (end : End) (new : Owned O) → HearsLife posted o limit old seat seen end new →
     (h : List Event) → IsReturning old.returning h →
     (given : List Received) × Grows old.received new.received given
     × AreHeard (datagrams_in given) seat.calls end.counts
-each_is_heard posted o limit old seat end new life h is =
+each_is_heard posted o limit old seat seen end new life h is =
     let worked = (life.heard h is).2 in
-    let heard = all_heard o limit old.returning.rejoiner.rejoin old.returning.rejoiner.me worked.given _ end.why _
-    worked.ends in (
+    let heard = all_heard o limit old.returning.rejoiner.me worked.given _ end.why _ worked.ends in (
       worked.given,
       worked.grown,
       record {

@@ -1,6 +1,6 @@
 -- What the receiver learns of members that come back, step by step.
 use Rattle.std.proofs.Common.{◌≡◌, ℕ, suc, ◌+◌, ◌<◌, List, [], ◌∷◌, ◌++◌, length, take, refl, sym, ap, ◌∙◌, subst}
-use Rattle.std.proofs.Common.{◌-◌, ◌^◌, min, append_assoc, arith}
+use Rattle.std.proofs.Common.{◌≢◌, ◌-◌, ◌^◌, cond, false, min, nat_eq, append_assoc, arith}
 use Rattle.std.specs.List.{slice_index_or}
 use Rattle.std.proofs.Math.Seq.{take-suc}
 use Rattle.std.proofs.lemmas.List.Elements.{All-nil, All-cons, All-append}
@@ -10,10 +10,10 @@ use Rattle.swim_history.specs.Changes.{table_after}
 use Rattle.swim_history.specs.Setting.{Setting}
 use Rattle.swim_rejoin.specs.Histories.{Event, table_in}
 use Rattle.swim_rejoin.specs.Rejoiners.{Follows, Kept}
-use Rattle.swim_rejoin.specs.Histories.Event.{Joined, Knocked, Looked}
+use Rattle.swim_rejoin.specs.Histories.Event.{Joined, Knocked, Looked, Ruled}
 use Rattle.swim_work.specs.declared.tidings.Note.{Note}
 use Rattle.swim_receiver.specs.declared.rejoining.Returning.{Returning}
-use Rattle.swim_receiver.specs.Rejoining.{IsNews, IsReturning, Learns, LearnsOn, joins_in, with_knocks}
+use Rattle.swim_receiver.specs.Rejoining.{IsNews, IsReturning, Learns, LearnsOn, joins_in, ruled_in, with_knocks}
 
 pub none_on : (o : Setting) (h : List Event) → LearnsOn o h h
 none_on o h = ([], refl, All-nil (IsNews o))
@@ -45,14 +45,33 @@ pub looked_learnt : (o : Setting) (old new : Returning) (rows : List Row) (log :
 looked_learnt o old new rows log table told =
     λ h is. (Looked rows ∷ h, one_on o (Looked rows) h (log, table), told h is)
 
+pub not_0 : (n : ℕ) → n ≢ 0 → nat_eq n 0 ≡ false
+not_0 n other = grind arith
+
+-- which N is in force: with a 0 no rows are kept
+pub rule_learnt : (o : Setting) (old new : Returning) (rejoin : ℕ) →
+    ((h : List Event) → Follows old.rejoiner h → Follows new.rejoiner (Ruled rejoin ∷ h)) →
+    new.rows.items ≡ cond (nat_eq rejoin 0) [] old.rows.items → new.rejoins ≡ old.rejoins →
+    new.lookup ≡ old.lookup ++ rejoin ∷ [] → Learns o old new
+rule_learnt o old new rejoin follows rows count answered = λ h is. (
+  Ruled rejoin ∷ h,
+  one_on o (Ruled rejoin) h tt,
+  (
+    follows h is.0,
+    rows ∙ ap (λ (rows : List Row). cond (nat_eq rejoin 0) [] rows) is.1,
+    count ∙ is.2,
+    answered ∙ ap (λ (answers : List ℕ). answers ++ rejoin ∷ []) is.3,
+  ),
+)
+
 -- a member was joined again
 pub join_told : (old new : Returning) (id period : ℕ) →
     ((h : List Event) → Follows old.rejoiner h → Follows new.rejoiner (Joined id period ∷ h)) →
-    new.rows.items ≡ old.rows.items → new.rejoins ≡ min (old.rejoins + 1) (2 ^ 64 - 1) →
+    new.rows.items ≡ old.rows.items → new.rejoins ≡ min (old.rejoins + 1) (2 ^ 64 - 1) → new.lookup ≡ old.lookup →
     (h : List Event) → IsReturning old h → IsReturning new (Joined id period ∷ h)
-join_told old new id period follows same counted h is =
+join_told old new id period follows same counted unasked h is =
     let was : old.rejoins ≡ min (joins_in h) (2 ^ 64 - 1) = is.2 in
-    (follows h is.0, same ∙ is.1, omega (arith, was, counted))
+    (follows h is.0, same ∙ is.1, omega (arith, was, counted), unasked ∙ is.3)
 
 -- ---- knocks that the ticker told of
 
@@ -90,13 +109,18 @@ joins_with : (notes : List Note) (h : List Event) → joins_in (with_knocks note
 joins_with [] h = refl
 joins_with (note ∷ notes) h = joins_with notes (Knocked note.id note.number ∷ h)
 
+ruled_with : (notes : List Note) (h : List Event) → ruled_in (with_knocks notes h) ≡ ruled_in h
+ruled_with [] h = refl
+ruled_with (note ∷ notes) h = ruled_with notes (Knocked note.id note.number ∷ h)
+
 pub knocks_told : (old new : Returning) (notes : List Note) → TellsOf old.rejoiner new.rejoiner notes →
-    new.rows.items ≡ old.rows.items → new.rejoins ≡ old.rejoins →
+    new.rows.items ≡ old.rows.items → new.rejoins ≡ old.rejoins → new.lookup ≡ old.lookup →
     (h : List Event) → IsReturning old h → IsReturning new (with_knocks notes h)
-knocks_told old new notes told same count h is = (
+knocks_told old new notes told same count unasked h is = (
   told h is.0,
   same ∙ (is.1 ∙ sym (table_with notes h)),
   count ∙ (is.2 ∙ sym (ap (λ n. min n (2 ^ 64 - 1)) (joins_with notes h))),
+  unasked ∙ (is.3 ∙ sym (ruled_with notes h)),
 )
 
 knocks_on : (o : Setting) (notes : List Note) (h : List Event) → LearnsOn o h (with_knocks notes h)

@@ -30,18 +30,17 @@ pub none_heard : {O : Type 0} (o : Setting) (limit : ℕ) (old : AtTurn O) → H
 none_heard o limit old = λ h is. (
   h,
   is,
-  none_turned (HearsNext o limit old.returning.rejoiner.rejoin old.returning.rejoiner.me) old.received
+  none_turned (HearsNext o limit old.returning.rejoiner.me) old.received
       (at_receiver old.sender old.row h),
 )
 
--- a turn of the same member, which knocks as often
+-- a turn of the same member
 turn_of : {O : Type 0} (o : Setting) (limit : ℕ) (first now : Returning) (before after : Option (List Received))
     (old : AtReceiver O) (end : Option Why) (new : AtReceiver O) → IsOfSame first now →
-    IsTurn (HearsNext o limit now.rejoiner.rejoin now.rejoiner.me) before after old end new →
-    IsTurn (HearsNext o limit first.rejoiner.rejoin first.rejoiner.me) before after old end new
+    IsTurn (HearsNext o limit now.rejoiner.me) before after old end new →
+    IsTurn (HearsNext o limit first.rejoiner.me) before after old end new
 turn_of o limit first now before after old end new same turn =
-    subst (λ n. IsTurn (HearsNext o limit n first.rejoiner.me) before after old end new) same.1
-    (subst (λ n. IsTurn (HearsNext o limit now.rejoiner.rejoin n) before after old end new) same.2 turn)
+    subst (λ n. IsTurn (HearsNext o limit n) before after old end new) same turn
 
 pub one_more_heard : {O : Type 0} (o : Setting) (limit : ℕ) (first old new : AtTurn O) →
     HasHeard o limit first None old → IsOfSame first.returning old.returning → HasTurned o limit old None new →
@@ -51,7 +50,7 @@ one_more_heard o limit first old new heard same turned = λ h is.
     let b = turned a.0 a.1 in (
       b.0,
       b.1,
-      one_more_turned (HearsNext o limit first.returning.rejoiner.rejoin first.returning.rejoiner.me) first.received
+      one_more_turned (HearsNext o limit first.returning.rejoiner.me) first.received
           old.received new.received (at_receiver first.sender first.row h) (at_receiver old.sender old.row a.0)
           (at_receiver new.sender new.row b.0) a.2
           (turn_of o limit first.returning old.returning old.received new.received (at_receiver old.sender old.row a.0)
@@ -66,7 +65,7 @@ last_heard o limit first old new why heard same turned = λ h is.
     let b = turned a.0 a.1 in (
       b.0,
       b.1,
-      last_turned (HearsNext o limit first.returning.rejoiner.rejoin first.returning.rejoiner.me) first.received
+      last_turned (HearsNext o limit first.returning.rejoiner.me) first.received
           old.received new.received (at_receiver first.sender first.row h) (at_receiver old.sender old.row a.0)
           (at_receiver new.sender new.row b.0) why a.2
           (turn_of o limit first.returning old.returning old.received new.received (at_receiver old.sender old.row a.0)
@@ -76,13 +75,13 @@ last_heard o limit first old new why heard same turned = λ h is.
 -- ---- within a turn
 
 -- what comes of an answer of the line doesn't depend on what was told before
-got_from : {O : Type 0} (o : Setting) (limit rejoin me : ℕ) (h a b : List Event) (got : Got) (bytes : List ℕ)
+got_from : {O : Type 0} (o : Setting) (limit me : ℕ) (h a b : List Event) (got : Got) (bytes : List ℕ)
     (s : AtSender O) (row : ℕ)
-    (end : Option Why) (new : AtReceiver O) → HearsGot o limit rejoin me h got bytes (at_receiver s row a) end new →
-    HearsGot o limit rejoin me h got bytes (at_receiver s row b) end new
-got_from o limit rejoin me h a b (Datagram count source) bytes s row end new is = is
-got_from o limit rejoin me h a b Idle bytes s row end new is = is
-got_from o limit rejoin me h a b Fault bytes s row end new is = is
+    (end : Option Why) (new : AtReceiver O) → HearsGot o limit me h got bytes (at_receiver s row a) end new →
+    HearsGot o limit me h got bytes (at_receiver s row b) end new
+got_from o limit me h a b (Datagram count source) bytes s row end new is = is
+got_from o limit me h a b Idle bytes s row end new is = is
+got_from o limit me h a b Fault bytes s row end new is = is
 
 -- it learns of something, and then there is a turn, before which nothing else changed
 pub learnt_first : {O : Type 0} (o : Setting) (limit : ℕ) (old mid : AtTurn O) (end : Option Why) (new : AtTurn O) →
@@ -91,14 +90,13 @@ pub learnt_first : {O : Type 0} (o : Setting) (limit : ℕ) (old mid : AtTurn O)
 learnt_first o limit old mid end new learns is_same received sender row turned = λ h is.
     let a = learns h is in
     let b = turned a.0 a.2 in
-    let rejoin = old.returning.rejoiner.rejoin in
     let me = old.returning.rejoiner.me in
     let later = at_receiver new.sender new.row b.0 in
     let same_turn = turn_of o limit old.returning mid.returning mid.received new.received
     (at_receiver mid.sender mid.row a.0) end later is_same b.2 in
-    let with_sender = subst (λ s. IsTurn (HearsNext o limit rejoin me) mid.received new.received
+    let with_sender = subst (λ s. IsTurn (HearsNext o limit me) mid.received new.received
     (at_receiver s mid.row a.0) end later) sender same_turn in
-    let turn = subst (λ n. IsTurn (HearsNext o limit rejoin me) mid.received new.received
+    let turn = subst (λ n. IsTurn (HearsNext o limit me) mid.received new.received
     (at_receiver old.sender n a.0) end later) row with_sender in (
       b.0,
       b.1,
@@ -108,7 +106,7 @@ learnt_first o limit old mid end new learns is_same received sender row turned =
         turned = (
           turn.turned.0,
           more_on o h a.0 turn.turned.0 a.1 turn.turned.1,
-          got_from o limit rejoin me turn.turned.0 a.0 h turn.given.got turn.given.bytes old.sender old.row end later
+          got_from o limit me turn.turned.0 a.0 h turn.given.got turn.given.bytes old.sender old.row end later
               turn.turned.2,
         );
       },
@@ -121,23 +119,21 @@ pub datagram_turned : {O : Type 0} (o : Setting) (limit : ℕ) (old : AtTurn O) 
     bytes ≡ take count given.bytes → new.row ≡ 0 → sender ≡ old.sender →
     Learns o old.returning mid → IsOfSame old.returning mid →
     ((h : List Event) → IsReturning mid h → (told : List Event) × IsReturning new.returning told
-    × HearsAndJoins o limit mid.rejoiner.rejoin mid.rejoiner.me h bytes source sender end new.sender told) →
+    × HearsAndJoins o limit mid.rejoiner.me h bytes source sender end new.sender told) →
     HasTurned o limit old end new
 datagram_turned o limit old mid end new given count source bytes sender grows got is_bytes none is_sender learns same
     hears = λ h is.
     let a = learns h is in
     let b = hears a.0 a.2 in
-    let rejoin = old.returning.rejoiner.rejoin in
     let me = old.returning.rejoiner.me in
-    let heard : HearsAndJoins o limit rejoin me a.0 (take count given.bytes) source old.sender end new.sender b.0 =
-    subst (λ s. HearsAndJoins o limit rejoin me a.0 (take count given.bytes) source s end new.sender b.0) is_sender
-    (subst (λ (bs : List ℕ). HearsAndJoins o limit rejoin me a.0 bs source sender end new.sender b.0) is_bytes
-    (subst (λ n. HearsAndJoins o limit n me a.0 bytes source sender end new.sender b.0) same.1
-    (subst (λ n. HearsAndJoins o limit mid.rejoiner.rejoin n a.0 bytes source sender end new.sender b.0) same.2 b.2)))
+    let heard : HearsAndJoins o limit me a.0 (take count given.bytes) source old.sender end new.sender b.0 =
+    subst (λ s. HearsAndJoins o limit me a.0 (take count given.bytes) source s end new.sender b.0) is_sender
+    (subst (λ (bs : List ℕ). HearsAndJoins o limit me a.0 bs source sender end new.sender b.0) is_bytes
+    (subst (λ n. HearsAndJoins o limit n a.0 bytes source sender end new.sender b.0) same b.2))
     in
-    let of : HearsGot o limit rejoin me a.0 given.got given.bytes (at_receiver old.sender old.row h) end
+    let of : HearsGot o limit me a.0 given.got given.bytes (at_receiver old.sender old.row h) end
     (at_receiver new.sender new.row b.0) =
-    subst (λ (g : Got). HearsGot o limit rejoin me a.0 g given.bytes (at_receiver old.sender old.row h) end
+    subst (λ (g : Got). HearsGot o limit me a.0 g given.bytes (at_receiver old.sender old.row h) end
     (at_receiver new.sender new.row b.0)) (sym got) (heard, none) in
     (b.0, b.1, record { given = given; grown = grows; turned = (a.0, a.1, of) })
 
@@ -148,11 +144,10 @@ pub idle_turned : {O : Type 0} (o : Setting) (limit : ℕ) (old : AtTurn O) (end
     new.returning ≡ old.returning → new.row ≡ 0 → end ≡ None →
     HasTurned o limit old end new
 idle_turned o limit old end new given grows got same still none goes_on = λ h is.
-    let rejoin = old.returning.rejoiner.rejoin in
     let me = old.returning.rejoiner.me in
-    let of : HearsGot o limit rejoin me h given.got given.bytes (at_receiver old.sender old.row h) end
+    let of : HearsGot o limit me h given.got given.bytes (at_receiver old.sender old.row h) end
     (at_receiver new.sender new.row h) =
-    subst (λ (g : Got). HearsGot o limit rejoin me h g given.bytes (at_receiver old.sender old.row h) end
+    subst (λ (g : Got). HearsGot o limit me h g given.bytes (at_receiver old.sender old.row h) end
     (at_receiver new.sender new.row h)) (sym got) (same, refl, none, goes_on) in (
       h,
       subst (λ (r : Returning). IsReturning r h) (sym still) is,
@@ -166,11 +161,10 @@ pub fault_turned : {O : Type 0} (o : Setting) (limit : ℕ) (old : AtTurn O) (en
     new.returning ≡ old.returning → new.row ≡ one_fault_more old.row → end ≡ end_at new.row →
     HasTurned o limit old end new
 fault_turned o limit old end new given grows got same still more ends = λ h is.
-    let rejoin = old.returning.rejoiner.rejoin in
     let me = old.returning.rejoiner.me in
-    let of : HearsGot o limit rejoin me h given.got given.bytes (at_receiver old.sender old.row h) end
+    let of : HearsGot o limit me h given.got given.bytes (at_receiver old.sender old.row h) end
     (at_receiver new.sender new.row h) =
-    subst (λ (g : Got). HearsGot o limit rejoin me h g given.bytes (at_receiver old.sender old.row h) end
+    subst (λ (g : Got). HearsGot o limit me h g given.bytes (at_receiver old.sender old.row h) end
     (at_receiver new.sender new.row h)) (sym got) (same, refl, more, ends) in (
       h,
       subst (λ (r : Returning). IsReturning r h) (sym still) is,
@@ -191,7 +185,7 @@ pub life_heard : {O : Type 0} (posted : O → Option (List Posted)) (o : Setting
     (at_turn (at_sender seat new.post counts) row new.received new.returning) →
     SendsOn posted o (at_sender first old.post none) (at_sender seat new.post counts) →
     IsOfSame old.returning new.returning → AreShown o before seen old.listed new.listed →
-    HearsLife posted o limit old seat end new
+    HearsLife posted o limit old seat seen end new
 life_heard posted o limit old new first seat none counts begins row why end before seen no_calls unmet zero at_none same
     is heard sends of_same are_shown =
     let first_is : first ≡ fresh_seat seat.number =
@@ -212,7 +206,6 @@ life_heard posted o limit old new first seat none counts begins row why end befo
           first_is from_nothing;
       sent = sends (posted old.post) (rw zero (none_sent o first.calls (posted old.post) no_calls));
       same = of_same;
-      seen = seen;
       shown = record {
         shown = are_shown.shown;
         grows = are_shown.grows;

@@ -31,11 +31,11 @@ not_joined o limit row returning old end new true joins is = absurd (cc is)
 not_joined o limit row returning old end new false joins is = (false, joins, λ h was. (h, was, refl))
 
 -- nobody is to be joined again
-pub none_joined : {O : Type 0} (o : Setting) (limit rejoin me : ℕ) (h : List Event) (bytes : List ℕ) (source : Address)
+pub none_joined : {O : Type 0} (o : Setting) (limit me : ℕ) (h : List Event) (bytes : List ℕ) (source : Address)
     (old : AtSender O) (heard : Option Why) (mid : AtSender O) (message : Option Message) (found : Option Row) →
     Hears o limit bytes source old heard mid → IsMessage o bytes source old heard mid message → found ≡ None →
-    found ≡ whom rejoin me h source message → HearsAndJoins o limit rejoin me h bytes source old heard mid h
-none_joined o limit rejoin me h bytes source old heard mid message found hears is none found_is = record {
+    found ≡ whom me h source message → HearsAndJoins o limit me h bytes source old heard mid h
+none_joined o limit me h bytes source old heard mid message found hears is none found_is = record {
   mid = mid;
   heard = heard;
   hears = hears;
@@ -46,16 +46,16 @@ none_joined o limit rejoin me h bytes source old heard mid message found hears i
 }
 
 -- and a member was joined again
-pub one_joined : {O : Type 0} (o : Setting) (limit rejoin me : ℕ) (h told : List Event) (bytes : List ℕ)
+pub one_joined : {O : Type 0} (o : Setting) (limit me : ℕ) (h told : List Event) (bytes : List ℕ)
     (source : Address)
     (old : AtSender O) (heard : Option Why) (mid : AtSender O) (message : Option Message) (found : Option Row)
     (row : Row)
     (end : Option Why) (new : AtSender O) → Hears o limit bytes source old heard mid →
     IsMessage o bytes source old heard mid message →
-    found ≡ Some row → found ≡ whom rejoin me h source message → (is_joined : Bool) →
+    found ≡ Some row → found ≡ whom me h source message → (is_joined : Bool) →
     Joins o limit row mid end new is_joined →
-    IsJoinTold row is_joined h told → HearsAndJoins o limit rejoin me h bytes source old end new told
-one_joined o limit rejoin me h told bytes source old heard mid message found row end new hears is some found_is
+    IsJoinTold row is_joined h told → HearsAndJoins o limit me h bytes source old end new told
+one_joined o limit me h told bytes source old heard mid message found row end new hears is some found_is
     is_joined joins is_told = record {
       mid = mid;
       heard = heard;

@@ -1,22 +1,15 @@
 -- What a line was shown, one time after the other.
-use Rattle.std.proofs.Common.{◌≡◌, List, [], ◌∷◌, ◌++◌, Option, sym, ap, ◌∙◌, append_assoc, append-nil}
+use Rattle.std.proofs.Common.{◌≡◌, List, [], ◌∷◌, ◌++◌, Option}
 use Rattle.std.proofs.lemmas.List.Elements.{All-nil, All-cons, All-append}
 use mathlib.Core.List.{IsPrefix}
 use Rattle.swim_wire.specs.Address.{Address}
 use Rattle.swim_history.specs.declared.rows.Change.{Change}
 use Rattle.swim_history.specs.Changes.{table_after}
 use Rattle.swim_history.specs.Setting.{Setting}
+use Rattle.swim_node.proofs.Prefixes.{begins_itself, begins_whole}
 use Rattle.swim_work.specs.Posts.{Grows}
 use Rattle.swim_receiver.specs.Showing.{AreMembers, AreShown, addresses_in}
 use Rattle.swim_work.proofs.Posting.{grows_none, grows_both}
-
--- a list begins itself
-begins_itself : {A : Type 0} (xs : List A) → IsPrefix xs xs
-begins_itself xs = ([], append-nil xs)
-
--- what begins a beginning begins the whole
-begins_whole : {A : Type 0} (xs ys zs : List A) → IsPrefix xs ys → IsPrefix ys zs → IsPrefix xs zs
-begins_whole xs ys zs p q = (p.0 ++ q.0, sym (append_assoc xs p.0 q.0) ∙ ap (λ l. l ++ q.0) p.1 ∙ q.1)
 
 pub none_shown : (o : Setting) (seen : List Change) (now : Option (List (List Address))) → AreShown o seen seen now now
 none_shown o seen now = record {

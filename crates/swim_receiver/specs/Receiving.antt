@@ -30,20 +30,19 @@ at_receiver sender row told = record { sender = sender; row = row; told = told }
 
 -- what comes of an answer of the line: a datagram is heard, and whoever it shows to be there again is joined; a fault
 -- counts, and any other answer ends the row
-abbrev pub HearsGot : {O : Type 0} → Setting → ℕ → ℕ → ℕ → List Event → Got → List ℕ → AtReceiver O → Option Why →
-    AtReceiver O →
-    Type 0
-HearsGot o limit rejoin me h (Datagram count source) bytes old end new =
-    HearsAndJoins o limit rejoin me h (take count bytes) source old.sender end new.sender new.told × (new.row ≡ 0)
-HearsGot o limit rejoin me h Idle bytes old end new =
+abbrev pub HearsGot : {O : Type 0} → Setting → ℕ → ℕ → List Event → Got → List ℕ → AtReceiver O → Option Why →
+    AtReceiver O → Type 0
+HearsGot o limit me h (Datagram count source) bytes old end new =
+    HearsAndJoins o limit me h (take count bytes) source old.sender end new.sender new.told × (new.row ≡ 0)
+HearsGot o limit me h Idle bytes old end new =
     (new.sender ≡ old.sender) × (new.told ≡ h) × (new.row ≡ 0) × (end ≡ None)
-HearsGot o limit rejoin me h Fault bytes old end new =
+HearsGot o limit me h Fault bytes old end new =
     (new.sender ≡ old.sender) × (new.told ≡ h) × (new.row ≡ one_fault_more old.row) × (end ≡ end_at new.row)
 
--- a turn, in which it may look at the member table, and learn of knocks
-abbrev pub HearsNext : {O : Type 0} → Setting → ℕ → ℕ → ℕ → Received → AtReceiver O → Option Why → AtReceiver O → Type 0
-HearsNext o limit rejoin me given old end new =
-    (h : List Event) × LearnsOn o old.told h × HearsGot o limit rejoin me h given.got given.bytes old end new
+-- a turn, in which it may look at the member table, learn of knocks, and which N is in force
+abbrev pub HearsNext : {O : Type 0} → Setting → ℕ → ℕ → Received → AtReceiver O → Option Why → AtReceiver O → Type 0
+HearsNext o limit me given old end new =
+    (h : List Event) × LearnsOn o old.told h × HearsGot o limit me h given.got given.bytes old end new
 
 -- what a contract sees of it: the caller that sends, how many faults the line gave in a row, what the line gave so far,
 -- and what is remembered of members that come back
@@ -61,14 +60,14 @@ at_turn sender row received returning =
 abbrev pub HasTurned : {O : Type 0} → Setting → ℕ → AtTurn O → Option Why → AtTurn O → Type 0
 HasTurned o limit old end new =
     (h : List Event) → IsReturning old.returning h → (told : List Event) × IsReturning new.returning told
-    × IsTurn (HearsNext o limit old.returning.rejoiner.rejoin old.returning.rejoiner.me) old.received new.received
+    × IsTurn (HearsNext o limit old.returning.rejoiner.me) old.received new.received
     (at_receiver old.sender old.row h) end (at_receiver new.sender new.row told)
 
 -- turns, one for each answer of the line, whatever happened to members before
 abbrev pub HasHeard : {O : Type 0} → Setting → ℕ → AtTurn O → Option Why → AtTurn O → Type 0
 HasHeard o limit old end new =
     (h : List Event) → IsReturning old.returning h → (told : List Event) × IsReturning new.returning told
-    × HasWorked (HearsNext o limit old.returning.rejoiner.rejoin old.returning.rejoiner.me) old.received new.received
+    × HasWorked (HearsNext o limit old.returning.rejoiner.me) old.received new.received
     (at_receiver old.sender old.row h) end (at_receiver new.sender new.row told)
 
 -- what it owns: what its line gave and was shown so far, its post, and what it remembers of members that come back
@@ -84,14 +83,14 @@ owned received listed post returning =
 
 -- what the receiver has done in a life: a turn for each answer of its line. Each datagram became the next call of its
 -- seat, or was counted, and who came back was joined; its post was handed the datagrams of the replies to its seat's
--- calls; and whatever the line was shown are the members of tables that some changes make of the opening
+-- calls; and whatever the line was shown are the members of the tables after beginnings of the changes that its viewer
+-- had seen in the end
 pub record HearsLife {O : Type 0} (posted : O → Option (List Posted)) (o : Setting) (limit : ℕ) (old : Owned O)
-    (seat : Seated) (end : End) (new : Owned O) : Type 0 where
+    (seat : Seated) (seen : List Change) (end : End) (new : Owned O) : Type 0 where
   pub row : ℕ
   pub heard : HasHeard o limit
       (at_turn (at_sender (fresh_seat seat.number) old.post nothing) 0 old.received old.returning) end.why
       (at_turn (at_sender seat new.post end.counts) row new.received new.returning)
   pub sent : HasSent o seat.calls (posted old.post) (posted new.post) end.counts.unsent
   pub same : IsOfSame old.returning new.returning
-  pub seen : List Change
   pub shown : AreShown o [] seen old.listed new.listed

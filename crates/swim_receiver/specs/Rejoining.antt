@@ -8,8 +8,8 @@ use Rattle.swim_history.specs.declared.rows.Row.{Row}
 use Rattle.swim_history.specs.Changes.{table_after}
 use Rattle.swim_history.specs.Setting.{Setting}
 use Rattle.swim_rejoin.specs.Believing.{believed}
-use Rattle.swim_rejoin.specs.Histories.{Event, table_in}
-use Rattle.swim_rejoin.specs.Histories.Event.{Joined, Knocked, Looked}
+use Rattle.swim_rejoin.specs.Histories.{Event, rejoin_in, table_in}
+use Rattle.swim_rejoin.specs.Histories.Event.{Joined, Knocked, Looked, Ruled}
 use Rattle.swim_rejoin.specs.Rejoiners.{Follows}
 use Rattle.swim_work.specs.declared.counts.Why.{Why}
 use Rattle.swim_work.specs.declared.tidings.Note.{Note}
@@ -17,11 +17,13 @@ use Rattle.swim_work.specs.Calling.{Hears, IsMessage, Joins}
 use Rattle.swim_work.specs.Posts.{AtSender}
 use Rattle.swim_receiver.specs.declared.rejoining.Returning.{Returning}
 
--- what the receiver learns between two datagrams: a table that some changes make of the opening, or any knock
+-- what the receiver learns between two datagrams: a table that some changes make of the opening, any knock, or which N
+-- is in force
 abbrev pub IsNews : Setting → Event → Type 0
 IsNews o (Looked rows) = (log : List Change) × (rows ≡ table_after o log)
 IsNews o (Knocked id number) = Unit {0}
 IsNews o (Joined id period) = ⊥
+IsNews o (Ruled rejoin) = Unit {0}
 
 -- it learnt some of that
 abbrev pub LearnsOn : Setting → List Event → List Event → Type 0
@@ -38,24 +40,35 @@ joins_in [] = 0
 joins_in (Knocked id number ∷ before) = joins_in before
 joins_in (Looked rows ∷ before) = joins_in before
 joins_in (Joined id period ∷ before) = joins_in before + 1
+joins_in (Ruled rejoin ∷ before) = joins_in before
+
+-- each N that came into force or was still in force, oldest first
+abbrev pub ruled_in : List Event → List ℕ
+ruled_in [] = []
+ruled_in (Knocked id number ∷ before) = ruled_in before
+ruled_in (Looked rows ∷ before) = ruled_in before
+ruled_in (Joined id period ∷ before) = ruled_in before
+ruled_in (Ruled rejoin ∷ before) = ruled_in before ++ rejoin ∷ []
 
 -- what is remembered is what all that happened comes to, newest first, with the rows of the table that was last looked
--- at, and with the number of joins, which stops at 2^64-1
+-- at, and with the number of joins, which stops at 2^64-1. Each N is one that its lookup answered, in order, and it
+-- answered no other
 abbrev pub IsReturning : Returning → List Event → Type 0
 IsReturning r h =
     Follows r.rejoiner h × (r.rows.items ≡ table_in h) × (r.rejoins ≡ min (joins_in h) (2 ^ 64 - 1))
+    × (r.lookup ≡ ruled_in h)
 
 abbrev pub Learns : Setting → Returning → Returning → Type 0
 Learns o old new = (h : List Event) → IsReturning old h → (now : List Event) × LearnsOn o h now × IsReturning new now
 
--- for the same member, which knocks as often
+-- for the same member
 abbrev pub IsOfSame : Returning → Returning → Type 0
-IsOfSame old new =
-    (new.rejoin ≡ old.rejoin) × (new.rejoiner.rejoin ≡ old.rejoiner.rejoin) × (new.rejoiner.me ≡ old.rejoiner.me)
+IsOfSame old new = new.rejoiner.me ≡ old.rejoiner.me
 
--- who is to be joined again after it, with the row that the table shows which was last looked at
-abbrev pub whom : ℕ → ℕ → List Event → Address → Option Message → Option Row
-whom rejoin me h source message = option_and_then (λ m. believed rejoin me h m source) message
+-- who is to be joined again after it by the N that is in force, with the row that the table shows which was last looked
+-- at
+abbrev pub whom : ℕ → List Event → Address → Option Message → Option Row
+whom me h source message = option_and_then (λ m. believed (rejoin_in h) me h m source) message
 
 -- that it was joined again is remembered where it was, and nothing where it wasn't
 abbrev pub IsJoinTold : Row → Bool → List Event → List Event → Type 0
@@ -79,7 +92,7 @@ JoinsThen o limit (Some row) h mid heard end new told =
     (is_joined : Bool) × Joins o limit row mid end new is_joined × IsJoinTold row is_joined h told
 
 -- a datagram was heard, and then whoever it shows to be there again was joined
-pub record HearsAndJoins {O : Type 0} (o : Setting) (limit rejoin me : ℕ) (h : List Event) (bytes : List ℕ)
+pub record HearsAndJoins {O : Type 0} (o : Setting) (limit me : ℕ) (h : List Event) (bytes : List ℕ)
     (source : Address)
     (old : AtSender O) (end : Option Why) (new : AtSender O) (told : List Event) : Type 0 where
   pub mid : AtSender O
@@ -87,4 +100,4 @@ pub record HearsAndJoins {O : Type 0} (o : Setting) (limit rejoin me : ℕ) (h :
   pub hears : Hears o limit bytes source old heard mid
   pub message : Option Message
   pub is : IsMessage o bytes source old heard mid message
-  pub joins : JoinsThen o limit (whom rejoin me h source message) h mid heard end new told
+  pub joins : JoinsThen o limit (whom me h source message) h mid heard end new told

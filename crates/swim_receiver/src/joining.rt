@@ -27,8 +27,8 @@ impl<'b, L: Line + Drop, O: Post + Drop> Receiver<'b, L, O> {
         ensures same { IsOfSame self.old.returning self.new.returning }
         ensures hears { (h : List Event) → IsReturning self.old.returning h → (told : List Event)
             × IsReturning self.new.returning told
-            × HearsAndJoins N.opening N.limit self.old.returning.rejoiner.rejoin self.old.returning.rejoiner.me h
-            bytes.now source (at_sender caller.old.seat self.old.post caller.old.counts) result
+            × HearsAndJoins N.opening N.limit self.old.returning.rejoiner.me h bytes.now source
+            (at_sender caller.old.seat self.old.post caller.old.counts) result
             (at_sender caller.new.seat self.new.post caller.new.counts) told }
         ensures sent { SendsOn O.posted N.opening (at_sender caller.old.seat self.old.post caller.old.counts)
             (at_sender caller.new.seat self.new.post caller.new.counts) }

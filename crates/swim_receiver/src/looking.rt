@@ -13,8 +13,8 @@ use swim_wire::{KNOWN_MEMBERS, Peer};
 use swim_work::{Line, Post};
 
 impl<'b, L: Line + Drop, O: Post + Drop> Receiver<'b, L, O> {
-    /// Where the board says that it is time to look, shows the line who stands in the table now, and takes over what the
-    /// ticker left. So a turn costs no more than a look at the board's flag.
+    /// Where the board says that it is time to look, takes over which rule is in force, shows the line who stands in
+    /// the table now, and takes over what the ticker left. So a turn costs no more than a look at the board's flag.
     #[tactic(auto, using(crate::proofs::Showing::none_shown, crate::proofs::Learning::none_learnt, crate::proofs::Learning::more_learnt))]
     pub(crate) fn show<N: Naming, R: Wait>(&mut self, rt: &R, viewer: &mut Viewer<N>)
         ensures received { L.received self.new.line ≡ L.received self.old.line }
@@ -24,8 +24,9 @@ impl<'b, L: Line + Drop, O: Post + Drop> Receiver<'b, L, O> {
         ensures post { self.new.post ≡ self.old.post }
     {
         if self.board.take_due() {
-            self.look(viewer);
             let board = self.board;
+            self.returning.rule(rt, board);
+            self.look(viewer);
             self.returning.take_over(rt, board);
         }
     }

@@ -27,15 +27,15 @@ const BUFFER_BYTES: usize = 64;
 pub struct Receiver<'b, L: Line + Drop, O: Post + Drop> {
     pub line: L,
     pub post: O,
-    pub returning: Returning,
+    pub returning: Returning<'b>,
     pub board: &'b TidingsBoard,
 }
 
 impl<'b, L: Line + Drop, O: Post + Drop> Worker for Receiver<'b, L, O> {
     ghost use Rattle.swim_receiver.specs.Receiving.{HearsLife, owned};
 
-    ghost works = { λ old o limit seat end new. HearsLife O.posted o limit
-        (owned (L.received old.line) (L.listed old.line) old.post old.returning) seat end
+    ghost works = { λ old o limit seat seen end new. HearsLife O.posted o limit
+        (owned (L.received old.line) (L.listed old.line) old.post old.returning) seat seen end
         (owned (L.received new.line) (L.listed new.line) new.post new.returning) };
 
     fn work<N: Naming, H: Wait + Drop, R: Wait>(
@@ -69,18 +69,20 @@ struct Hearing<N: Naming> {
     viewer: Viewer<N>,
 }
 
-/// Hands back the seat.
+/// Hands back the seat and the viewer.
 fn done<N: Naming>(hearing: Hearing<N>, why: Option<Why>) -> Done<N>
     ensures seat { result.seat ≡ hearing.caller.seat }
+    ensures viewer { result.viewer ≡ hearing.viewer }
     ensures end { result.end ≡ record { why = why; counts = hearing.caller.counts } }
 {
     let Hearing {
         caller,
         faults: _,
-        viewer: _,
+        viewer,
     } = hearing;
     Done {
         seat: caller.seat,
+        viewer,
         end: End {
             why,
             counts: caller.counts,

@@ -13,12 +13,13 @@ use std::sync::Wait;
 use swim_history::{Row, Table, copy_table};
 use swim_rejoin::Rejoiner;
 use swim_wire::{Id, KNOWN_MEMBERS, Message, Peer};
-use swim_work::{Note, Tidings, TidingsBoard};
+use swim_work::{Note, RejoinLookup, Tidings, TidingsBoard};
 
-/// What is remembered of members that come back, over all lives: when they were knocked at, judged and joined again.
+/// What is remembered of members that come back, over all lives: when they were knocked at, judged and joined again. At
+/// each look it asks every how many starts of a period there is a knock.
 #[derive(Drop)]
-pub struct Returning {
-    rejoin: u16,
+pub struct Returning<'b> {
+    lookup: RejoinLookup<'b>,
     rejoiner: Rejoiner,
     // The rows of the table that the rejoiner was told last.
     rows: Table,
@@ -26,17 +27,15 @@ pub struct Returning {
     rejoins: u64,
 }
 
-impl Returning {
-    /// Of that member, which knocks at every `rejoin`-th start of a period. Where that is 0 nobody is knocked at, and
-    /// nobody joined again.
-    pub fn new(rejoin: u16, me: Id) -> Returning
-        ensures rejoin { (result.rejoin ≡ rejoin) × (result.rejoiner.rejoin ≡ rejoin) }
+impl<'b> Returning<'b> {
+    /// Of that member, which knocks as the board says. Where that says 0 nobody is knocked at, and nobody joined again.
+    pub fn new(board: &'b TidingsBoard, me: Id) -> Returning<'b>
         ensures me { result.rejoiner.me ≡ me }
         ensures returning { IsReturning result [] }
     {
         Returning {
-            rejoin,
-            rejoiner: Rejoiner::new(rejoin, me),
+            lookup: RejoinLookup::new(board),
+            rejoiner: Rejoiner::new(me),
             rows: Table::new(),
             period: 0,
             rejoins: 0,
@@ -50,27 +49,52 @@ impl Returning {
         self.rejoins
     }
 
+    /// Takes over which rule is in force now. What the ticker left until then is taken over by the rule that was: with 0
+    /// it is forgotten with everything else.
+    pub(crate) fn rule<R: Wait>(&mut self, rt: &R, board: &TidingsBoard)
+        ensures same { IsOfSame self.old self.new }
+        ensures learns { (o : Setting) → Learns o self.old self.new }
+    {
+        self.take_over(rt, board);
+        self.renew();
+    }
+
+    /// Looks up which rule is in force. With 0 nobody is joined again, and all is forgotten.
+    // Kept out of line, as `Receiver::look` is: `show` runs twice for every datagram.
+    #[inline(never)]
+    fn renew(&mut self)
+        ensures same { IsOfSame self.old self.new }
+        ensures learns { (o : Setting) → Learns o self.old self.new }
+    {
+        let rejoin = self.lookup.rejoin();
+        self.rejoiner.rule(rejoin);
+        if rejoin == 0 {
+            self.rows.clear();
+        }
+    }
+
     /// The member table was looked at, and has these rows. Where they are as they were, that is no news.
     pub(crate) fn looked_at(&mut self, rows: &[Row])
         requires { length rows.now ≤ KNOWN_MEMBERS }
         ensures same { IsOfSame self.old self.new }
         ensures learns { (o : Setting) (log : List Change) → rows.now ≡ table_after o log → Learns o self.old self.new }
-        ensures rows { 0 < self.old.rejoin → self.new.rows.items ≡ rows.now }
+        ensures rows { 0 < self.old.rejoiner.rejoin → self.new.rows.items ≡ rows.now }
     {
-        if self.rejoin > 0 && !are_same(rows, self.rows.as_slice()) {
+        if self.rejoiner.is_open() && !are_same(rows, self.rows.as_slice()) {
             self.rows = copy_table(rows);
             self.rejoiner.looked_at(rows);
         }
     }
 
-    /// Takes over what the ticker left.
+    /// Takes over what the ticker left, where somebody may be joined again. Else it stays, as the rule may have changed
+    /// since it was looked up.
     // Kept out of line, as `Receiver::look` is: `show` runs twice for every datagram.
     #[inline(never)]
     pub(crate) fn take_over<R: Wait>(&mut self, rt: &R, board: &TidingsBoard)
         ensures same { IsOfSame self.old self.new }
         ensures learns { (o : Setting) → Learns o self.old self.new }
     {
-        if self.rejoin > 0 {
+        if self.rejoiner.is_open() {
             let tidings = board.take(rt);
             self.learn(&tidings);
         }
@@ -90,7 +114,7 @@ impl Returning {
     /// Who is to be joined again after the message from there, with its row.
     pub(crate) fn whom(&self, message: &Option<Message>, source: &Peer) -> Option<Row>
         ensures { (h : List Event) → IsReturning self.now h
-            → result ≡ whom self.now.rejoiner.rejoin self.now.rejoiner.me h source.now message.now }
+            → result ≡ whom self.now.rejoiner.me h source.now message.now }
     {
         match message {
             Some(message) => self.rejoiner.believes(message, source),
@@ -126,7 +150,6 @@ fn are_same(rows: &[Row], others: &[Row]) -> bool
 
 /// Tells a rejoiner of these knocks, each once, in order.
 fn knocked(rejoiner: &mut Rejoiner, notes: &[Note])
-    ensures rejoin { rejoiner.new.rejoin ≡ rejoiner.old.rejoin }
     ensures me { rejoiner.new.me ≡ rejoiner.old.me }
     ensures follows { (h : List Event) → Follows rejoiner.old h → Follows rejoiner.new (with_knocks notes.now h) }
 {

@@ -193,7 +193,7 @@ impl<
         let Some(next) = node.follow(rt, follower) else {
             return false;
         };
-        self.record_call(rt, next);
+        self.record_call(rt, &next);
         true
     }
 
@@ -207,14 +207,14 @@ impl<
             let Some(call) = call_at(journal, place) else {
                 return;
             };
-            self.record_call(rt, call);
+            self.record_call(rt, &call);
         }
     }
 
     /// Writes a call, tells what it changes, and has the reporter hear of it.
-    fn record_call<R: Wait>(&mut self, rt: &R, next: Followed)
+    fn record_call<R: Wait>(&mut self, rt: &R, next: &Followed)
         ensures { (read : List Filing) → Keeps W.written (at_recorder Y.heard self.old) read
-            (at_recorder Y.heard self.new) (read ++ next ∷ []) }
+            (at_recorder Y.heard self.new) (read ++ next.now ∷ []) }
     {
         let kept = &next.kept;
         write_call(&mut self.transcript, kept);
@@ -224,7 +224,7 @@ impl<
             &kept.call,
             &kept.reply,
         );
-        self.reporter.hear(rt, &next, &change);
+        self.reporter.hear(rt, next, &change);
         self.read = self.read.saturating_add(1);
     }
 

@@ -1,26 +1,26 @@
 -- Each failed member has its turn: between two knocks at it the turn goes only through members that are ahead of it,
 -- and
 -- there are fewer of these at each knock.
-use Rattle.std.proofs.Common.{◌≡◌, ◌≢◌, ℕ, ◌+◌, ◌*◌, ◌%◌, ◌/◌, ◌<◌, ◌≤◌, ◌⊎◌, inl, inr, Bool, true, false, cond, not}
-use Rattle.std.proofs.Common.{◌&&◌, ◌||◌, nat_eq, nat_le, nat_lt, suc, List, [], ◌∷◌, ◌++◌, length, Option, Some, None}
+use Rattle.std.proofs.Common.{◌≡◌, ◌≢◌, ℕ, ◌+◌, ◌*◌, ◌/◌, ◌<◌, ◌≤◌, inl, inr, Bool, true, false, cond, not, min}
+use Rattle.std.proofs.Common.{◌&&◌, ◌||◌, nat_eq, nat_le, nat_lt, suc, zero, List, [], ◌∷◌, length, Option, Some, None}
 use Rattle.std.proofs.Common.{refl, sym, ap, ◌∙◌, subst, add-one, arith}
 use Rattle.std.specs.List.{count_by, find, list_all}
 use Rattle.std.specs.List.{AllByRecursion}
 use Rattle.std.specs.Option.{is_some, option_and_then, option_map, option_or}
-use Rattle.std.proofs.lemmas.Bool.{and_parts, lt-ltb, ltb-true, or_parts}
+use Rattle.std.proofs.lemmas.Bool.{and_parts, le-leb, lt-ltb, ltb-true, or_parts}
 use Rattle.std.proofs.lemmas.Bool.Decides.{nat_tests}
 use Rattle.std.proofs.lemmas.List.Sums.{count_by-le-length, sum_by-cons}
 use Rattle.std.proofs.lemmas.Nat.{div-mul-add, le-div}
-use Rattle.std.proofs.Math.Nat.{add-mul, mod-lt}
+use Rattle.std.proofs.Math.Nat.{add-mul}
 use Rattle.swim_wire.specs.Ids.{has}
 use Rattle.swim_history.specs.Changes.{IsAscending}
 use Rattle.swim_history.specs.Rows.{row_at}
 use Rattle.swim_history.specs.declared.rows.Row.{Row}
 use Rattle.swim_rejoin.specs.Failed.{is_failed, verdict_of}
-use Rattle.swim_rejoin.specs.Knocking.{is_after, is_due, knocked_by, last_knocked, whose_turn}
+use Rattle.swim_rejoin.specs.Knocking.{Start, is_after, is_due, knocked_by, last_knocked, since_due, steadily}
+use Rattle.swim_rejoin.specs.Knocking.{whose_turn}
 use Rattle.swim_rejoin.specs.Turns.{IsNext, StaysFailed, is_of, was_knocked_at}
 use Rattle.swim_rejoin.proofs.Finding.{found_passes, not_below, row_id, same_number, some_is}
-use Rattle.swim_rejoin.proofs.Starting.{due_is, mod_more, round_more}
 
 -- ---- the first of rows that ascend by id
 
@@ -235,39 +235,53 @@ count_some p ids id passes among =
       absurd_test e = cc
 
 -- how many of the recent starts were due
-abbrev dues : ℕ → List (List Row) → List (List Row) → ℕ
+abbrev dues : ℕ → List (List Row) → List Start → ℕ
 dues rejoin [] before = 0
-dues rejoin (rows ∷ recent) before = cond (is_due rejoin (recent ++ before)) 1 0 + dues rejoin recent before
+dues rejoin (rows ∷ recent) before =
+    cond (is_due rejoin (steadily rejoin recent before)) 1 0 + dues rejoin recent before
 
-dues-is : (r : ℕ) (recent before : List (List Row)) → 0 < r →
-    dues r recent before * r + length (recent ++ before) % r ≡ length recent + length before % r
-dues-is r [] before positive = omega arith
-dues-is r (rows ∷ recent) before positive = by_test (nat_eq (n % r + 1) r) refl (dues-is r recent before positive) where
-  n : ℕ
-  n = length (recent ++ before)
+due_now : (r s : ℕ) → 0 < r → nat_lt (s + 1) r ≡ false → (nat_lt 0 r && nat_le r (s + 1)) ≡ true
+due_now r s positive e =
+    ap (λ b. b && nat_le r (s + 1)) (lt-ltb 0 r positive) ∙ le-leb r (s + 1) (not_below (s + 1) r e)
 
-  below : n % r < r
-  below = mod-lt n positive
+not_due : (r s : ℕ) → s + 1 < r → nat_le r (s + 1) ≡ false
+not_due r s below = grind arith
 
-  d : ℕ
-  d = dues r recent before
+not_yet : (r s : ℕ) → nat_lt (s + 1) r ≡ true → (nat_lt 0 r && nat_le r (s + 1)) ≡ false
+not_yet r s e =
+    let below : s + 1 < r = ltb-true (s + 1) r e in
+    ap (λ b. b && nat_le r (s + 1)) (lt-ltb 0 r (omega (arith, below))) ∙ not_due r s below
 
-  due : is_due r (recent ++ before) ≡ nat_eq (n % r + 1) r
-  due = ap (λ m. nat_lt 0 r && nat_eq m 0) (mod_more n (n % r) r refl) ∙ sym (due_is (n % r) r below)
+-- by whether the start was due, and whether it is counted
+abbrev IsMany : ℕ → ℕ → ℕ → ℕ → Bool → Bool → Type 0
+IsMany r count d s due more = suc count + 1 ≤ (cond due 1 0 + d) * r + min (cond more (s + 1) 0 + 1) r
 
-  rest : suc n % r ≡ cond (nat_eq (n % r + 1) r) 0 (n % r + 1)
-  rest = ap (λ m. m % r) (sym (add-one n)) ∙ mod_more n (n % r) r refl ∙ round_more (n % r) r below
+-- of each r starts in a row one was due
+dues_many : (r : ℕ) (recent : List (List Row)) (before : List Start) → 0 < r →
+    length recent + 1 ≤ dues r recent before * r + min (since_due (steadily r recent before) + 1) r
+dues_many r [] before positive = omega (arith, positive)
+dues_many r (rows ∷ recent) before positive =
+    by_test (nat_lt (s + 1) r) refl (dues_many r recent before positive) where
+      s : ℕ
+      s = since_due (steadily r recent before)
 
-  by_test : (b : Bool) → nat_eq (n % r + 1) r ≡ b → d * r + n % r ≡ length recent + length before % r →
-      (cond (is_due r (recent ++ before)) 1 0 + d) * r + suc n % r ≡ suc (length recent) + length before % r
-  by_test true e earlier =
-      ap (λ c. (cond c 1 0 + d) * r + suc n % r) (due ∙ e) ∙
-      ap (λ m. (1 + d) * r + m) (rest ∙ ap (λ c. cond c 0 (n % r + 1)) e)
-      ∙ omega (arith, same_number (n % r + 1) r e, earlier, add-mul 1 d r)
-  by_test false e earlier =
-      ap (λ c. (cond c 1 0 + d) * r + suc n % r) (due ∙ e) ∙
-      ap (λ m. (0 + d) * r + m) (rest ∙ ap (λ c. cond c 0 (n % r + 1)) e)
-      ∙ omega (arith, earlier, add-mul 0 d r)
+      d : ℕ
+      d = dues r recent before
+
+      n : ℕ
+      n = length recent
+
+      by_test : (b : Bool) → nat_lt (s + 1) r ≡ b → n + 1 ≤ d * r + min (s + 1) r →
+          IsMany r n d s (nat_lt 0 r && nat_le r (s + 1)) (nat_lt (s + 1) r)
+      by_test true e earlier =
+          let below : s + 1 < r = ltb-true (s + 1) r e in
+          let is : suc n + 1 ≤ (0 + d) * r + min (s + 1 + 1) r = omega (arith, earlier, below, add-mul 0 d r) in
+          subst (λ b. IsMany r n d s b (nat_lt (s + 1) r)) (sym (not_yet r s e))
+          (subst (λ b. IsMany r n d s false b) (sym e) is)
+      by_test false e earlier =
+          let is : suc n + 1 ≤ (1 + d) * r + min (0 + 1) r = omega (arith, earlier, positive, add-mul 1 d r) in
+          subst (λ b. IsMany r n d s b (nat_lt (s + 1) r)) (sym (due_now r s positive e))
+          (subst (λ b. IsMany r n d s true b) (sym e) is)
 
 -- ---- the turn
 
@@ -279,20 +293,22 @@ failed_row rows id None e failed = cc
 failed_row rows id (Some row) e failed = (row, e, row_id rows id row e, failed)
 
 -- while that member isn't knocked at, one less is ahead of it at each start that is due
-fewer_ahead : (r id : ℕ) (ids : List ℕ) (recent before : List (List Row)) → StaysFailed id ids recent →
+fewer_ahead : (r id : ℕ) (ids : List ℕ) (recent : List (List Row)) (before : List Start) → StaysFailed id ids recent →
     was_knocked_at id r recent before ≡ false →
-    count_by (ahead id (last_knocked r (recent ++ before))) ids + dues r recent before ≤ length ids
-fewer_ahead r id ids [] before stays none = omega (arith, count_by-le-length (ahead id (last_knocked r before)) ids)
+    count_by (ahead id (last_knocked (steadily r recent before))) ids + dues r recent before ≤ length ids
+fewer_ahead r id ids [] before stays none = omega (arith, count_by-le-length (ahead id (last_knocked before)) ids)
 fewer_ahead r id ids (rows ∷ recent) before stays none =
-    by_due (is_due r (recent ++ before)) parts.0 (fewer_ahead r id ids recent before stays.3 parts.1) where
+    by_due (is_due r (steadily r recent before)) parts.0 (fewer_ahead r id ids recent before stays.3 parts.1) where
       last : Option ℕ
-      last = last_knocked r (recent ++ before)
+      last = last_knocked (steadily r recent before)
 
       d : ℕ
       d = dues r recent before
 
-      parts : (is_of id (knocked_by r (recent ++ before) rows) ≡ false) × (was_knocked_at id r recent before ≡ false)
-      parts = or_parts (is_of id (knocked_by r (recent ++ before) rows)) (was_knocked_at id r recent before) none
+      parts : (is_of id (knocked_by r (steadily r recent before) rows) ≡ false) ×
+          (was_knocked_at id r recent before ≡ false)
+      parts =
+          or_parts (is_of id (knocked_by r (steadily r recent before) rows)) (was_knocked_at id r recent before) none
 
       by_turn : (next : Row) → is_failed next ≡ true → (not (is_failed next) || has ids next.id) ≡ true →
           IsNext id last next.id → nat_eq next.id id ≡ false →
@@ -318,18 +334,26 @@ fewer_ahead r id ids (rows ∷ recent) before stays none =
           length ids in
           subst P (sym turn.1) (by_turn turn.0 turn.2 turn.3 turn.4 (ap (is_of id) (sym turn.1) ∙ here) earlier)
 
+one_less : (r : ℕ) → 0 < r → (n : ℕ) × (n + 1 ≡ r)
+one_less zero positive = absurd (omega (arith, positive))
+one_less (suc n) positive = (n, add-one n)
+
 -- so many were due
-enough_due : (r f : ℕ) (recent before : List (List Row)) → 0 < r → f * r ≤ length recent → f ≤ dues r recent before
+enough_due : (r f : ℕ) (recent : List (List Row)) (before : List Start) → 0 < r → f * r ≤ length recent →
+    f ≤ dues r recent before
 enough_due r f recent before positive long =
-    let n = length (recent ++ before) % r in
-    let below : n < r = mod-lt (length (recent ++ before)) positive in
+    let less = one_less r positive in
+    let n = less.0 in
+    let next : n + 1 ≡ r = less.1 in
+    let below : n < r = omega (arith, next) in
     let many : f ≤ (dues r recent before * r + n) / r =
-    le-div f (dues r recent before * r + n) r positive (omega (arith, dues-is r recent before positive)) in
+    le-div f (dues r recent before * r + n) r positive
+    (omega (arith, dues_many r recent before positive, long, next)) in
     let P : ℕ → Type 0 = λ m. f ≤ m in
     subst P (div-mul-add (dues r recent before) r n below) many
 
-pub has_its_turn : (r id : ℕ) (ids : List ℕ) (recent before : List (List Row)) → 0 < r → has ids id ≡ true →
-    StaysFailed id ids recent → length ids * r ≤ length recent →
+pub has_its_turn : (r id : ℕ) (ids : List ℕ) (recent : List (List Row)) (before : List Start) → 0 < r →
+    has ids id ≡ true → StaysFailed id ids recent → length ids * r ≤ length recent →
     was_knocked_at id r recent before ≡ true
 has_its_turn r id ids recent before positive among stays long = by_test (was_knocked_at id r recent before) refl where
   by_test : (b : Bool) → was_knocked_at id r recent before ≡ b → was_knocked_at id r recent before ≡ true
@@ -339,6 +363,6 @@ has_its_turn r id ids recent before positive among stays long = by_test (was_kno
         arith,
         fewer_ahead r id ids recent before stays e,
         enough_due r (length ids) recent before positive long,
-        count_some (ahead id (last_knocked r (recent ++ before))) ids id
-            (ahead-self id (last_knocked r (recent ++ before))) among,
+        count_some (ahead id (last_knocked (steadily r recent before))) ids id
+            (ahead-self id (last_knocked (steadily r recent before))) among,
       ))

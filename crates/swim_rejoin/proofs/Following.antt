@@ -66,7 +66,8 @@ pub Follows-knocked : (k : Kept) (h : List Event) (id number : ℕ) (knowns : Li
     AreChanged id (after_knock number) k.knowns knowns → Follows k h →
     Follows (record k { knowns = knowns }) (Knocked id number ∷ h)
 Follows-knocked k h id number knowns are f = record {
-  known = λ positive other. are other ∙ ap (changed id (after_knock number) other) (f.known positive other) ∙
+  ruled = f.ruled;
+  known = λ other. are other ∙ ap (changed id (after_knock number) other) (f.known other) ∙
       sym (known_by-knocked h id number other);
   marked = f.marked;
 }
@@ -75,7 +76,8 @@ pub Follows-joined : (k : Kept) (h : List Event) (id period : ℕ) (knowns : Lis
     AreChanged id (after_join period) k.knowns knowns → Follows k h →
     Follows (record k { knowns = knowns }) (Joined id period ∷ h)
 Follows-joined k h id period knowns are f = record {
-  known = λ positive other. are other ∙ ap (changed id (after_join period) other) (f.known positive other) ∙
+  ruled = f.ruled;
+  known = λ other. are other ∙ ap (changed id (after_join period) other) (f.known other) ∙
       sym (known_by-joined h id period other);
   marked = f.marked;
 }

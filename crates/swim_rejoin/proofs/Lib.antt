@@ -1,6 +1,7 @@
 pub mod Fairness
 pub mod Finding
 pub mod Following
+pub mod Forgetting
 pub mod Joining
 pub mod Looking
 pub mod Padding

@@ -76,7 +76,7 @@ pub Follows-looked : (k : Kept) (h : List Event) (rows : List Row) (marks : List
     knowns ≡ map (known_once_looked k.knowns) rows → Follows k h →
     Follows (record k { knowns = knowns; marks = marks }) (Looked rows ∷ h)
 Follows-looked k h rows marks knowns marked are f = record {
-  known = λ positive id. ap (λ (ks : List Known). known_at ks id) are ∙
-      known_by-looked k.knowns h rows (f.known positive) id;
-  marked = λ _. marked;
+  ruled = f.ruled;
+  known = λ id. ap (λ (ks : List Known). known_at ks id) are ∙ known_by-looked k.knowns h rows f.known id;
+  marked = marked;
 }

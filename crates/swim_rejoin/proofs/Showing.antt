@@ -46,10 +46,10 @@ by_history me h m from o =
     option_and_then (λ row. cond (is_believed me row (last_knocks m.sender h) (times m.sender h) m from) (Some row)
     None) o
 
-pub shown-is : (k : Kept) (h : List Event) (m : Message) (from : Address) → 0 < k.rejoin → 0 < m.number → Follows k h →
+pub shown-is : (k : Kept) (h : List Event) (m : Message) (from : Address) → 0 < m.number → Follows k h →
     shown_by k m from ≡ by_history k.me h m from (row_at (table_in h) m.sender)
-shown-is k h m from positive number f =
-    ap (option_and_then (shown_of k.me m from)) (f.known positive m.sender)
+shown-is k h m from number f =
+    ap (option_and_then (shown_of k.me m from)) (f.known m.sender)
     ∙ by_row (row_at (table_in h) m.sender) refl where
       by_row : (o : Option Row) → row_at (table_in h) m.sender ≡ o →
           option_and_then (shown_of k.me m from) (option_map (known_as h) o)
@@ -93,16 +93,16 @@ not_ready Up times knocks number e = refl
 not_ready (Failed verdict) times knocks number e = cc
 
 -- so a message of a sender without a mark isn't believed
-pub unmarked : (k : Kept) (h : List Event) (m : Message) (from : Address) → 0 < k.rejoin → Follows k h →
+pub unmarked : (k : Kept) (h : List Event) (m : Message) (from : Address) → Follows k h →
     is_marked k.marks m.sender ≡ false →
     by_history k.me h m from (row_at (table_in h) m.sender) ≡ None
-unmarked k h m from positive f mark = by_row (row_at (table_in h) m.sender) refl where
+unmarked k h m from f mark = by_row (row_at (table_in h) m.sender) refl where
   by_row : (o : Option Row) → row_at (table_in h) m.sender ≡ o → by_history k.me h m from o ≡ None
   by_row None e = refl
   by_row (Some row) e =
       ap (λ b. cond (b && is_same row.peer from && tells m.kind k.me (last_knocks m.sender h) m) (Some row) None)
       (not_ready row.state (times m.sender h) (last_knocks m.sender h) m.number
-      (not_failed (table_in h) k.marks m.sender row (f.marked positive) e mark))
+      (not_failed (table_in h) k.marks m.sender row f.marked e mark))
 
 -- nobody is believed where rejoin is 0
 pub believed-none : (rejoin me : ℕ) (h : List Event) (m : Message) (from : Address) → rejoin ≡ 0 →

@@ -6,7 +6,7 @@ use Rattle.std.proofs.lemmas.Bool.Decides.{nat_tests}
 use Rattle.swim_history.specs.declared.rows.Row.{Row}
 use Rattle.swim_rejoin.specs.Failed.{verdict_in}
 use Rattle.swim_rejoin.specs.Histories.{Event, is_known, last_joined, last_verdict, times}
-use Rattle.swim_rejoin.specs.Histories.Event.{Joined, Knocked, Looked}
+use Rattle.swim_rejoin.specs.Histories.Event.{Joined, Knocked, Looked, Ruled}
 use Rattle.swim_rejoin.specs.Waits.{is_long_after, is_new, is_soon, times_after, times_once_judged}
 use Rattle.swim_rejoin.proofs.Finding.{same_number}
 
@@ -36,6 +36,8 @@ times_bounded id (Looked rows ∷ before) =
     (once_bounded (times id before) (last_joined id before) (last_verdict id before) (verdict_in rows id)
     (times_bounded id before)) (omega arith, omega arith)
 times_bounded id (Joined other period ∷ before) = times_bounded id before
+times_bounded id (Ruled rejoin ∷ before) =
+    choice_bounded (nat_eq rejoin 0) 1 (times id before) (omega arith, omega arith) (times_bounded id before)
 
 -- a verdict that wasn't shown
 new_if_other : (number : ℕ) (shown : Option ℕ) → shown ≢ Some number → is_new number shown ≡ true

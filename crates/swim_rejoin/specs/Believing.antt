@@ -34,7 +34,7 @@ abbrev pub is_believed : ℕ → Row → List ℕ → ℕ → Message → Addres
 is_believed me row knocks times m from =
     is_ready row.state times knocks m.number && is_same row.peer from && tells m.kind me knocks m
 
--- the member to be joined again after a datagram, with its row in the table that was last looked at. Where rejoin is 0
+-- the member to be joined again after a datagram, with its row in the table that was last looked at. With an N of 0
 -- nobody is
 abbrev pub believed : ℕ → ℕ → List Event → Message → Address → Option Row
 believed rejoin me h m from =

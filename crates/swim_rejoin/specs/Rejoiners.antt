@@ -6,12 +6,11 @@ use Rattle.swim_wire.specs.Messages.{Message}
 use Rattle.swim_history.specs.declared.rows.Row.{Row}
 use Rattle.swim_rejoin.specs.Believing.{is_believed}
 use Rattle.swim_rejoin.specs.Failed.{is_failed}
-use Rattle.swim_rejoin.specs.Histories.{Event, table_in}
+use Rattle.swim_rejoin.specs.Histories.{Event, rejoin_in, table_in}
 use Rattle.swim_rejoin.specs.Knowing.{known_at, known_by}
 use Rattle.swim_rejoin.specs.declared.known.Known.{Known}
 
--- every how many periods is knocked, this member, what is kept of each member of the table, and a mark for each failed
--- one
+-- the N that is in force, this member, what is kept of each member of the table, and a mark for each failed one
 pub record Kept : Type 0 where
   pub rejoin : ℕ
   pub me : ℕ
@@ -31,10 +30,11 @@ abbrev pub AreMarked : List Row → List Bool → Type 0
 AreMarked rows marks = (place : ℕ) (d : Row) → place < length rows → is_failed (slice_index_or rows place d) ≡ true →
     is_marked marks (slice_index_or rows place d).id ≡ true
 
--- what is kept is what the history comes to. With a rejoin of 0 that isn't asked
+-- what is kept is what the history comes to
 pub record Follows (k : Kept) (h : List Event) : Type 0 where
-  pub known : 0 < k.rejoin → (id : ℕ) → known_at k.knowns id ≡ known_by h id
-  pub marked : 0 < k.rejoin → AreMarked (table_in h) k.marks
+  pub ruled : k.rejoin ≡ rejoin_in h
+  pub known : (id : ℕ) → known_at k.knowns id ≡ known_by h id
+  pub marked : AreMarked (table_in h) k.marks
 
 -- the row of a member, where a datagram shows that it is there again
 abbrev pub shown_of : ℕ → Message → Address → Known → Option Row

@@ -1,12 +1,12 @@
 -- That each failed member has its turn.
-use Rattle.std.specs.Prelude.{◌≡◌, ◌<◌, ◌≤◌, ◌⊎◌, ℕ, Bool, true, false, not, ◌==◌, ◌||◌, List, [], ◌∷◌, ◌++◌}
+use Rattle.std.specs.Prelude.{◌≡◌, ◌<◌, ◌≤◌, ◌⊎◌, ℕ, Bool, true, false, not, ◌==◌, ◌||◌, List, [], ◌∷◌}
 use Rattle.std.specs.Prelude.{Option, Some, None, is_some}
 use Rattle.std.specs.List.{list_all}
 use Rattle.swim_wire.specs.Ids.{has}
 use Rattle.swim_history.specs.Changes.{IsAscending}
 use Rattle.swim_history.specs.declared.rows.Row.{Row}
 use Rattle.swim_rejoin.specs.Failed.{is_failed, verdict_in}
-use Rattle.swim_rejoin.specs.Knocking.{knocked_by}
+use Rattle.swim_rejoin.specs.Knocking.{Start, knocked_by, steadily}
 
 -- each failed member of a table is one of these
 abbrev pub are_among : List ℕ → List Row → Bool
@@ -28,8 +28,8 @@ abbrev pub is_of : ℕ → Option Row → Bool
 is_of id None = false
 is_of id (Some row) = row.id == id
 
--- one of the recent starts knocked at that member
-abbrev pub was_knocked_at : ℕ → ℕ → List (List Row) → List (List Row) → Bool
+-- one of the recent starts, with one N at all of them, knocked at that member
+abbrev pub was_knocked_at : ℕ → ℕ → List (List Row) → List Start → Bool
 was_knocked_at id rejoin [] before = false
 was_knocked_at id rejoin (rows ∷ recent) before =
-    is_of id (knocked_by rejoin (recent ++ before) rows) || was_knocked_at id rejoin recent before
+    is_of id (knocked_by rejoin (steadily rejoin recent before) rows) || was_knocked_at id rejoin recent before

@@ -1,11 +1,10 @@
 //! Whom a member knocks at.
 
-ghost use Rattle.std.specs.Prelude.{◌≡◌, ◌<◌, List, [], ◌∷◌, find, position};
+ghost use Rattle.std.specs.Prelude.{◌≡◌, List, [], ◌∷◌, find, position};
 ghost use Rattle.std.specs.Option.{option_map};
-ghost use Rattle.swim_history.specs.declared.rows.Row.{Row as RowValue};
 ghost use Rattle.swim_rejoin.specs.Failed.{is_failed};
-ghost use Rattle.swim_rejoin.specs.Knockers.{Follows, after_start, knock_at, whom_now};
-ghost use Rattle.swim_rejoin.specs.Knocking.{is_after, knocked_by, whose_turn};
+ghost use Rattle.swim_rejoin.specs.Knockers.{Follows, after_start, is_due_now, knock_at, whom_now};
+ghost use Rattle.swim_rejoin.specs.Knocking.{Start, at_start, is_after, knocked_by, since_then, whose_turn};
 
 use std::marker::Model;
 use swim_history::{Row, RowState};
@@ -18,11 +17,10 @@ pub struct KnockPing {
     pub message: Message,
 }
 
-/// Whom a member knocks at: at each `rejoin`-th start of a period at one of the failed members, in turn. Where `rejoin`
-/// is 0 it knocks at nobody.
+/// Whom a member knocks at: at each N-th start of a period at one of the failed members, in turn. Each start tells which
+/// N is in force; with 0 it knocks at nobody.
 #[derive(Drop)]
 pub struct Knocker {
-    rejoin: u16,
     me: Id,
     version: Version,
     since: u16,
@@ -35,7 +33,6 @@ impl Model for Knocker {
     ghost Value = { Kept };
 
     ghost view = { λ k. record {
-      rejoin = k.rejoin;
       me = k.me;
       version = k.version;
       since = k.since;
@@ -44,19 +41,17 @@ impl Model for Knocker {
 
     ghost use Rattle.std.specs.Prelude.{◌<◌};
 
-    ghost invariant = { λ k. 0 < k.rejoin → k.since < k.rejoin };
+    ghost invariant = { λ k. k.since < 65535 };
 }
 
 impl Knocker {
     /// A knocker of that member, whose pings have that version. No period started yet.
-    pub fn new(rejoin: u16, me: Id, version: Version) -> Knocker
-        ensures rejoin { result.rejoin ≡ rejoin }
+    pub fn new(me: Id, version: Version) -> Knocker
         ensures me { result.me ≡ me }
         ensures version { result.version ≡ version }
         ensures follows { Follows result [] }
     {
         Knocker {
-            rejoin,
             me,
             version,
             since: 0,
@@ -64,39 +59,45 @@ impl Knocker {
         }
     }
 
-    /// The period with that number starts, and these are the rows of the member table, ascending by id: the knock that
-    /// is due, if one is and a member is failed. It is at the next failed member by id after the one that was knocked
-    /// at last, and behind the highest again at the lowest.
-    pub fn start(&mut self, rows: &[Row], number: PeriodNumber) -> Option<KnockPing>
-        ensures rejoin { self.new.rejoin ≡ self.old.rejoin }
+    /// The period with that number starts while each `rejoin`-th start has a knock, and these are the rows of the
+    /// member table, ascending by id: the knock that is due, if one is and a member is failed. It is at the next failed
+    /// member by id after the one that was knocked at last, and behind the highest again at the lowest.
+    pub fn start(&mut self, rejoin: u16, rows: &[Row], number: PeriodNumber) -> Option<KnockPing>
         ensures me { self.new.me ≡ self.old.me }
         ensures version { self.new.version ≡ self.old.version }
-        ensures knock { (h : List (List RowValue)) → Follows self.old h → result
-            ≡ option_map (knock_at self.old.me self.old.version number) (knocked_by self.old.rejoin h rows.now) }
-        ensures follows { (h : List (List RowValue)) → Follows self.old h → Follows self.new (rows.now ∷ h) }
+        ensures knock { (h : List Start) → Follows self.old h → result
+            ≡ option_map (knock_at self.old.me self.old.version number) (knocked_by rejoin h rows.now) }
+        ensures follows { (h : List Start) → Follows self.old h
+            → Follows self.new (at_start rejoin rows.now ∷ h) }
     {
-        if self.rejoin == 0 {
-            return None;
-        }
-        let row = self.turn(rows)?;
+        let row = self.turn(rejoin, rows)?;
         Some(self.knock_at(&row, number))
     }
 
     /// One start more: whose turn it is, where a knock is due.
-    fn turn(&mut self, rows: &[Row]) -> Option<Row>
-        requires { 0 < self.old.rejoin }
-        ensures whom { result ≡ whom_now self.old rows.now }
-        ensures after { self.new ≡ after_start self.old rows.now }
-        ensures bound { self.old.since < self.old.rejoin }
+    fn turn(&mut self, rejoin: u16, rows: &[Row]) -> Option<Row>
+        ensures whom { result ≡ whom_now rejoin self.old rows.now }
+        ensures after { self.new ≡ after_start rejoin self.old rows.now }
     {
-        self.since += 1;
-        if self.since < self.rejoin {
+        if !self.count(rejoin) {
             return None;
         }
-        self.since = 0;
         let row = whose_turn(self.last, rows)?;
         self.last = Some(row.id);
         Some(row)
+    }
+
+    /// One start more is counted: whether a knock is due. With a number that is lower now it may have been due before.
+    fn count(&mut self, rejoin: u16) -> bool
+        ensures due { result ≡ is_due_now rejoin self.old }
+        ensures after { self.new ≡ record self.old { since = since_then rejoin self.old.since } }
+    {
+        if self.since + 1 < rejoin {
+            self.since += 1;
+            return false;
+        }
+        self.since = 0;
+        rejoin > 0
     }
 
     /// The knock at a member in that period.

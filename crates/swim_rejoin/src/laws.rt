@@ -1,7 +1,7 @@
 //! Laws of knocks and of joins. Each is the contract of a function that does nothing, so that it stays proved.
 
-ghost use Rattle.std.specs.Prelude.{◌≡◌, ◌≢◌, ◌+◌, ◌*◌, ◌<◌, ◌≤◌, ◌∷◌, ℕ, List, Option, length, min, nat_lt};
-ghost use Rattle.std.specs.Prelude.{count_by, true};
+ghost use Rattle.std.specs.Prelude.{◌≡◌, ◌≢◌, ◌+◌, ◌*◌, ◌%◌, ◌==◌, ◌<◌, ◌≤◌, ◌∷◌, ◌++◌, [], ℕ, List, Option, length};
+ghost use Rattle.std.specs.Prelude.{◌&&◌, count_by, min, nat_lt, true};
 ghost use Rattle.swim_history.specs.declared.rows.Row.{Row};
 ghost use Rattle.swim_history.specs.declared.rows.RowState.TheVariants.{Failed};
 ghost use Rattle.swim_history.specs.Changes.{IsAscending};
@@ -9,8 +9,8 @@ ghost use Rattle.swim_history.specs.Rows.{row_at};
 ghost use Rattle.swim_rejoin.specs.Believing.{believed, tells};
 ghost use Rattle.swim_rejoin.specs.Failed.{is_failed, verdict_in};
 ghost use Rattle.swim_rejoin.specs.Histories.{Event, is_known, last_joined, last_knocks, last_verdict, table_in, times};
-ghost use Rattle.swim_rejoin.specs.Histories.Event.{Looked};
-ghost use Rattle.swim_rejoin.specs.Knocking.{knocked_by, whose_turn};
+ghost use Rattle.swim_rejoin.specs.Histories.Event.{Looked, Ruled};
+ghost use Rattle.swim_rejoin.specs.Knocking.{Start, at_start, is_due, knocked_by, since_due, steadily, whose_turn};
 ghost use Rattle.swim_rejoin.specs.Turns.{IsNext, StaysFailed, was_knocked_at};
 ghost use Rattle.swim_wire.specs.Address.{Address};
 ghost use Rattle.swim_wire.specs.Ids.{has};
@@ -84,8 +84,22 @@ pub fn waits_double_up_to_64()
 
 /// With a rejoin of 0 nobody is knocked at, and nobody joined again.
 pub fn with_0_nothing_happens()
-    ensures knock { (h : List (List Row)) (rows : List Row) → knocked_by 0 h rows ≡ None }
+    ensures knock { (h : List Start) (rows : List Row) → knocked_by 0 h rows ≡ None }
     ensures join { (me : ℕ) (h : List Event) (m : Message) (from : Address) → believed 0 me h m from ≡ None }
+{}
+
+/// A rejoin of 0 forgets: the starts are counted anew behind it, and whom a message joins later goes by what happened
+/// since alone.
+pub fn a_0_forgets()
+    ensures starts { (h : List Start) (rows : List Row) → since_due (at_start 0 rows ∷ h) ≡ 0 }
+    ensures joins { (rejoin me : ℕ) (later before : List Event) (m : Message) (from : Address)
+        → believed rejoin me (later ++ Ruled 0 ∷ before) m from ≡ believed rejoin me (later ++ Ruled 0 ∷ []) m from }
+{}
+
+/// Where each start has the same rejoin, each such start has a knock: that one, and no other, is due.
+pub fn a_steady_rejoin_knocks_at_each_such_start()
+    ensures { (rejoin : ℕ) (before : List (List Row))
+        → is_due rejoin (steadily rejoin before []) ≡ (nat_lt 0 rejoin && (length before + 1) % rejoin == 0) }
 {}
 
 /// Of rows that ascend by id, whose turn it is is the next failed member by id behind the one that was knocked at last,
@@ -97,9 +111,10 @@ pub fn the_next_by_id_has_its_turn()
 {}
 
 /// Each failed member has its turn: who is failed at so many starts in a row as there are failed members, times N, was
-/// knocked at by one of these.
+/// knocked at by one of these, if N was the same at all of them. Before them it may have changed.
 pub fn each_failed_member_has_its_turn()
-    ensures { (rejoin id : ℕ) (ids : List ℕ) (recent before : List (List Row)) → 0 < rejoin → has ids id ≡ true
+    ensures { (rejoin id : ℕ) (ids : List ℕ) (recent : List (List Row)) (before : List Start)
+        → 0 < rejoin → has ids id ≡ true
         → StaysFailed id ids recent → length ids * rejoin ≤ length recent
         → was_knocked_at id rejoin recent before ≡ true }
 {}

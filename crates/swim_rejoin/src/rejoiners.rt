@@ -1,9 +1,9 @@
 //! Whom a member joins again by itself.
 
-ghost use Rattle.std.specs.Prelude.{◌≡◌, ◌<◌, ◌≤◌, List, [], ◌∷◌, length, map};
+ghost use Rattle.std.specs.Prelude.{◌≡◌, ◌<◌, ◌≤◌, List, [], ◌∷◌, length, map, nat_lt};
 ghost use Rattle.swim_rejoin.specs.Believing.{believed};
-ghost use Rattle.swim_rejoin.specs.Histories.{Event};
-ghost use Rattle.swim_rejoin.specs.Histories.Event.{Joined, Knocked, Looked};
+ghost use Rattle.swim_rejoin.specs.Histories.{Event, rejoin_in};
+ghost use Rattle.swim_rejoin.specs.Histories.Event.{Joined, Knocked, Looked, Ruled};
 ghost use Rattle.swim_rejoin.specs.Knowing.{known_once_looked};
 ghost use Rattle.swim_rejoin.specs.Rejoiners.{Follows, shown_by};
 
@@ -17,8 +17,8 @@ use swim_wire::{Id, KNOWN_MEMBERS, Message, Peer, PeriodNumber};
 /// What is kept of the members of a table.
 type Knowns = ArrayVec<Known, KNOWN_MEMBERS>;
 
-/// Whom a member joins again by itself: it is told of each knock, of the member table as often as that is looked at,
-/// and of each join that it gave the word for. Where `rejoin` is 0 nobody is joined.
+/// Whom a member joins again by itself: it is told every how many starts there is a knock, of each knock, of the
+/// member table as often as that is looked at, and of each join that it gave the word for.
 #[derive(Drop)]
 pub struct Rejoiner {
     rejoin: u16,
@@ -41,23 +41,39 @@ impl Model for Rejoiner {
 }
 
 impl Rejoiner {
-    /// A rejoiner of that member. Nothing happened yet.
-    pub fn new(rejoin: u16, me: Id) -> Rejoiner
-        ensures rejoin { result.rejoin ≡ rejoin }
+    /// A rejoiner of that member, which knocks at nobody. Nothing happened yet.
+    pub fn new(me: Id) -> Rejoiner
         ensures me { result.me ≡ me }
         ensures follows { Follows result [] }
     {
         Rejoiner {
-            rejoin,
+            rejoin: 0,
             me,
             marks: Marks::none(),
             knowns: Knowns::new(),
         }
     }
 
+    /// From now on each `rejoin`-th start of a period has a knock. With 0 nobody is joined, and all is forgotten.
+    pub fn rule(&mut self, rejoin: u16)
+        ensures me { self.new.me ≡ self.old.me }
+        ensures follows { (h : List Event) → Follows self.old h → Follows self.new (Ruled rejoin ∷ h) }
+    {
+        self.rejoin = rejoin;
+        if rejoin == 0 {
+            self.knowns.clear();
+        }
+    }
+
+    /// Whether anybody may be joined.
+    pub fn is_open(&self) -> bool
+        ensures { result ≡ nat_lt 0 self.now.rejoin }
+    {
+        self.rejoin > 0
+    }
+
     /// The member was knocked at with that number.
     pub fn knocked(&mut self, id: Id, number: PeriodNumber)
-        ensures rejoin { self.new.rejoin ≡ self.old.rejoin }
         ensures me { self.new.me ≡ self.old.me }
         ensures follows { (h : List Event) → Follows self.old h → Follows self.new (Knocked id number ∷ h) }
     {
@@ -69,7 +85,6 @@ impl Rejoiner {
     /// The member table was looked at, and has these rows, at most 128.
     pub fn looked_at(&mut self, rows: &[Row])
         requires { length rows.now ≤ KNOWN_MEMBERS }
-        ensures rejoin { self.new.rejoin ≡ self.old.rejoin }
         ensures me { self.new.me ≡ self.old.me }
         ensures follows { (h : List Event) → Follows self.old h → Follows self.new (Looked rows.now ∷ h) }
     {
@@ -79,7 +94,6 @@ impl Rejoiner {
 
     /// The member was joined again in that period, as this rejoiner gave the word.
     pub fn joined(&mut self, id: Id, period: u64)
-        ensures rejoin { self.new.rejoin ≡ self.old.rejoin }
         ensures me { self.new.me ≡ self.old.me }
         ensures follows { (h : List Event) → Follows self.old h → Follows self.new (Joined id period ∷ h) }
     {
@@ -94,7 +108,7 @@ impl Rejoiner {
     /// long enough. A message of a sender that isn't failed costs some 20 instructions.
     pub fn believes(&self, message: &Message, from: &Peer) -> Option<Row>
         ensures { (h : List Event) → Follows self.now h
-            → result ≡ believed self.now.rejoin self.now.me h message.now from.now }
+            → result ≡ believed (rejoin_in h) self.now.me h message.now from.now }
     {
         if self.rejoin == 0 || !self.marks.has(message.sender) {
             return None;

@@ -1,4 +1,4 @@
-use crate::rows::{ack, assert_same, failed, id, message, peer, period, up};
+use crate::rows::{ack, assert_same, failed, id, message, peer, period, rejoiner, up};
 use std::process::Abort;
 use swim_history::Row;
 use swim_rejoin::Rejoiner;
@@ -7,7 +7,7 @@ use swim_wire::{Kind, Message, Peer};
 // A rejoiner of member 1, whose table shows member 2 as up and member 3 as failed in period 20, and who knocked at 3 in
 // the periods 21 and 24.
 fn waiting() -> Rejoiner {
-    let mut rejoiner = Rejoiner::new(3, id(1));
+    let mut rejoiner = rejoiner(3);
     rejoiner.looked_at(&[up(2), failed(3, 20)]);
     rejoiner.knocked(id(3), period(21));
     rejoiner.knocked(id(3), period(24));
@@ -135,7 +135,7 @@ fn who_is_up_or_unknown_is_not_joined(rt: HostRuntime) {
 
 #[test]
 fn the_last_64_knocks_are_remembered(rt: HostRuntime) {
-    let mut rejoiner = Rejoiner::new(1, id(1));
+    let mut rejoiner = rejoiner(1);
     rejoiner.looked_at(&[failed(3, 20)]);
     for number in 21..85u64 {
         rejoiner.knocked(id(3), period(number));
@@ -161,8 +161,35 @@ fn knocks_at_who_is_not_in_the_table_are_not_remembered(rt: HostRuntime) {
 
 #[test]
 fn nobody_is_joined_where_rejoin_is_0(rt: HostRuntime) {
-    let mut rejoiner = Rejoiner::new(0, id(1));
+    let mut rejoiner = rejoiner(0);
     rejoiner.looked_at(&[failed(3, 20)]);
     rejoiner.knocked(id(3), period(21));
     assert_joined(&rt, &rejoiner, &ack(3, 21), peer(3), 0);
+}
+
+#[test]
+fn a_0_forgets_all_that_was_known(rt: HostRuntime) {
+    let mut rejoiner = waiting();
+    rejoiner.rule(0);
+    assert!(rt; !rejoiner.is_open());
+    assert_joined(&rt, &rejoiner, &ack(3, 24), peer(3), 0);
+    // The table as it was, and the knocks from before the 0: only one since then is answered.
+    rejoiner.rule(3);
+    assert!(rt; rejoiner.is_open());
+    assert_joined(&rt, &rejoiner, &ack(3, 24), peer(3), 0);
+    rejoiner.looked_at(&[up(2), failed(3, 20)]);
+    assert_joined(&rt, &rejoiner, &ack(3, 24), peer(3), 0);
+    rejoiner.knocked(id(3), period(27));
+    assert_joined(&rt, &rejoiner, &ack(3, 27), peer(3), 3);
+    assert_joined(&rt, &rejoiner, &ack(3, 21), peer(3), 0);
+}
+
+#[test]
+fn another_rule_forgets_nothing(rt: HostRuntime) {
+    let mut rejoiner = waiting();
+    for rejoin in [1, 65_535, 3, 3] {
+        rejoiner.rule(rejoin);
+        assert_joined(&rt, &rejoiner, &ack(3, 24), peer(3), 3);
+        assert_joined(&rt, &rejoiner, &ack(3, 21), peer(3), 3);
+    }
 }

@@ -1,4 +1,4 @@
-use crate::rows::{ack, failed, id, period};
+use crate::rows::{ack, failed, id, period, rejoiner};
 use std::process::Abort;
 use swim_history::{Row, RowState};
 use swim_rejoin::{Knocker, Rejoiner};
@@ -22,7 +22,7 @@ fn start(
     rows: &[Row],
     number: u64,
 ) -> usize {
-    let Some(knock) = knocker.start(rows, period(number)) else {
+    let Some(knock) = knocker.start(1, rows, period(number)) else {
         panic!(rt; "no knock in {number}");
     };
     let whom = knock.message.target;
@@ -45,8 +45,8 @@ fn sixty_four_come_back_in_64_periods(rt: HostRuntime) {
     for place in 0..FAILED {
         rows[place] = failed(u8::try_from(place + 65).unwrap_or_default(), 20);
     }
-    let mut knocker = Knocker::new(1, id(1), Version::One);
-    let mut rejoiner = Rejoiner::new(1, id(1));
+    let mut knocker = Knocker::new(id(1), Version::One);
+    let mut rejoiner = rejoiner(1);
     rejoiner.looked_at(&rows);
     for number in 21..85u64 {
         assert!(rt; !rows.iter().all(is_up), "all are up before {number}");

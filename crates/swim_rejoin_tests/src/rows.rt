@@ -3,11 +3,19 @@
 use std::fmt::Debug;
 use std::process::Abort;
 use swim_history::{Row, RowState};
+use swim_rejoin::Rejoiner;
 use swim_wire::{Id, Kind, Message, Peer, PeriodNumber, Version};
 
 /// The two are the same. A call of this is proved at once, and an `assert_eq!` in some seconds.
 pub(crate) fn assert_same<T: PartialEq + Debug, R: Abort>(rt: &R, left: &T, right: &T) {
     assert_eq!(rt; *left, *right);
+}
+
+/// A rejoiner of member 1, while each `rejoin`-th start has a knock.
+pub(crate) fn rejoiner(rejoin: u16) -> Rejoiner {
+    let mut rejoiner = Rejoiner::new(id(1));
+    rejoiner.rule(rejoin);
+    rejoiner
 }
 
 /// The member with that id.

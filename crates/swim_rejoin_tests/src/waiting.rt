@@ -1,4 +1,4 @@
-use crate::rows::{ack, failed, id, peer, period, up};
+use crate::rows::{ack, failed, id, peer, period, rejoiner, up};
 use std::process::Abort;
 use swim_rejoin::Rejoiner;
 
@@ -11,7 +11,7 @@ fn is_joined(rejoiner: &Rejoiner, member: u8, number: u64) -> bool {
 
 // A rejoiner of member 1 that knocks at each start. Member 3 was judged in period 20 and joined again in period 23.
 fn joined_in_23() -> Rejoiner {
-    let mut rejoiner = Rejoiner::new(1, id(1));
+    let mut rejoiner = rejoiner(1);
     rejoiner.looked_at(&[failed(3, 20)]);
     rejoiner.joined(id(3), 23);
     rejoiner.looked_at(&[up(3)]);
@@ -34,7 +34,7 @@ fn waits(rt: &impl Abort, rejoiner: &mut Rejoiner, verdict: u64, knocks: u64) ->
 
 #[test]
 fn who_is_judged_first_waits_for_one_knock(rt: HostRuntime) {
-    let mut rejoiner = Rejoiner::new(1, id(1));
+    let mut rejoiner = rejoiner(1);
     waits(&rt, &mut rejoiner, 20, 1);
 }
 
@@ -120,7 +120,7 @@ fn a_verdict_after_an_operators_join_is_no_quiet(rt: HostRuntime) {
 
 #[test]
 fn an_operators_join_makes_nobody_wait(rt: HostRuntime) {
-    let mut rejoiner = Rejoiner::new(1, id(1));
+    let mut rejoiner = rejoiner(1);
     rejoiner.looked_at(&[failed(3, 20)]);
     rejoiner.looked_at(&[up(3)]);
     waits(&rt, &mut rejoiner, 25, 1);
@@ -128,7 +128,7 @@ fn an_operators_join_makes_nobody_wait(rt: HostRuntime) {
 
 #[test]
 fn knocks_before_the_verdict_do_not_count(rt: HostRuntime) {
-    let mut rejoiner = Rejoiner::new(1, id(1));
+    let mut rejoiner = rejoiner(1);
     rejoiner.looked_at(&[failed(3, 20)]);
     rejoiner.knocked(id(3), period(21));
     rejoiner.knocked(id(3), period(22));
@@ -147,8 +147,18 @@ fn who_was_removed_begins_anew(rt: HostRuntime) {
 }
 
 #[test]
+fn after_a_0_each_member_waits_as_at_first(rt: HostRuntime) {
+    let mut rejoiner = joined_in_23();
+    waits(&rt, &mut rejoiner, 30, 2);
+    rejoiner.joined(id(3), 32);
+    rejoiner.rule(0);
+    rejoiner.rule(1);
+    waits(&rt, &mut rejoiner, 40, 1);
+}
+
+#[test]
 fn each_member_has_its_own_wait(rt: HostRuntime) {
-    let mut rejoiner = Rejoiner::new(1, id(1));
+    let mut rejoiner = rejoiner(1);
     rejoiner.looked_at(&[failed(2, 19), failed(3, 20)]);
     rejoiner.joined(id(2), 23);
     rejoiner.joined(id(3), 24);

@@ -31,7 +31,7 @@ end_shorter started read =
     (told_shorter started read start_keys) (omega arith)
 
 -- the answer that tells all keys is the longest
-pub at_most_435 : (started read : Config) → length (reloaded_text started read) ≤ 435
-at_most_435 started read =
+pub at_most_439 : (started read : Config) → length (reloaded_text started read) ≤ 439
+at_most_439 started read =
     both_shorter (codes "reloaded") (end_text started read) (codes "reloaded") (start_texts start_keys ++ codes "\n")
     (omega arith) (end_shorter started read)

@@ -6,6 +6,8 @@ use Rattle.swim_wire.specs.declared.messages.Version.TheVariants.{One, Two}
 use Rattle.swim_history.specs.declared.rows.Row.{Row}
 use Rattle.swim_history.specs.declared.rows.RowState.{RowState}
 use Rattle.swim_history.specs.declared.rows.RowState.TheVariants.{Up, Failed}
+use Rattle.swim_config.specs.declared.journal_files.TimeUnit.{TimeUnit}
+use Rattle.swim_config.specs.declared.journal_files.TimeUnit.TheVariants.{Seconds, Milliseconds}
 
 -- both are the same number, or none
 abbrev pub is_same_number : Option ℕ → Option ℕ → Bool
@@ -26,6 +28,11 @@ abbrev pub is_same_version : Version → Version → Bool
 is_same_version One One = true
 is_same_version Two Two = true
 is_same_version version other = false
+
+abbrev pub is_same_unit : TimeUnit → TimeUnit → Bool
+is_same_unit Seconds Seconds = true
+is_same_unit Milliseconds Milliseconds = true
+is_same_unit unit other = false
 
 abbrev pub is_same_state : RowState → RowState → Bool
 is_same_state Up Up = true

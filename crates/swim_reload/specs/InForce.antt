@@ -4,14 +4,15 @@ use Rattle.swim_config.specs.declared.config.Config.{Config}
 use Rattle.swim_config.specs.declared.keys.ConfigKey.{ConfigKey}
 use Rattle.swim_config.specs.declared.keys.ConfigKey.TheVariants as keys
 use Rattle.swim_config.specs.Configuration.{told_last}
-use Rattle.swim_reload.specs.Comparing.{are_same_rows, is_same_number, is_same_path, is_same_peer, is_same_version}
+use Rattle.swim_reload.specs.Comparing.{are_same_rows, is_same_number, is_same_path, is_same_peer, is_same_unit}
+use Rattle.swim_reload.specs.Comparing.{is_same_version}
 
 -- the keys whose values need a start, in the order in which they are told
 abbrev pub start_keys : List ConfigKey
 start_keys =
     keys.Id ∷ keys.Listen ∷ keys.Control ∷ keys.Events ∷ keys.Metrics ∷ keys.ControlMode ∷ keys.EventsMode ∷ keys.K ∷
-    keys.Rtt ∷ keys.Period ∷ keys.TickMs ∷ keys.Seed ∷ keys.Journal ∷ keys.Last ∷ keys.Wire ∷ keys.Rejoin ∷
-    keys.JournalDir ∷ keys.JournalKeep ∷ keys.Member ∷ []
+    keys.Rtt ∷ keys.Period ∷ keys.TickMs ∷ keys.Seed ∷ keys.Journal ∷ keys.Last ∷ keys.Wire ∷ keys.JournalDir ∷
+    keys.JournalKeep ∷ keys.JournalMs ∷ keys.Member ∷ []
 
 -- the value that a key has in what is read is in force without a start: the daemon was started with the same, or takes
 -- it over at once. A last number that the clock tells is another than any that is written. The keys of a member are
@@ -32,12 +33,13 @@ IsInForce keys.Seed started read = started.seed ≡ read.seed
 IsInForce keys.Journal started read = started.journal ≡ read.journal
 IsInForce keys.Last started read = told_last started ≡ told_last read
 IsInForce keys.Wire started read = started.opening.version ≡ read.opening.version
-IsInForce keys.Rejoin started read = started.rejoin ≡ read.rejoin
 IsInForce keys.JournalDir started read = started.files.dir ≡ read.files.dir
 IsInForce keys.JournalKeep started read = started.files.keep ≡ read.files.keep
+IsInForce keys.JournalMs started read = started.files.unit ≡ read.files.unit
 IsInForce keys.Member started read = started.opening.rows ≡ read.opening.rows
 IsInForce keys.Keys started read = Unit {0}
 IsInForce keys.Fence started read = Unit {0}
+IsInForce keys.Rejoin started read = Unit {0}
 IsInForce keys.MemberId started read = Unit {0}
 IsInForce keys.MemberAt started read = Unit {0}
 
@@ -58,11 +60,12 @@ is_in_force keys.Seed started read = bytes_eq started.seed read.seed
 is_in_force keys.Journal started read = started.journal == read.journal
 is_in_force keys.Last started read = is_same_number (told_last started) (told_last read)
 is_in_force keys.Wire started read = is_same_version started.opening.version read.opening.version
-is_in_force keys.Rejoin started read = started.rejoin == read.rejoin
 is_in_force keys.JournalDir started read = is_same_path started.files.dir read.files.dir
 is_in_force keys.JournalKeep started read = started.files.keep == read.files.keep
+is_in_force keys.JournalMs started read = is_same_unit started.files.unit read.files.unit
 is_in_force keys.Member started read = are_same_rows started.opening.rows read.opening.rows
 is_in_force keys.Keys started read = true
 is_in_force keys.Fence started read = true
+is_in_force keys.Rejoin started read = true
 is_in_force keys.MemberId started read = true
 is_in_force keys.MemberAt started read = true

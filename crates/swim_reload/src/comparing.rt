@@ -2,9 +2,9 @@
 
 ghost use Rattle.std.specs.Prelude.{◌≡◌, ◌↔◌, IsTrue, bytes_eq};
 ghost use Rattle.swim_reload.specs.Comparing.{are_same_rows, is_same_number, is_same_path, is_same_peer, is_same_row};
-ghost use Rattle.swim_reload.specs.Comparing.{is_same_state, is_same_version};
+ghost use Rattle.swim_reload.specs.Comparing.{is_same_state, is_same_unit, is_same_version};
 
-use swim_config::SocketPath;
+use swim_config::{SocketPath, TimeUnit};
 use swim_history::{Row, RowState};
 use swim_wire::{Peer, Version};
 
@@ -66,6 +66,14 @@ pub fn is_same_version(version: Version, other: Version) -> bool
     ensures same { IsTrue result ↔ (version ≡ other) }
 {
     version == other
+}
+
+/// Whether both are the same unit.
+pub fn is_same_unit(unit: TimeUnit, other: TimeUnit) -> bool
+    ensures value { result ≡ is_same_unit unit other }
+    ensures same { IsTrue result ↔ (unit ≡ other) }
+{
+    unit == other
 }
 
 /// Whether these are the same rows, in the same order.

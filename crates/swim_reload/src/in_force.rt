@@ -5,7 +5,7 @@ ghost use Rattle.swim_reload.specs.InForce.{IsInForce, is_in_force};
 
 use crate::comparing::{
     are_same_rows, is_same_mode, is_same_number, is_same_path, is_same_peer, is_same_seed,
-    is_same_version,
+    is_same_unit, is_same_version,
 };
 use swim_config::{Config, ConfigKey};
 
@@ -26,15 +26,15 @@ pub const START_KEYS: [ConfigKey; 19] = [
     ConfigKey::Journal,
     ConfigKey::Last,
     ConfigKey::Wire,
-    ConfigKey::Rejoin,
     ConfigKey::JournalDir,
     ConfigKey::JournalKeep,
+    ConfigKey::JournalMs,
     ConfigKey::Member,
 ];
 
 /// Whether the value that a key has in the file read again is in force without a start: the daemon was started with the
-/// same value, or takes it over while it runs, as `keys` and `fence`. `started` is what the file said at the start, so
-/// before `Config::begun_at`. What stands in a table of `member` is told by `member`.
+/// same value, or takes it over while it runs, as `keys`, `fence` and `rejoin`. `started` is what the file said at the
+/// start, so before `Config::begun_at`. What stands in a table of `member` is told by `member`.
 pub fn is_in_force(key: ConfigKey, started: &Config, read: &Config) -> bool
     ensures value { result ≡ is_in_force key started.now read.now }
     ensures same { IsTrue result ↔ IsInForce key started.now read.now }
@@ -55,10 +55,11 @@ pub fn is_in_force(key: ConfigKey, started: &Config, read: &Config) -> bool
         ConfigKey::Journal => started.journal == read.journal,
         ConfigKey::Last => is_same_number(started.number(key), read.number(key)),
         ConfigKey::Wire => is_same_version(started.opening.version(), read.opening.version()),
-        ConfigKey::Rejoin => started.rejoin == read.rejoin,
         ConfigKey::JournalDir => is_same_path(&started.files.dir, &read.files.dir),
         ConfigKey::JournalKeep => started.files.keep == read.files.keep,
+        ConfigKey::JournalMs => is_same_unit(started.files.unit, read.files.unit),
         ConfigKey::Member => are_same_rows(started.opening.rows(), read.opening.rows()),
-        ConfigKey::Keys | ConfigKey::Fence | ConfigKey::MemberId | ConfigKey::MemberAt => true,
+        ConfigKey::Keys | ConfigKey::Fence | ConfigKey::Rejoin => true,
+        ConfigKey::MemberId | ConfigKey::MemberAt => true,
     }
 }

@@ -10,7 +10,7 @@ use swim_text::Sink;
 use swim_wire::{Piece, put_pieces};
 
 /// The most bytes of the answer, which tells all keys then.
-pub const RELOADED_BYTES: usize = 435;
+pub const RELOADED_BYTES: usize = 439;
 
 /// Writes that the configuration file was read again, and which keys need a start, and answers whether the sink took it.
 /// `started` is what the file said as the daemon started, `read` what it says now.

@@ -6,6 +6,7 @@ use Rattle.std.proofs.lemmas.Grind.{flat_map-append}
 use Rattle.std.proofs.lemmas.List.{length-append}
 use Rattle.std.proofs.lemmas.List.Elements.{All-nil, All-cons, All-append}
 use Rattle.swim_history.specs.declared.calls.Call.TheVariants.{Tick}
+use Rattle.swim_history.specs.declared.rows.Change.{Change}
 use Rattle.swim_history.specs.Setting.{Setting}
 use Rattle.swim_node.specs.declared.receipts.CallFault.{CallFault}
 use Rattle.swim_node.specs.declared.receipts.CallFault.TheVariants as faults
@@ -137,9 +138,9 @@ all_ticked o limit given old (Some why) new is =
 
 -- each tick that the pace gave in a life became one call of the seat, in order, or was refused
 pub each_is_called : {O : Type 0} (posted : O → Option (List Posted)) (o : Setting) (limit : ℕ) (old : Owned O)
-    (seat : Seated) (end : End) (new : Owned O) → TicksLife posted o limit old seat end new →
+    (seat : Seated) (seen : List Change) (end : End) (new : Owned O) → TicksLife posted o limit old seat seen end new →
     (given : List Beat) × Grows old.beats new.beats given × AreTicked (ticks_in given) seat.calls end.counts
-each_is_called posted o limit old seat end new life =
+each_is_called posted o limit old seat seen end new life =
     let worked = life.ticked in
     let ticked = all_ticked o limit worked.given _ end.why _ worked.ends in (
       worked.given,

@@ -11,7 +11,7 @@ use swim_history::{Opening, Table, table_of};
 use swim_node::{Naming, Viewer};
 use swim_rejoin::{KnockPing, Knocker};
 use swim_wire::{PeriodNumber, encode};
-use swim_work::{Post, TidingsBoard};
+use swim_work::{Post, RejoinLookup, TidingsBoard};
 
 /// Who knocks in a life: a viewer of its member table, what it was shown last, the number of the period that runs, and
 /// how many knocks there were.
@@ -19,8 +19,6 @@ use swim_work::{Post, TidingsBoard};
 pub(crate) struct Knocking<N: Naming> {
     pub(crate) viewer: Viewer<N>,
     pub(crate) knocker: Knocker,
-    // Whether it knocks at all.
-    is_open: bool,
     // Before the first look it is the table of the opening.
     pub(crate) table: Table,
     pub(crate) number: u64,
@@ -28,17 +26,16 @@ pub(crate) struct Knocking<N: Naming> {
 }
 
 impl<N: Naming> Knocking<N> {
-    /// It knocks at every `rejoin`-th start of a period. None started yet.
+    /// No period started yet.
     #[tactic(auto, using(crate::proofs::Knocked::none_knocked))]
-    pub(crate) fn new(rejoin: u16, opening: &Opening, viewer: Viewer<N>) -> Knocking<N>
+    pub(crate) fn new(opening: &Opening, viewer: Viewer<N>) -> Knocking<N>
         requires { opening.now ≡ N.opening }
-        ensures knocking { (posted : Option (List Posted)) → IsKnocking N.opening rejoin 0 posted
-            (at_knocking result.knocker result.viewer result.table.items result.number posted result.knocks) }
+        ensures knocking { (asked : List ℕ) (posted : Option (List Posted)) → IsKnocking N.opening 0 asked posted
+            (at_knocking result.knocker result.viewer result.table.items result.number asked posted result.knocks) }
     {
         Knocking {
             viewer,
-            knocker: Knocker::new(rejoin, opening.me(), opening.version()),
-            is_open: rejoin > 0,
+            knocker: Knocker::new(opening.me(), opening.version()),
             table: table_of(opening.rows()),
             number: opening.last(),
             knocks: 0,
@@ -50,34 +47,44 @@ impl<N: Naming> Knocking<N> {
         &mut self,
         rt: &R,
         board: &TidingsBoard,
+        lookup: &mut RejoinLookup<'_>,
         post: &mut O,
         is_started: bool,
     )
         ensures { KnocksOn N.opening (from_bool is_started)
-            (at_knocking self.old.knocker self.old.viewer self.old.table.items self.old.number
+            (at_knocking self.old.knocker self.old.viewer self.old.table.items self.old.number lookup.old
             (O.posted post.old) self.old.knocks)
-            (at_knocking self.new.knocker self.new.viewer self.new.table.items self.new.number
+            (at_knocking self.new.knocker self.new.viewer self.new.table.items self.new.number lookup.new
             (O.posted post.new) self.new.knocks) }
     {
         if is_started {
-            self.start(rt, board, post);
+            self.start(rt, board, lookup, post);
         } else {
             board.make_due();
         }
     }
 
-    /// A period starts: the receiver is told of it, and of the knock that is due, if one is, before that is sent.
-    fn start<O: Post, R: Wait>(&mut self, rt: &R, board: &TidingsBoard, post: &mut O)
+    /// A period starts, by the rule that is in force now: the receiver is told of it, and of the knock that is due, if
+    /// one is, before that is sent.
+    fn start<O: Post, R: Wait>(
+        &mut self,
+        rt: &R,
+        board: &TidingsBoard,
+        lookup: &mut RejoinLookup<'_>,
+        post: &mut O,
+    )
         ensures { KnocksOn N.opening 1
-            (at_knocking self.old.knocker self.old.viewer self.old.table.items self.old.number
+            (at_knocking self.old.knocker self.old.viewer self.old.table.items self.old.number lookup.old
             (O.posted post.old) self.old.knocks)
-            (at_knocking self.new.knocker self.new.viewer self.new.table.items self.new.number
+            (at_knocking self.new.knocker self.new.viewer self.new.table.items self.new.number lookup.new
             (O.posted post.new) self.new.knocks) }
     {
-        look(&mut self.viewer, &mut self.table, self.is_open);
+        let rejoin = lookup.rejoin();
+        look(&mut self.viewer, &mut self.table, rejoin > 0);
         let number = self.number.saturating_add(1);
         let period = period_of(number);
-        let knock = board.begin(rt, &mut self.knocker, self.table.as_slice(), period);
+        let rows = self.table.as_slice();
+        let knock = board.begin(rt, &mut self.knocker, rejoin, rows, period);
         board.make_due();
         let count = send(rt, post, &knock);
         let knocks = self.knocks.saturating_add(count);
@@ -87,7 +94,7 @@ impl<N: Naming> Knocking<N> {
 }
 
 /// Looks at the member table, if somebody is to look at it. Where none is shown, the one that was shown last stays.
-#[tactic(auto, using(crate::proofs::Looked::begins_itself))]
+#[tactic(auto, using(swim_node::proofs::Prefixes::begins_itself))]
 fn look<N: Naming>(viewer: &mut Viewer<N>, table: &mut Table, is_open: bool)
     ensures later { IsPrefix viewer.old viewer.new }
     ensures look { LooksOn N.opening viewer.old table.old.items viewer.new table.new.items }

@@ -11,11 +11,13 @@ use std::sync::Wait;
 use std::sync::atomic::{AtomicBool, Ordering};
 use swim_node::{Naming, Node, Seat, Viewer};
 use swim_targets::Seeded;
-use swim_work::{Beat, Caller, Done, End, Meter, Pace, Post, TidingsBoard, Why, Worker};
+use swim_work::{
+    Beat, Caller, Done, End, Meter, Pace, Post, RejoinLookup, TidingsBoard, Why, Worker,
+};
 
-/// Gives a node the ticks of a pace, and sends the datagrams of the replies by a post. At every `rejoin`-th start of a
-/// period it knocks at a member that was judged failed, by a second post. On the board it leaves word for the receiver:
-/// when to look at the members, which period runs, and each knock.
+/// Gives a node the ticks of a pace, and sends the datagrams of the replies by a post. At each N-th start of a period
+/// it knocks at a member that was judged failed, by a second post; at each start it asks which N is in force. On the
+/// board it leaves word for the receiver: when to look at the members, which period runs, and each knock.
 #[derive(Drop)]
 pub struct Ticker<'b, P: Pace + Drop, O: Post + Drop> {
     /// Gives the ticks.
@@ -24,8 +26,8 @@ pub struct Ticker<'b, P: Pace + Drop, O: Post + Drop> {
     pub post: O,
     /// Takes the knocks.
     pub knock_post: O,
-    /// Starts of a period for each knock. With 0 nobody is knocked at.
-    pub rejoin: u16,
+    /// Answers every how many starts there is a knock. With 0 nobody is knocked at.
+    pub lookup: RejoinLookup<'b>,
     /// Knocks so far, over all lives. The count stops at 2^64-1.
     pub knocks: u64,
     /// Where word is left for the receiver.
@@ -35,9 +37,9 @@ pub struct Ticker<'b, P: Pace + Drop, O: Post + Drop> {
 impl<'b, P: Pace + Drop, O: Post + Drop> Worker for Ticker<'b, P, O> {
     ghost use Rattle.swim_ticker.specs.Ticking.{TicksLife, owned};
 
-    ghost works = { λ old o limit seat end new. TicksLife O.posted o limit
-        (owned (P.beats old.pace) old.post (O.posted old.knock_post) old.rejoin old.knocks) seat end
-        (owned (P.beats new.pace) new.post (O.posted new.knock_post) new.rejoin new.knocks) };
+    ghost works = { λ old o limit seat seen end new. TicksLife O.posted o limit
+        (owned (P.beats old.pace) old.post (O.posted old.knock_post) old.lookup old.knocks) seat seen end
+        (owned (P.beats new.pace) new.post (O.posted new.knock_post) new.lookup new.knocks) };
 
     fn work<N: Naming, H: Wait + Drop, R: Wait>(
         &mut self,
@@ -50,7 +52,7 @@ impl<'b, P: Pace + Drop, O: Post + Drop> Worker for Ticker<'b, P, O> {
     ) -> Done<N> {
         let mut ticking = Ticking {
             caller: Caller::new(seat),
-            knocking: Knocking::new(self.rejoin, node.opening(), viewer),
+            knocking: Knocking::new(node.opening(), viewer),
         };
         let why = self.tick_on(rt, node, over, &mut ticking, meter);
         ticking.show(meter);
@@ -74,17 +76,16 @@ impl<N: Naming> Ticking<N> {
     }
 }
 
-/// Hands back the seat.
+/// Hands back the seat and the viewer.
 fn done<N: Naming>(ticking: Ticking<N>, why: Option<Why>) -> Done<N>
     ensures seat { result.seat ≡ ticking.caller.seat }
+    ensures viewer { result.viewer ≡ ticking.knocking.viewer }
     ensures end { result.end ≡ record { why = why; counts = ticking.caller.counts } }
 {
-    let Ticking {
-        caller,
-        knocking: _,
-    } = ticking;
+    let Ticking { caller, knocking } = ticking;
     Done {
         seat: caller.seat,
+        viewer: knocking.viewer,
         end: End {
             why,
             counts: caller.counts,
@@ -108,11 +109,11 @@ impl<'b, P: Pace + Drop, O: Post + Drop> Ticker<'b, P, O> {
         ensures goes_on { GoesOn O.posted N.opening
             (at_ticker (at_sender ticking.old.caller.seat self.old.post ticking.old.caller.counts)
             (at_knocking ticking.old.knocking.knocker ticking.old.knocking.viewer ticking.old.knocking.table.items
-            ticking.old.knocking.number (O.posted self.old.knock_post) ticking.old.knocking.knocks) self.old.rejoin
+            ticking.old.knocking.number self.old.lookup (O.posted self.old.knock_post) ticking.old.knocking.knocks)
             self.old.knocks) result
             (at_ticker (at_sender ticking.new.caller.seat self.new.post ticking.new.caller.counts)
             (at_knocking ticking.new.knocking.knocker ticking.new.knocking.viewer ticking.new.knocking.table.items
-            ticking.new.knocking.number (O.posted self.new.knock_post) ticking.new.knocking.knocks) self.new.rejoin
+            ticking.new.knocking.number self.new.lookup (O.posted self.new.knock_post) ticking.new.knocking.knocks)
             self.new.knocks) }
     {
         for _turn in rt.forever() {
@@ -140,20 +141,24 @@ impl<'b, P: Pace + Drop, O: Post + Drop> Ticker<'b, P, O> {
         ensures goes_on { GoesOn O.posted N.opening
             (at_ticker (at_sender ticking.old.caller.seat self.old.post ticking.old.caller.counts)
             (at_knocking ticking.old.knocking.knocker ticking.old.knocking.viewer ticking.old.knocking.table.items
-            ticking.old.knocking.number (O.posted self.old.knock_post) ticking.old.knocking.knocks) self.old.rejoin
+            ticking.old.knocking.number self.old.lookup (O.posted self.old.knock_post) ticking.old.knocking.knocks)
             self.old.knocks) result
             (at_ticker (at_sender ticking.new.caller.seat self.new.post ticking.new.caller.counts)
             (at_knocking ticking.new.knocking.knocker ticking.new.knocking.viewer ticking.new.knocking.table.items
-            ticking.new.knocking.number (O.posted self.new.knock_post) ticking.new.knocking.knocks) self.new.rejoin
+            ticking.new.knocking.number self.new.lookup (O.posted self.new.knock_post) ticking.new.knocking.knocks)
             self.new.knocks) }
     {
         match self.pace.next(rt) {
             Beat::Tick => {
                 let (end, is_started) = ticking.caller.tick(rt, node, &mut self.post);
                 let board = self.board;
-                ticking
-                    .knocking
-                    .pass(rt, board, &mut self.knock_post, is_started);
+                ticking.knocking.pass(
+                    rt,
+                    board,
+                    &mut self.lookup,
+                    &mut self.knock_post,
+                    is_started,
+                );
                 end
             }
             Beat::Idle => None,

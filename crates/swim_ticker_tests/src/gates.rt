@@ -1,12 +1,12 @@
 //! A pace and posts in memory, which keep what they gave and what they were handed.
 
-ghost use Rattle.std.specs.Prelude.{◌≡◌, ◌++◌, ◌∷◌, [], Some, OnOk};
+ghost use Rattle.std.specs.Prelude.{◌≡◌, ◌++◌, ◌∷◌, [], None, Some, OnOk};
 
 use std::alloc::{AllocError, Global};
 use std::marker::Model;
 use std::sync::Wait;
 use swim_wire::Peer;
-use swim_work::{Beat, Pace, Post};
+use swim_work::{Beat, Pace, Post, TidingsBoard};
 
 /// A pace of these beats, and then of stops.
 #[derive(Drop)]
@@ -42,6 +42,39 @@ impl<'b> Pace for ListedPace<'b> {
             for _turn in rt.forever() {}
         }
         beat
+    }
+}
+
+/// A pace of ticks, before each of which it has another of these rules stand on a board, and then of stops.
+#[derive(Drop)]
+pub(crate) struct RulingPace<'b> {
+    board: &'b TidingsBoard,
+    rules: &'b [u16],
+    given: usize,
+}
+
+impl<'b> RulingPace<'b> {
+    pub(crate) fn new(board: &'b TidingsBoard, rules: &'b [u16]) -> RulingPace<'b> {
+        RulingPace {
+            board,
+            rules,
+            given: 0,
+        }
+    }
+}
+
+impl<'b> Pace for RulingPace<'b> {
+    ghost beats = { λ pace. None };
+
+    fn next<R: Wait>(&mut self, _rt: &R) -> Beat {
+        match self.rules.get(self.given) {
+            Some(rejoin) => {
+                self.board.rule(*rejoin);
+                self.given = self.given.saturating_add(1);
+                Beat::Tick
+            }
+            None => Beat::Stop,
+        }
     }
 }
 

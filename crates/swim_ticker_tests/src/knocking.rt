@@ -1,12 +1,12 @@
-use crate::gates::KeepingPost;
+use crate::gates::{KeepingPost, RulingPace};
 use crate::lives::{KeepingTicker, assert_pings, assert_same, live, ticker};
 use std::alloc::Global;
 use std::process::Abort;
 use std::sync::Wait;
 use std::test::*;
-use swim_ticker::{knocks_are_at_starts, with_0_nobody_is_knocked_at};
+use swim_ticker::{Ticker, knocks_are_at_starts, with_0_nobody_is_knocked_at};
 use swim_wire::Id;
-use swim_work::{Beat, TidingsBoard};
+use swim_work::{Beat, RejoinLookup, TidingsBoard};
 
 /// Thirteen ticks, and so five periods: member 2 is failed from the second start on.
 const BEATS: [Beat; 13] = [Beat::Tick; 13];
@@ -41,8 +41,8 @@ fn assert_told<R: Wait + Abort>(rt: &R, board: &TidingsBoard, numbers: &[u64]) {
 
 #[test]
 fn each_start_knocks(rt: HostRuntime) -> Result<(), Fail> {
-    let board = TidingsBoard::new(0);
-    let mut ticker = ticker(rt.alloc(), &board, &BEATS, 1, true);
+    let board = TidingsBoard::new(0, 1);
+    let mut ticker = ticker(rt.alloc(), &board, &BEATS, true);
     assert_knocks(rt, rt.alloc(), &mut ticker, &[2, 3, 4, 5])?;
     assert_told(&rt, &board, &[2, 3, 4, 5]);
     Ok(())
@@ -51,8 +51,8 @@ fn each_start_knocks(rt: HostRuntime) -> Result<(), Fail> {
 #[test]
 fn each_second_start_knocks(rt: HostRuntime) -> Result<(), Fail> {
     knocks_are_at_starts::<KeepingPost>();
-    let board = TidingsBoard::new(0);
-    let mut ticker = ticker(rt.alloc(), &board, &BEATS, 2, true);
+    let board = TidingsBoard::new(0, 2);
+    let mut ticker = ticker(rt.alloc(), &board, &BEATS, true);
     assert_knocks(rt, rt.alloc(), &mut ticker, &[2, 4])?;
     assert_told(&rt, &board, &[2, 4]);
     Ok(())
@@ -61,8 +61,8 @@ fn each_second_start_knocks(rt: HostRuntime) -> Result<(), Fail> {
 // The first third start is the third one.
 #[test]
 fn each_third_start_knocks(rt: HostRuntime) -> Result<(), Fail> {
-    let board = TidingsBoard::new(0);
-    let mut ticker = ticker(rt.alloc(), &board, &BEATS, 3, true);
+    let board = TidingsBoard::new(0, 3);
+    let mut ticker = ticker(rt.alloc(), &board, &BEATS, true);
     assert_knocks(rt, rt.alloc(), &mut ticker, &[3])?;
     assert_told(&rt, &board, &[3]);
     Ok(())
@@ -71,8 +71,8 @@ fn each_third_start_knocks(rt: HostRuntime) -> Result<(), Fail> {
 #[test]
 fn no_start_knocks_where_rejoin_is_0(rt: HostRuntime) -> Result<(), Fail> {
     with_0_nobody_is_knocked_at::<KeepingPost>();
-    let board = TidingsBoard::new(0);
-    let mut ticker = ticker(rt.alloc(), &board, &BEATS, 0, true);
+    let board = TidingsBoard::new(0, 0);
+    let mut ticker = ticker(rt.alloc(), &board, &BEATS, true);
     assert_knocks(rt, rt.alloc(), &mut ticker, &[])?;
     assert_told(&rt, &board, &[]);
     Ok(())
@@ -81,9 +81,9 @@ fn no_start_knocks_where_rejoin_is_0(rt: HostRuntime) -> Result<(), Fail> {
 // A ticker goes on from life to life: the starts are counted anew, and the knocks are not.
 #[test]
 fn knocks_are_counted_over_lives(rt: HostRuntime) -> Result<(), Fail> {
-    let board = TidingsBoard::new(0);
+    let board = TidingsBoard::new(0, 2);
     let beats = [Beat::Tick; 8];
-    let mut ticker = ticker(rt.alloc(), &board, &beats, 2, true);
+    let mut ticker = ticker(rt.alloc(), &board, &beats, true);
     let first = live(rt, rt.alloc(), 5, false, &mut ticker)?;
     assert_same(
         &rt,
@@ -96,5 +96,41 @@ fn knocks_are_counted_over_lives(rt: HostRuntime) -> Result<(), Fail> {
         &(second.calls, second.shown.knocks, ticker.knocks),
         &(2, 0, 1),
     );
+    Ok(())
+}
+
+// The rule changes between two lives of three starts: with 0 the first one has no knock, and the next one has one at
+// its second and its third start. At its first start member 2 isn't judged yet.
+#[test]
+fn a_rule_goes_for_the_next_life(rt: HostRuntime) -> Result<(), Fail> {
+    let board = TidingsBoard::new(0, 0);
+    let beats = [Beat::Tick; 16];
+    let mut ticker = ticker(rt.alloc(), &board, &beats, true);
+    let first = live(rt, rt.alloc(), 8, false, &mut ticker)?;
+    assert_same(&rt, &(first.calls, ticker.knocks), &(8, 0));
+    board.rule(1);
+    let second = live(rt, rt.alloc(), 7, false, &mut ticker)?;
+    assert_same(&rt, &(second.calls, ticker.knocks), &(7, 2));
+    Ok(())
+}
+
+// Six starts, with the ticks 1, 4, 7, 10, 13 and 16. Each start goes by the rule that the board has then: the second by
+// 1, the third by 0, and the next three by 3, of which the last one is the third since the 0.
+#[test]
+fn a_rule_goes_for_the_next_start(rt: HostRuntime) -> Result<(), Fail> {
+    let board = TidingsBoard::new(0, 0);
+    let rules = [0, 0, 0, 1, 1, 1, 0, 0, 0, 3, 3, 3, 3, 3, 3, 3];
+    let mut ticker = Ticker {
+        pace: RulingPace::new(&board, &rules),
+        post: KeepingPost::new(rt.alloc(), true),
+        knock_post: KeepingPost::new(rt.alloc(), true),
+        lookup: RejoinLookup::new(&board),
+        knocks: 0,
+        board: &board,
+    };
+    let lived = live(rt, rt.alloc(), 100, false, &mut ticker)?;
+    assert_same(&rt, &lived.calls, &16);
+    assert_pings(&rt, ticker.knock_post.sheets.as_slice(), &[2, 6]);
+    assert_same(&rt, &ticker.knocks, &2);
     Ok(())
 }

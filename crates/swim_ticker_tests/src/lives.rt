@@ -2,6 +2,7 @@
 
 ghost use Rattle.std.specs.Prelude.{◌≡◌, [], List};
 ghost use Rattle.swim_history.specs.declared.entries.Entry.{Entry};
+ghost use Rattle.swim_node.specs.News.{SawNothing};
 ghost use Rattle.swim_node.specs.Seats.{AreNew};
 
 use crate::gates::{KeepingPost, ListedPace, Sheet};
@@ -13,11 +14,11 @@ use std::sync::Wait;
 use std::sync::atomic::AtomicBool;
 use std::test::*;
 use swim_history::{Opening, OpeningFault};
-use swim_node::{Naming, Node, Parts, Seat};
+use swim_node::{Naming, Node, Parts, Seat, Viewer};
 use swim_targets::Seeded;
 use swim_ticker::Ticker;
 use swim_wire::{Id, Peer, Version};
-use swim_work::{Beat, Counts, Done, Metered, Meters, TidingsBoard, Why, Worker};
+use swim_work::{Beat, Counts, Done, Metered, Meters, RejoinLookup, TidingsBoard, Why, Worker};
 
 /// A ticker over gates in memory.
 pub(crate) type KeepingTicker<'t, 'b> = Ticker<'t, ListedPace<'b>, KeepingPost>;
@@ -51,20 +52,18 @@ fn pair() -> Result<Opening, OpeningFault> {
     Opening::check(Id::default(), 0, 1, 3, &rows, 0, Version::One)
 }
 
-/// A ticker whose pace gives these beats, which knocks at every `rejoin`-th start, and whose posts take all, or
-/// nothing.
+/// A ticker whose pace gives these beats, which knocks as the board says, and whose posts take all, or nothing.
 pub(crate) fn ticker<'t, 'b>(
     alloc: Global,
     board: &'t TidingsBoard,
     beats: &'b [Beat],
-    rejoin: u16,
     is_taking: bool,
 ) -> KeepingTicker<'t, 'b> {
     Ticker {
         pace: ListedPace::new(alloc, beats),
         post: KeepingPost::new(alloc, is_taking),
         knock_post: KeepingPost::new(alloc, is_taking),
-        rejoin,
+        lookup: RejoinLookup::new(board),
         knocks: 0,
         board,
     }
@@ -103,9 +102,19 @@ fn live_by<N: Naming, R: Wait + Copy + Drop, W: Worker>(
     let (node, seats, viewers) = opened;
     let over = AtomicBool::new(is_over);
     let meters = Meters::new();
-    let [_, viewer, _, _] = viewers;
-    let done = worker.work(&rt, &node, &over, second(seats), viewer, &meters.second);
-    let Done { seat, end } = done;
+    let done = worker.work(
+        &rt,
+        &node,
+        &over,
+        second(seats),
+        second_of(viewers),
+        &meters.second,
+    );
+    let Done {
+        seat,
+        viewer: _,
+        end,
+    } = done;
     Ok(Lived {
         calls: seat.calls().len(),
         why: end.why,
@@ -120,6 +129,15 @@ fn second<N: Naming>(seats: [Seat<N>; 4]) -> Seat<N>
     ensures { (result.calls ≡ []) × (result.full ≡ 0) }
 {
     let [_, second, _, _] = seats;
+    second
+}
+
+/// The second viewer.
+fn second_of<N: Naming>(viewers: [Viewer<N>; 4]) -> Viewer<N>
+    requires { SawNothing viewers }
+    ensures { result ≡ [] }
+{
+    let [_, second, _, _] = viewers;
     second
 }
 

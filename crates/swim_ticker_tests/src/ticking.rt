@@ -9,7 +9,7 @@ use swim_work::{Beat, Metered, TidingsBoard, Why};
 #[test]
 fn each_tick_is_given_until_the_stop(rt: HostRuntime) -> Result<(), Fail> {
     each_tick_is_a_call::<KeepingPost>();
-    let board = TidingsBoard::new(0);
+    let board = TidingsBoard::new(0, 0);
     let beats = [
         Beat::Idle,
         Beat::Tick,
@@ -18,7 +18,7 @@ fn each_tick_is_given_until_the_stop(rt: HostRuntime) -> Result<(), Fail> {
         Beat::Stop,
         Beat::Tick,
     ];
-    let mut ticker = ticker(rt.alloc(), &board, &beats, 0, true);
+    let mut ticker = ticker(rt.alloc(), &board, &beats, true);
     let lived = live(rt, rt.alloc(), 100, false, &mut ticker)?;
     assert_same(&rt, &lived.why, &Some(Why::Stopped));
     assert_same(&rt, &lived.calls, &2);
@@ -30,8 +30,8 @@ fn each_tick_is_given_until_the_stop(rt: HostRuntime) -> Result<(), Fail> {
 
 #[test]
 fn no_beat_is_asked_of_a_life_that_is_over(rt: HostRuntime) -> Result<(), Fail> {
-    let board = TidingsBoard::new(0);
-    let mut ticker = ticker(rt.alloc(), &board, &[Beat::Tick], 1, true);
+    let board = TidingsBoard::new(0, 1);
+    let mut ticker = ticker(rt.alloc(), &board, &[Beat::Tick], true);
     let lived = live(rt, rt.alloc(), 100, true, &mut ticker)?;
     assert_same(&rt, &lived.why, &None);
     assert_same(&rt, &lived.calls, &0);
@@ -42,9 +42,9 @@ fn no_beat_is_asked_of_a_life_that_is_over(rt: HostRuntime) -> Result<(), Fail> 
 // The third tick is refused, and ends the ticker.
 #[test]
 fn a_full_journal_ends_it(rt: HostRuntime) -> Result<(), Fail> {
-    let board = TidingsBoard::new(0);
+    let board = TidingsBoard::new(0, 1);
     let beats = [Beat::Tick; 5];
-    let mut ticker = ticker(rt.alloc(), &board, &beats, 1, true);
+    let mut ticker = ticker(rt.alloc(), &board, &beats, true);
     let lived = live(rt, rt.alloc(), 2, false, &mut ticker)?;
     assert_same(&rt, &lived.why, &Some(Why::JournalFull));
     assert_same(&rt, &lived.calls, &2);
@@ -58,9 +58,9 @@ fn a_full_journal_ends_it(rt: HostRuntime) -> Result<(), Fail> {
 #[test]
 fn what_is_not_taken_is_counted(rt: HostRuntime) -> Result<(), Fail> {
     each_reply_is_posted::<KeepingPost>();
-    let board = TidingsBoard::new(0);
+    let board = TidingsBoard::new(0, 1);
     let beats = [Beat::Tick; 8];
-    let mut ticker = ticker(rt.alloc(), &board, &beats, 1, false);
+    let mut ticker = ticker(rt.alloc(), &board, &beats, false);
     let lived = live(rt, rt.alloc(), 100, false, &mut ticker)?;
     assert_same(&rt, &lived.counts.unsent, &1);
     assert_same(&rt, &ticker.knocks, &2);

@@ -33,6 +33,10 @@ none_left h i is =
 pub oldest_length : (h : List Entry) (i : ℕ) → length (oldest i h) ≤ i
 oldest_length h i = simp (length-reverse, length-take) (omega arith)
 
+-- and exactly as many where the history has as many
+pub oldest_count : (h : List Entry) (i : ℕ) → i ≤ length h → length (oldest i h) ≡ i
+oldest_count h i within = simp (length-reverse, length-take) (omega (arith, within))
+
 -- those of a run are a run
 pub oldest_run : (o : Setting) (h : List Entry) (i : ℕ) → IsRun o h → IsRun o (oldest i h)
 oldest_run o h i run =

@@ -2,3 +2,4 @@ pub mod Marks
 pub mod Lanes
 pub mod Shown
 pub mod Spans
+pub mod Starts

@@ -10,8 +10,10 @@ mod pictures;
 mod rows;
 mod scale;
 mod spans;
+mod starts;
 mod style;
 mod timeline;
+mod times;
 
 pub use earlier_runs::EarlierRun;
 pub use lanes::Lanes;
@@ -19,3 +21,4 @@ pub use picture_marks::{MarkKind, PictureMark};
 pub use pictures::{Picture, show};
 pub use spans::{MOST_PERIODS, PERIODS_ASIDE, Span, View};
 pub use timeline::put_timeline;
+pub use times::{StartTime, Times, UtcTime};

@@ -12,6 +12,8 @@ pub(crate) const LEFT: u64 = 176;
 pub(crate) const LANE: u64 = 48;
 
 const LINE: u64 = 20;
+/// The lowest upper edge of the lanes.
+const LOWEST_TOP: u64 = 65_535;
 /// More lanes than any run has: each needs a member that is known from the start, or an entry.
 const MOST_LANES: u64 = 1 << 40;
 /// The least width of a picture, which has room for the legend, and what is left free at its right and below.
@@ -58,6 +60,13 @@ impl Scale {
             top: u64::from(top),
             lanes: MOST_LANES.min(lanes as u64),
         }
+    }
+
+    /// The same with lanes that lie so much lower.
+    pub(crate) fn lowered(self, by: u16) -> Scale {
+        let mut scale = self;
+        scale.top = LOWEST_TOP.min(self.top + u64::from(by));
+        scale
     }
 
     /// How many ticks are shown.
@@ -176,6 +185,11 @@ impl Scale {
     /// How many periods are shown, the last of which may be unfinished.
     pub(crate) fn periods(&self) -> u32 {
         self.ticks.div_ceil(self.period)
+    }
+
+    /// The period in which a tick lies, counted from 0 at the first that is shown.
+    pub(crate) fn period_of(&self, tick: u32) -> u32 {
+        tick.saturating_sub(self.before).saturating_sub(1) / self.period
     }
 
     /// The tick with which a period starts, counted from 0 at the first that is shown.

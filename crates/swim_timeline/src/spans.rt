@@ -1,6 +1,6 @@
 //! Which ticks of a run a picture shows.
 
-ghost use Rattle.std.specs.Prelude.{◌≡◌, ◌*◌, ◌+◌, ◌<◌, ◌≤◌, ◌^◌, IfOk, None};
+ghost use Rattle.std.specs.Prelude.{◌≡◌, ◌*◌, ◌+◌, ◌<◌, ◌≤◌, ◌^◌, IfOk, None, Some};
 ghost use Rattle.swim_history.specs.Clock.{period_number, ticks};
 ghost use Rattle.swim_history.specs.Judgement.{judgements};
 ghost use Rattle.swim_timeline.specs.Spans.{first_tick, judged_last, periods_before, span_around, span_from, span_of};
@@ -50,6 +50,14 @@ impl Span {
                 Ok(around(journal, last_of(judged.as_slice(), member)))
             }
         }
+    }
+
+    /// The ticks of the period with this number, and of [`PERIODS_ASIDE`] before it and behind it; `None` where the first
+    /// of these didn't begin.
+    pub fn round(journal: &Journal, number: u64) -> Option<Span>
+        ensures { result ≡ span_around journal.now.opening journal.now.past (Some number) }
+    {
+        around(journal, Some(number))
     }
 }
 

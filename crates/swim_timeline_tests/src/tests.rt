@@ -1,3 +1,5 @@
+mod clock;
+
 use std::alloc::Global;
 use std::fmt::Debug;
 use std::process::Abort;
@@ -7,7 +9,7 @@ use swim_doubles::FailingPage;
 use swim_history::{Call, Journal, Opening, Row, RowState};
 use swim_targets::Scripted;
 use swim_text::Page;
-use swim_timeline::{MarkKind, Picture, PictureMark, Span, View, put_timeline, show};
+use swim_timeline::{MarkKind, Picture, PictureMark, Span, Times, View, put_timeline, show};
 use swim_wire::{Id, Kind, Message, Peer, PeriodNumber, Version};
 
 // The two are the same. A call of this is proved at once, and an `assert_eq!` in some seconds.
@@ -208,6 +210,18 @@ fn a_view_is_of_periods_that_began(rt: HostRuntime) -> Result<(), Fail> {
     Ok(())
 }
 
+// Round the second one are the same, and round the first one it and five behind it. Of those round the sixteenth the
+// first would be the eleventh, which didn't begin.
+#[test]
+fn the_periods_round_one_that_began(rt: HostRuntime) -> Result<(), Fail> {
+    let journal = journal(&rt, rt.alloc())?;
+    assert_same(&rt, &Span::round(&journal, 7), &None);
+    assert_same(&rt, &Span::round(&journal, 8), &Some(span(1, 18)));
+    assert_same(&rt, &Span::round(&journal, 9), &Some(span(1, 21)));
+    assert_same(&rt, &Span::round(&journal, 16), &None);
+    Ok(())
+}
+
 fn assert_views<R: Abort>(rt: &R, journal: &Journal, wanted: &[(View, Option<Span>)]) {
     for (view, span) in wanted {
         assert_view(rt, journal, *view, *span);
@@ -233,10 +247,14 @@ fn assert_drawn<R: Abort>(rt: &R, text: &[u8]) {
     assert!(rt; text.ends_with(b"</svg>\n"));
 }
 
-// The picture of a run's first ticks.
+// The picture of a run's first ticks, of which no times are known.
 fn picture_of(alloc: Global, journal: &Journal) -> Result<Page, Fail> {
+    picture_with(alloc, journal, &Times::new(alloc))
+}
+
+fn picture_with(alloc: Global, journal: &Journal, times: &Times) -> Result<Page, Fail> {
     let mut page = Page::new(alloc);
-    if put_timeline(alloc, journal, span(0, 10), &mut page)? {
+    if put_timeline(alloc, journal, span(0, 10), times, &mut page)? {
         return Ok(page);
     }
     Err(Fail::new("a picture"))
@@ -288,6 +306,7 @@ fn the_head_tells_a_long_first_number_alone(rt: HostRuntime) -> Result<(), Fail>
 fn tells_what_was_not_written(rt: HostRuntime) -> Result<(), Fail> {
     let journal = Journal::new(rt.alloc(), opening(Version::One)?);
     let mut page = FailingPage::new(rt.alloc(), Some(0), None);
-    assert!(rt; !put_timeline(rt.alloc(), &journal, span(0, 10), &mut page)?);
+    let times = Times::new(rt.alloc());
+    assert!(rt; !put_timeline(rt.alloc(), &journal, span(0, 10), &times, &mut page)?);
     Ok(())
 }

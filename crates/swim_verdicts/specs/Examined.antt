@@ -28,10 +28,12 @@ told_by (Some journal) confirmed = findings journal.opening (reverse (take confi
 abbrev pub FindsConfirmed : Played → Type 0
 FindsConfirmed p = IfOk p.found (λ found. found.findings.items ≡ told_by p.journal p.witness.confirmations.confirmed)
 
--- the file tells the verdict on that member at the end of that period: its confirmed entries do
-abbrev pub TellsVerdict : Played → ℕ → ℕ → Type 0
-TellsVerdict p member number = (e : Evidence) × (e.member ≡ member) × (e.number ≡ number)
-    × Contains (told_by p.journal p.witness.confirmations.confirmed) (Judged e)
+-- that is the evidence of the verdict on that member at the end of that period, among what the confirmed entries of the
+-- file tell
+pub record IsEvidence (p : Played) (member number : ℕ) (e : Evidence) : Type 0 where
+  pub of : e.member ≡ member
+  pub at : e.number ≡ number
+  pub told : Contains (told_by p.journal p.witness.confirmations.confirmed) (Judged e)
 
 -- a finding is no evidence of that verdict
 abbrev pub IsOther : ℕ → ℕ → Finding → Type 0

@@ -1,7 +1,10 @@
+pub mod CommentTimes
 pub mod Meanings
 pub mod Verifying
 pub mod Examined
+pub mod ToldTexts
 pub mod Unseen
 pub mod VerdictPages
+pub mod VerdictTables
 pub mod VerdictTexts
 pub mod WholeLines

@@ -1,12 +1,15 @@
 -- The page about a verdict.
-use Rattle.std.specs.Prelude.{◌≡◌, ℕ, ◌==◌, Bool, List, [], ◌∷◌, ◌++◌, Option, codes, decimal, if◌then◌else◌}
+use Rattle.std.specs.Prelude.{◌≡◌, ℕ, ◌==◌, List, [], ◌∷◌, ◌++◌, codes, decimal, if◌then◌else◌}
+use Rattle.swim_evidence.specs.declared.findings.Evidence.{Evidence}
 use Rattle.swim_evidence.specs.declared.verdicts.Verdict.{Verdict}
 use Rattle.swim_evidence.specs.declared.verdicts.Verdict.TheVariants.{Whole, Cut}
 use Rattle.swim_script.specs.declared.faults.ScriptFault.{ScriptFault}
-use Rattle.swim_text.specs.Streams.{Puts}
 use Rattle.swim_verdicts.specs.declared.examining.Played.{Played}
 use Rattle.swim_verdicts.specs.declared.page_frame.TheConstants.{PAGE_STYLE}
+use Rattle.swim_verdicts.specs.declared.told_texts.TextKind.TheVariants.{Words, Time}
 use Rattle.swim_verdicts.specs.Examined.{IsVerdictOn}
+use Rattle.swim_verdicts.specs.ToldTexts.{IsOf, IsPicture, Sheet}
+use Rattle.swim_verdicts.specs.VerdictTables.{table_text}
 use Rattle.swim_verdicts.specs.VerdictTexts.{end_text, objection_text}
 
 -- a sign as HTML shows it
@@ -44,17 +47,28 @@ page_text member number path standing rest =
     ++ (path ++ (codes "</code>.</p>\n"
     ++ (standing ++ (rest ++ codes "</main>\n</body>\n</html>\n"))))))))))))))
 
--- a page about the verdict on that member at the end of that period, by the file with this path: its head says so, and
--- how the file stands
-pub record IsVerdictPage (path : List ℕ) (p : Played) (member number : ℕ) (text : List ℕ) : Type 0 where
+-- what follows the head: the words, the table, the picture, and the commands that show the same
+abbrev pub rest_text : ℕ → List ℕ → List ℕ → List ℕ → List ℕ → List ℕ
+rest_text member path words table picture =
+    codes "<h2>Evidence</h2>\n<pre>"
+    ++ (words ++ (codes "</pre>\n<table>\n"
+    ++ (table ++ (codes "</table>\n<h2>The periods round it</h2>\n<div class=\"wide\" tabindex=\"0\">\n"
+    ++ (picture ++ (codes "</div>\n<h2>By hand</h2>\n<pre>swimsim --verify "
+    ++ (path ++ (codes "\nswimsim --timeline run.svg --around "
+    ++ (decimal member ++ (codes " "
+    ++ (path ++ codes "\n</pre>\n")))))))))))
+
+-- the page about a verdict that the file with this path tells: its head names that verdict, it says how that file
+-- stands, its words and the time of the probe were written of that verdict in that file, its table has what the
+-- evidence has, and its picture was drawn of that file, round the period
+pub record IsVerdictPage (path : List ℕ) (p : Played) (e : Evidence) (page : Sheet) : Type 0 where
   pub standing : List ℕ
   pub stands : IsStanding p standing
-  pub rest : List ℕ
-  pub is : text ≡ page_text member number (html_text path) standing rest
-
--- such a page is put, or at a failure some front of it
-pub record PutsPage (path : List ℕ) (p : Played) (member number : ℕ) (old new : Option (List ℕ)) (done : Bool) :
-    Type 0 where
-  pub text : List ℕ
-  pub is : IsVerdictPage path p member number text
-  pub puts : Puts old new text done
+  pub words : List ℕ
+  pub told : IsOf Words p e page.words words
+  pub time : List ℕ
+  pub timed : IsOf Time p e page.times time
+  pub picture : List ℕ
+  pub drawn : IsPicture p e.number page.pictures picture
+  pub is : page.text ≡ page_text e.member e.number (html_text path) standing
+      (rest_text e.member (html_text path) words (table_text e time) picture)

@@ -5,6 +5,7 @@ use std::alloc::{AllocError, Global};
 use std::fmt;
 use swim_evidence::{Draw, Evidence, Finding};
 use swim_history::Journal;
+use swim_timeline::StartTime;
 use swim_trace::{ActIndex, Spot};
 use swim_wire::Id;
 
@@ -62,8 +63,8 @@ impl<'a> Account<'a> {
         count
     }
 
-    /// When the period began whose start stands at that place, in seconds since 1970.
-    pub fn time(&self, place: u32) -> Option<u64> {
+    /// When the period began whose start stands at that place.
+    pub fn time(&self, place: u32) -> Option<StartTime> {
         self.played.witness.times.get(&place).copied()
     }
 

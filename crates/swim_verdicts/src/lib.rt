@@ -3,18 +3,24 @@
 #![tactic(auto)]
 
 mod accounts;
+mod comment_times;
 mod evidence;
 mod examining;
 mod html;
 mod meanings;
 mod page_frame;
+mod piece_texts;
 mod presences;
+mod probe_times;
 mod reports;
+mod time_takers;
+mod told_texts;
 mod trace_json;
 mod trace_lines;
 mod unheard;
 mod verdict_lines;
 mod verdict_pages;
+mod verdict_tables;
 mod whole_lines;
 mod witness;
 
@@ -24,8 +30,10 @@ pub use examining::{Played, play};
 pub use meanings::{kind_name, message_words};
 pub use presences::{Clock, Rhythms};
 pub use reports::{Extent, Report};
+pub use time_takers::TimeTaker;
+pub use told_texts::{OfTicks, OfVerdict, TextKind};
 pub use trace_json::{JsonFile, JsonTrace};
 pub use trace_lines::{ConclusionText, TraceReport};
 pub use verdict_lines::{Closing, Objection};
-pub use verdict_pages::VerdictPage;
+pub use verdict_pages::{VerdictPage, WrittenPage};
 pub use witness::{FileEnd, Witness};

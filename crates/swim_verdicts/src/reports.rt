@@ -1,9 +1,9 @@
 //! What is told of a journal file that was verified.
 
 use crate::examining::Played;
-use std::collections::BTreeMap;
 use std::fmt;
 use swim_evidence::{Ask, Evidence, Finding, Findings, Stray};
+use swim_timeline::{StartTime, Times};
 
 /// How much is told of a journal file.
 #[derive(Clone, Copy, PartialEq, Eq)]
@@ -26,7 +26,7 @@ pub struct Report<'a> {
     /// What these tell.
     found: &'a Findings,
     /// When periods began, by the places of their starts.
-    times: &'a BTreeMap<u32, u64>,
+    times: &'a Times,
 }
 
 impl<'a> Report<'a> {
@@ -81,7 +81,7 @@ fn is_judgement(finding: &Finding) -> bool {
 /// The line of a finding, with the time of its probe if a comment of the file told it.
 pub(crate) fn show_finding<W: fmt::Write>(
     finding: &Finding,
-    times: &BTreeMap<u32, u64>,
+    times: &Times,
     f: &mut fmt::Formatter<W>,
 ) -> fmt::Result {
     match finding {
@@ -93,7 +93,7 @@ pub(crate) fn show_finding<W: fmt::Write>(
 
 fn show_judgement<W: fmt::Write>(
     evidence: &Evidence,
-    time: Option<&u64>,
+    time: Option<&StartTime>,
     f: &mut fmt::Formatter<W>,
 ) -> fmt::Result {
     let member = evidence.member.get();
@@ -104,8 +104,8 @@ fn show_judgement<W: fmt::Write>(
         f,
         "judged {member} in period {number}: probed at entry {probed}"
     )?;
-    if let Some(seconds) = time {
-        write!(f, " ({seconds})")?;
+    if let Some(time) = time {
+        write!(f, " ({time})")?;
     }
     if let Some(ask) = &evidence.ask {
         show_ask(ask, f)?;

@@ -107,7 +107,7 @@ impl<'t, 'a, 'p> TraceReport<'t, 'a, 'p> {
         write!(f, "sent at {entry}")?;
         let account = self.accounts.get(spot.file as usize);
         match account.and_then(|account| account.time(spot.place)) {
-            Some(seconds) => write!(f, " ({seconds})"),
+            Some(time) => write!(f, " ({time})"),
             None => Ok(()),
         }
     }

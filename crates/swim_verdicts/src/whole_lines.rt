@@ -17,7 +17,7 @@ use swim_script::{LINE_BYTES, ScriptFault};
 use swim_text::{Byte, LineEnd, ReadSource, Source};
 
 /// The first line of a journal file.
-const MARK: &[u8; 9] = b"journal 1";
+pub(crate) const MARK: &[u8; 9] = b"journal 1";
 
 /// How many bytes of lines are held: what may stand before a line feed that wasn't read yet, and what a source reads at
 /// once.

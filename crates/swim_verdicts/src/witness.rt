@@ -3,12 +3,14 @@
 ghost use Rattle.std.specs.Prelude.{◌≡◌, ℕ, ◌<◌, ◌^◌, decimal};
 ghost use Rattle.swim_verdicts.specs.Verifying.{has_calls};
 
+use crate::comment_times::read_time;
 use memchr::memchr;
 use std::alloc::{AllocError, Global};
 use std::collections::BTreeMap;
 use swim_evidence::{Confirmations, Draw, Heading};
 use swim_script::{Command, Form, Word, first_word, read_command};
-use swim_text::{Words, read_number};
+use swim_text::Words;
+use swim_timeline::Times;
 
 /// How a journal file ended, as far as it was read.
 #[derive(Clone, Copy)]
@@ -36,8 +38,8 @@ pub struct Witness {
     /// What the `open` and the `seed` line told.
     pub heading: Option<Heading>,
     pub confirmations: Confirmations,
-    /// When a period began, by the place of its start: in seconds since 1970.
-    pub times: BTreeMap<u32, u64>,
+    /// When periods began, by the places of their starts.
+    pub times: Times,
     pub kept: Result<(), AllocError>,
     pub end: FileEnd,
     /// The start that the newest line confirmed.
@@ -71,7 +73,7 @@ impl Witness {
     }
 
     /// The next line was carried out, which is given without its line feed.
-    fn note(&mut self, line: &[u8]) {
+    pub(crate) fn note(&mut self, line: &[u8]) {
         self.lines = self.lines.saturating_add(1);
         let started = self.started.take();
         match line {
@@ -109,10 +111,10 @@ impl Witness {
         confirmed > 0 || waiting.is_some() || missed.is_some()
     }
 
-    /// A comment right behind the line of a start tells its time, if it is a number and nothing else.
+    /// A comment right behind the line of a start tells its time, if it is one and nothing else.
     fn note_time(&mut self, started: Option<u32>, comment: &[u8]) {
-        if let (Some(place), Some(seconds)) = (started, read_number(comment, u64::MAX)) {
-            if self.times.insert(place, seconds).is_err() {
+        if let (Some(place), Some(time)) = (started, read_time(comment)) {
+            if self.times.insert(place, time).is_err() {
                 self.kept = Err(AllocError);
             }
         }

@@ -99,20 +99,20 @@ serves_looks T is_open pages.Unknown kept o r n is = none_looks o n is.0
 serves_looks T is_open pages.Forbidden kept o r n is = none_looks o n is.0
 
 -- whatever requests came one after the other
-pub chain_looks : {S : Type 0} (T : ℕ → ℕ → List ℕ → Type 0) (opened : S → Bool) (names : S → List ℕ → Bool)
+pub chain_looks : {S : Type 0} (T : S → ℕ → ℕ → List ℕ → Type 0) (opened : S → Bool) (names : S → List ℕ → Bool)
     (kept : S → Kept) (looked : S → Looked) (old : S) (calls : List Call) (new : S) →
-    Chain (λ a q r b. Answers T (opened a) (names a) (kept a) (looked a) q r (kept b) (looked b)) old calls new →
+    Chain (λ a q r b. Answers (T b) (opened a) (names a) (kept a) (looked a) q r (kept b) (looked b)) old calls new →
     OnlyLooks (looked old).asked (looked new).asked
 chain_looks T opened names kept looked old [] new is =
     subst (λ s. OnlyLooks (looked old).asked (looked s).asked) (sym is) (looks_none (looked old).asked)
 chain_looks T opened names kept looked old (c ∷ calls) new is =
     looks_both (looked old).asked (looked is.0).asked (looked new).asked
-    (serves_looks T _ _ (kept old) (looked old) c.1 (looked is.0) is.1.0)
+    (serves_looks (T is.0) _ _ (kept old) (looked old) c.1 (looked is.0) is.1.0)
     (chain_looks T opened names kept looked is.0 calls new is.2)
 
-pub chain_keeps : {S : Type 0} (T : ℕ → ℕ → List ℕ → Type 0) (opened : S → Bool) (names : S → List ℕ → Bool)
+pub chain_keeps : {S : Type 0} (T : S → ℕ → ℕ → List ℕ → Type 0) (opened : S → Bool) (names : S → List ℕ → Bool)
     (kept : S → Kept) (looked : S → Looked) (old : S) (calls : List Call) (new : S) →
-    Chain (λ a q r b. Answers T (opened a) (names a) (kept a) (looked a) q r (kept b) (looked b)) old calls new →
+    Chain (λ a q r b. Answers (T b) (opened a) (names a) (kept a) (looked a) q r (kept b) (looked b)) old calls new →
     kept new ≡ kept old
 chain_keeps T opened names kept looked old [] new is = ap kept is
 chain_keeps T opened names kept looked old (c ∷ calls) new is =

@@ -85,7 +85,7 @@ AreMembers (Some answer) r =
     ((rows : List Row) × (answer ≡ table_text rows) × IsReply 200 kinds.Json (members_text rows) r)
     ⊎ (IsNoTable answer × IsUnanswered r)
 
--- a page about a verdict, by what the shelf's texts tell; or no file has the verdict
+-- a page about a verdict, as the shelf showed it; or no file has the verdict
 abbrev pub IsVerdict : (List ℕ → Type 0) → Response → Type 0
 IsVerdict Tells r =
     ((text : List ℕ) × Tells text × IsReply 200 kinds.Verdict text r)
@@ -93,8 +93,7 @@ IsVerdict Tells r =
 
 -- ---- pages
 
--- what a page comes to, with the texts that may be shown of verdicts, whether there may be any, and the events that
--- are kept
+-- what a page comes to, with what the shelf showed of verdicts, whether it may show any, and the events that are kept
 abbrev pub Serves : (ℕ → ℕ → List ℕ → Type 0) → Bool → Page → Kept → Looked → Response → Looked → Type 0
 Serves T is_open pages.Health kept old r new = Asks questions.List old new (λ told. IsHealth told r)
 Serves T is_open pages.Metrics kept old r new = Asks questions.Stats old new (λ told. AreMetrics told r)

@@ -52,7 +52,7 @@ impl<D: Daemon + Drop, S: Shelf + Drop> Service for Web<D, S> {
     ghost use Rattle.swim_web.specs.Replies.{Answers};
 
     ghost answers = { λ old request response new.
-        Answers S.tells (S.opened (box_value old.shelf))
+        Answers (S.tells (box_value new.shelf)) (S.opened (box_value old.shelf))
         (λ host. list_any (λ name. bytes_eq (string_bytes name) host) old.names.items) old.recent
         (record { asked = D.asked (box_value old.daemon); is_late = old.is_late }) request response new.recent
         (record { asked = D.asked (box_value new.daemon); is_late = new.is_late }) };
@@ -87,7 +87,7 @@ fn serve_page<D: Daemon, S: Shelf>(
     response: &mut Response,
 )
     requires { IsBlank response.old }
-    ensures { Serves S.tells (S.opened shelf.old) page recent.now
+    ensures { Serves (S.tells shelf.new) (S.opened shelf.old) page recent.now
         (record { asked = D.asked daemon.old; is_late = is_late.old }) response.new
         (record { asked = D.asked daemon.new; is_late = is_late.new }) }
 {
@@ -172,7 +172,7 @@ fn serve_verdict<S: Shelf>(
     response: &mut Response,
 )
     requires { IsBlank response.old }
-    ensures { IsVerdict (S.tells member number) response.new }
+    ensures { IsVerdict (S.tells shelf.new member number) response.new }
 {
     let mut page = Text::new(alloc);
     match shelf.find(member, number, &mut page) {

@@ -18,8 +18,8 @@ pub enum Found {
 
 /// Journal files, which are only read.
 pub trait Shelf {
-    // The texts that may be shown of the verdict on a member at the end of a period.
-    ghost tells: { ℕ → ℕ → List ℕ → Type 0 };
+    // That it showed this text last, as the page about the verdict on a member at the end of a period.
+    ghost tells: { Self → ℕ → ℕ → List ℕ → Type 0 };
 
     // Whether it has a place in which files may be.
     ghost opened: { Self → Bool };
@@ -30,5 +30,5 @@ pub trait Shelf {
 
     /// Looks for the verdict on a member at the end of the period with this number, and writes a page about it.
     fn find(&mut self, member: Id, number: u64, page: &mut Text) -> Found
-        ensures { result ≡ Found.Page → tells member number page.new.text };
+        ensures { result ≡ Found.Page → tells self.new member number page.new.text };
 }

@@ -21,7 +21,7 @@ pub fn advance<D: Daemon + Drop, S: Shelf + Drop>(connection: &mut Connection, w
 
     // each response says what the daemon answered to one question, or was given without one,
     ensures answers { Calls (λ old request response new.
-        Answers S.tells (S.opened (box_value old.shelf))
+        Answers (S.tells (box_value new.shelf)) (S.opened (box_value old.shelf))
         (λ host. list_any (λ name. bytes_eq (string_bytes name) host) old.names.items) old.recent
         (record { asked = D.asked (box_value old.daemon); is_late = old.is_late }) request response new.recent
         (record { asked = D.asked (box_value new.daemon); is_late = new.is_late }))

@@ -44,7 +44,7 @@ struct FixedShelf {
 impl Shelf for FixedShelf {
     ghost use Rattle.std.specs.Prelude.{true};
 
-    ghost tells = { λ member number text. Unit {0} };
+    ghost tells = { λ s member number text. Unit {0} };
 
     ghost opened = { λ s. true };
 

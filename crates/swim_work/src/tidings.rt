@@ -1,10 +1,11 @@
-//! What the ticker leaves for the receiver: that it's time to look at the member table, and its knocks.
+//! What the ticker leaves for the receiver: that it's time to look at the member table, and its knocks; and what both
+//! look up: every how many starts there is one.
 
 ghost use Rattle.std.specs.Prelude.{◌≡◌, [], Some};
 ghost use Rattle.swim_work.specs.Noting.{Begins, noted};
 
 use arrayvec::ArrayVec;
-use std::sync::atomic::{AtomicBool, Ordering};
+use std::sync::atomic::{AtomicBool, AtomicU16, Ordering};
 use std::sync::{Mutex, Wait};
 use swim_history::Row;
 use swim_rejoin::{KnockPing, Knocker};
@@ -55,18 +56,20 @@ impl Tidings {
         }
     }
 
-    /// The knocker begins the period with that number: the knock that is due, if one is, waits for the receiver.
+    /// The knocker begins the period with that number, while each `rejoin`-th start has a knock: the knock that is due,
+    /// if one is, waits for the receiver.
     fn begin(
         &mut self,
         knocker: &mut Knocker,
+        rejoin: u16,
         rows: &[Row],
         period: PeriodNumber,
     ) -> Option<KnockPing>
         ensures period { self.new.period ≡ period }
         ensures notes { self.new.notes.items ≡ noted self.old.notes.items result }
-        ensures begins { Begins knocker.old rows.now period result knocker.new }
+        ensures begins { Begins knocker.old rejoin rows.now period result knocker.new }
     {
-        let knock = knocker.start(rows, period);
+        let knock = knocker.start(rejoin, rows, period);
         self.add(period.get(), &knock);
         knock
     }
@@ -88,20 +91,33 @@ impl Tidings {
 }
 
 /// Where the ticker leaves tidings, and the receiver takes them. A flag says that it's time to look: before the first
-/// datagram, and after each tick.
+/// datagram, and after each tick. Beside them stands every how many starts of a period there is a knock, which
+/// others may change meanwhile.
 #[derive(Drop)]
 pub struct TidingsBoard {
+    rejoin: AtomicU16,
     is_due: AtomicBool,
     tidings: Mutex<Tidings>,
 }
 
 impl TidingsBoard {
-    /// It's time to look. The period with that number runs.
-    pub fn new(period: u64) -> TidingsBoard {
+    /// It's time to look. The period with that number runs, and each `rejoin`-th start has a knock.
+    pub fn new(period: u64, rejoin: u16) -> TidingsBoard {
         TidingsBoard {
+            rejoin: AtomicU16::new(rejoin),
             is_due: AtomicBool::new(true),
             tidings: Mutex::new(Tidings::none(period)),
         }
+    }
+
+    /// From the next start on each `rejoin`-th one has a knock; with 0 none has.
+    pub fn rule(&self, rejoin: u16) {
+        self.rejoin.store(rejoin, Ordering::SeqCst);
+    }
+
+    /// Every how many starts there is a knock.
+    pub(crate) fn rejoin(&self) -> u16 {
+        self.rejoin.load(Ordering::SeqCst)
     }
 
     /// From now on it's time to look.
@@ -124,19 +140,20 @@ impl TidingsBoard {
         self.tidings.lock(rt).add(period, knock);
     }
 
-    /// The knocker begins the period with that number, when the member table has these rows: the knock that is due, if
-    /// one is. Word of both is left, before the knock can be sent: its ack may come at once. So each knock of which
-    /// word is left is one that the caller is given, and has yet to send.
+    /// The knocker begins the period with that number, when each `rejoin`-th start has a knock and the member table has
+    /// these rows: the knock that is due, if one is. Word of both is left, before the knock can be sent: its ack may
+    /// come at once. So each knock of which word is left is one that the caller is given, and has yet to send.
     pub fn begin<R: Wait>(
         &self,
         rt: &R,
         knocker: &mut Knocker,
+        rejoin: u16,
         rows: &[Row],
         period: PeriodNumber,
     ) -> Option<KnockPing>
-        ensures { Begins knocker.old rows.now period result knocker.new }
+        ensures { Begins knocker.old rejoin rows.now period result knocker.new }
     {
-        self.tidings.lock(rt).begin(knocker, rows, period)
+        self.tidings.lock(rt).begin(knocker, rejoin, rows, period)
     }
 
     /// Takes what was left.

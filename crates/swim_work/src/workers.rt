@@ -24,6 +24,8 @@ pub struct End {
 pub struct Done<N: Naming> {
     /// The seat that it was given, with the calls that it made.
     pub seat: Seat<N>,
+    /// The viewer that it was given, with what it has seen.
+    pub viewer: Viewer<N>,
     /// How it ended.
     pub end: End,
 }
@@ -31,14 +33,15 @@ pub struct Done<N: Naming> {
 /// One who calls a node with a seat of its own until its life is over. It goes on from life to life, with the gates
 /// that it owns.
 pub trait Worker: Drop {
-    ghost use Rattle.std.specs.Prelude.{ℕ};
+    ghost use Rattle.std.specs.Prelude.{ℕ, List};
+    ghost use Rattle.swim_history.specs.declared.rows.Change.{Change};
     ghost use Rattle.swim_history.specs.Setting.{Setting};
     ghost use Rattle.swim_node.specs.Seats.{Seated};
     ghost use Rattle.swim_work.specs.declared.workers.End.{End};
 
     // what it did in a life: itself before; what the node began with, and how many entries its journal may have; its
-    // seat in the end, how it ended, and itself then
-    ghost works: { Self → Setting → ℕ → Seated → End → Self → Type 0 };
+    // seat in the end, the changes that its viewer had seen then, how it ended, and itself then
+    ghost works: { Self → Setting → ℕ → Seated → List Change → End → Self → Type 0 };
 
     /// Works until the flag says that the life is over, or until it ends for a reason of its own. It may look at the
     /// member table, and shows others by the meter what it counted.
@@ -51,8 +54,8 @@ pub trait Worker: Drop {
         viewer: Viewer<N>,
         meter: &Meter,
     ) -> Done<N>
-        requires { (seat.calls ≡ []) × (seat.full ≡ 0) }
-        ensures works { works self.old N.opening N.limit result.seat result.end self.new }
+        requires { (seat.calls ≡ []) × (seat.full ≡ 0) × (viewer ≡ []) }
+        ensures works { works self.old N.opening N.limit result.seat result.viewer result.end self.new }
         ensures number { result.seat.number ≡ seat.number }
         ensures full { result.end.why ≡ Some JournalFull → 0 < result.seat.full };
 }

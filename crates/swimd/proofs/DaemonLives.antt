@@ -1,7 +1,9 @@
 -- That a crew of a receiver, a ticker and a controller, and a keeper, live the lives of a daemon.
 use Rattle.std.proofs.Common.{◌≡◌, ◌⊎◌, ℕ, Bool, List, [], ◌∷◌, map, Option, None, Some}
 use Rattle.std.proofs.Common.{refl, sym, ap, subst, ◌∙◌, inl, inr}
+use mathlib.Core.List.{IsPrefix}
 use Rattle.swim_history.specs.declared.rows.Change.{Change}
+use Rattle.swim_history.specs.Changes.{changes}
 use Rattle.swim_history.specs.Setting.{Setting}
 use Rattle.swim_node.specs.Seats.{Seated}
 use Rattle.swim_rejoin.specs.Histories.{Event}
@@ -10,7 +12,7 @@ use Rattle.swim_control.specs.Talks.{Talks}
 use Rattle.swim_work.specs.declared.paces.Beat.{Beat}
 use Rattle.swim_work.specs.declared.workers.End.{End}
 use Rattle.swim_work.specs.Gates.{Received}
-use Rattle.swim_work.specs.Posts.{Grows, Posted}
+use Rattle.swim_work.specs.Posts.{Grows, Posted, starts_in}
 use Rattle.swim_guard.specs.Fenced.{AtFence}
 use Rattle.swim_guard.specs.Guarded.{AtLine, AtPost, handed as judged_so}
 use Rattle.swim_devices.specs.Pacing.{Pacing}
@@ -36,6 +38,7 @@ use Rattle.swim_crew.specs.Lives.{AreEnded, AreEndedByLife, AreLived, AreLives, 
 use Rattle.swim_keeper.specs.declared.keepers.LifeKeeper.{LifeKeeper}
 use Rattle.swim_keeper.specs.Keeping.{IsSame, Outlets, closes_by, opens_by, records_by}
 use Rattle.swim_keeper.specs.Told.{EachIsTold, EachLife, IsAnnounced, IsWithout}
+use Rattle.swim_ticker.proofs.Knocked.{knocked_later}
 use Rattle.swim_keeper.proofs.Lives.{announced, life_drawn, life_kept, same_both}
 use Rattle.swimd.specs.DaemonLives.{AreDaemonLives, AtDaemon, AtReceiving, AtTicking, Controls, IsDaemonLife, Receives}
 use Rattle.swimd.specs.DaemonLives.{Ticks, at_daemon, told_by}
@@ -44,33 +47,34 @@ use Rattle.swimd.proofs.Lines.{all_lines}
 -- the laws of the three workers, for posts that are known so
 abbrev pub IsHeard : {O : Type 0} → (O → Option (List Posted)) → Type 0
 IsHeard {O} posted =
-    (o : Setting) (limit : ℕ) (old new : Receiving O) (seat : Seated) (end : End) (h : List Event) →
-    HearsLife posted o limit old seat end new → IsReturning old.returning h →
+    (o : Setting) (limit : ℕ) (old new : Receiving O) (seat : Seated) (seen : List Change) (end : End)
+    (h : List Event) → HearsLife posted o limit old seat seen end new → IsReturning old.returning h →
     (given : List Received) × Grows old.received new.received given
     × AreHeard (datagrams_in given) seat.calls end.counts
 
 abbrev pub IsTicked : {O : Type 0} → (O → Option (List Posted)) → Type 0
 IsTicked {O} posted =
-    (o : Setting) (limit : ℕ) (old new : Ticking O) (seat : Seated) (end : End) →
-    TicksLife posted o limit old seat end new →
+    (o : Setting) (limit : ℕ) (old new : Ticking O) (seat : Seated) (seen : List Change) (end : End) →
+    TicksLife posted o limit old seat seen end new →
     (given : List Beat) × Grows old.beats new.beats given × AreTicked (ticks_in given) seat.calls end.counts
 
 abbrev pub IsControlled : Type 0
 IsControlled =
-    (o : Setting) (limit : ℕ) (before after : Option (List Bool)) (old new : Talks) (seat : Seated) (end : End) →
-    ControlsLife o limit before after old seat end new → (saw : List Change) × (seen : List Change)
-    × (steps : List Step) × ((b : Brought) (log : List Called) → BringsSo b old.count steps → AreAnswered b log old →
-    AnswersLines o limit b log saw seen seat end.counts.refused new)
-    × ((log : List Called) → AreAnsweredSoFar log old → AnswersGiven o limit log saw seen seat end.counts.refused new)
+    (o : Setting) (limit : ℕ) (before after : Option (List Bool)) (old new : Talks) (seat : Seated)
+    (seen : List Change) (end : End) → ControlsLife o limit before after old seat seen end new → (steps : List Step)
+    × ((b : Brought) (log : List Called) → BringsSo b old.count steps → AreAnswered b log old →
+    AnswersLines o limit b log seen seat end.counts.refused new)
+    × ((log : List Called) → AreAnsweredSoFar log old → AnswersGiven o limit log seen seat end.counts.refused new)
 
 abbrev hears : {A O : Type 0} → (O → Option (List Posted)) → (A → Receiving O) → Works A
-hears posted receiving x o limit seat end y = HearsLife posted o limit (receiving x) seat end (receiving y)
+hears posted receiving x o limit seat seen end y = HearsLife posted o limit (receiving x) seat seen end (receiving y)
 
 abbrev ticks : {B O : Type 0} → (O → Option (List Posted)) → (B → Ticking O) → Works B
-ticks posted ticking x o limit seat end y = TicksLife posted o limit (ticking x) seat end (ticking y)
+ticks posted ticking x o limit seat seen end y = TicksLife posted o limit (ticking x) seat seen end (ticking y)
 
 abbrev controls : {C : Type 0} → (C → Option (List Bool)) → (C → Talks) → Works C
-controls faults talks x o limit seat end y = ControlsLife o limit (faults x) (faults y) (talks x) seat end (talks y)
+controls faults talks x o limit seat seen end y =
+    ControlsLife o limit (faults x) (faults y) (talks x) seat seen end (talks y)
 
 abbrev hearing : {O : Type 0} → (O → Option (List Posted)) → Receiving O → AtReceiving
 hearing posted r = record { received = r.received; posted = posted r.post }
@@ -80,7 +84,7 @@ beating posted t = record {
   beats = t.beats;
   posted = posted t.post;
   knocked = t.knocked;
-  rejoin = t.rejoin;
+  answered = t.answered;
   knocks = t.knocks;
 }
 
@@ -89,38 +93,40 @@ abbrev Knows : {O : Type 0} → Receiving O → Type 0
 Knows r = (h : List Event) × IsReturning r.returning h
 
 received : {O : Type 0} (posted : O → Option (List Posted)) → IsHeard posted → (o : Setting) (limit : ℕ)
-    (seat : Seated) (end : End) (x y : Receiving O) → Knows x → HearsLife posted o limit x seat end y →
+    (seat : Seated) (seen : List Change) (end : End) (x y : Receiving O) → Knows x →
+    HearsLife posted o limit x seat seen end y →
     Receives o seat end (hearing posted x) (hearing posted y)
-received posted is_heard o limit seat end x y knows is =
-    let law = is_heard o limit x y seat end knows.0 is knows.1 in
+received posted is_heard o limit seat seen end x y knows is =
+    let law = is_heard o limit x y seat seen end knows.0 is knows.1 in
     record { given = law.0; grown = law.1; heard = law.2; sent = is.sent }
 
-knows_on : {O : Type 0} (posted : O → Option (List Posted)) (o : Setting) (limit : ℕ) (seat : Seated) (end : End)
-    (x y : Receiving O) → Knows x → HearsLife posted o limit x seat end y → Knows y
-knows_on posted o limit seat end x y knows is = let then = is.heard knows.0 knows.1 in (then.0, then.1)
+knows_on : {O : Type 0} (posted : O → Option (List Posted)) (o : Setting) (limit : ℕ) (seat : Seated)
+    (seen : List Change) (end : End) (x y : Receiving O) → Knows x →
+    HearsLife posted o limit x seat seen end y → Knows y
+knows_on posted o limit seat seen end x y knows is = let then = is.heard knows.0 knows.1 in (then.0, then.1)
 
 ticked : {O : Type 0} (posted : O → Option (List Posted)) → IsTicked posted → (o : Setting) (limit : ℕ)
-    (seat : Seated) (end : End) (x y : Ticking O) → TicksLife posted o limit x seat end y →
-    Ticks o seat end (beating posted x) (beating posted y)
-ticked posted is_ticked o limit seat end x y is =
-    let law = is_ticked o limit x y seat end is in record {
+    (seat : Seated) (seen all : List Change) (end : End) (x y : Ticking O) → IsPrefix seen all →
+    TicksLife posted o limit x seat seen end y →
+    Ticks o all seat end (beating posted x) (beating posted y)
+ticked posted is_ticked o limit seat seen all end x y begins is =
+    let law = is_ticked o limit x y seat seen end is in record {
       given = law.0;
       grown = law.1;
       ticked = law.2;
       sent = is.sent;
       knocks = is.knocks;
-      seen = is.seen;
-      knocked = is.knocked;
+      knocked = knocked_later o (starts_in seat.calls) seen all x.answered y.answered x.knocked y.knocked is.knocks
+          begins is.knocked;
       counted = is.counted;
-      same = is.same;
     }
 
-controlled : IsControlled → (o : Setting) (limit : ℕ) (seat : Seated) (end : End)
-    (before after : Option (List Bool)) (x y : Talks) → ControlsLife o limit before after x seat end y →
-    Controls o limit seat end x y
-controlled is_controlled o limit seat end before after x y is =
-    let law = is_controlled o limit before after x y seat end is in
-    record { saw = law.0; seen = law.1; steps = law.2; answered = law.3; given = law.4 }
+controlled : IsControlled → (o : Setting) (limit : ℕ) (seat : Seated) (seen all : List Change) (end : End)
+    (before after : Option (List Bool)) (x y : Talks) → IsPrefix seen all →
+    ControlsLife o limit before after x seat seen end y → Controls o limit all seat end x y
+controlled is_controlled o limit seat seen all end before after x y begins is =
+    let law = is_controlled o limit before after x y seat seen end is in
+    record { seen = seen; begins = begins; steps = law.0; answered = law.1; given = law.2 }
 
 module _ {A B C W F H S V Q E I Y O : Type 0} (out : Outlets W F H S V Y) (posted : O → Option (List Posted))
     (receiving : A → Receiving O) (ticking : B → Ticking O) (faults : C → Option (List Bool)) (talks : C → Talks)
@@ -145,6 +151,7 @@ module _ {A B C W F H S V Q E I Y O : Type 0} (out : Outlets W F H S V Y) (poste
   life_lived terms life o past old new is_terms knows is =
       let kept = life_kept out (hears posted receiving) (ticks posted ticking) (controls faults talks) told terms life o
       past old new is_terms is in
+      let all = changes o past.journal.past in
       let first : new.crew.first ≡ is.crew.first =
       ap (λ (c : CrewAt A B C (JournalRecorder V Q E I Y)). c.first) is.others in
       let second : new.crew.second ≡ is.crew.second =
@@ -153,23 +160,24 @@ module _ {A B C W F H S V Q E I Y O : Type 0} (out : Outlets W F H S V Y) (poste
       ap (λ (c : CrewAt A B C (JournalRecorder V Q E I Y)). c.third) is.others in (
         kept.0,
         subst (λ (x : A). Knows (receiving x)) (sym first)
-            (knows_on posted o terms.limit is.life.one past.ends.first (receiving old.crew.first)
-            (receiving is.crew.first) knows is.life.by_first),
+            (knows_on posted o terms.limit is.life.one is.life.by_first.seen past.ends.first (receiving old.crew.first)
+            (receiving is.crew.first) knows is.life.by_first.has_worked),
         record {
           lived = life_drawn (hears posted receiving) (ticks posted ticking) (controls faults talks) (records_by out)
               terms life o (record old.crew { recorder = is.recorder }) past is.crew is.life is.drawn;
           received = subst (λ (x : A). Receives o is.life.one past.ends.first
               (hearing posted (receiving old.crew.first)) (hearing posted (receiving x))) (sym first)
-              (received posted is_heard o terms.limit is.life.one past.ends.first (receiving old.crew.first)
-              (receiving is.crew.first) knows is.life.by_first);
-          ticked = subst (λ (x : B). Ticks o is.life.two past.ends.second (beating posted (ticking old.crew.second))
-              (beating posted (ticking x))) (sym second)
-              (ticked posted is_ticked o terms.limit is.life.two past.ends.second (ticking old.crew.second)
-              (ticking is.crew.second) is.life.by_second);
-          controlled = subst (λ (x : C). Controls o terms.limit is.life.three past.ends.third (talks old.crew.third)
+              (received posted is_heard o terms.limit is.life.one is.life.by_first.seen past.ends.first
+              (receiving old.crew.first) (receiving is.crew.first) knows is.life.by_first.has_worked);
+          ticked = subst (λ (x : B). Ticks o all is.life.two past.ends.second
+              (beating posted (ticking old.crew.second)) (beating posted (ticking x))) (sym second)
+              (ticked posted is_ticked o terms.limit is.life.two is.life.by_second.seen all past.ends.second
+              (ticking old.crew.second) (ticking is.crew.second) is.life.by_second.begins is.life.by_second.has_worked);
+          controlled = subst (λ (x : C). Controls o terms.limit all is.life.three past.ends.third (talks old.crew.third)
               (talks x)) (sym third)
-              (controlled is_controlled o terms.limit is.life.three past.ends.third (faults old.crew.third)
-              (faults is.crew.third) (talks old.crew.third) (talks is.crew.third) is.life.by_third);
+              (controlled is_controlled o terms.limit is.life.three is.life.by_third.seen all past.ends.third
+              (faults old.crew.third) (faults is.crew.third) (talks old.crew.third) (talks is.crew.third)
+              is.life.by_third.begins is.life.by_third.has_worked);
           kept = kept.1;
         },
       )
@@ -260,7 +268,7 @@ ticking t = record {
   beats = Some t.pace.beats;
   post = t.post;
   knocked = Some t.knock_post.handed;
-  rejoin = t.rejoin;
+  answered = t.lookup;
   knocks = t.knocks;
 }
 

@@ -7,7 +7,7 @@ use Rattle.swim_crew.specs.declared.pasts.Terms.{Terms}
 use Rattle.swim_keeper.specs.Endings.{Written}
 use Rattle.swim_keeper.specs.Notices.{Notices}
 use Rattle.swim_commands.specs.declared.outcomes.Outcome.{Outcome}
-use Rattle.swimd.specs.Daemon.{IsLivedBy, Starts, outcome_of, rejoin_of}
+use Rattle.swimd.specs.Daemon.{IsLivedBy, Starts, outcome_of}
 use Rattle.swimd.specs.DaemonLives.{AreDaemonLives, AtDaemon, IsBeginning}
 
 starts_by : (config : Config) (old new : Written) (end : LivesEnd) → IsLivedBy config old new (outcome_of end) →
@@ -19,7 +19,7 @@ starts_by config old new ends.NoPlace is = is
 
 pub starts_so : (config : Config) (terms : Terms) (before after : AtDaemon) (new : Written) (end : LivesEnd)
     (outcome : Outcome) → terms ≡ record { seed = config.seed; limit = config.journal } → outcome ≡ outcome_of end →
-    new ≡ after.told.keeper.lines → IsBeginning (rejoin_of config) before →
+    new ≡ after.told.keeper.lines → IsBeginning before →
     AreDaemonLives (Some []) terms config.opening before after end → Starts config before.told.keeper.lines new outcome
 starts_so config terms before after new end outcome is_terms is same beginning lived =
     subst (λ (o : Outcome). Starts config before.told.keeper.lines new o) (sym is)

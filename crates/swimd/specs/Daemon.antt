@@ -41,7 +41,7 @@ outcome_of ends.Socket = Socket
 outcome_of ends.NoMemory = Refused faults.NoMemory
 outcome_of ends.NoPlace = NoPlace
 
--- at every how manieth start of a period a daemon of this configuration knocks; the key has no higher number
+-- every how many starts of a period a daemon of this configuration knocks; the key has no higher number
 abbrev pub rejoin_of : Config → ℕ
 rejoin_of config = min config.rejoin (2 ^ 16 - 1)
 
@@ -53,7 +53,7 @@ pub record IsLivedBy (config : Config) (old new : Written) (outcome : Outcome) :
   pub after : AtDaemon
   pub lived : AreDaemonLives (Some []) (record { seed = config.seed; limit = config.journal }) config.opening before
       after end
-  pub beginning : IsBeginning (rejoin_of config) before
+  pub beginning : IsBeginning before
   pub began : before.told.keeper.lines ≡ old
   pub ended : after.told.keeper.lines ≡ new
   pub is : outcome ≡ outcome_of end

@@ -1,10 +1,14 @@
 -- The lives of a daemon: what came in by its gates in each of them, what went out, and who was told.
 use Rattle.std.specs.Prelude.{◌≡◌, ◌⊎◌, ℕ, List, [], ◌∷◌, ◌++◌, Option, Some}
+use Rattle.std.specs.List.{AllByRecursion}
+use mathlib.Core.List.{IsPrefix}
 use Rattle.swim_history.specs.declared.rows.Change.{Change}
 use Rattle.swim_history.specs.declared.seats.Kept.{Kept}
+use Rattle.swim_history.specs.Changes.{changes}
 use Rattle.swim_history.specs.Seats.{kept_of}
 use Rattle.swim_history.specs.Setting.{Setting}
 use Rattle.swim_node.specs.Seats.{Seated}
+use Rattle.swim_control.specs.Desks.{Told}
 use Rattle.swim_control.specs.SideBySide.{Brought, Called}
 use Rattle.swim_control.specs.Talks.{Talks}
 use Rattle.swim_work.specs.declared.paces.Beat.{Beat}
@@ -17,6 +21,7 @@ use Rattle.swim_ticker.specs.Knocking.{HasKnocked}
 use Rattle.swim_ticker.specs.Ticks.{AreTicked, ticks_in}
 use Rattle.swim_desk.specs.Connected.{AnswersLines, AreAnswered, BecomeSo, BringsSo}
 use Rattle.swim_desk.specs.Controlling.{Step}
+use Rattle.swim_desk.specs.Desk.{ShowsOf}
 use Rattle.swim_desk.specs.Given.{AnswersGiven, AreAnsweredSoFar}
 use Rattle.swim_crew.specs.declared.pasts.LivesEnd.{LivesEnd}
 use Rattle.swim_crew.specs.declared.pasts.Past.{Past}
@@ -34,21 +39,21 @@ pub record AtReceiving : Type 0 where
   pub received : Option (List Received)
   pub posted : Option (List Posted)
 
--- and of a ticker: the beats of its pace, what its post and the post of its knocks were handed, how many starts of a
--- period there are for each knock, and how many knocks there were
+-- and of a ticker: the beats of its pace, what its post and the post of its knocks were handed, what its lookup
+-- answered so far of the N at each of whose starts is a knock, and how many knocks there were
 pub record AtTicking : Type 0 where
   pub beats : Option (List Beat)
   pub posted : Option (List Posted)
   pub knocked : Option (List Posted)
-  pub rejoin : ℕ
+  pub answered : List ℕ
   pub knocks : ℕ
 
 abbrev pub at_receiving : Option (List Received) → Option (List Posted) → AtReceiving
 at_receiving received posted = record { received = received; posted = posted }
 
-abbrev pub at_ticking : Option (List Beat) → Option (List Posted) → Option (List Posted) → ℕ → ℕ → AtTicking
-at_ticking beats posted knocked rejoin knocks =
-    record { beats = beats; posted = posted; knocked = knocked; rejoin = rejoin; knocks = knocks }
+abbrev pub at_ticking : Option (List Beat) → Option (List Posted) → Option (List Posted) → List ℕ → ℕ → AtTicking
+at_ticking beats posted knocked answered knocks =
+    record { beats = beats; posted = posted; knocked = knocked; answered = answered; knocks = knocks }
 
 -- what is seen of a daemon between two lives: those who are told of lives, its receiver, its ticker, and the
 -- connections of operators
@@ -71,12 +76,12 @@ at_daemon told receiving ticking connections s = record {
   connections = connections s.crew.third;
 }
 
--- nothing came in or went out yet; of a ticker that has one knock at so many starts of a period
+-- nothing came in or went out yet, and a lookup was asked nothing
 abbrev pub none_received : AtReceiving
 none_received = at_receiving (Some []) (Some [])
 
-abbrev pub none_ticked : ℕ → AtTicking
-none_ticked rejoin = at_ticking (Some []) (Some []) (Some []) rejoin 0
+abbrev pub none_ticked : AtTicking
+none_ticked = at_ticking (Some []) (Some []) (Some []) [] 0
 
 abbrev pub none_connected : Talks
 none_connected = record { talks = []; count = 0; closed = [] }
@@ -89,10 +94,10 @@ pub record IsUntold (told : AtLives) : Type 0 where
   pub gallery : told.gallery ≡ []
   pub heard : told.heard ≡ Some []
 
--- a daemon whose configuration has this key `rejoin`, before its first life
-pub record IsBeginning (rejoin : ℕ) (d : AtDaemon) : Type 0 where
+-- a daemon before its first life
+pub record IsBeginning (d : AtDaemon) : Type 0 where
   pub received : d.receiving ≡ none_received
-  pub ticked : d.ticking ≡ none_ticked rejoin
+  pub ticked : d.ticking ≡ none_ticked
   pub connected : d.connections ≡ none_connected
   pub told : IsUntold d.told
 
@@ -107,29 +112,29 @@ pub record Receives (o : Setting) (seat : Seated) (end : End) (old new : AtRecei
 
 -- each tick of the pace, in order, became one call of this seat, which made no other, or was refused, which is counted
 -- unless the journal was full; the post was handed the datagrams of the replies, each once, in order; and that of the
--- knocks the knocks at the starts of periods that these calls began, by what a viewer saw at these, each once, in order
-pub record Ticks (o : Setting) (seat : Seated) (end : End) (old new : AtTicking) : Type 0 where
+-- knocks the knocks at the starts of periods that these calls began, each once, in order, by what a viewer saw and a
+-- lookup answered at these: each time the member table after a beginning of these changes, and one N
+pub record Ticks (o : Setting) (all : List Change) (seat : Seated) (end : End) (old new : AtTicking) : Type 0 where
   pub given : List Beat
   pub grown : Grows old.beats new.beats given
   pub ticked : AreTicked (ticks_in given) seat.calls end.counts
   pub sent : HasSent o seat.calls old.posted new.posted end.counts.unsent
   pub knocks : ℕ
-  pub seen : List Change
-  pub knocked : HasKnocked o old.rejoin (starts_in seat.calls) seen old.knocked new.knocked knocks
+  pub knocked : HasKnocked o (starts_in seat.calls) all old.answered new.answered old.knocked new.knocked knocks
   pub counted : new.knocks ≡ both old.knocks knocks
-  pub same : new.rejoin ≡ old.rejoin
 
 -- each whole line that a connection gave so far, in order, became exactly its calls of this seat, with the reply that
 -- it was answered, and the seat made no other, if the lines of lives before were answered so; and the same of whatever
--- connections brought
-pub record Controls (o : Setting) (limit : ℕ) (seat : Seated) (end : End) (old new : Talks) : Type 0 where
-  pub saw : List Change
+-- connections brought. What the desk's viewer had seen in the end is a beginning of these changes
+pub record Controls (o : Setting) (limit : ℕ) (all : List Change) (seat : Seated) (end : End) (old new : Talks) : Type
+    0 where
   pub seen : List Change
+  pub begins : IsPrefix seen all
   pub steps : List Step
   pub answered : (b : Brought) (log : List Called) → BringsSo b old.count steps → AreAnswered b log old →
-      AnswersLines o limit b log saw seen seat end.counts.refused new
+      AnswersLines o limit b log seen seat end.counts.refused new
   pub given : (log : List Called) → AreAnsweredSoFar log old →
-      AnswersGiven o limit log saw seen seat end.counts.refused new
+      AnswersGiven o limit log seen seat end.counts.refused new
 
 -- a life of this number from an opening: its journal is one history of three seats, each of which made the calls for
 -- what came in by its gate; and it was told
@@ -137,8 +142,9 @@ pub record IsDaemonLife (fresh : Option (List ℕ)) (terms : Terms) (life : ℕ)
     (old new : AtDaemon) : Type 0 where
   pub lived : IsDrawnLife terms life o past
   pub received : Receives o lived.one past.ends.first old.receiving new.receiving
-  pub ticked : Ticks o lived.two past.ends.second old.ticking new.ticking
-  pub controlled : Controls o terms.limit lived.three past.ends.third old.connections new.connections
+  pub ticked : Ticks o (changes o past.journal.past) lived.two past.ends.second old.ticking new.ticking
+  pub controlled : Controls o terms.limit (changes o past.journal.past) lived.three past.ends.third old.connections
+      new.connections
   pub kept : IsKept fresh terms life o past old.told new.told
 
 -- the calls of the third seats of lives, which come newest first, oldest call first: those of operators
@@ -146,12 +152,19 @@ abbrev pub operators_calls : List Past → List Kept
 operators_calls [] = []
 operators_calls (past ∷ before) = operators_calls before ++ kept_of 2 past.journal.past
 
+-- that was told in one of these lives: a member table is one after a beginning of the changes of that life
+abbrev pub WasTold : List Past → Told → Type 0
+WasTold [] told = ⊥
+WasTold (past ∷ before) told =
+    ShowsOf past.journal.opening (changes past.journal.opening past.journal.past) told ⊎ WasTold before told
+
 -- all that the connections of lives gave was answered by these calls of the desks of the lives, and by others before
--- them; and each became its calls of a third seat, in order, which have no others
+-- them; each became its calls of a third seat, in order, which have no others; and was told in one of the lives
 pub record AnswersLives (log : List Called) (lives : List Past) (new : Talks) : Type 0 where
   pub more : List Called
   pub answered : AreAnsweredSoFar (more ++ log) new
   pub become : BecomeSo more (operators_calls lives)
+  pub told : AllByRecursion (λ c. WasTold lives c.told) more
 
 -- lives, newest first, were lived from this opening, each as it went on from the one before, and they ended so; nothing
 -- else came in, went out, or was told

@@ -18,7 +18,7 @@ use crate::counting::metrics_times::MetricsTimes;
 use crate::daemon::crews::{Shared, leave};
 use crate::daemon::doors::open_door;
 use crate::daemon::lives::keep_lives;
-use crate::daemon::reloading::Reloading;
+use crate::daemon::reloading::{Reloading, rejoin_of};
 use crate::journals::folders::Folder;
 use crate::telling::clerks::Clerk;
 use crate::telling::entrances::open_entrance;
@@ -233,9 +233,10 @@ fn live<
         door,
         entrance,
     } = sockets;
-    let book = RuleBook::new(planned.config.keys.as_slice(), planned.config.fence);
-    let counters = Counters::new(&planned.config);
-    let board = TidingsBoard::new(planned.config.opening.last());
+    let config = &planned.config;
+    let book = RuleBook::new(config.keys.as_slice(), config.fence);
+    let board = TidingsBoard::new(config.opening.last(), rejoin_of(config));
+    let counters = Counters::new(config);
     let shared = Shared {
         rt,
         alloc,
@@ -244,9 +245,9 @@ fn live<
             path: planned.path,
             started: planned.text,
             book: &book,
+            board: &board,
         },
         counters: &counters,
-        board: &board,
     };
     live_shared(shared, planned, door, entrance, writer, faults, log)
 }
@@ -288,6 +289,7 @@ fn live_shared<
     let files = JournalFiles {
         dir: config.files.dir.take(),
         keep: config.files.keep,
+        unit: config.files.unit,
     };
     let counters = shared.counters;
     let Ok(mut shelf) = Folder::open(rt, alloc, files, me, seconds(rt), &log, counters) else {
@@ -303,7 +305,7 @@ fn live_shared<
         notices: faults,
         herald: &mut herald,
         shelf: &mut shelf,
-        board: shared.board,
+        board: shared.reloading.board,
         terms,
     };
     let (end, crew) = keep_lives(rt, alloc, opening, crew, &mut keeper);

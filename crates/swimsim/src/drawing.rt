@@ -7,7 +7,7 @@ use std::io::{Read, Seek};
 use std::process::ExitCode;
 use swim_history::Journal;
 use swim_text::{Sink, Words, WriteSink};
-use swim_timeline::{Span, View, put_timeline};
+use swim_timeline::{Span, Times, View, put_timeline};
 
 /// Where a picture may go that isn't written to a file.
 const STANDARD_OUTPUT: &str = "/dev/stdout";
@@ -23,18 +23,19 @@ const PROBE_LINE: &[u8; 34] = b"<title id=\"title\">Probe of member ";
 /// They have at most so many bytes together.
 const HEAD_BYTES: usize = 512;
 
-/// Draws the run into the file that the options name, if they name one, and answers this status. Where the picture
-/// can't be made, the error names the file, and the status is that of a failure.
+/// Draws the run, and these times at which its periods began, into the file that the options name, if they name one, and
+/// answers this status. Where the picture can't be made, the error names the file, and the status is that of a failure.
 pub fn draw_at(
     rt: &HostRuntime,
     options: &Options<'_>,
     journal: Option<&Journal>,
+    times: &Times,
     code: ExitCode,
 ) -> ExitCode {
     let Some(path) = options.timeline else {
         return code;
     };
-    match draw(rt, path, options, journal) {
+    match draw(rt, path, options, journal, times) {
         Ok(()) => code,
         Err(error) => {
             let _ = eprintln!(rt; "swimsim: {path}: {error}");
@@ -48,6 +49,7 @@ fn draw(
     path: &str,
     options: &Options<'_>,
     journal: Option<&Journal>,
+    times: &Times,
 ) -> Result<()> {
     let Some(journal) = journal else {
         return Err(anyhow!("there is no event to be drawn"));
@@ -57,7 +59,7 @@ fn draw(
     };
     let file = open_picture(rt, path, options.force)?;
     let mut writer = WriteSink::new(file);
-    if put_timeline(rt.alloc(), journal, span, &mut writer)? && writer.flush() {
+    if put_timeline(rt.alloc(), journal, span, times, &mut writer)? && writer.flush() {
         Ok(())
     } else {
         Err(anyhow!("the picture can't be written"))

@@ -4,10 +4,11 @@ ghost use Rattle.std.specs.Io.{ReadsAtMost};
 
 use crate::notes::NoteTaker;
 use crate::overhearing::Overheard;
+use std::cell::RefCell;
 use std::fs::File;
 use std::io::{self, ErrorKind, Read, Stdin};
 use swim_text::{Byte, ReadSource, Source};
-use swim_verdicts::Played;
+use swim_verdicts::{Played, TimeTaker};
 
 /// Where a script lies.
 #[derive(Drop)]
@@ -44,11 +45,35 @@ pub fn play(rt: &HostRuntime, path: &str) -> io::Result<Played> {
     Ok(swim_verdicts::play(rt.alloc(), script))
 }
 
+/// A script, of which the times are noted that it tells, if somebody wants them.
+#[derive(Drop)]
+pub struct TimedScript<'a> {
+    pub script: Script,
+    pub times: Option<&'a RefCell<TimeTaker>>,
+}
+
+impl<'a> Read for TimedScript<'a> {
+    fn read(&mut self, buf: &mut [u8]) -> io::Result<usize> {
+        let count = self.script.read(buf)?;
+        if let Some(times) = self.times {
+            note_times(times, buf.get(..count).unwrap_or_default());
+        }
+        Ok(count)
+    }
+}
+
+/// Notes the times that these bytes tell, which nobody else notes meanwhile.
+fn note_times(times: &RefCell<TimeTaker>, bytes: &[u8]) {
+    if let Ok(mut times) = times.try_borrow_mut() {
+        times.note(bytes);
+    }
+}
+
 /// A script, as it lies there, or byte by byte with notes of its lines.
 #[derive(Drop)]
 pub enum Input<'a> {
-    Plain(Script),
-    Overheard(Overheard<ReadSource<Script>, NoteTaker<'a>>),
+    Plain(TimedScript<'a>),
+    Overheard(Overheard<ReadSource<TimedScript<'a>>, NoteTaker<'a>>),
 }
 
 impl<'a> Read for Input<'a> {

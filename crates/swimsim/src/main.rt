@@ -33,7 +33,7 @@ use differences::newest_line;
 use drawing::draw_at;
 use draws::warnings_of;
 use explanations::Explanation;
-use files::{Input, Script, open};
+use files::{Input, Script, TimedScript, open};
 use notes::{NoteTaker, Notes, Told};
 use options::{Options, read_options};
 use overhearing::Overheard;
@@ -47,6 +47,7 @@ use summaries::JournalSummary;
 use swim_history::Journal;
 use swim_script::{FaultKind, ScriptFault, Session};
 use swim_text::{ReadSource, Sink, WriteSink};
+use swim_verdicts::TimeTaker;
 use telling::WordTeller;
 use tracing::trace_files;
 use verifying::{FileExaminer, verify};
@@ -137,19 +138,40 @@ fn play_file(rt: &HostRuntime, path: &str, options: &Options<'_>) -> ExitCode {
     }
 }
 
-/// Plays the script, and writes its answers on standard output.
+/// Plays the script, writes its answers on standard output, and draws its run if the options ask for that.
 fn play(rt: &HostRuntime, script: Script, options: &Options<'_>) -> ExitCode {
-    if options.decode || options.explain || options.numbers {
-        return play_in_words(rt, script, options);
-    }
+    let times = RefCell::new(TimeTaker::new(rt.alloc()));
+    let script = TimedScript {
+        script,
+        times: if options.timeline.is_some() {
+            Some(&times)
+        } else {
+            None
+        },
+    };
+    let (code, journal) = if options.decode || options.explain || options.numbers {
+        play_in_words(rt, script, options)
+    } else {
+        play_plainly(rt, script)
+    };
+    let times = times.into_inner().into_times();
+    draw_at(rt, options, journal.as_ref(), &times, code)
+}
+
+/// Plays it, and answers the status and what became of its session.
+fn play_plainly(rt: &HostRuntime, script: TimedScript<'_>) -> (ExitCode, Option<Journal>) {
     let mut session = Session::new(rt.alloc());
     let input = Input::Plain(script);
     let code = finish(rt, play_between(&mut session, input, rt.stdout()));
-    draw_at(rt, options, session.into_journal().as_ref(), code)
+    (code, session.into_journal())
 }
 
 /// Plays it, and puts into words what the options ask for.
-fn play_in_words(rt: &HostRuntime, script: Script, options: &Options<'_>) -> ExitCode {
+fn play_in_words(
+    rt: &HostRuntime,
+    script: TimedScript<'_>,
+    options: &Options<'_>,
+) -> (ExitCode, Option<Journal>) {
     let mut session = Session::new(rt.alloc());
     let mut teller = WordTeller::new(rt.alloc(), options.decode, options.explain, options.numbers);
     let notes = RefCell::new(Notes::new(rt.alloc()));
@@ -163,7 +185,7 @@ fn play_in_words(rt: &HostRuntime, script: Script, options: &Options<'_>) -> Exi
         let tally = teller.tally();
         let _ = eprint!(rt; "{tally}");
     }
-    draw_at(rt, options, journal.as_ref(), code)
+    (code, journal)
 }
 
 /// Tells the fault of a script, if it has one.

@@ -26,7 +26,7 @@ struct Meeting<'s, K: Clock + Drop> {
 }
 
 impl<'s, K: Clock + Drop> Worker for Meeting<'s, K> {
-    ghost works = { λ old o limit seat end new. Unit {0} };
+    ghost works = { λ old o limit seat seen end new. Unit {0} };
 
     fn work<N: Naming, H: Wait + Drop, R: Wait>(
         &mut self,
@@ -34,12 +34,13 @@ impl<'s, K: Clock + Drop> Worker for Meeting<'s, K> {
         _node: &Node<N, Seeded, H>,
         _over: &AtomicBool,
         seat: Seat<N>,
-        _viewer: Viewer<N>,
+        viewer: Viewer<N>,
         _meter: &Meter,
     ) -> Done<N> {
         self.has_met = meet(&self.clock, self.arrived);
         Done {
             seat,
+            viewer,
             end: End {
                 why: None,
                 counts: Counts::none(),

@@ -122,7 +122,7 @@ impl TickingWorker {
 }
 
 impl Worker for TickingWorker {
-    ghost works = { λ old o limit seat end new. Unit {0} };
+    ghost works = { λ old o limit seat seen end new. Unit {0} };
 
     fn work<N: Naming, H: Wait + Drop, R: Wait>(
         &mut self,
@@ -130,7 +130,7 @@ impl Worker for TickingWorker {
         node: &Node<N, Seeded, H>,
         over: &AtomicBool,
         seat: Seat<N>,
-        _viewer: Viewer<N>,
+        viewer: Viewer<N>,
         _meter: &Meter,
     ) -> Done<N> {
         let mut caller = Caller::new(seat);
@@ -138,6 +138,7 @@ impl Worker for TickingWorker {
         let counts = self.counts.and(caller.counts);
         Done {
             seat: caller.seat,
+            viewer,
             end: End { why, counts },
         }
     }

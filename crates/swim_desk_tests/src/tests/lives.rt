@@ -2,6 +2,7 @@
 
 ghost use Rattle.std.specs.Prelude.{◌≡◌, [], List};
 ghost use Rattle.swim_history.specs.declared.entries.Entry.{Entry};
+ghost use Rattle.swim_node.specs.News.{SawNothing};
 ghost use Rattle.swim_node.specs.Seats.{AreNew};
 
 use std::alloc::Global;
@@ -96,7 +97,8 @@ fn controlled<N: Naming, R: Wait + Copy + Drop, D: Door + Drop, K: Speaker + Dro
     over: &AtomicBool,
     controller: &mut Controller<D, K>,
 ) -> Lived
-    requires { AreNew seats }
+    requires seats { AreNew seats }
+    requires viewers { SawNothing viewers }
 {
     let (hearing, changing) = callers_of(seats);
     let (first, second) = hearing;
@@ -104,7 +106,11 @@ fn controlled<N: Naming, R: Wait + Copy + Drop, D: Door + Drop, K: Speaker + Dro
     let meters = Meters::new();
     let viewer = third_of(viewers);
     let done = controller.work(rt, &node, over, third, viewer, &meters.third);
-    let Done { seat, end } = done;
+    let Done {
+        seat,
+        viewer: _,
+        end,
+    } = done;
     let (journal, _seats, _news) = node.close(rt, [first, second, seat, fourth]);
     Lived {
         why: end.why,
@@ -124,7 +130,10 @@ fn callers_of<N: Naming>(seats: [Seat<N>; 4]) -> Four<Seat<N>>
     ((first, second), (third, fourth))
 }
 
-fn third_of<N: Naming>(viewers: [Viewer<N>; 4]) -> Viewer<N> {
+fn third_of<N: Naming>(viewers: [Viewer<N>; 4]) -> Viewer<N>
+    requires { SawNothing viewers }
+    ensures { result ≡ [] }
+{
     let [_first, _second, third, _fourth] = viewers;
     third
 }

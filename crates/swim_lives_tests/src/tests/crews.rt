@@ -48,11 +48,10 @@ pub type GatedCrew<'b, L, O, P, D> = Crew<
     Quiet,
 >;
 
-/// That crew. At every `rejoin`-th start of a period it knocks.
+/// That crew. It knocks as the board says.
 pub fn crew<'b, L: Line + Drop, O: Post + Drop, P: Pace + Drop, D: Door + Drop>(
     alloc: Global,
     opening: &Opening,
-    rejoin: u16,
     board: &'b TidingsBoard,
     gates: Gates<L, O, P, D>,
 ) -> Result<GatedCrew<'b, L, O, P, D>, AllocError> {
@@ -64,7 +63,7 @@ pub fn crew<'b, L: Line + Drop, O: Post + Drop, P: Pace + Drop, D: Door + Drop>(
             Receiver {
                 line,
                 post,
-                returning: Returning::new(rejoin, opening.me()),
+                returning: Returning::new(board, opening.me()),
                 board,
             },
         )?,
@@ -74,7 +73,7 @@ pub fn crew<'b, L: Line + Drop, O: Post + Drop, P: Pace + Drop, D: Door + Drop>(
                 pace,
                 post: for_ticks,
                 knock_post: for_knocks,
-                rejoin,
+                lookup: RejoinLookup::new(board),
                 knocks: 0,
                 board,
             },
@@ -105,8 +104,8 @@ pub fn live_over<
     limit: u32,
     gates: Gates<L, O, P, D>,
 ) -> Result<Option<Past>, AllocError> {
-    let board = TidingsBoard::new(opening.last());
-    let crew = crew(alloc, &opening, 0, &board, gates)?;
+    let board = TidingsBoard::new(opening.last(), 0);
+    let crew = crew(alloc, &opening, &board, gates)?;
     let (past, _crew) = live(rt, alloc, opening, chooser(), limit, crew);
     Ok(past.ok())
 }

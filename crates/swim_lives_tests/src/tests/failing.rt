@@ -120,7 +120,7 @@ fn row_crew<'s, R: Clock + Copy + Drop>(
         second,
         third,
         recorder: _,
-    } = crew(alloc, opening, 0, board, gates)?;
+    } = crew(alloc, opening, board, gates)?;
     let recorder: PadRecorder<'s> = JournalRecorder::new(
         alloc,
         opening,
@@ -194,7 +194,7 @@ fn run_failing<R: Threads + Wait + Clock + Send + Sync + Copy + Drop>(
     of: Failing,
     place: u32,
 ) -> Result<Ran, Fail> {
-    let board = TidingsBoard::new(0);
+    let board = TidingsBoard::new(0, 0);
     let signals = Signals::failing(of, place);
     live_row(rt, alloc, &board, &signals)
 }

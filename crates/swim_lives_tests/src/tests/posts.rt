@@ -94,7 +94,7 @@ impl<'s, K: Clock + Drop> Line for OnePing<'s, K> {
 #[test]
 fn each_datagram_is_handed_over(rt: HostRuntime) -> Result<(), Fail> {
     let is_asked_again = AtomicBool::new(false);
-    let board = TidingsBoard::new(0);
+    let board = TidingsBoard::new(0, 0);
     assert_handed(rt, rt.alloc(), &board, &is_asked_again)
 }
 
@@ -117,7 +117,7 @@ fn assert_handed<'s, R: Threads + Wait + Clock + Abort + Send + Sync + Copy + Dr
     let door = NoDoor { clock: rt };
     let gates = (line, post, pace(rt, is_asked_again, 2), door);
     let opening = opening()?;
-    let crew = crew(alloc, &opening, 0, board, gates)?;
+    let crew = crew(alloc, &opening, board, gates)?;
     let (past, crew) = live(&rt, alloc, opening, chooser(), 1000, crew);
     let Ok(past) = past else {
         return Err(Fail::new("a node"));

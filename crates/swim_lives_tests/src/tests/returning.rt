@@ -7,10 +7,19 @@ use super::*;
 use std::sync::atomic::AtomicU32;
 use swim_history::RowState;
 
-/// An ack of member 2 for member 1, number 2.
-const ACK_OF_A_KNOCK: [u8; 24] = [
-    0x53, 0x57, 1, 3, 0, 0, 0, 2, 0, 0, 0, 1, 0, 0, 0, 2, 0, 0, 0, 0, 0, 0, 0, 2,
+/// An ack of member 2 for member 1, number 0.
+const ACK: [u8; 24] = [
+    0x53, 0x57, 1, 3, 0, 0, 0, 2, 0, 0, 0, 1, 0, 0, 0, 2, 0, 0, 0, 0, 0, 0, 0, 0,
 ];
+
+/// With so many ticks member 2 is knocked at once, with this number; and before the last so many of them it is ruled
+/// that each start has a knock.
+#[derive(Clone, Copy)]
+struct Knocked {
+    ticks: u32,
+    ruled: u32,
+    number: u8,
+}
 
 // How many pings were sent, and whether the ack was heard.
 #[derive(Drop)]
@@ -49,11 +58,12 @@ impl<'s> Post for CountingPost<'s> {
     }
 }
 
-// A line that gives the ack after the second ping, and tells when it is asked again.
+// A line that gives the ack with that number after the second ping, and tells when it is asked again.
 #[derive(Drop)]
 struct AckLine<'s, K: Clock + Drop> {
     clock: K,
     visit: &'s Visit,
+    number: u8,
     was_given: bool,
 }
 
@@ -76,7 +86,9 @@ impl<'s, K: Clock + Drop> Line for AckLine<'s, K> {
         self.was_given = true;
         match bytes.get_mut(..24) {
             Some(front) => {
-                front.copy_from_slice(&ACK_OF_A_KNOCK);
+                let mut ack = ACK;
+                ack[23] = self.number;
+                front.copy_from_slice(&ack);
                 Got::Datagram(24, at(2))
             }
             None => Got::Fault,
@@ -86,12 +98,14 @@ impl<'s, K: Clock + Drop> Line for AckLine<'s, K> {
     fn list(&mut self, _members: &[Peer]) {}
 }
 
-// Four ticks, so that a second period starts, and a stop once the ack was heard.
+// So many ticks, with a rule before the last few, and a stop once the ack was heard.
 #[derive(Drop)]
 struct KnockPace<'s, K: Clock + Drop> {
     clock: K,
     visit: &'s Visit,
+    board: &'s TidingsBoard,
     ticks: u32,
+    ruled: u32,
     turns: u32,
 }
 
@@ -100,6 +114,9 @@ impl<'s, K: Clock + Drop> Pace for KnockPace<'s, K> {
 
     fn next<R: Wait>(&mut self, _rt: &R) -> Beat {
         if self.ticks > 0 {
+            if self.ticks == self.ruled {
+                self.board.rule(1);
+            }
             self.ticks -= 1;
             return Beat::Tick;
         }
@@ -112,36 +129,59 @@ impl<'s, K: Clock + Drop> Pace for KnockPace<'s, K> {
     }
 }
 
+// The second period starts with the fourth tick, and so does the knock.
 #[test]
 fn who_answers_a_knock_is_joined_again(rt: HostRuntime) -> Result<(), Fail> {
     let visit = Visit::new();
-    let board = TidingsBoard::new(0);
-    assert_joined_again(rt, rt.alloc(), &board, &visit)
+    let board = TidingsBoard::new(0, 1);
+    let knocked = Knocked {
+        ticks: 4,
+        ruled: 0,
+        number: 2,
+    };
+    assert_joined_again(rt, rt.alloc(), &board, &visit, knocked)
 }
 
-// A life of member 1, which knows member 2, in which it knocks at each start of a period.
+// The rule of 0 is changed behind the fourth tick, after member 2 was judged; the third period starts with the seventh.
+#[test]
+fn a_rule_that_changes_brings_a_member_back(rt: HostRuntime) -> Result<(), Fail> {
+    let visit = Visit::new();
+    let board = TidingsBoard::new(0, 0);
+    let knocked = Knocked {
+        ticks: 7,
+        ruled: 3,
+        number: 3,
+    };
+    assert_joined_again(rt, rt.alloc(), &board, &visit, knocked)
+}
+
+// A life of member 1, which knows member 2, in which it knocks as the board says.
 fn assert_joined_again<'s, R: Threads + Wait + Clock + Abort + Send + Sync + Copy + Drop>(
     rt: R,
     alloc: Global,
     board: &'s TidingsBoard,
     visit: &'s Visit,
+    knocked: Knocked,
 ) -> Result<(), Fail> {
     let line = AckLine {
         clock: rt,
         visit,
+        number: knocked.number,
         was_given: false,
     };
     let post = CountingPost { visit };
     let pace = KnockPace {
         clock: rt,
         visit,
-        ticks: 4,
+        board,
+        ticks: knocked.ticks,
+        ruled: knocked.ruled,
         turns: 0,
     };
     let door = NoDoor { clock: rt };
     let gates = (line, post, pace, door);
     let opening = pair()?;
-    let crew = crew(alloc, &opening, 1, board, gates)?;
+    let crew = crew(alloc, &opening, board, gates)?;
     let (past, crew) = live(&rt, alloc, opening, chooser(), 1000, crew);
     let Ok(past) = past else {
         return Err(Fail::new("a life"));

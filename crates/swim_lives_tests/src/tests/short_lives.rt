@@ -45,7 +45,7 @@ pub fn live_shortly<
     let opening = pair()?;
     let signals = Signals::new(false);
     let is_told = AtomicBool::new(true);
-    let board = TidingsBoard::new(0);
+    let board = TidingsBoard::new(0, 0);
     let Crew {
         first,
         second,
@@ -98,5 +98,5 @@ fn ticking_crew<'s, R: Clock + Copy + Drop>(
     let post = TakingPost {};
     let door = NoDoor { clock: rt };
     let gates = (line(rt, signals, 0), post, pace(rt, is_told, 5), door);
-    crew(alloc, opening, 0, board, gates)
+    crew(alloc, opening, board, gates)
 }

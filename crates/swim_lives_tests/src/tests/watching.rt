@@ -112,7 +112,7 @@ fn live_watched<'s, R: Threads + Wait + Clock + Send + Sync + Copy + Drop>(
     signals: &'s Signals,
 ) -> Result<usize, Fail> {
     let opening = pair()?;
-    let board = TidingsBoard::new(0);
+    let board = TidingsBoard::new(0, 0);
     let lines = Lines::new(seen, FAILED, TABLE);
     let gates = (
         line(rt, signals, 0),
@@ -125,7 +125,7 @@ fn live_watched<'s, R: Threads + Wait + Clock + Send + Sync + Copy + Drop>(
         second,
         third,
         recorder: _,
-    } = crew(alloc, &opening, 0, &board, gates)?;
+    } = crew(alloc, &opening, &board, gates)?;
     let crew = Crew {
         first,
         second,

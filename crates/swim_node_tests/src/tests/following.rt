@@ -75,7 +75,8 @@ fn read_and_close<N: Naming + Send + Sync, R: Threads + Wait + Send + Sync + Cop
     requires changing { (opened.1.1.0.number ≡ 2) × (opened.1.1.1.number ≡ 3) }
 {
     let (node, callers, readers) = opened;
-    drop(readers);
+    let (looking, others) = readers;
+    drop(others);
     let reading = Reading {
         follower: node.follower(alloc),
         read: Vec::new(alloc),
@@ -84,7 +85,7 @@ fn read_and_close<N: Naming + Send + Sync, R: Threads + Wait + Send + Sync + Cop
     let (first, reading) = tick_and_read(rt, &node, first, reading);
     let reading = read_often(rt, &node, reading, 100);
     let first = tick_often(rt, &node, first, unread);
-    close_read(rt, node, ((first, second), others), reading)
+    close_read(rt, node, ((first, second), others), reading, looking)
 }
 
 // A seat that ticks so often.
@@ -190,12 +191,13 @@ fn read_often<N: Naming, R: Wait + Copy + Drop>(
     reading
 }
 
-// The journal at its end, what was read before, and whether that is all of it.
+// The journal at its end, what was read before, and whether that is all of it. One of the viewers has looked.
 fn close_read<N: Naming, R: Wait + Copy + Drop>(
     rt: &R,
     node: Node<N, Scripted, R>,
     callers: Four<Seat<N>>,
     reading: Reading<N>,
+    viewers: (Viewer<N>, Viewer<N>),
 ) -> (Journal, Vec<Followed>, bool)
     requires listening { (callers.0.0.number ≡ 0) × (callers.0.1.number ≡ 1) }
     requires changing { (callers.1.0.number ≡ 2) × (callers.1.1.number ≡ 3) }
@@ -204,7 +206,11 @@ fn close_read<N: Naming, R: Wait + Copy + Drop>(
 {
     let Reading { follower, read } = reading;
     let count = follower.len();
-    let (journal, _seats, _news) = node.close_followed(rt, seats_of(callers), follower);
+    let (looking, other) = viewers;
+    let mut looking = looking;
+    let _table = looking.list();
+    let viewers = [looking, other];
+    let (journal, _seats, _news) = node.close_followed(rt, seats_of(callers), follower, &viewers);
     let is_whole = journal.len() as usize == count;
     (journal, read, is_whole)
 }

@@ -55,12 +55,15 @@ fn tells_two_keys_in_their_order(rt: HostRuntime) {
 }
 
 #[test]
-fn keys_and_the_fence_are_taken_over(rt: HostRuntime) -> Result<(), Fail> {
+fn keys_the_fence_and_rejoin_are_taken_over(rt: HostRuntime) -> Result<(), Fail> {
     for lines in [
         [KEYS, OTHER_KEYS, "reloaded\n"],
         [KEYS, OTHER_KEYS_AND_FENCE, "reloaded\n"],
         ["", "fence = 0\n", "reloaded\n"],
         ["fence = 1000\n", "fence = 1\n", "reloaded\n"],
+        ["", "rejoin = 3\n", "reloaded\n"],
+        ["rejoin = 3\n", "rejoin = 65535\n", "reloaded\n"],
+        ["rejoin = 3\n", "", "reloaded\n"],
     ] {
         assert_answer_behind(&rt, rt.alloc(), lines)?;
     }
@@ -75,7 +78,7 @@ fn a_value_that_goes_without_saying_is_the_same_where_it_is_said(
         ["", "last = 0\n", "reloaded\n"],
         [
             "",
-            "wire = 1\nrejoin = 0\njournal_keep = 16\n",
+            "wire = 1\nrejoin = 0\njournal_keep = 16\njournal_ms = 0\n",
             "reloaded\n",
         ],
         ["wire = 1\n", "wire = 2\n", "reloaded; wire needs a start\n"],

@@ -90,11 +90,6 @@ const LINES: [Line; 19] = [
         second: "\n",
     },
     Line {
-        key: "rejoin",
-        first: "rejoin = 4\n",
-        second: "\n",
-    },
-    Line {
         key: "journal_dir",
         first: "journal_dir = \"/tmp/journals\"\n",
         second: "journal_dir = \"/tmp/journal\"\n",
@@ -103,6 +98,11 @@ const LINES: [Line; 19] = [
         key: "journal_keep",
         first: "journal_keep = 8\n",
         second: "journal_keep = 0\n",
+    },
+    Line {
+        key: "journal_ms",
+        first: "journal_ms = 1\n",
+        second: "\n",
     },
     Line {
         key: "member",

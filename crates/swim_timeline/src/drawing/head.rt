@@ -14,7 +14,7 @@ use swim_wire::Version;
 const HEAD: u16 = 160;
 
 const REMARK: u16 = 20;
-/// How far above the lanes the legend stands, how far apart its entries are, and how many stand side by side.
+/// How far above the end of the head the legend stands, how far apart its entries are, and how many stand side by side.
 const LEGEND_RISE: u64 = 78;
 
 const LEGEND_COLUMN: u64 = 176;
@@ -65,7 +65,7 @@ impl LeftOut {
     }
 }
 
-/// How high the head of a picture is that leaves this out.
+/// How high the head of a picture is that leaves this out, and has no clock line.
 pub(crate) fn head_height(cut: &Cut) -> u16 {
     if cut.is_none() { HEAD } else { HEAD + REMARK }
 }
@@ -92,7 +92,10 @@ pub(crate) fn draw_head(
     put_heading(text, journal, shown)?;
     put_setting(text, journal.opening(), scale)?;
     put_remark(text, cut)?;
-    put_legend(text, scale.top().saturating_sub(LEGEND_RISE))
+    put_legend(
+        text,
+        u64::from(head_height(cut)).saturating_sub(LEGEND_RISE),
+    )
 }
 
 fn open(text: &mut String, scale: &Scale) -> Result<(), AllocError> {

@@ -72,7 +72,11 @@ fn draw_numbers(text: &mut String, scale: &Scale) -> Result<(), AllocError> {
 /// Every how many periods a number stands, so that none touches the next.
 fn step_of(scale: &Scale) -> u32 {
     let digits = 1 + scale.number(scale.periods()).checked_ilog10().unwrap_or(0);
-    let needed = DIGIT * u64::from(digits) + SPACE;
+    step_for(DIGIT * u64::from(digits) + SPACE, scale)
+}
+
+/// Every how many periods something stands that needs such a width.
+pub(crate) fn step_for(needed: u64, scale: &Scale) -> u32 {
     let width = scale.period_width();
     for step in STEPS {
         if u64::from(step) * width >= needed {

@@ -1,6 +1,6 @@
 //! What a daemon counts, as it is told to whoever asks for it, and in the metrics' file.
 
-ghost use Rattle.std.specs.Prelude.{◌≡◌, ◌≤◌, IfSome, codes, length, map};
+ghost use Rattle.std.specs.Prelude.{◌≡◌, ◌≤◌, IfSome, length, map};
 ghost use Rattle.swim_config.specs.Fingerprints.{fingerprint_of};
 ghost use Rattle.swimd.specs.Figures.{IsOutside, IsStats};
 
@@ -77,7 +77,9 @@ impl Counters {
                 return sink.into_text();
             }
         }
-        no_stats()
+        // In the sink's own room: a text is large, and one more may be too much for the stack.
+        sink.restart_with(b".\n");
+        sink.into_text()
     }
 
     /// What was counted by now, with how journal files stand and which keys are in force. `None` before the first life.
@@ -161,13 +163,4 @@ fn fingerprints_of(keys: &[GroupKey]) -> Fingerprints
         fingerprints.push(fingerprint(key));
     }
     fingerprints
-}
-
-/// Where nothing was counted yet: no lines, and a dot.
-fn no_stats() -> StatsText
-    ensures { result.items ≡ codes ".\n" }
-{
-    let mut text = StatsText::new();
-    let _is_added = text.try_extend_from_slice(b".\n");
-    text
 }

@@ -1,6 +1,6 @@
 //! A sink that keeps a text.
 
-ghost use Rattle.std.specs.Prelude.{◌≡◌, [], Some};
+ghost use Rattle.std.specs.Prelude.{◌≡◌, ◌≤◌, [], Some, length};
 ghost use Rattle.swim_text.specs.Streams.{Puts, failures_if};
 
 use arrayvec::ArrayVec;
@@ -22,6 +22,15 @@ impl<const BYTES: usize> TextSink<BYTES> {
             text: ArrayVec::new(),
             failures: 0,
         }
+    }
+
+    /// Keeps this text in place of what it was given.
+    pub fn restart_with(&mut self, text: &[u8])
+        requires { length text.now ≤ BYTES }
+        ensures { self.new.text.items ≡ text.now }
+    {
+        self.text.clear();
+        let _is_added = self.text.try_extend_from_slice(text);
     }
 
     /// What it was given.

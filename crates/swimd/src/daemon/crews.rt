@@ -2,7 +2,6 @@
 
 ghost use Rattle.std.specs.Prelude.{◌≡◌, [], Some, IfOk, box_value};
 ghost use Rattle.swim_receiver.specs.Rejoining.{IsReturning};
-ghost use Rattle.swimd.specs.Daemon.{rejoin_of};
 ghost use Rattle.swimd.specs.DaemonLives.{at_receiving, at_ticking, none_connected, none_received, none_ticked};
 
 use crate::counting::counters::Counters;
@@ -33,7 +32,7 @@ use swim_receiver::{Receiver, Returning};
 use swim_recorder::{JournalRecorder, Reporter};
 use swim_text::Sink;
 use swim_ticker::Ticker;
-use swim_work::{Line, Pace, Post, TidingsBoard};
+use swim_work::{Line, Pace, Post, RejoinLookup};
 
 /// By which a daemon hears: what comes faster than the fence lets in is thrown away first, and then what has no tag by a
 /// key of the group. Of both is noted how many there were.
@@ -73,7 +72,6 @@ pub struct Shared<'g, R> {
     pub endpoint: &'g UdpEndpoint,
     pub reloading: Reloading<'g>,
     pub counters: &'g Counters,
-    pub board: &'g TidingsBoard,
 }
 
 impl<'g, R: Files<File = File> + Net + Clock + Wait> Shared<'g, R> {
@@ -95,7 +93,7 @@ impl<'g, R: Files<File = File> + Net + Clock + Wait> Shared<'g, R> {
             (⟦<ClockPace<'g, R> as Pace>⟧.beats (box_value crew.second).pace)
             (⟦<GuardedPost<'g> as Post>⟧.posted (box_value crew.second).post)
             (⟦<GuardedPost<'g> as Post>⟧.posted (box_value crew.second).knock_post)
-            (box_value crew.second).rejoin (box_value crew.second).knocks ≡ none_ticked (rejoin_of config.now)) }
+            (box_value crew.second).lookup (box_value crew.second).knocks ≡ none_ticked) }
         ensures connections { IfOk result (λ crew. (box_value crew.third).hall.connections ≡ none_connected) }
         ensures gallery { IfOk result (λ crew. (box_value crew.recorder).gallery ≡ []) }
         ensures heard { IfOk result (λ crew.
@@ -122,6 +120,7 @@ impl<'g, R: Files<File = File> + Net + Clock + Wait> Shared<'g, R> {
     {
         let strangers = &self.counters.strangers;
         let book = self.reloading.book;
+        let board = self.reloading.board;
         let timepiece = ClockTimepiece::new(self.rt);
         let line = FencedLine::new(self.endpoint.line(), timepiece, book);
         let line = NotingLine::new(line, &strangers.fenced);
@@ -129,8 +128,8 @@ impl<'g, R: Files<File = File> + Net + Clock + Wait> Shared<'g, R> {
         let receiver = Receiver {
             line: NotingLine::new(line, &strangers.forged),
             post: SealedPost::new(self.endpoint.post(), book),
-            returning: Returning::new(rejoin_of(config), config.opening.me()),
-            board: self.board,
+            returning: Returning::new(board, config.opening.me()),
+            board,
         };
         Ok(Box::new(self.alloc, receiver)?)
     }
@@ -143,16 +142,17 @@ impl<'g, R: Files<File = File> + Net + Clock + Wait> Shared<'g, R> {
         ensures { IfOk result (λ ticker. at_ticking (⟦<ClockPace<'g, R> as Pace>⟧.beats (box_value ticker).pace)
             (⟦<GuardedPost<'g> as Post>⟧.posted (box_value ticker).post)
             (⟦<GuardedPost<'g> as Post>⟧.posted (box_value ticker).knock_post)
-            (box_value ticker).rejoin (box_value ticker).knocks ≡ none_ticked (rejoin_of config.now)) }
+            (box_value ticker).lookup (box_value ticker).knocks ≡ none_ticked) }
     {
         let book = self.reloading.book;
+        let board = self.reloading.board;
         let ticker = Ticker {
             pace: SleepingPace::new(ClockSleeper::new(self.rt), config.tick_ms),
             post: SealedPost::new(self.endpoint.post(), book),
             knock_post: SealedPost::new(self.endpoint.post(), book),
-            rejoin: rejoin_of(config),
+            lookup: RejoinLookup::new(board),
             knocks: 0,
-            board: self.board,
+            board,
         };
         Ok(Box::new(self.alloc, ticker)?)
     }
@@ -221,11 +221,4 @@ pub fn leave<
     end_watching(&mut crew.recorder.gallery, time);
     crew.third.hall.connections = Connections::new(alloc);
     crew.third.speaker.finish(rt);
-}
-
-/// At every how manieth start of a period a daemon of this configuration knocks. The key has no higher number.
-fn rejoin_of(config: &Config) -> u16
-    ensures { result ≡ rejoin_of config.now }
-{
-    u16::try_from(config.rejoin).unwrap_or(u16::MAX)
 }

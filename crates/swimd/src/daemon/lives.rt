@@ -78,7 +78,7 @@ pub fn keep_lives<
         ⟦<JournalFile<'g, R> as Sink>⟧.held ⟦<Chronicler<'g> as Reporter>⟧.heard))
         (λ r. at_receiving (⟦<GuardedLine<'g, R> as Line>⟧.received r.line) (⟦<GuardedPost<'g> as Post>⟧.posted r.post))
         (λ t. at_ticking (⟦<ClockPace<'g, R> as Pace>⟧.beats t.pace) (⟦<GuardedPost<'g> as Post>⟧.posted t.post)
-        (⟦<GuardedPost<'g> as Post>⟧.posted t.knock_post) t.rejoin t.knocks)
+        (⟦<GuardedPost<'g> as Post>⟧.posted t.knock_post) t.lookup t.knocks)
         (λ c. c.hall.connections)) ⟦<Folder<'g, R> as Shelf<JournalFile<'g, R>>>⟧.fresh keeper.old.terms opening
         (stand_at crew.entry keeper.old) (stand_at result.1 keeper.new) result.0 }
     ensures notices { Notices (F.written keeper.old.notices.now, F.failures keeper.old.notices.now)

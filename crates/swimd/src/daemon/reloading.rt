@@ -3,6 +3,7 @@
 ghost use Rattle.std.specs.Prelude.{◌≡◌, IfSome, MatchResult, false};
 ghost use Rattle.swim_commands.specs.Outcomes.{outcome_text};
 ghost use Rattle.swim_reload.specs.Reloaded.{reloaded_text};
+ghost use Rattle.swimd.specs.Daemon.{rejoin_of};
 ghost use Rattle.swimd.specs.Reloading.{IsNotReloaded, IsReloaded, IsTextOrFront};
 
 use crate::commands::documents::{Documents, SystemDocuments};
@@ -17,6 +18,7 @@ use swim_config::{Config, ConfigFault, INPUT_BYTES};
 use swim_control::ReloadText;
 use swim_guard::{RingKeys, RuleBook};
 use swim_reload::{put_reloaded, reread};
+use swim_work::TidingsBoard;
 
 /// What a daemon needs to read its configuration file again.
 #[derive(Clone, Copy)]
@@ -25,8 +27,10 @@ pub struct Reloading<'p> {
     pub path: &'p str,
     /// Its text when the daemon started.
     pub started: &'p [u8],
-    /// The rules that are in force.
+    /// The rules by which datagrams are let in and signed that are in force.
     pub book: &'p RuleBook,
+    /// Where it is told every how many starts of a period there is a knock.
+    pub board: &'p TidingsBoard,
 }
 
 /// What came of reading the file again.
@@ -34,7 +38,7 @@ pub struct Reloading<'p> {
 pub struct Reloaded {
     /// The line that tells it.
     pub line: ReloadText,
-    /// Whether the file's keys and its fence are in force now.
+    /// Whether the file's keys, its fence and its `rejoin` are in force now.
     pub is_taken: bool,
 }
 
@@ -57,7 +61,8 @@ impl<'p> Reloading<'p> {
         self.book.keys(wait)
     }
 
-    /// Reads the file again, and brings its keys and its fence into force. Where it is refused, nothing changes.
+    /// Reads the file again, and brings its keys, its fence and its `rejoin` into force. Where it is refused, nothing
+    /// changes.
     pub fn reload<R: Files, W: Wait>(&self, rt: &R, wait: &W, alloc: Global) -> Reloaded {
         // To open a pipe would wait for whoever writes it.
         if !is_file(rt, self.path) {
@@ -66,6 +71,7 @@ impl<'p> Reloading<'p> {
         let mut documents = SystemDocuments::new(rt);
         match read_again(alloc, self.path, self.started, &mut documents) {
             Ok((config, line)) => {
+                self.board.rule(rejoin_of(&config));
                 self.book.change(wait, config.keys, config.fence);
                 Reloaded {
                     line,
@@ -124,6 +130,13 @@ fn line_of(outcome: Outcome) -> ReloadText
     let mut line = TextSink::new();
     let _is_put = put_outcome(&mut line, outcome);
     line.into_text()
+}
+
+/// Every how many starts of a period a daemon of this configuration knocks. The key has no higher number.
+pub fn rejoin_of(config: &Config) -> u16
+    ensures { result ≡ rejoin_of config.now }
+{
+    u16::try_from(config.rejoin).unwrap_or(u16::MAX)
 }
 
 /// Whether a file lies at a path, or where a link there leads.

@@ -8,16 +8,21 @@ use jiff::Timestamp;
 use std::fmt::Write;
 use std::rt::Clock;
 use swim_commands::{VERSION, has_feed};
+use swim_config::TimeUnit;
 
 /// Room for a comment.
 const COMMENT_BYTES: usize = 80;
 
 /// The comment behind the line that begins so: one whole line that begins with `#`. It is empty where the line has
-/// none.
-pub fn comment_behind<K: Clock>(clock: &K, line: &[u8]) -> ArrayString<COMMENT_BYTES>
+/// none. When a period began is told to this unit.
+pub fn comment_behind<K: Clock>(
+    clock: &K,
+    unit: TimeUnit,
+    line: &[u8],
+) -> ArrayString<COMMENT_BYTES>
     ensures { MayComment result.bytes }
 {
-    let comment = words_behind(clock, line);
+    let comment = words_behind(clock, unit, line);
     if is_comment_line(comment.as_str().as_bytes()) {
         comment
     } else {
@@ -34,17 +39,27 @@ pub fn own_join() -> &'static [u8]
     b"# rejoin\n"
 }
 
-/// What is told behind the line that begins so, if something is.
-fn words_behind<K: Clock>(clock: &K, line: &[u8]) -> ArrayString<COMMENT_BYTES> {
+/// What is told behind the line that begins so, if something is. The clock is read for such a line alone.
+fn words_behind<K: Clock>(clock: &K, unit: TimeUnit, line: &[u8]) -> ArrayString<COMMENT_BYTES> {
     let mut comment = ArrayString::new();
+    let is_first = line == b"journal 1\n".as_slice();
+    if !is_first && !is_started(line) {
+        return comment;
+    }
     let Ok(time) = Timestamp::now(clock) else {
         return comment;
     };
-    if line == b"journal 1\n".as_slice() {
+    if is_first {
         let _is_whole = write!(comment, "# swimd {VERSION} {time:.3}\n");
-    } else if is_started(line) {
+    } else {
         let seconds = time.as_second();
-        let _is_whole = write!(comment, "# {seconds}\n");
+        let _is_whole = match unit {
+            TimeUnit::Seconds => write!(comment, "# {seconds}\n"),
+            TimeUnit::Milliseconds => {
+                let milliseconds = time.subsec_millisecond();
+                write!(comment, "# {seconds}.{milliseconds:03}\n")
+            }
+        };
     }
     comment
 }

@@ -133,7 +133,7 @@ impl<'r, R: Net + Clock + Wait> Folder<'r, R> {
     fn file(&self, desk: Option<Arc<DiskDesk, Global>>) -> JournalFile<'r, R>
         ensures { result.text.taken ≡ [] }
     {
-        JournalFile::new(self.rt, &self.counters.remarks, desk)
+        JournalFile::new(self.rt, &self.counters.remarks, self.files.unit, desk)
     }
 
     /// Ends the newest file, and answers whether it is whole. Where it isn't, and nobody was told yet, it is told.

@@ -13,6 +13,7 @@ use arrayvec::ArrayVec;
 use std::alloc::Global;
 use std::rt::Clock;
 use std::sync::{Arc, Wait};
+use swim_config::TimeUnit;
 use swim_text::Sink;
 
 /// How many bytes of a line are looked at: as many as there are in front of the word that says what was answered.
@@ -20,13 +21,14 @@ const FRONT_BYTES: usize = 32;
 
 /// A journal file, as long as its desk takes what is to be written, from where another thread writes it. It holds back
 /// what it is given until it is flushed. Once something was refused it takes nothing more. It adds comments for people:
-/// after its first line the program with its version and the time, after each line of a started period the seconds
-/// since 1970, and after the answer to a join that the daemon made by itself that it did. A contract sees the texts
+/// after its first line the program with its version and the time, after each line of a started period the time since
+/// 1970, and after the answer to a join that the daemon made by itself that it did. A contract sees the texts
 /// that it took, and the bytes that its desk took.
 #[derive(Drop)]
 pub struct JournalFile<'r, R> {
     rt: &'r R,
     remarks: &'r Remarks,
+    unit: TimeUnit,
     // None once nothing more is taken.
     desk: Option<Arc<DiskDesk, Global>>,
     text: HeldText,
@@ -38,10 +40,11 @@ pub struct JournalFile<'r, R> {
 
 impl<'r, R: Clock + Wait> JournalFile<'r, R> {
     /// The file that the desk has begun; without a desk, it takes nothing. It has the remarks that are made from now
-    /// on.
+    /// on, and tells times to this unit.
     pub fn new(
         rt: &'r R,
         remarks: &'r Remarks,
+        unit: TimeUnit,
         desk: Option<Arc<DiskDesk, Global>>,
     ) -> JournalFile<'r, R>
         ensures { result.text.taken ≡ [] }
@@ -51,6 +54,7 @@ impl<'r, R: Clock + Wait> JournalFile<'r, R> {
         JournalFile {
             rt,
             remarks,
+            unit,
             desk,
             text: HeldText::new(),
             front: ArrayVec::new(),
@@ -80,6 +84,7 @@ impl<'r, R: Clock + Wait> JournalFile<'r, R> {
         let JournalFile {
             rt: _rt,
             remarks: _remarks,
+            unit: _unit,
             desk: _desk,
             text,
             front: _front,
@@ -175,7 +180,7 @@ impl<'r, R: Clock + Wait> JournalFile<'r, R> {
         if *last != b'\n' {
             return true;
         }
-        let comment = comment_behind(self.rt, self.front.as_slice());
+        let comment = comment_behind(self.rt, self.unit, self.front.as_slice());
         self.front.clear();
         self.take_comment(comment.as_str().as_bytes())
     }
@@ -227,7 +232,6 @@ impl<'r, R: Clock + Wait> Sink for JournalFile<'r, R> {
 
 /// Adds as much of a text as there is room for.
 fn add_front(front: &mut ArrayVec<u8, FRONT_BYTES>, text: &[u8]) {
-    for byte in text {
-        let _is_added = front.try_push(*byte);
-    }
+    let count = text.len().min(front.remaining_capacity());
+    let _is_added = front.try_extend_from_slice(&text[..count]);
 }

@@ -1,9 +1,17 @@
-use Rattle.std.proofs.Common.{refl}
+use Rattle.std.proofs.Common.{refl, sym, subst, ◌∙◌, List}
 use Rattle.swim_node.specs.Following.{filings_of}
+use Rattle.swim_node.specs.OneHistory.{AreFullWhereMet}
+use Rattle.swim_node.specs.Seats.{Seated}
 use Rattle.swim_crew.specs.declared.pasts.Ends.{Ends}
 use Rattle.swim_crew.proofs.Fullness.{life_full}
 use Rattle.swim_crew.proofs.Recorded.{recorded_all}
 use Rattle.swim_crew.proofs.life.closed.Goals as goal
+
+pub returns-clause-met : goal.returns-clause-met
+returns-clause-met g c =
+    let journal = c.close_followed-journal in
+    subst (λ (s : List Seated). AreFullWhereMet g.N.Naming.limit journal.result.0.past s)
+    (sym (c.seats_of.ensures ∙ journal.ensures.seats)) journal.ensures.full
 
 pub returns-clause-full : goal.returns-clause-full
 returns-clause-full g c =

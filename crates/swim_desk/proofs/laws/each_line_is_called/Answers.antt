@@ -9,5 +9,5 @@ pub returns-clause-none_given : goal.returns-clause-none_given
 returns-clause-none_given c = none_given
 
 pub returns-clause-life : goal.returns-clause-life
-returns-clause-life c = λ o limit before after old new seat end life.
-    life_given o limit before after old new seat end life
+returns-clause-life c = λ o limit before after old new seat seen end life.
+    life_given o limit before after old new seat seen end life

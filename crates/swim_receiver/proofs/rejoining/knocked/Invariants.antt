@@ -4,5 +4,4 @@ use Rattle.swim_receiver.proofs.rejoining.knocked.Given as goal
 
 abbrev pub invariant-loop-note : goal.invariant-loop-note
 invariant-loop-note l =
-    (l.rejoiner.rejoin ≡ l.initial.rejoiner.rejoin) × (l.rejoiner.me ≡ l.initial.rejoiner.me) ×
-    TellsOf l.initial.rejoiner l.rejoiner (take l.note-index l.notes)
+    (l.rejoiner.me ≡ l.initial.rejoiner.me) × TellsOf l.initial.rejoiner l.rejoiner (take l.note-index l.notes)

@@ -3,6 +3,6 @@ use Rattle.swim_ticker.proofs.Knocked.{all_knocked}
 use Rattle.swim_ticker.proofs.laws.knocks_are_at_starts.Goals as goal
 
 pub returns : goal.returns
-returns g c = λ o limit old new seat end life.
-    all_knocked o old.rejoin (starts_in seat.calls) life.seen old.knocked new.knocked old.knocks life.knocks new.knocks
-    life.knocked life.counted
+returns g c = λ o limit old new seat seen end life.
+    all_knocked o (starts_in seat.calls) seen old.answered new.answered old.knocked new.knocked old.knocks
+    life.knocks new.knocks life.knocked life.counted

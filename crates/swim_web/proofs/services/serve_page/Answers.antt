@@ -7,7 +7,7 @@ use Rattle.swim_web.proofs.services.serve_page.Goals as goal
 
 pub returns-in-Front : goal.returns-in-Front
 returns-in-Front g c =
-    subst (λ page. Serves g.S.Shelf.tells (g.S.Shelf.opened c.args.shelf.now) page c.args.recent.now
+    subst (λ page. Serves (g.S.Shelf.tells c.args.shelf.now) (g.S.Shelf.opened c.args.shelf.now) page c.args.recent.now
     (record { asked = g.D.Daemon.asked c.args.daemon.now; is_late = c.args.is_late.now }) c.reply.new.response
     (record { asked = g.D.Daemon.asked c.args.daemon.now; is_late = c.args.is_late.now })) (sym c.in-Front.is) (
       (grows_none (g.D.Daemon.asked c.args.daemon.now), refl),
@@ -17,7 +17,7 @@ returns-in-Front g c =
 
 pub returns-in-Changes : goal.returns-in-Changes
 returns-in-Changes g c =
-    subst (λ page. Serves g.S.Shelf.tells (g.S.Shelf.opened c.args.shelf.now) page c.args.recent.now
+    subst (λ page. Serves (g.S.Shelf.tells c.args.shelf.now) (g.S.Shelf.opened c.args.shelf.now) page c.args.recent.now
     (record { asked = g.D.Daemon.asked c.args.daemon.now; is_late = c.args.is_late.now }) c.reply_changes.new.response
     (record { asked = g.D.Daemon.asked c.args.daemon.now; is_late = c.args.is_late.now })) (sym c.in-Changes.is) (
       (grows_none (g.D.Daemon.asked c.args.daemon.now), refl),

@@ -9,6 +9,6 @@ returns-clause-works g c =
     let controlling = c.serve_on-why.new.controlling in
     life_controlled g.N.Naming.opening g.N.Naming.limit (g.D.Door.faults old.hall.door) (g.D.Door.faults hall.door)
     old.hall.connections hall.connections c.args.seat c.done.result.seat c.new.result controlling.desk c.args.viewer
-    c.none.result.in_a_row controlling.faults.in_a_row c.serve_on-why.result c.done.result.end
-    (search rules) (search rules) (search rules) c.new.ensures c.none.ensures c.done.ensures.seat c.done.ensures.end
-    c.serve_on-why.ensures.controlled
+    c.done.result.viewer c.none.result.in_a_row controlling.faults.in_a_row c.serve_on-why.result c.done.result.end
+    (search rules) (search rules) (search rules) (search rules) c.new.ensures c.none.ensures c.done.ensures.seat
+    c.done.ensures.viewer c.done.ensures.end c.serve_on-why.ensures.controlled

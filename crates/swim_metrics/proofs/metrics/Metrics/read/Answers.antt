@@ -11,10 +11,10 @@ pub returns-clause-follows : goal.returns-clause-follows
 returns-clause-follows c = λ life older e calls replies follows.
     let P : Measured → Type 0 = λ m. Follows m (life ∷ older) in
     let held = subst P (sym c.self.view_is) follows in record {
-      counts = c.after-self-inside.ensures life older e calls replies
+      counts = c.add.ensures life older e calls replies
           (c.wait_ended-wait.ensures life.past e calls replies held.period)
           (c.is_late-late.ensures ∙ rw (calls, replies, c.number.ensures, held.number) refl) held.counts;
-      period = c.after-self-inside-2.ensures life.past e calls replies held.period;
+      period = c.after-self-inside.ensures life.past e calls replies held.period;
       number = c.next-change.ensures.number ∙ ap₂ number_then (sym replies) held.number;
     }
 
@@ -37,6 +37,6 @@ returns-clause-odd c = λ life older e calls knows me held.
     let Q : Measured → Type 0 = λ m. m.me ≡ life.opening.me in
     let S : Measured → Type 0 = λ m. m.odd ≡ senders_of (life ∷ older) in
     odd_on life older e c.args.call.now c.self.inside.me c.rows.result.now c.self.inside.odd
-    c.after-self-inside-3.result calls
+    c.add-2.new.self calls
     (c.rows.ensures.value ∙ ap (λ k. k.rows) (subst P (sym c.self.view_is) knows))
-    (subst Q (sym c.self.view_is) me) (subst S (sym c.self.view_is) held) c.after-self-inside-3.ensures
+    (subst Q (sym c.self.view_is) me) (subst S (sym c.self.view_is) held) c.add-2.ensures

@@ -8,7 +8,7 @@ returns-in-None-clause-hears g c = λ h is.
     let heard = c.hear-end.new.self in (
       h,
       is,
-      none_joined g.N.Naming.opening g.N.Naming.limit returning.rejoiner.rejoin returning.rejoiner.me h c.args.bytes.now
+      none_joined g.N.Naming.opening g.N.Naming.limit returning.rejoiner.me h c.args.bytes.now
           c.args.source (at_sender c.args.caller.now.seat c.args.self.now.post c.args.caller.now.counts)
           c.hear-end.result.0 (at_sender heard.seat c.hear-end.new.post heard.counts) c.hear-end.result.1
           c.whom.result c.hear-end.ensures.hears c.hear-end.ensures.message c.in-None.is (c.whom.ensures h is),
@@ -22,7 +22,7 @@ returns-in-Some-clause-hears g c = λ h is.
     let t = c.join_again.ensures.joins.2 h is in (
       t.0,
       t.1,
-      one_joined g.N.Naming.opening g.N.Naming.limit returning.rejoiner.rejoin returning.rejoiner.me h t.0
+      one_joined g.N.Naming.opening g.N.Naming.limit returning.rejoiner.me h t.0
           c.args.bytes.now c.args.source
           (at_sender c.args.caller.now.seat c.args.self.now.post c.args.caller.now.counts) c.hear-end.result.0
           (at_sender heard.seat c.hear-end.new.post heard.counts) c.hear-end.result.1 c.whom.result c.in-Some.row

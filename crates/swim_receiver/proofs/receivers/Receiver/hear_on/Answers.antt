@@ -30,7 +30,7 @@ pub returns-in-Some-look_and_hear-clause-same : goal.returns-in-Some-look_and_he
 returns-in-Some-look_and_hear-clause-same g c =
     let before = c.loop-turn.invariant.same in
     let same = c.in-Some-look_and_hear.ensures.same in
-    (same.0 ∙ before.0, same.1 ∙ before.1, same.2 ∙ before.2)
+    same ∙ before
 
 pub returns-in-Some-look_and_hear-clause-shown : goal.returns-in-Some-look_and_hear-clause-shown
 returns-in-Some-look_and_hear-clause-shown g c =
@@ -47,7 +47,7 @@ loop-turn-init g c =
           (at_turn (at_sender began.caller.seat first.post began.caller.counts) began.faults.in_a_row
           (g.L.Line.received first.line) first.returning);
       sent = λ start is. is;
-      same = (refl, refl, refl);
+      same = refl;
       shown = none_shown g.N.Naming.opening began.viewer (g.L.Line.listed first.line);
       number = refl;
     }
@@ -72,7 +72,7 @@ loop-turn-preserved g c =
           (g.L.Line.received new.line) new.returning)
           c.loop-turn.invariant.heard before c.in_default.ensures.turn;
       sent = λ start is. c.in_default.ensures.sent start (c.loop-turn.invariant.sent start is);
-      same = (same.0 ∙ before.0, same.1 ∙ before.1, same.2 ∙ before.2);
+      same = same ∙ before;
       shown = more_shown g.N.Naming.opening began.viewer hearing.viewer heard.viewer (g.L.Line.listed first.line)
           (g.L.Line.listed old.line) (g.L.Line.listed new.line) c.loop-turn.invariant.shown
           c.in_default.ensures.shown;

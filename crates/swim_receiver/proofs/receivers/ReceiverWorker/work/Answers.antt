@@ -8,7 +8,7 @@ returns-clause-works g c =
     let old = c.args.self.now in
     let new = c.hear_on-why.new.self in
     let hearing = c.hear_on-why.new.hearing in
-    rw c.done.ensures.seat (life_heard g.O.Post.posted g.N.Naming.opening g.N.Naming.limit
+    rw (c.done.ensures.seat, c.done.ensures.viewer) (life_heard g.O.Post.posted g.N.Naming.opening g.N.Naming.limit
     (owned (g.L.Line.received old.line) (g.L.Line.listed old.line) old.post old.returning)
     (owned (g.L.Line.received new.line) (g.L.Line.listed new.line) new.post new.returning)
     c.new.result.seat hearing.caller.seat c.new.result.counts hearing.caller.counts c.none.result.in_a_row

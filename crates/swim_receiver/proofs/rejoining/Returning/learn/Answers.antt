@@ -8,4 +8,4 @@ returns-clause-knocks c =
     let old : Returning = c.args.self.now in
     let new : Returning = record old { rejoiner = c.knocked.new.rejoiner; period = c.args.tidings.now.period } in
     knocks_told old new c.args.tidings.now.notes.items
-    (subst (TellsOf old.rejoiner new.rejoiner) c.as_slice.ensures.value c.knocked.ensures.follows) refl refl
+    (subst (TellsOf old.rejoiner new.rejoiner) c.as_slice.ensures.value c.knocked.ensures.follows) refl refl refl

@@ -6,4 +6,4 @@ returns-then-not-are_same-clause-learns c = λ o log table.
     looked_learnt o c.args.self.now
     (record c.args.self.now { rejoiner = c.looked_at.new.self; rows = c.copy_table-self.result }) c.args.rows.now
     log table
-    (λ h is. (c.looked_at.ensures.follows h is.0, c.copy_table-self.ensures, is.2))
+    (λ h is. (c.looked_at.ensures.follows h is.0, c.copy_table-self.ensures, is.2, is.3))

@@ -14,11 +14,10 @@ invariant-loop-turn g l = record {
   goes_on : GoesOn g.O.Post.posted g.N.Naming.opening
       (at_ticker (at_sender l.initial.ticking.caller.seat l.initial.self.post l.initial.ticking.caller.counts)
       (at_knocking l.initial.ticking.knocking.knocker l.initial.ticking.knocking.viewer
-      l.initial.ticking.knocking.table.items l.initial.ticking.knocking.number
-      (g.O.Post.posted l.initial.self.knock_post) l.initial.ticking.knocking.knocks) l.initial.self.rejoin
-      l.initial.self.knocks) None
+      l.initial.ticking.knocking.table.items l.initial.ticking.knocking.number l.initial.self.lookup
+      (g.O.Post.posted l.initial.self.knock_post) l.initial.ticking.knocking.knocks) l.initial.self.knocks) None
       (at_ticker (at_sender l.ticking.caller.seat l.self.post l.ticking.caller.counts)
       (at_knocking l.ticking.knocking.knocker l.ticking.knocking.viewer l.ticking.knocking.table.items
-      l.ticking.knocking.number (g.O.Post.posted l.self.knock_post) l.ticking.knocking.knocks) l.self.rejoin
+      l.ticking.knocking.number l.self.lookup (g.O.Post.posted l.self.knock_post) l.ticking.knocking.knocks)
       l.self.knocks);
 }

@@ -1,0 +1,197 @@
+//! What was found of verdicts in files, which is kept: pages, and that files don't tell one.
+
+ghost use Rattle.std.specs.Prelude.{◌≡◌, ◌<◌, IfOk, IfSome, length};
+ghost use Rattle.swim_commands.specs.Shelves.{AreSame, IsUntold, IsWritten};
+ghost use Rattle.swim_verdicts.specs.Examined.{IsEvidence};
+
+use crate::file_places::Place;
+use std::alloc::{AllocError, Global};
+use std::marker::Model;
+use swim_evidence::Evidence;
+use swim_trail::Remembered;
+use swim_verdicts::{Played, VerdictPage, WrittenPage};
+
+/// How many pages are kept, and the most bytes that each of them has.
+const KEPT_PAGES: usize = 8;
+
+const KEPT_BYTES: usize = 1_048_576;
+
+/// Of how many verdicts and files it is kept that the file doesn't tell the verdict.
+const KEPT_BLANKS: usize = 256;
+
+/// A page that was written, with the place where its verdict was looked for.
+#[derive(Drop)]
+pub struct KeptPage {
+    place: Place,
+    page: WrittenPage,
+}
+
+impl Model for KeptPage {
+    ghost use Rattle.std.specs.Coded.{codes};
+    ghost use Rattle.swim_commands.specs.contracts.file_places.Place as spot;
+    ghost use Rattle.swim_verdicts.specs.contracts.examining.Played as file;
+    ghost use Rattle.swim_commands.specs.Shelves.{IsWritten, PlacedSheet};
+
+    ghost Value = { PlacedSheet };
+
+    ghost coded = { Prim.hlevel (codes, spot.the_row.coded, file.the_row.coded) };
+
+    ghost view = { λ k. record { place = k.place; sheet = k.page } };
+
+    ghost invariant = { λ k. IsWritten k.place k.page };
+}
+
+impl KeptPage {
+    /// Writes the page about a verdict that the file of this place tells, which was played.
+    pub fn write(
+        alloc: Global,
+        place: Place,
+        played: &Played,
+        evidence: &Evidence,
+    ) -> Result<KeptPage, AllocError>
+        requires { IsEvidence played.now place.member place.number evidence.now }
+        ensures { IfOk result (λ kept. kept.place ≡ place) }
+    {
+        let about = VerdictPage {
+            path: place.path.as_str(),
+            played,
+            evidence,
+        };
+        let page = about.write(alloc)?;
+        Ok(KeptPage { place, page })
+    }
+
+    /// Returns its bytes.
+    pub fn text(&self) -> &[u8]
+        ensures text { result.now ≡ self.now.sheet.text }
+        ensures written { IsWritten self.now.place self.now.sheet }
+    {
+        self.page.text()
+    }
+
+    /// Returns the place where its verdict was looked for.
+    fn place(&self) -> &Place
+        ensures { result.now ≡ self.now.place }
+    {
+        &self.place
+    }
+}
+
+/// A file that was played, and doesn't tell the verdict of its place.
+#[derive(Drop)]
+pub struct BlankFile {
+    place: Place,
+    played: Remembered<Played>,
+}
+
+impl Model for BlankFile {
+    ghost use Rattle.std.specs.Coded.{codes};
+    ghost use Rattle.swim_commands.specs.contracts.file_places.Place as spot;
+    ghost use Rattle.swim_verdicts.specs.contracts.examining.Played as file;
+    ghost use Rattle.swim_commands.specs.Shelves.{IsUntold, PlacedFile};
+
+    ghost Value = { PlacedFile };
+
+    ghost coded = { Prim.hlevel (codes, spot.the_row.coded, file.the_row.coded) };
+
+    ghost view = { λ b. record { place = b.place; played = b.played.value } };
+
+    ghost invariant = { λ b. IsUntold b.place b.played.value };
+}
+
+impl BlankFile {
+    /// Returns the file that was played at this place.
+    pub fn of(place: Place, played: &Played) -> BlankFile
+        requires { IsUntold place played.now }
+        ensures { result ≡ record { place = place; played = played.now } }
+    {
+        BlankFile {
+            place,
+            played: Remembered::of(played),
+        }
+    }
+
+    /// Returns the place where it was played.
+    fn place(&self) -> &Place
+        ensures place { result.now ≡ self.now.place }
+        ensures untold { IsUntold self.now.place self.now.played }
+    {
+        &self.place
+    }
+}
+
+/// The last pages that were written, and the last files that were found not to tell a verdict.
+#[derive(Drop)]
+pub struct KeptPages {
+    pages: Vec<KeptPage>,
+    blanks: Vec<BlankFile>,
+}
+
+impl KeptPages {
+    /// Nothing is kept yet.
+    pub fn new(alloc: Global) -> KeptPages {
+        KeptPages {
+            pages: Vec::new(alloc),
+            blanks: Vec::new(alloc),
+        }
+    }
+
+    /// Returns the page of a place, if it is kept: of this verdict, and of this file in the state in which it stands.
+    pub fn page_at(&self, place: &Place) -> Option<&KeptPage>
+        ensures { IfSome result (λ kept. AreSame kept.now.place place.now) }
+    {
+        for kept in self.pages.iter() {
+            if kept.place().is(place) {
+                return Some(kept);
+            }
+        }
+        None
+    }
+
+    /// Returns the file of a place, if it is kept that it doesn't tell the verdict.
+    pub fn blank_at(&self, place: &Place) -> Option<&BlankFile>
+        ensures { IfSome result (λ blank. AreSame blank.now.place place.now) }
+    {
+        for blank in self.blanks.iter() {
+            if blank.place().is(place) {
+                return Some(blank);
+            }
+        }
+        None
+    }
+
+    /// Keeps a page that isn't too long, in the stead of one about the same verdict of the same file, or of the oldest.
+    pub fn keep_page(&mut self, page: KeptPage) {
+        if page.text().len() > KEPT_BYTES {
+            return;
+        }
+        if let Some(gone) = self.leaving(page.place()) {
+            let _gone = self.pages.remove(gone);
+        }
+        let _is_kept = self.pages.push(page);
+    }
+
+    /// Keeps that a file doesn't tell a verdict, if need be in the stead of the oldest.
+    pub fn keep_blank(&mut self, blank: BlankFile) {
+        if self.blanks.len() >= KEPT_BLANKS {
+            let _oldest = self.blanks.remove(0);
+        }
+        let _is_kept = self.blanks.push(blank);
+    }
+
+    /// Returns which page leaves when one of this place comes, if one has to.
+    fn leaving(&self, place: &Place) -> Option<usize>
+        ensures { IfSome result (λ gone. gone < length self.now.pages.items) }
+    {
+        for at in 0..self.pages.len() {
+            if self.pages[at].place().is_about(place) {
+                return Some(at);
+            }
+        }
+        if self.pages.len() >= KEPT_PAGES {
+            Some(0)
+        } else {
+            None
+        }
+    }
+}
