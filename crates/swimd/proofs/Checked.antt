@@ -18,7 +18,7 @@ use Rattle.swim_commands.specs.declared.outcomes.Outcome.TheVariants.{AskRefused
 use Rattle.swim_commands.specs.declared.outcomes.Outcome.TheVariants.{AskUnread, Helped}
 use Rattle.swimd.specs.Checking.{ChecksKnown, Shows, is_unwritten}
 use Rattle.swimd.specs.Daemon.{IsNoConfiguration}
-use Rattle.swimd.specs.Documents.{Document}
+use Rattle.swim_writer.specs.Documents.{Document}
 use Rattle.swim_config.specs.Configuration.{config_of}
 use Rattle.swim_config.specs.Inputs.{IsRead}
 use Rattle.swim_config.specs.Reading.{OrNoMemory}

@@ -1,10 +1,8 @@
 pub mod Booking
 pub mod Checked
 pub mod DaemonLives
-pub mod Documented
 pub mod Done
 pub mod Explained
-pub mod HeldTexts
 pub mod Keys
 pub mod Kept
 pub mod Lines

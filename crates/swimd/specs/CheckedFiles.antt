@@ -5,7 +5,7 @@ use Rattle.swim_keeper.specs.Endings.{Written}
 use Rattle.swim_commands.specs.declared.outcomes.Outcome.{Outcome}
 use Rattle.swimd.specs.Checking.{Shows}
 use Rattle.swimd.specs.Daemon.{IsConfiguration, IsNoConfiguration}
-use Rattle.swimd.specs.Documents.{Document}
+use Rattle.swim_writer.specs.Documents.{Document}
 
 -- the configuration in the file at this path was shown; or there is none, and nothing was written
 abbrev pub ChecksFile : List ℕ → Option (List Document) → Option (List Document) → Option (List ℕ) → Option (List ℕ) →

@@ -18,7 +18,7 @@ use Rattle.swim_commands.specs.Outcomes.{outcome_text, status_of}
 use Rattle.swimd.specs.Served.{ServesWeb}
 use Rattle.swim_commands.specs.Watched.{WatchesDaemon}
 use Rattle.swim_commands.specs.Words.{Wanted, Check, CheckFile, Run, Ask, Watch, Web, MakeKey, Help, Version}
-use Rattle.swimd.specs.Documents.{Document}
+use Rattle.swim_writer.specs.Documents.{Document}
 
 -- an outcome was told on standard error, with details below it, as far as it took the text, and by the status; failed
 -- writes

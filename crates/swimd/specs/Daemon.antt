@@ -17,7 +17,7 @@ use Rattle.swim_work.specs.Posts.{Grows}
 use Rattle.swim_config.specs.Reading.{OrNoMemory}
 use Rattle.swimd.specs.Checking.{Warned}
 use Rattle.swimd.specs.DaemonLives.{AreDaemonLives, AtDaemon, IsBeginning}
-use Rattle.swimd.specs.Documents.{Document, document}
+use Rattle.swim_writer.specs.Documents.{Document, document}
 
 -- the file at this path was read, and nothing else; this was its text, and this is the configuration that it is
 abbrev pub IsWritten : List ℕ → List ℕ → Option (List Document) → Option (List Document) → Config → Type 0

@@ -3,7 +3,7 @@ use Rattle.std.specs.Prelude.{◌≡◌, ℕ, Bool, true, List, [], ◌∷◌, �
 use Rattle.swim_journal.specs.Comments.{without_comments}
 use Rattle.swim_keeper.specs.Filing.{Filed, IsTakenBack}
 use Rattle.swim_trail.specs.Noted.{map_more}
-use Rattle.swimd.specs.HeldTexts.{AtText}
+use Rattle.swim_writer.specs.HeldTexts.{AtText}
 
 -- what was noted of a file: the number of its life, whether it is kept, what it took, and what its desk took of that
 abbrev pub Note : Type 0

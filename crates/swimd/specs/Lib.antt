@@ -5,10 +5,8 @@ pub mod Chronicled
 pub mod Commands
 pub mod Daemon
 pub mod DaemonLives
-pub mod Documents
 pub mod Figures
 pub mod Folders
-pub mod HeldTexts
 pub mod Reloading
 pub mod Served
 pub mod Totals

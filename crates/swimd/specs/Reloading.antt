@@ -7,7 +7,7 @@ use Rattle.swim_config.specs.Reading.{OrNoMemory}
 use Rattle.swim_reload.specs.Reloaded.{reloaded_text}
 use Rattle.swim_reload.specs.Rereading.{configs_of}
 use Rattle.swim_work.specs.Posts.{Grows}
-use Rattle.swimd.specs.Documents.{Document, document}
+use Rattle.swim_writer.specs.Documents.{Document, document}
 
 -- the file at this path was read, and nothing else: this is its configuration, and the line tells which keys need a
 -- start, beside the configuration of the text at the start

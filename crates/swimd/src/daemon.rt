@@ -14,7 +14,6 @@ use crate::commands::checking::warn;
 use crate::commands::configurations::read_configuration;
 use crate::commands::documents::Documents;
 use crate::counting::counters::Counters;
-use crate::counting::metrics_times::MetricsTimes;
 use crate::daemon::crews::{Shared, leave};
 use crate::daemon::doors::open_door;
 use crate::daemon::lives::keep_lives;
@@ -43,6 +42,7 @@ use swim_streams::Timely;
 use swim_text::Sink;
 use swim_wire::Peer;
 use swim_work::TidingsBoard;
+use swim_writer::MetricsTimes;
 
 /// Which configuration file a daemon is to have, whether it is to be quiet, and who reads the file.
 #[derive(Drop)]

@@ -14,7 +14,6 @@ use commands::documents::{Documents, SystemDocuments};
 use commands::given::{take_given, words_in};
 use commands::program_commands::{self, Streams};
 use commands::stacks::begin_on_own_stack;
-use journals::disk_workers::serve_disk;
 use std::alloc::Global;
 use std::fs::File;
 use std::io::{IsTerminal, Write};
@@ -31,6 +30,7 @@ use swim_streams::{
     TEXT_BYTES, Timely, TimelySink, shared,
 };
 use swim_text::{ReadSource, Sink, Source, WriteSink};
+use swim_writer::serve_disk;
 use telling::clerks::{Clerk, Desks, Log};
 
 /// The program runs in a thread with a stack of its own. This one writes journal files meanwhile, others the metrics

@@ -2,7 +2,7 @@
 
 ghost use Rattle.std.specs.Prelude.{◌≡◌, ◌++◌, ◌∷◌, [], Some, MatchResult, map};
 ghost use Rattle.swim_work.specs.Posts.{Grows};
-ghost use Rattle.swimd.specs.Documents.{document, document_in};
+ghost use Rattle.swim_writer.specs.Documents.{document, document_in};
 
 use arrayvec::ArrayVec;
 use std::fs;
@@ -18,7 +18,7 @@ use swim_trail::{Remembered, Trail};
 pub trait Documents {
     ghost use Rattle.std.specs.Prelude.{List, Option, ◌≡◌, ◌∷◌, [], MatchResult};
     ghost use Rattle.swim_work.specs.Posts.{Grows};
-    ghost use Rattle.swimd.specs.Documents.{Document, document};
+    ghost use Rattle.swim_writer.specs.Documents.{Document, document};
 
     // the files that it read so far, oldest first, where those are known
     ghost read: { Self → Option (List Document) };

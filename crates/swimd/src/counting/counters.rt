@@ -5,7 +5,6 @@ ghost use Rattle.swim_config.specs.Fingerprints.{fingerprint_of};
 ghost use Rattle.swimd.specs.Figures.{IsOutside, IsStats};
 
 use crate::counting::text_sinks::TextSink;
-use crate::journals::remarks::Remarks;
 use crate::telling::bulletins::{Bulletin, Counted};
 use crate::telling::refusals::Refusals;
 use crate::telling::strangers::{StrangerCounts, Strangers};
@@ -17,6 +16,7 @@ use swim_guard::RingKeys;
 use swim_keys::{GroupKey, MOST_KEYS};
 use swim_metrics::{FileFigures, Fingerprints, Measures, Outside, put_stats};
 use swim_wire::Id;
+use swim_writer::Remarks;
 
 /// What the metrics tell of a configuration.
 #[derive(Clone, Copy)]

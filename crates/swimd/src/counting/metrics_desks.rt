@@ -1,7 +1,6 @@
 //! Where figures are laid for the thread that writes the metrics file, which alone waits for its disk.
 
 use crate::counting::counters::Figures;
-use crate::counting::metrics_files::{MetricsFiles, Unwritten};
 use arrayvec::ArrayString;
 use std::fs::File;
 use std::io::ErrorKind;
@@ -9,6 +8,7 @@ use std::mem;
 use std::rt::{Clock, Files};
 use std::sync::{Condvar, Mutex, Wait};
 use std::time::Duration;
+use swim_writer::{MetricsFiles, Unwritten};
 
 /// How long the end of a daemon waits for its last figures to be written, in milliseconds.
 const LAST_MS: u64 = 1_000;

@@ -5,9 +5,7 @@ ghost use Rattle.swim_receiver.specs.Rejoining.{IsReturning};
 ghost use Rattle.swimd.specs.DaemonLives.{at_receiving, at_ticking, none_connected, none_received, none_ticked};
 
 use crate::counting::counters::Counters;
-use crate::counting::metrics_times::MetricsTimes;
 use crate::daemon::reloading::Reloading;
-use crate::journals::journal_files::JournalFile;
 use crate::telling::chroniclers::Chronicler;
 use crate::telling::clerks::Clerk;
 use crate::telling::entrances::{end_watching, pause_ms};
@@ -33,6 +31,7 @@ use swim_recorder::{JournalRecorder, Reporter};
 use swim_text::Sink;
 use swim_ticker::Ticker;
 use swim_work::{Line, Pace, Post, RejoinLookup};
+use swim_writer::{JournalFile, MetricsTimes};
 
 /// By which a daemon hears: what comes faster than the fence lets in is thrown away first, and then what has no tag by a
 /// key of the group. Of both is noted how many there were.

@@ -10,7 +10,6 @@ ghost use Rattle.swimd.specs.DaemonLives.{AreSeenLives, at_daemon, at_receiving,
 
 use crate::daemon::crews::{ClockPace, DaemonCrew, GuardedLine, GuardedPost};
 use crate::journals::folders::Folder;
-use crate::journals::journal_files::JournalFile;
 use crate::telling::chroniclers::Chronicler;
 use crate::telling::clerks::Clerk;
 use crate::telling::notices::Announcer;
@@ -30,6 +29,7 @@ use swim_recorder::Reporter;
 use swim_text::Sink;
 use swim_ticker::each_tick_is_a_call;
 use swim_work::{Line, Pace, Post};
+use swim_writer::JournalFile;
 
 /// The keeper of a daemon's lives.
 pub type DaemonKeeper<'g, 'w, 'f, 'h, 's, 'b, R, W, F> = LifeKeeper<

@@ -5,10 +5,7 @@ ghost use Rattle.swim_journal.specs.Comments.{without_comments};
 ghost use Rattle.swim_keeper.specs.Notices.{Notices};
 
 use crate::counting::counters::Counters;
-use crate::journals::disk_desks::{Begun, DiskDesk};
 use crate::journals::file_faults::words_for;
-use crate::journals::held_texts::HeldText;
-use crate::journals::journal_files::JournalFile;
 use crate::telling::clerks::Clerk;
 use crate::telling::notices::Notice;
 use std::alloc::{AllocError, Global};
@@ -16,12 +13,14 @@ use std::fs::File;
 use std::net::Net;
 use std::rt::{Clock, Files};
 use std::sync::{Arc, Wait};
+use swim_commands::VERSION;
 use swim_config::JournalFiles;
 use swim_disk::{DirPath, FileEnd, LostFile, NewFile, Stamp};
 use swim_keeper::Shelf;
 use swim_text::Sink;
 use swim_trail::Trail;
 use swim_wire::Id;
+use swim_writer::{Begun, DiskDesk, HeldText, JournalFile};
 
 /// The folder in which a daemon has a file made for each of its lives, if it does: by whoever serves its desk, so that no
 /// life waits for a disk longer than a moment. What fails is told among the notices. A contract sees for which lives it
@@ -133,7 +132,8 @@ impl<'r, R: Net + Clock + Wait> Folder<'r, R> {
     fn file(&self, desk: Option<Arc<DiskDesk, Global>>) -> JournalFile<'r, R>
         ensures { result.text.taken ≡ [] }
     {
-        JournalFile::new(self.rt, &self.counters.remarks, self.files.unit, desk)
+        let remarks = &self.counters.remarks;
+        JournalFile::new(self.rt, remarks, VERSION, self.files.unit, desk)
     }
 
     /// Ends the newest file, and answers whether it is whole. Where it isn't, and nobody was told yet, it is told.

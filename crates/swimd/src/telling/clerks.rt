@@ -4,14 +4,13 @@ ghost use Rattle.swim_text.specs.Streams.{Puts};
 
 use crate::counting::counters::Figures;
 use crate::counting::metrics_desks::MetricsDesk;
-use crate::counting::metrics_files::Unwritten;
-use crate::journals::disk_desks::DiskDesk;
 use std::alloc::{AllocError, Global};
 use std::rt::Clock;
 use std::sync::{Arc, Wait};
 use swim_disk::LostFile;
 use swim_metrics::FileFigures;
 use swim_text::Sink;
+use swim_writer::{DiskDesk, Unwritten};
 
 /// Who is handed what is to be written, and has it written. It waits for no disk.
 pub trait Clerk {

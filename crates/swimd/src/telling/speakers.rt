@@ -2,9 +2,8 @@
 //! turned away, and metrics. The controller has the time for it, so that nobody else waits.
 
 use crate::counting::counters::Counters;
-use crate::counting::metrics_times::MetricsTimes;
 use crate::daemon::reloading::{Reloaded, Reloading};
-use crate::journals::file_faults::words_for;
+use crate::journals::file_faults::{words_for, words_unwritten};
 use crate::telling::clerks::Clerk;
 use crate::telling::happenings::tell_changes;
 use crate::telling::notices::Notice;
@@ -22,6 +21,7 @@ use swim_disk::MOST_FILES;
 use swim_metrics::{OddCount, OddMessage};
 use swim_text::Sink;
 use swim_wire::Peer;
+use swim_writer::MetricsTimes;
 
 /// How long no more datagrams of a kind are told that were thrown away, once some were, in seconds.
 const PAUSE_SECONDS: u64 = 60;
@@ -263,7 +263,7 @@ impl<'s, 'r, R: Files<File = File> + Net + Clock, G: Sink + Clerk + Drop> LogSpe
             return;
         };
         if self.counters.bulletin.count_unwritten() == 0 {
-            let notice = Notice::unwritten_metrics(self.rt, path, why.words());
+            let notice = Notice::unwritten_metrics(self.rt, path, words_unwritten(why));
             notice.tell_notice(self.rt, self.alloc, &mut self.log);
         }
     }

@@ -1,5 +1,0 @@
-use Rattle.swimd.proofs.Documented.{one_more_file}
-use Rattle.swimd.proofs.counting.metrics_files.MetricsFiles.write.Goals as goal
-
-pub returns-in-Ok : goal.returns-in-Ok
-returns-in-Ok g c = one_more_file _ _ _ _ _ _ c.note.ensures c.as_bytes.ensures.value c.in-Ok.ensures
