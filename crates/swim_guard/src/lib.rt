@@ -1,4 +1,5 @@
-//! Who is heard: lines and a post over others, for a group whose members sign what they send, and against floods.
+//! Who is heard: lines and a post over others, for a group whose members sign what they send, and against floods; and
+//! how much was thrown away.
 #![tactic(auto)]
 
 mod fenced_lines;
@@ -7,6 +8,7 @@ mod rule_books;
 mod rule_lookups;
 mod sealed_lines;
 mod sealed_posts;
+mod strangers;
 mod thrown;
 mod timepieces;
 
@@ -14,5 +16,6 @@ pub use fenced_lines::FencedLine;
 pub use rule_books::{RingKeys, RuleBook};
 pub use sealed_lines::SealedLine;
 pub use sealed_posts::SealedPost;
+pub use strangers::{NotingLine, SharedThrown, StrangerCounts, Strangers};
 pub use thrown::{Sieve, Thrown};
 pub use timepieces::{ClockTimepiece, Timepiece};

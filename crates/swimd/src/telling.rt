@@ -8,4 +8,3 @@ pub(crate) mod happenings;
 pub(crate) mod notices;
 pub(crate) mod refusals;
 pub(crate) mod speakers;
-pub(crate) mod strangers;

@@ -11,7 +11,6 @@ use crate::telling::clerks::Clerk;
 use crate::telling::entrances::{end_watching, pause_ms};
 use crate::telling::refusals::CountedEntrance;
 use crate::telling::speakers::LogSpeaker;
-use crate::telling::strangers::NotingLine;
 use std::alloc::{AllocError, Global};
 use std::fs::File;
 use std::net::Net;
@@ -25,7 +24,7 @@ use swim_devices::{
     ClockSleeper, SleepingPace, StreamOutlet, UdpEndpoint, UdpLine, UdpPost, UnixEntrance,
 };
 use swim_events::{Entrance, Gallery};
-use swim_guard::{ClockTimepiece, FencedLine, SealedLine, SealedPost};
+use swim_guard::{ClockTimepiece, FencedLine, NotingLine, SealedLine, SealedPost};
 use swim_receiver::{Receiver, Returning};
 use swim_recorder::{JournalRecorder, Reporter};
 use swim_text::Sink;

@@ -1,14 +1,14 @@
-//! Datagrams that nobody of the group sent, and more than the fence lets in. The receiver counts them, and the worker
-//! at the door tells of them, so that no datagram waits for a line on standard error.
+//! Datagrams that nobody of the group sent, and more than the fence lets in. Who receives notes how many there are, and
+//! another thread tells of them, so that no datagram waits for a line on standard error.
 
 ghost use Rattle.std.specs.Prelude.{◌≡◌, ◌≤◌, ◌∷◌, [], length};
 ghost use Rattle.swim_work.specs.Gates.{FitsInto};
 ghost use Rattle.swim_work.specs.Posts.{Grows};
 
+use crate::thrown::{Sieve, Thrown};
 use std::marker::Model;
 use std::sync::Wait;
 use std::sync::atomic::{AtomicU64, Ordering};
-use swim_guard::{Sieve, Thrown};
 use swim_wire::{KNOWN_MEMBERS, Peer};
 use swim_work::{Got, Line};
 
