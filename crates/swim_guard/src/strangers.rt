@@ -54,7 +54,9 @@ impl SharedThrown {
 /// group.
 #[derive(Drop)]
 pub struct Strangers {
+    /// What came faster than the fence lets in.
     pub fenced: SharedThrown,
+    /// What has no tag by a key of the group.
     pub forged: SharedThrown,
 }
 

@@ -1,4 +1,3 @@
-pub mod Booking
 pub mod Checked
 pub mod DaemonLives
 pub mod Done

@@ -1,18 +1,10 @@
 -- What is told while a daemon starts.
-use Rattle.std.proofs.Common.{◌≡◌, ℕ, false, List, [], ◌∷◌, refl, sym, subst, inl, inr}
-use Rattle.swim_text.specs.Lines.{has_feed}
+use Rattle.std.proofs.Common.{◌≡◌, refl, sym, subst, inl, inr}
 use Rattle.swim_config.specs.declared.config.Config.{Config}
-use Rattle.swim_keeper.specs.Endings.{TellsText, Written}
-use Rattle.swim_keeper.specs.Notices.{Notices, line_text, notices_both}
+use Rattle.swim_keeper.specs.Endings.{Written}
+use Rattle.swim_keeper.specs.Notices.{Notices, notices_both}
 use Rattle.swim_commands.specs.declared.outcomes.Outcome.{Outcome}
 use Rattle.swimd.specs.Daemon.{IsNoDoor, IsNoEntrance, Starts}
-
-pub one_noticed : (old new : Written) (line : List ℕ) → has_feed line ≡ false → TellsText (line_text line) old new →
-    Notices old new
-one_noticed old new line one told = (line ∷ [], (old, refl, one, told))
-
-pub two_noticed : (old then new : Written) → Notices old then → Notices then new → Notices old new
-two_noticed old then new a b = notices_both old then new a b
 
 pub three_noticed : (old first then new : Written) → Notices old first → Notices first then → Notices then new →
     Notices old new

@@ -1,12 +1,7 @@
-pub mod Booked
 pub mod CheckedFiles
 pub mod Checking
-pub mod Chronicled
 pub mod Commands
 pub mod Daemon
 pub mod DaemonLives
-pub mod Figures
-pub mod Folders
 pub mod Reloading
 pub mod Served
-pub mod Totals

@@ -2,8 +2,10 @@
 
 pub(crate) mod crews;
 pub(crate) mod doors;
+pub(crate) mod entrances;
 pub(crate) mod lives;
 pub(crate) mod reloading;
+pub(crate) mod speakers;
 
 ghost use Rattle.std.specs.Prelude.{◌≡◌, []};
 ghost use Rattle.swim_keeper.specs.Notices.{Notices};
@@ -13,15 +15,11 @@ ghost use Rattle.swim_commands.specs.Details.{Explains};
 use crate::commands::checking::warn;
 use crate::commands::configurations::read_configuration;
 use crate::commands::documents::Documents;
-use crate::counting::counters::Counters;
 use crate::daemon::crews::{Shared, leave};
 use crate::daemon::doors::open_door;
+use crate::daemon::entrances::open_entrance;
 use crate::daemon::lives::keep_lives;
 use crate::daemon::reloading::{Reloading, rejoin_of};
-use crate::journals::folders::Folder;
-use crate::telling::clerks::Clerk;
-use crate::telling::entrances::open_entrance;
-use crate::telling::notices::{Announcer, Notice};
 use arrayvec::ArrayVec;
 use jiff::Timestamp;
 use std::alloc::Global;
@@ -38,6 +36,7 @@ use swim_desk::Door;
 use swim_devices::{UdpEndpoint, UnixEntrance};
 use swim_guard::RuleBook;
 use swim_keeper::LifeKeeper;
+use swim_reports::{Announcer, Clerk, Counters, Folder, Notice};
 use swim_streams::Timely;
 use swim_text::Sink;
 use swim_wire::Peer;
@@ -116,7 +115,7 @@ pub fn run<
 }
 
 /// Runs the daemon of a configuration, and tells how many lines of its lives weren't taken.
-#[tactic(auto, using(swim_keeper::specs::Notices::no_notices, crate::proofs::Noticed::two_noticed))]
+#[tactic(auto, using(swim_keeper::specs::Notices::no_notices, swim_reports::proofs::Noticed::two_noticed))]
 fn run_configured<
     'g,
     R: Files<File = File> + Net + Clock + Threads + Wait + Sync,
@@ -156,7 +155,7 @@ fn tell_left_out<R: Net + Clock, F: Sink>(rt: &R, alloc: Global, count: u64, fau
 }
 
 /// Opens the gates of a configuration, and lives over them.
-#[tactic(auto, using(swim_keeper::specs::Notices::no_notices, crate::proofs::Noticed::two_noticed, crate::proofs::Noticed::no_door, crate::proofs::Noticed::no_entrance, crate::proofs::Explained::nothing_explains))]
+#[tactic(auto, using(swim_keeper::specs::Notices::no_notices, swim_reports::proofs::Noticed::two_noticed, crate::proofs::Noticed::no_door, crate::proofs::Noticed::no_entrance, crate::proofs::Explained::nothing_explains))]
 fn start<
     'g,
     R: Files<File = File> + Net + Clock + Threads + Wait + Sync,

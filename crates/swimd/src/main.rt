@@ -5,10 +5,7 @@
 ghost use Rattle.std.specs.Prelude.{◌≡◌};
 
 mod commands;
-mod counting;
 mod daemon;
-mod journals;
-mod telling;
 
 use commands::documents::{Documents, SystemDocuments};
 use commands::given::{take_given, words_in};
@@ -25,13 +22,13 @@ use std::sync::{Arc, Wait};
 use std::thread::{JoinHandle, Threads};
 use swim_commands::{Details, Outcome, Surroundings};
 use swim_config::ConfigFault;
+use swim_reports::{Clerk, Desks, Log};
 use swim_streams::{
     DeskStream, STANDARD_ERROR, STANDARD_OUTPUT, ScreenSink, StreamDesk, StreamDesks, StreamDoor,
     TEXT_BYTES, Timely, TimelySink, shared,
 };
 use swim_text::{ReadSource, Sink, Source, WriteSink};
 use swim_writer::serve_disk;
-use telling::clerks::{Clerk, Desks, Log};
 
 /// The program runs in a thread with a stack of its own. This one writes journal files meanwhile, others the metrics
 /// and those standard streams that are files, as they alone may wait for their disks.

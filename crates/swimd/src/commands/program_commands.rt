@@ -12,7 +12,6 @@ use crate::commands::documents::Documents;
 use crate::commands::key_making::make_key;
 use crate::commands::web::serve_web;
 use crate::daemon::{Launch, run};
-use crate::telling::clerks::Clerk;
 use std::alloc::Global;
 use std::fs::File;
 use std::net::Net;
@@ -25,6 +24,7 @@ use swim_commands::{
     explain_words, put_outcome, read_words, watch_daemon,
 };
 use swim_config::ConfigFault;
+use swim_reports::Clerk;
 use swim_streams::Timely;
 use swim_text::{ReadSource, Sink, Source};
 

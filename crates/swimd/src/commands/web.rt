@@ -5,7 +5,6 @@ ghost use Rattle.swim_keeper.specs.Notices.{Notices};
 ghost use Rattle.swim_commands.specs.Details.{Explains};
 ghost use Rattle.swimd.specs.Served.{ServesWeb};
 
-use crate::telling::notices::Notice;
 use mio::net::TcpListener;
 use std::alloc::{AllocError, Global};
 use std::fs::File;
@@ -18,6 +17,7 @@ use swim_commands::{
     Details, FileShelf, Outcome, SocketDaemon, SocketEvents, WebRequest, words_why,
 };
 use swim_config::ConfigFault;
+use swim_reports::Notice;
 use swim_text::Sink;
 use swim_web::{Recent, Web, run};
 use swim_wire::Peer;

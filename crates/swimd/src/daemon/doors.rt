@@ -4,8 +4,7 @@ ghost use Rattle.std.specs.Prelude.{◌≡◌, IfErr, IfOk};
 ghost use Rattle.swim_keeper.specs.Notices.{Notices};
 ghost use Rattle.swimd.specs.Daemon.{IsNoDoor};
 
-use crate::telling::entrances::{opened, tell_socket};
-use crate::telling::notices::Notice;
+use crate::daemon::entrances::{opened, tell_socket};
 use std::alloc::Global;
 use std::fs::File;
 use std::io::ErrorKind;
@@ -14,6 +13,7 @@ use std::rt::{Clock, Files};
 use swim_commands::{Details, Outcome};
 use swim_config::Config;
 use swim_devices::{Place, SystemRemover, UnixDoor};
+use swim_reports::Notice;
 use swim_text::Sink;
 
 /// The door at the path of a configuration's control socket, from which a stale socket is removed, or why there is

@@ -9,10 +9,6 @@ ghost use Rattle.swim_keeper.specs.Notices.{Notices};
 ghost use Rattle.swimd.specs.DaemonLives.{AreSeenLives, at_daemon, at_receiving, at_ticking, told_by};
 
 use crate::daemon::crews::{ClockPace, DaemonCrew, GuardedLine, GuardedPost};
-use crate::journals::folders::Folder;
-use crate::telling::chroniclers::Chronicler;
-use crate::telling::clerks::Clerk;
-use crate::telling::notices::Announcer;
 use std::alloc::Global;
 use std::fs::File;
 use std::net::Net;
@@ -26,6 +22,7 @@ use swim_keeper::laws::a_kept_life_is_told;
 use swim_keeper::{Herald, LifeKeeper, Shelf};
 use swim_receiver::each_datagram_is_heard;
 use swim_recorder::Reporter;
+use swim_reports::{Announcer, Chronicler, Clerk, Folder};
 use swim_text::Sink;
 use swim_ticker::each_tick_is_a_call;
 use swim_work::{Line, Pace, Post};

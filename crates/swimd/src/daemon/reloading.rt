@@ -7,7 +7,6 @@ ghost use Rattle.swimd.specs.Daemon.{rejoin_of};
 ghost use Rattle.swimd.specs.Reloading.{IsNotReloaded, IsReloaded, IsTextOrFront};
 
 use crate::commands::documents::{Documents, SystemDocuments};
-use crate::counting::text_sinks::TextSink;
 use arrayvec::ArrayVec;
 use std::alloc::Global;
 use std::fs;
@@ -18,6 +17,7 @@ use swim_config::{Config, ConfigFault, INPUT_BYTES};
 use swim_control::ReloadText;
 use swim_guard::{RingKeys, RuleBook};
 use swim_reload::{put_reloaded, reread};
+use swim_reports::TextSink;
 use swim_work::TidingsBoard;
 
 /// What a daemon needs to read its configuration file again.

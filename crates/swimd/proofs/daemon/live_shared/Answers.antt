@@ -1,6 +1,6 @@
 use Rattle.std.proofs.Common.{rules, ◌≡◌, List, map, Some, ap}
 use Rattle.swim_trail.specs.Noted.{value_in}
-use Rattle.swimd.specs.Folders.{filed_in}
+use Rattle.swim_reports.specs.Folders.{filed_in}
 use Rattle.swimd.proofs.Kept.{noticed_so, starts_so}
 use Rattle.swimd.proofs.daemon.live_shared.Goals as goal
 

@@ -1,4 +1,4 @@
-use Rattle.swimd.proofs.Noticed.{two_noticed}
+use Rattle.swim_reports.proofs.Noticed.{two_noticed}
 use Rattle.swimd.proofs.daemon.run_configured.Goals as goal
 
 pub returns-clause-notices : goal.returns-clause-notices

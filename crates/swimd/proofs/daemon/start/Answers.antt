@@ -1,4 +1,5 @@
-use Rattle.swimd.proofs.Noticed.{four_noticed, two_noticed}
+use Rattle.swim_reports.proofs.Noticed.{two_noticed}
+use Rattle.swimd.proofs.Noticed.{four_noticed}
 use Rattle.swimd.proofs.daemon.start.Goals as goal
 
 pub returns-clause-notices : goal.returns-clause-notices

@@ -1,4 +1,4 @@
-use Rattle.swimd.proofs.Noticed.{two_noticed}
+use Rattle.swim_reports.proofs.Noticed.{two_noticed}
 use Rattle.swimd.proofs.commands.web.announce.Goals as goal
 
 pub returns : goal.returns

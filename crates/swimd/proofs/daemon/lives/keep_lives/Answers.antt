@@ -3,8 +3,8 @@ use Rattle.swim_trail.specs.Noted.{value_in}
 use Rattle.swim_crew.specs.Crews.{stand_at}
 use Rattle.swim_keeper.specs.Keeping.{outlets}
 use Rattle.swim_keeper.proofs.Lives.{all_kept, all_noticed}
-use Rattle.swimd.specs.Chronicled.{report_in}
-use Rattle.swimd.specs.Folders.{filed_in}
+use Rattle.swim_reports.specs.Chronicled.{report_in}
+use Rattle.swim_reports.specs.Folders.{filed_in}
 use Rattle.swimd.proofs.DaemonLives.{all_lived, handed, knocks, receiving, talks, ticking}
 use Rattle.swimd.proofs.daemon.lives.keep_lives.Goals as goal
 
