@@ -7,5 +7,3 @@ pub mod Outcomes
 pub mod Watched
 pub mod Words
 pub mod Worked
-pub mod Shelves
-pub mod Looked

@@ -1,5 +1,5 @@
 //! The commands of the daemon's program: its words, how a command ends and what a person is told of it, and the clients
-//! of a daemon that runs (`ask`, `watch`, `web`).
+//! of a daemon that runs (`ask`, `watch`).
 #![tactic(auto)]
 
 mod ages;
@@ -10,11 +10,9 @@ mod askers;
 mod control_lines;
 mod details;
 mod event_sockets;
-mod file_places;
 mod file_words;
 mod forms;
 mod hints;
-mod kept_pages;
 mod member_tables;
 mod names;
 mod options;
@@ -22,22 +20,19 @@ mod outcomes;
 mod sockets;
 mod surroundings;
 mod watch;
-mod web_daemons;
-mod web_events;
-mod web_shelves;
 mod web_words;
 mod words;
 
+pub use answers::ControlAnswer;
 pub use ask::ask_daemon;
 pub use ask_words::{Request, has_feed};
+pub use askers::{Asker, Came};
 pub use details::{Details, TEXT_BYTES, add_printed, words_of, words_why};
 pub use forms::Form;
 pub use hints::{explain_no_text, explain_words};
 pub use outcomes::{Outcome, put_outcome};
+pub use sockets::ControlSocket;
 pub use surroundings::Surroundings;
 pub use watch::watch_daemon;
-pub use web_daemons::SocketDaemon;
-pub use web_events::SocketEvents;
-pub use web_shelves::FileShelf;
 pub use web_words::WebRequest;
 pub use words::{Asked, Unasked, VERSION, VERSION_LINE, read_words};

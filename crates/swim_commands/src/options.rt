@@ -13,12 +13,7 @@ pub fn needed<'a>(alloc: Global, name: &'a str, value: &'a str, help: &'a str) -
     ensures rule { rule_of result ≡ needed_rule name.entry.now }
     ensures local { result.global ≡ false }
 {
-    Arg::new(alloc, name)
-        .long(name)
-        .value_name(value)
-        .action(ArgAction::Set)
-        .required(true)
-        .help(help)
+    valued(alloc, name, value, help).required(true)
 }
 
 /// An option with a value.

@@ -46,7 +46,8 @@ pub struct ControlSocket<'r, 'p, R: Net + Clock> {
 }
 
 impl<'r, 'p, R: Net + Clock> ControlSocket<'r, 'p, R> {
-    /// The daemon at this path, each of whose answers may take so many seconds. Fails where nobody listens there.
+    /// Connects to the daemon at this path. Each of its answers may take so many seconds, the first one less by what
+    /// connecting took. Fails if nobody listens there, or lets nobody in within that time.
     pub fn open(rt: &'r R, path: &'p str, seconds: u64) -> io::Result<ControlSocket<'r, 'p, R>> {
         let limit = Duration::from_secs(seconds);
         let timer = Timer::new(rt, limit)?;
@@ -62,8 +63,8 @@ impl<'r, 'p, R: Net + Clock> ControlSocket<'r, 'p, R> {
         })
     }
 
-    /// The daemon at this path, each of whose answers may take so long. Nobody is looked for yet. Fails where the system
-    /// can't tell the time.
+    /// Returns the daemon at this path, each of whose answers may take as long as the limit. Nobody has looked for it
+    /// yet. Fails if the system can't tell the time.
     pub fn of(rt: &'r R, path: &'p str, limit: Duration) -> io::Result<ControlSocket<'r, 'p, R>> {
         Ok(ControlSocket {
             rt,

@@ -8,12 +8,12 @@ ghost use Rattle.clap.specs.declared.builder.command.Command.TheViews.{out-Comma
 ghost use Rattle.swim_commands.specs.Words.{folder_in, folder_of, names_in, names_of, option_rule, repeated_rule};
 ghost use Rattle.swim_commands.specs.Words.{wanted, web_app, web_in};
 
-use crate::options::needed;
+use crate::options::{needed, valued};
 use crate::words::Asked;
 use arrayvec::ArrayVec;
 use clap::{Arg, ArgAction, ArgMatches, Command};
 use std::alloc::{AllocError, Global};
-use swim_disk::DIR_BYTES;
+use swim_config::PATH_BYTES;
 use swim_wire::Peer;
 
 /// How many names of its host may be given.
@@ -68,11 +68,12 @@ fn events<'a>(alloc: Global) -> Arg<'a>
     ensures rule { rule_of result ≡ option_rule (codes "events") }
     ensures local { result.global ≡ false }
 {
-    Arg::new(alloc, "events")
-        .long("events")
-        .value_name("PATH")
-        .action(ArgAction::Set)
-        .help("The path of the daemon's events' socket, whose changes are passed on")
+    valued(
+        alloc,
+        "events",
+        "PATH",
+        "The path of the daemon's events' socket, whose changes are passed on",
+    )
 }
 
 /// The option with the folder of journal files.
@@ -80,11 +81,12 @@ fn journals<'a>(alloc: Global) -> Arg<'a>
     ensures rule { rule_of result ≡ option_rule (codes "journals") }
     ensures local { result.global ≡ false }
 {
-    Arg::new(alloc, "journals")
-        .long("journals")
-        .value_name("DIR")
-        .action(ArgAction::Set)
-        .help("The folder of the daemon's journal files, by which its verdicts are explained")
+    valued(
+        alloc,
+        "journals",
+        "DIR",
+        "The folder of the daemon's journal files, by which its verdicts are explained",
+    )
 }
 
 /// The option with a name of the host.
@@ -134,7 +136,7 @@ pub(crate) fn folder_in<'a>(given: &ArgMatches<'a>) -> Option<Option<&'a str>>
 fn folder_of<'a>(path: &'a str) -> Option<Option<&'a str>>
     ensures { option_map (λ dir. option_map (λ path. path.now) dir) result ≡ folder_of path.entry.now }
 {
-    if path.len() <= DIR_BYTES {
+    if path.len() <= PATH_BYTES {
         Some(Some(path))
     } else {
         None

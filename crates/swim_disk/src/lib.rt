@@ -16,7 +16,7 @@ pub use backlogs::{Backlog, Draft, FileTask, MOST_FILES};
 pub use file_faults::FileFault;
 pub use file_sheets::{FileEnd, FileSheet, FileState};
 pub use lost_files::LostFile;
-pub use new_files::{DIR_BYTES, DirPath, NewFile};
+pub use new_files::{DirPath, NewFile};
 pub use old_files::{FilePath, Journaled, Stamp, journals_in, judged_in, path_of};
 pub use pending::{FILE_BYTES, Pending};
 pub use plain_files::{is_file, make_file};

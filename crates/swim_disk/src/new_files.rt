@@ -10,7 +10,7 @@ use std::rt::Files;
 use swim_wire::Id;
 
 /// How many bytes the path of a folder has at most.
-pub const DIR_BYTES: usize = 100;
+const DIR_BYTES: usize = 100;
 
 /// The path of a folder.
 pub type DirPath = ArrayString<DIR_BYTES>;

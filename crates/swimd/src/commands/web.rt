@@ -13,10 +13,9 @@ use std::net::{Ipv4Addr, Net, SocketAddr, SocketAddrV4};
 use std::random::RandomSource;
 use std::rt::{Clock, Files};
 use std::sync::Wait;
-use swim_commands::{
-    Details, FileShelf, Outcome, SocketDaemon, SocketEvents, WebRequest, words_why,
-};
+use swim_commands::{Details, Outcome, WebRequest, words_why};
 use swim_config::ConfigFault;
+use swim_pages::{FileShelf, SocketDaemon, SocketEvents};
 use swim_reports::Notice;
 use swim_text::Sink;
 use swim_web::{Recent, Web, run};

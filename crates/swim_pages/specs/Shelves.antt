@@ -1,6 +1,6 @@
 -- What is shown of verdicts.
 use Rattle.std.specs.Prelude.{◌≡◌, ℕ, List, [], ◌∷◌, ◌++◌}
-use Rattle.swim_commands.specs.declared.file_places.Place.{Place}
+use Rattle.swim_pages.specs.declared.file_places.Place.{Place}
 use Rattle.swim_evidence.specs.declared.findings.Evidence.{Evidence}
 use Rattle.swim_verdicts.specs.declared.examining.Played.{Played}
 use Rattle.swim_verdicts.specs.Examined.{IsEvidence, LacksVerdict, told_by}

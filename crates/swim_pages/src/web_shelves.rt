@@ -1,8 +1,8 @@
 //! The journal files in which `web` looks verdicts up.
 
 ghost use Rattle.std.specs.Prelude.{◌≡◌, IfOk, IfSome};
-ghost use Rattle.swim_commands.specs.Shelves.{ShowsLast};
-ghost use Rattle.swim_commands.specs.Looked.{place_of};
+ghost use Rattle.swim_pages.specs.Shelves.{ShowsLast};
+ghost use Rattle.swim_pages.specs.Looked.{place_of};
 ghost use Rattle.swim_web.specs.declared.shelves.Found.TheVariants as finds;
 
 use crate::file_places::{FileMark, Place};
@@ -29,9 +29,9 @@ pub struct ShownPage {
 
 impl Model for ShownPage {
     ghost use Rattle.std.specs.Coded.{codes};
-    ghost use Rattle.swim_commands.specs.contracts.file_places.Place as spot;
+    ghost use Rattle.swim_pages.specs.contracts.file_places.Place as spot;
     ghost use Rattle.swim_verdicts.specs.contracts.examining.Played as file;
-    ghost use Rattle.swim_commands.specs.Shelves.{PlacedSheet};
+    ghost use Rattle.swim_pages.specs.Shelves.{PlacedSheet};
 
     ghost Value = { PlacedSheet };
 
@@ -125,7 +125,7 @@ impl<'r, 'p, R: Files<File = File>> FileShelf<'r, 'p, R> {
 
 impl<'r, 'p, R: Files<File = File>> Shelf for FileShelf<'r, 'p, R> {
     ghost use Rattle.std.specs.Prelude.{is_some};
-    ghost use Rattle.swim_commands.specs.Shelves.{ShowsLast};
+    ghost use Rattle.swim_pages.specs.Shelves.{ShowsLast};
 
     ghost tells = { λ s member number text. ShowsLast s.shown.items member number text };
 

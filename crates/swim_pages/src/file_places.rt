@@ -1,14 +1,15 @@
 //! Where verdicts are looked for: in files, each of which stands in a certain state.
 
 ghost use Rattle.std.specs.Prelude.{◌≡◌, true};
-ghost use Rattle.swim_commands.specs.Shelves.{AreSame};
+ghost use Rattle.swim_pages.specs.Shelves.{AreSame};
 
 use std::fs::Metadata;
 use std::os::unix::fs::MetadataExt;
 use swim_disk::FilePath;
 use swim_wire::Id;
 
-/// What a file's state is known by. Another file, one with more bytes, or with others, has another mark.
+/// What a file's state is known by. Another file has another mark, and so has one that changed, unless it changed at the
+/// same length within one step of the system's times, some milliseconds.
 #[derive(Clone, Copy, PartialEq, Eq)]
 pub struct FileMark {
     pub device: u64,

@@ -2,12 +2,11 @@
 
 ghost use Rattle.std.specs.Prelude.{None};
 
-use crate::askers::{Asker, Came};
-use crate::sockets::ControlSocket;
 use std::io;
 use std::net::Net;
 use std::rt::Clock;
 use std::time::Duration;
+use swim_commands::{Asker, Came, ControlSocket};
 use swim_web::{Answer, Daemon, Question};
 
 /// How many seconds an answer may take. Whoever asks for a page waits as long.

@@ -1,6 +1,6 @@
 use Rattle.std.proofs.Common.{List, ℕ, subst}
 use Rattle.swim_verdicts.specs.VerdictPages.{IsVerdictPage}
-use Rattle.swim_commands.proofs.kept_pages.KeptPage.write.Goals as goal
+use Rattle.swim_pages.proofs.kept_pages.KeptPage.write.Goals as goal
 
 pub invariant_of-result : goal.invariant_of-result
 invariant_of-result c = record {

@@ -2,7 +2,7 @@ use Rattle.std.proofs.Common.{◌≡◌, refl, subst, ◌∙◌}
 use Rattle.std.specs.Prelude.{Contains, IfOk}
 use Rattle.swim_evidence.specs.declared.findings.Finding.TheVariants.{Judged}
 use Rattle.swim_verdicts.specs.Examined.{LacksVerdict, told_by}
-use Rattle.swim_commands.proofs.web_shelves.look_in.Goals as goal
+use Rattle.swim_pages.proofs.web_shelves.look_in.Goals as goal
 
 pub write-requires : goal.write-requires
 write-requires c =

@@ -1,5 +1,5 @@
 use Rattle.std.proofs.Common.{rules}
-use Rattle.swim_commands.proofs.web_shelves.show.Goals as goal
+use Rattle.swim_pages.proofs.web_shelves.show.Goals as goal
 
 pub returns-clause-page : goal.returns-clause-page
 returns-clause-page c = λ page. record {

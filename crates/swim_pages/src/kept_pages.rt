@@ -1,7 +1,7 @@
 //! What was found of verdicts in files, which is kept: pages, and that files don't tell one.
 
 ghost use Rattle.std.specs.Prelude.{◌≡◌, ◌<◌, IfOk, IfSome, length};
-ghost use Rattle.swim_commands.specs.Shelves.{AreSame, IsUntold, IsWritten};
+ghost use Rattle.swim_pages.specs.Shelves.{AreSame, IsUntold, IsWritten};
 ghost use Rattle.swim_verdicts.specs.Examined.{IsEvidence};
 
 use crate::file_places::Place;
@@ -28,9 +28,9 @@ pub struct KeptPage {
 
 impl Model for KeptPage {
     ghost use Rattle.std.specs.Coded.{codes};
-    ghost use Rattle.swim_commands.specs.contracts.file_places.Place as spot;
+    ghost use Rattle.swim_pages.specs.contracts.file_places.Place as spot;
     ghost use Rattle.swim_verdicts.specs.contracts.examining.Played as file;
-    ghost use Rattle.swim_commands.specs.Shelves.{IsWritten, PlacedSheet};
+    ghost use Rattle.swim_pages.specs.Shelves.{IsWritten, PlacedSheet};
 
     ghost Value = { PlacedSheet };
 
@@ -86,9 +86,9 @@ pub struct BlankFile {
 
 impl Model for BlankFile {
     ghost use Rattle.std.specs.Coded.{codes};
-    ghost use Rattle.swim_commands.specs.contracts.file_places.Place as spot;
+    ghost use Rattle.swim_pages.specs.contracts.file_places.Place as spot;
     ghost use Rattle.swim_verdicts.specs.contracts.examining.Played as file;
-    ghost use Rattle.swim_commands.specs.Shelves.{IsUntold, PlacedFile};
+    ghost use Rattle.swim_pages.specs.Shelves.{IsUntold, PlacedFile};
 
     ghost Value = { PlacedFile };
 
