@@ -1,26 +1,27 @@
--- Each datagram became one call, or was counted: from turn to turn.
-use Rattle.std.proofs.Common.{◌≡◌, ℕ, ◌+◌, ◌-◌, ◌^◌, ◌≤◌, min, List, [], ◌∷◌, ◌++◌, take, Option, Some, None}
-use Rattle.std.proofs.Common.{sym, ap, ◌∙◌, inl, inr, arith, append_assoc, append-nil, zero-add}
+-- Each datagram became one call, behind which who came back was joined, or was counted: from turn to turn.
+use Rattle.std.proofs.Common.{◌≡◌, ℕ, ◌+◌, ◌-◌, ◌^◌, ◌≤◌, Bool, min, List, [], ◌∷◌, ◌++◌, length, take, Option, Some}
+use Rattle.std.proofs.Common.{None, refl, sym, ap, subst, ◌∙◌, inl, inr, arith, append_assoc, append-nil, length-append}
+use Rattle.std.proofs.Common.{zero-add}
 use Rattle.std.proofs.lemmas.Grind.{flat_map-append}
+use Rattle.std.specs.Option.{option_to_list}
+use mathlib.Core.List.{IsPrefix}
 use Rattle.swim_wire.specs.Address.{Address}
-use Rattle.swim_wire.specs.Layout.{IsTextOf}
 use Rattle.swim_wire.specs.Messages.{Message}
 use Rattle.swim_history.specs.declared.calls.Call.{Call}
-use Rattle.swim_history.specs.declared.calls.Call.TheVariants.{Hear, Join}
 use Rattle.swim_history.specs.declared.rows.Row.{Row}
 use Rattle.swim_history.specs.declared.rows.Change.{Change}
 use Rattle.swim_history.specs.declared.seats.Kept.{Kept}
 use Rattle.swim_history.specs.Setting.{Setting}
 use Rattle.swim_node.specs.declared.receipts.CallFault.{CallFault}
 use Rattle.swim_node.specs.declared.receipts.CallFault.TheVariants.{Wire, NoMemory, JournalFull}
-use Rattle.swim_node.specs.Answered.{MayRefuse, MayRefuseBytes}
+use Rattle.swim_node.specs.Answered.{MayRefuseBytes}
 use Rattle.swim_rejoin.specs.Histories.{Event}
 use Rattle.swim_work.specs.declared.counts.Counts.{Counts}
 use Rattle.swim_work.specs.declared.counts.Why.{Why}
 use Rattle.swim_work.specs.declared.lines.Got.{Got}
 use Rattle.swim_work.specs.declared.lines.Got.TheVariants.{Datagram, Idle, Fault}
 use Rattle.swim_work.specs.declared.workers.End.{End}
-use Rattle.swim_work.specs.Calling.{Hears, IsMade, IsRefused}
+use Rattle.swim_work.specs.Calling.{Hears, IsMade, IsMessage, IsRefused}
 use Rattle.swim_work.specs.Gates.{Received}
 use Rattle.swim_work.specs.Outcomes.{Outcome, call_by, calls_among, memory_in}
 use Rattle.swim_work.specs.Outcomes.Outcome.{Answered, Refused}
@@ -28,256 +29,315 @@ use Rattle.swim_work.specs.Posts.{AtSender, Grows, Posted}
 use Rattle.swim_work.specs.Turns.{EndsSo, Turns}
 use Rattle.swim_work.proofs.Outcomes.{counted, memory_both}
 use Rattle.swim_node.specs.Seats.{Seated}
-use Rattle.swim_receiver.specs.Datagrams.{AreHeard, BecomeSo, datagram_by, datagrams_in, heard_by}
-use Rattle.swim_receiver.specs.Datagrams.{heard_in, wire_in}
+use Rattle.swim_receiver.specs.declared.rejoining.Returning.{Returning}
+use Rattle.swim_receiver.specs.Datagrams.{AreHeard, BecomeSo, BecomesSo, IsJoined, Step, datagram_by, datagrams_in}
+use Rattle.swim_receiver.specs.Datagrams.{full_in, outcomes_in, outcomes_of, wire_in}
 use Rattle.swim_receiver.specs.Receiving.{AtReceiver, HearsGot, HearsLife, HearsNext, Owned}
-use Rattle.swim_receiver.specs.Rejoining.{IsReturning, JoinsThen}
+use Rattle.swim_receiver.specs.Rejoining.{IsJoinTold, JoinsThen, LearnsOn, whom}
+use Rattle.swim_receiver.proofs.Learning.{more_on, none_on, on_later}
 
--- ---- some datagrams, and then others
-
-become_both : (ds es : List (List ℕ × Address)) (xs ys : List Outcome) → BecomeSo ds xs → BecomeSo es ys →
-    BecomeSo (ds ++ es) (xs ++ ys)
-become_both [] es [] ys p q = q
-become_both [] es (x ∷ xs) ys p q = absurd p
-become_both (d ∷ ds) es [] ys p q = absurd p
-become_both (d ∷ ds) es (x ∷ xs) ys p q = (p.0, become_both ds es xs ys p.1 q)
+-- ---- outcomes, and their counts
 
 wire_both : (xs ys : List Outcome) → wire_in (xs ++ ys) ≡ wire_in xs + wire_in ys
 wire_both [] ys = sym (zero-add (wire_in ys))
 wire_both (x ∷ xs) ys = let is = wire_both xs ys in omega (arith, is)
 
--- what became of some datagrams between two states of a caller: as `AreHeard`, of the calls and the counts in between
-record HeardOn {O : Type 0} (datagrams : List (List ℕ × Address)) (old new : AtSender O) : Type 0 where
-  outcomes : List Outcome
-  become : BecomeSo datagrams outcomes
-  heard : heard_in new.seat.calls ≡ heard_in old.seat.calls ++ calls_among outcomes
-  wire : old.counts.wire ≤ 2 ^ 64 - 1 → new.counts.wire ≡ min (old.counts.wire + wire_in outcomes) (2 ^ 64 - 1)
-  joins : ℕ
-  refused : old.counts.refused ≤ 2 ^ 64 - 1 →
-      new.counts.refused ≡ min (old.counts.refused + (memory_in outcomes + joins)) (2 ^ 64 - 1)
+full_both : (xs ys : List Outcome) → full_in (xs ++ ys) ≡ full_in xs + full_in ys
+full_both [] ys = sym (zero-add (full_in ys))
+full_both (x ∷ xs) ys = let is = full_both xs ys in omega (arith, is)
 
-both_heard : {O : Type 0} (ds es : List (List ℕ × Address)) (a b c : AtSender O) → HeardOn ds a b → HeardOn es b c →
-    HeardOn (ds ++ es) a c
-both_heard ds es a b c p q = record {
-  outcomes = p.outcomes ++ q.outcomes;
-  become = become_both ds es p.outcomes q.outcomes p.become q.become;
-  heard =
-      let all : calls_among (p.outcomes ++ q.outcomes) ≡ calls_among p.outcomes ++ calls_among q.outcomes =
-      flat_map-append call_by p.outcomes q.outcomes in
-      q.heard ∙ (ap (λ l. l ++ calls_among q.outcomes) p.heard
-      ∙ (append_assoc (heard_in a.seat.calls) (calls_among p.outcomes) (calls_among q.outcomes)
-      ∙ ap (λ l. heard_in a.seat.calls ++ l) (sym all)));
-  wire = counted a.counts.wire b.counts.wire c.counts.wire (wire_in p.outcomes) (wire_in q.outcomes)
-      (wire_in (p.outcomes ++ q.outcomes)) p.wire q.wire (wire_both p.outcomes q.outcomes);
-  joins = p.joins + q.joins;
-  refused = counted a.counts.refused b.counts.refused c.counts.refused (memory_in p.outcomes + p.joins)
-      (memory_in q.outcomes + q.joins) (memory_in (p.outcomes ++ q.outcomes) + (p.joins + q.joins)) p.refused q.refused
-      (let is : memory_in (p.outcomes ++ q.outcomes) ≡ memory_in p.outcomes + memory_in q.outcomes =
-      memory_both p.outcomes q.outcomes in omega (arith, is));
+-- what a caller's calls came to, between two of its states
+record CountsOn {O : Type 0} (outcomes : List Outcome) (old new : AtSender O) : Type 0 where
+  calls : new.seat.calls ≡ old.seat.calls ++ calls_among outcomes
+  wire : old.counts.wire ≤ 2 ^ 64 - 1 → new.counts.wire ≡ min (old.counts.wire + wire_in outcomes) (2 ^ 64 - 1)
+  refused : old.counts.refused ≤ 2 ^ 64 - 1 →
+      new.counts.refused ≡ min (old.counts.refused + memory_in outcomes) (2 ^ 64 - 1)
+  full : new.seat.full ≡ old.seat.full + full_in outcomes
+
+counts_both : {O : Type 0} (xs ys : List Outcome) (a b c : AtSender O) → CountsOn xs a b → CountsOn ys b c →
+    CountsOn (xs ++ ys) a c
+counts_both xs ys a b c p q = record {
+  calls =
+      let all : calls_among (xs ++ ys) ≡ calls_among xs ++ calls_among ys = flat_map-append call_by xs ys in
+      q.calls ∙ (ap (λ l. l ++ calls_among ys) p.calls
+      ∙ (append_assoc a.seat.calls (calls_among xs) (calls_among ys) ∙ ap (λ l. a.seat.calls ++ l) (sym all)));
+  wire = counted a.counts.wire b.counts.wire c.counts.wire (wire_in xs) (wire_in ys) (wire_in (xs ++ ys)) p.wire q.wire
+      (wire_both xs ys);
+  refused = counted a.counts.refused b.counts.refused c.counts.refused (memory_in xs) (memory_in ys)
+      (memory_in (xs ++ ys)) p.refused q.refused (memory_both xs ys);
+  full =
+      let first : b.seat.full ≡ a.seat.full + full_in xs = p.full in
+      let then : c.seat.full ≡ b.seat.full + full_in ys = q.full in
+      let all : full_in (xs ++ ys) ≡ full_in xs + full_in ys = full_both xs ys in
+      omega (arith, first, then, all);
 }
 
-none_heard : {O : Type 0} (old new : AtSender O) → new ≡ old → HeardOn [] old new
-none_heard old new same = rw same (record {
-  outcomes = [];
-  become = tt;
-  heard = sym (append-nil (heard_in old.seat.calls));
+none_counted : {O : Type 0} (old new : AtSender O) → new ≡ old → CountsOn [] old new
+none_counted old new same = rw same (record {
+  calls = sym (append-nil old.seat.calls);
   wire = λ within. omega (arith, within);
-  joins = 0;
   refused = λ within. omega (arith, within);
+  full = omega arith;
 })
 
--- ---- a call
-
--- the calls for datagrams, with one call more
-one_more : (calls more : List Kept) (k : Kept) → more ≡ calls ++ k ∷ [] →
-    heard_in more ≡ heard_in calls ++ heard_by k.call k
-one_more calls more k is =
-    ap heard_in is ∙ (flat_map-append (λ (x : Kept). heard_by x.call x) calls (k ∷ [])
-    ∙ ap (λ l. heard_in calls ++ l) (append-nil (heard_by k.call k)))
-
--- a datagram was heard
-call_heard : {O : Type 0} (o : Setting) (d : List ℕ × Address) (call : Call) (m : Message) (old : AtSender O)
-    (end : Option Why) (new : AtSender O) → IsTextOf d.0 m → call ≡ Hear d.1 m → IsMade o call old end new →
-    HeardOn (d ∷ []) old new
-call_heard o d call m old end new text is made =
-    let asked : made.kept.call ≡ Hear d.1 m = made.answered.asked ∙ is in record {
-      outcomes = Answered made.kept ∷ [];
-      become = ((m, text, asked), tt);
-      heard = one_more old.seat.calls new.seat.calls made.kept made.answered.calls
-          ∙ ap (λ c. heard_in old.seat.calls ++ heard_by c made.kept) asked;
-      wire = λ within.
-          let same : new.counts.wire ≡ old.counts.wire = ap (λ (c : Counts). c.wire) made.counted in
-          omega (arith, within, same);
-      joins = 0;
-      refused = λ within.
-          let same : new.counts.refused ≡ old.counts.refused = ap (λ (c : Counts). c.refused) made.counted in
-          omega (arith, within, same);
-    }
-
--- or refused
-call_refused : {O : Type 0} (o : Setting) (limit : ℕ) (d : List ℕ × Address) (fault : CallFault) (old : AtSender O)
-    (end : Option Why) (new : AtSender O) → MayRefuseBytes d.0 o limit old.seat fault → IsRefused fault old end new →
-    HeardOn (d ∷ []) old new
-call_refused o limit d (Wire f) old end new may is = record {
-  outcomes = Refused (Wire f) ∷ [];
-  become = (may, tt);
-  heard = ap (λ (s : AtSender _). heard_in s.seat.calls) is.same ∙ sym (append-nil (heard_in old.seat.calls));
-  wire = λ within.
-      let more : new.counts.wire ≡ min (old.counts.wire + 1) (2 ^ 64 - 1) =
-      ap (λ (s : AtSender _). s.counts.wire) is.same
-      in omega (arith, more);
-  joins = 0;
-  refused = λ within.
-      let same : new.counts.refused ≡ old.counts.refused = ap (λ (s : AtSender _). s.counts.refused) is.same in
-      omega (arith, within, same);
-}
-call_refused o limit d NoMemory old end new may is = record {
-  outcomes = Refused NoMemory ∷ [];
-  become = (tt, tt);
-  heard = ap (λ (s : AtSender _). heard_in s.seat.calls) is.same ∙ sym (append-nil (heard_in old.seat.calls));
-  wire = λ within.
-      let same : new.counts.wire ≡ old.counts.wire = ap (λ (s : AtSender _). s.counts.wire) is.same in
-      omega (arith, within, same);
-  joins = 0;
-  refused = λ within.
-      let more : new.counts.refused ≡ min (old.counts.refused + 1) (2 ^ 64 - 1) =
-      ap (λ (s : AtSender _). s.counts.refused) is.same in
-      omega (arith, more);
-}
-call_refused o limit d JournalFull old end new may is = record {
-  outcomes = Refused JournalFull ∷ [];
-  become = (tt, tt);
-  heard = ap (λ (s : AtSender _). heard_in s.seat.calls) is.same ∙ sym (append-nil (heard_in old.seat.calls));
-  wire = λ within.
-      let same : new.counts.wire ≡ old.counts.wire = ap (λ (s : AtSender _). s.counts.wire) is.same in
-      omega (arith, within, same);
-  joins = 0;
-  refused = λ within.
-      let same : new.counts.refused ≡ old.counts.refused = ap (λ (s : AtSender _). s.counts.refused) is.same in
-      omega (arith, within, same);
-}
-
--- a join is no call for a datagram
-join_made : {O : Type 0} (o : Setting) (row : Row) (old : AtSender O) (end : Option Why) (new : AtSender O) →
-    IsMade o (Join row.id row.peer) old end new → HeardOn [] old new
-join_made o row old end new made = record {
-  outcomes = [];
-  become = tt;
-  heard = one_more old.seat.calls new.seat.calls made.kept made.answered.calls
-      ∙ ap (λ c. heard_in old.seat.calls ++ heard_by c made.kept) made.answered.asked;
+-- a call was made
+made_counted : {O : Type 0} (o : Setting) (call : Call) (old : AtSender O) (end : Option Why) (new : AtSender O)
+    (made : IsMade o call old end new) → CountsOn (Answered made.kept ∷ []) old new
+made_counted o call old end new made = record {
+  calls = made.answered.calls;
   wire = λ within.
       let same : new.counts.wire ≡ old.counts.wire = ap (λ (c : Counts). c.wire) made.counted in
       omega (arith, within, same);
-  joins = 0;
   refused = λ within.
       let same : new.counts.refused ≡ old.counts.refused = ap (λ (c : Counts). c.refused) made.counted in
       omega (arith, within, same);
+  full =
+      let room : old.seat.full ≡ 0 = made.answered.room in
+      let still : new.seat.full ≡ 0 = made.answered.full in
+      omega (arith, room, still);
 }
 
-join_refused : {O : Type 0} (o : Setting) (limit : ℕ) (fault : CallFault) (old : AtSender O) (end : Option Why)
-    (new : AtSender O) → MayRefuse o limit old.seat fault → IsRefused fault old end new → HeardOn [] old new
-join_refused o limit (Wire f) old end new may is = absurd may
-join_refused o limit NoMemory old end new may is = record {
-  outcomes = [];
-  become = tt;
-  heard = ap (λ (s : AtSender _). heard_in s.seat.calls) is.same ∙ sym (append-nil (heard_in old.seat.calls));
-  wire = λ within.
-      let same : new.counts.wire ≡ old.counts.wire = ap (λ (s : AtSender _). s.counts.wire) is.same in
-      omega (arith, within, same);
-  joins = 1;
-  refused = λ within.
-      let more : new.counts.refused ≡ min (old.counts.refused + 1) (2 ^ 64 - 1) =
-      ap (λ (s : AtSender _). s.counts.refused) is.same in
-      omega (arith, more);
-}
-join_refused o limit JournalFull old end new may is = record {
-  outcomes = [];
-  become = tt;
-  heard = ap (λ (s : AtSender _). heard_in s.seat.calls) is.same ∙ sym (append-nil (heard_in old.seat.calls));
-  wire = λ within.
-      let same : new.counts.wire ≡ old.counts.wire = ap (λ (s : AtSender _). s.counts.wire) is.same in
-      omega (arith, within, same);
-  joins = 0;
-  refused = λ within.
-      let same : new.counts.refused ≡ old.counts.refused = ap (λ (s : AtSender _). s.counts.refused) is.same in
-      omega (arith, within, same);
-}
+-- or refused
+refused_counted : {O : Type 0} (fault : CallFault) (old : AtSender O) (end : Option Why) (new : AtSender O) →
+    IsRefused fault old end new → CountsOn (Refused fault ∷ []) old new
+refused_counted (Wire f) old end new is = rw is.same (record {
+  calls = sym (append-nil old.seat.calls);
+  wire = λ within. omega (arith, within);
+  refused = λ within. omega (arith, within);
+  full = omega arith;
+})
+refused_counted NoMemory old end new is = rw is.same (record {
+  calls = sym (append-nil old.seat.calls);
+  wire = λ within. omega (arith, within);
+  refused = λ within. omega (arith, within);
+  full = omega arith;
+})
+refused_counted JournalFull old end new is = rw is.same (record {
+  calls = sym (append-nil old.seat.calls);
+  wire = λ within. omega (arith, within);
+  refused = λ within. omega (arith, within);
+  full = omega arith;
+})
 
-then_joined : {O : Type 0} (o : Setting) (limit : ℕ) (whom : Option Row) (h : List Event) (mid : AtSender O)
+-- ---- a datagram
+
+-- what became of the call behind that for a datagram
+then_joined : {O : Type 0} (o : Setting) (limit : ℕ) (row : Option Row) (h : List Event) (mid : AtSender O)
     (heard end : Option Why) (new : AtSender O) (told : List Event) →
-    JoinsThen o limit whom h mid heard end new told → HeardOn [] mid new
-then_joined o limit None h mid heard end new told is = none_heard mid new is.0
-then_joined o limit (Some row) h mid heard end new told (is_joined, inl made, is_told) =
-    join_made o row mid end new made.0
-then_joined o limit (Some row) h mid heard end new told (is_joined, inr refused, is_told) =
-    join_refused o limit refused.0 mid end new refused.1 refused.2
+    JoinsThen o limit row h mid heard end new told →
+    (join : Option Outcome) × IsJoined row join h told × CountsOn (option_to_list join) mid new
+then_joined o limit None h mid heard end new told is = (None, (refl, is.2), none_counted mid new is.0)
+then_joined o limit (Some row) h mid heard end new told (is_joined, inl made, is_told) = (
+  Some (Answered made.0.kept),
+  (made.0.answered.asked, subst (λ (b : Bool). IsJoinTold row b h told) made.1 is_told),
+  made_counted o _ mid end new made.0,
+)
+then_joined o limit (Some row) h mid heard end new told (is_joined, inr (Wire f, may, is, none), is_told) = absurd may
+then_joined o limit (Some row) h mid heard end new told (is_joined, inr (NoMemory, may, is, none), is_told) = (
+  Some (Refused NoMemory),
+  subst (λ (b : Bool). IsJoinTold row b h told) none is_told,
+  refused_counted NoMemory mid end new is,
+)
+then_joined o limit (Some row) h mid heard end new told (is_joined, inr (JournalFull, may, is, none), is_told) = (
+  Some (Refused JournalFull),
+  subst (λ (b : Bool). IsJoinTold row b h told) none is_told,
+  refused_counted JournalFull mid end new is,
+)
 
-first_heard : {O : Type 0} (o : Setting) (limit : ℕ) (bytes : List ℕ) (source : Address) (old : AtSender O)
-    (end : Option Why) (new : AtSender O) → Hears o limit bytes source old end new →
-    HeardOn ((bytes, source) ∷ []) old new
-first_heard o limit bytes source old end new (inl (call, (m, text, is), made)) =
-    call_heard o (bytes, source) call m old end new text is made
-first_heard o limit bytes source old end new (inr (fault, may, is)) =
-    call_refused o limit (bytes, source) fault old end new may is
+-- what became of a datagram
+abbrev IsStep : {O : Type 0} → ℕ → List Event → List ℕ × Address → AtSender O → AtSender O → List Event → Type 0
+IsStep me h d old new told =
+    (step : Step) × BecomesSo me h d step.call step.join told × CountsOn (outcomes_of step) old new
+
+abbrev step_of : Outcome → Option Outcome → Step
+step_of call join = record { call = call; join = join }
+
+refused_step : {O : Type 0} (o : Setting) (limit me : ℕ) (h : List Event) (d : List ℕ × Address) (fault : CallFault)
+    (old : AtSender O) (end : Option Why) (new : AtSender O) (told : List Event) →
+    MayRefuseBytes d.0 o limit old.seat fault → IsRefused fault old end new → told ≡ h → IsStep me h d old new told
+refused_step o limit me h d (Wire f) old end new told may is still =
+    (step_of (Refused (Wire f)) None, (may, (refl, still)), refused_counted (Wire f) old end new is)
+refused_step o limit me h d NoMemory old end new told may is still =
+    (step_of (Refused NoMemory) None, (refl, still), refused_counted NoMemory old end new is)
+refused_step o limit me h d JournalFull old end new told may is still =
+    (step_of (Refused JournalFull) None, (refl, still), refused_counted JournalFull old end new is)
+
+one_longer : (calls : List Kept) (k : Kept) → calls ++ k ∷ [] ≡ calls → ⊥
+one_longer calls k same =
+    let longer : length (calls ++ k ∷ []) ≡ length calls + 1 = length-append calls (k ∷ []) in
+    let as_long : length (calls ++ k ∷ []) ≡ length calls = ap length same in
+    omega (arith, longer, as_long)
+
+-- the node refused the call, as there is no message
+no_message : {O : Type 0} (o : Setting) (limit me : ℕ) (h : List Event) (d : List ℕ × Address) (old : AtSender O)
+    (end : Option Why) (new : AtSender O) (told : List Event) → Hears o limit d.0 d.1 old end new →
+    new.seat.calls ≡ old.seat.calls → told ≡ h → IsStep me h d old new told
+no_message o limit me h d old end new told (inl (call, may, made)) same still =
+    absurd (one_longer old.seat.calls made.kept (sym made.answered.calls ∙ same))
+no_message o limit me h d old end new told (inr (fault, may, is)) same still =
+    refused_step o limit me h d fault old end new told may is still
+
+datagram_step : {O : Type 0} (o : Setting) (limit me : ℕ) (h : List Event) (bytes : List ℕ) (source : Address)
+    (old mid : AtSender O) (heard end : Option Why) (new : AtSender O) (told : List Event) (message : Option Message) →
+    Hears o limit bytes source old heard mid → IsMessage o bytes source old heard mid message →
+    JoinsThen o limit (whom me h source message) h mid heard end new told → IsStep me h (bytes, source) old new told
+datagram_step {O} o limit me h bytes source old mid heard end new told None hears is joins =
+    subst (λ (s : AtSender O). IsStep me h (bytes, source) old s told) (sym joins.0)
+    (no_message o limit me h (bytes, source) old heard mid told hears is joins.2)
+datagram_step o limit me h bytes source old mid heard end new told (Some m) hears is joins =
+    let then = then_joined o limit (whom me h source (Some m)) h mid heard end new told joins in (
+      step_of (Answered is.1.kept) then.0,
+      (m, is.0, is.1.answered.asked, then.1),
+      counts_both (Answered is.1.kept ∷ []) (option_to_list then.0) old mid new
+          (made_counted o _ old heard mid is.1) then.2,
+    )
+
+-- ---- some datagrams, and then others
+
+-- it learns of something before
+learnt_become : (o : Setting) (me : ℕ) (saw then seen : List Change) (h learnt : List Event)
+    (ds : List (List ℕ × Address)) (steps : List Step) (told : List Event) → LearnsOn o saw then h learnt →
+    BecomeSo o me then learnt ds steps seen told → BecomeSo o me saw h ds steps seen told
+learnt_become o me saw then seen h learnt [] [] told learns is = more_on o saw then seen h learnt told learns is
+learnt_become o me saw then seen h learnt [] (step ∷ steps) told learns is = absurd is
+learnt_become o me saw then seen h learnt (d ∷ ds) [] told learns is = absurd is
+learnt_become o me saw then seen h learnt (d ∷ ds) (step ∷ steps) told learns is =
+    (is.0, is.1, is.2, more_on o saw then is.0 h learnt is.1 learns is.3, is.4, is.5)
+
+become_both : (o : Setting) (me : ℕ) (saw then seen : List Change) (h mid told : List Event)
+    (ds es : List (List ℕ × Address)) (xs ys : List Step) → BecomeSo o me saw h ds xs then mid →
+    BecomeSo o me then mid es ys seen told → BecomeSo o me saw h (ds ++ es) (xs ++ ys) seen told
+become_both o me saw then seen h mid told [] es [] ys p q = learnt_become o me saw then seen h mid es ys told p q
+become_both o me saw then seen h mid told [] es (x ∷ xs) ys p q = absurd p
+become_both o me saw then seen h mid told (d ∷ ds) es [] ys p q = absurd p
+become_both o me saw then seen h mid told (d ∷ ds) es (x ∷ xs) ys p q =
+    (p.0, p.1, p.2, p.3, p.4, become_both o me p.0 then seen p.2 mid told ds es xs ys p.5 q)
+
+become_later : (o : Setting) (me : ℕ) (saw seen since : List Change) (h told : List Event)
+    (ds : List (List ℕ × Address)) (steps : List Step) → IsPrefix seen since → BecomeSo o me saw h ds steps seen told →
+    BecomeSo o me saw h ds steps since told
+become_later o me saw seen since h told [] [] later is = on_later o saw seen since h told later is
+become_later o me saw seen since h told [] (step ∷ steps) later is = absurd is
+become_later o me saw seen since h told (d ∷ ds) [] later is = absurd is
+become_later o me saw seen since h told (d ∷ ds) (step ∷ steps) later is =
+    (is.0, is.1, is.2, is.3, is.4, become_later o me is.0 seen since is.2 told ds steps later is.5)
+
+-- what became of some datagrams between two states of a receiver
+record HeardOn {O : Type 0} (o : Setting) (me : ℕ) (datagrams : List (List ℕ × Address)) (old new : AtReceiver O) : Type
+    0 where
+  steps : List Step
+  become : BecomeSo o me old.seen old.told datagrams steps new.seen new.told
+  counts : CountsOn (outcomes_in steps) old.sender new.sender
+
+both_heard : {O : Type 0} (o : Setting) (me : ℕ) (ds es : List (List ℕ × Address)) (a b c : AtReceiver O) →
+    HeardOn o me ds a b → HeardOn o me es b c → HeardOn o me (ds ++ es) a c
+both_heard o me ds es a b c p q =
+    let all : outcomes_in (p.steps ++ q.steps) ≡ outcomes_in p.steps ++ outcomes_in q.steps =
+    flat_map-append outcomes_of p.steps q.steps in
+    record {
+      steps = p.steps ++ q.steps;
+      become = become_both o me a.seen b.seen c.seen a.told b.told c.told ds es p.steps q.steps p.become q.become;
+      counts = subst (λ xs. CountsOn xs a.sender c.sender) (sym all)
+          (counts_both (outcomes_in p.steps) (outcomes_in q.steps) a.sender b.sender c.sender p.counts q.counts);
+    }
+
+none_heard : {O : Type 0} (o : Setting) (me : ℕ) (old new : AtReceiver O) → new.sender ≡ old.sender →
+    LearnsOn o old.seen new.seen old.told new.told → HeardOn o me [] old new
+none_heard o me old new same learns =
+    record { steps = []; become = learns; counts = none_counted old.sender new.sender same }
+
+one_heard : {O : Type 0} (o : Setting) (me : ℕ) (h : List Event) (d : List ℕ × Address) (old new : AtReceiver O) →
+    LearnsOn o old.seen new.seen old.told h → IsStep me h d old.sender new.sender new.told →
+    HeardOn o me (d ∷ []) old new
+one_heard o me h d old new learns is = record {
+  steps = is.0 ∷ [];
+  become = (new.seen, h, new.told, learns, is.1, none_on o new.seen new.seen new.told ([], append-nil new.seen));
+  counts = subst (λ xs. CountsOn xs old.sender new.sender) (sym (append-nil (outcomes_of is.0))) is.2;
+}
 
 -- ---- a turn
 
 got_heard : {O : Type 0} (o : Setting) (limit me : ℕ) (h : List Event) (got : Got) (bytes : List ℕ)
-    (old : AtReceiver O) (end : Option Why) (new : AtReceiver O) → HearsGot o limit me h got bytes old end new →
-    HeardOn (datagram_by got bytes) old.sender new.sender
-got_heard o limit me h (Datagram count source) bytes old end new (is, none) =
-    both_heard ((take count bytes, source) ∷ []) [] old.sender is.mid new.sender
-    (first_heard o limit (take count bytes) source old.sender is.heard is.mid is.hears)
-    (then_joined o limit _ h is.mid is.heard end new.sender new.told is.joins)
-got_heard o limit me h Idle bytes old end new is = none_heard old.sender new.sender is.0
-got_heard o limit me h Fault bytes old end new is = none_heard old.sender new.sender is.0
+    (old : AtReceiver O) (end : Option Why) (new : AtReceiver O) → LearnsOn o old.seen new.seen old.told h →
+    HearsGot o limit me h got bytes old end new → HeardOn o me (datagram_by got bytes) old new
+got_heard o limit me h (Datagram count source) bytes old end new learns (is, none) =
+    one_heard o me h (take count bytes, source) old new learns
+    (datagram_step o limit me h (take count bytes) source old.sender is.mid is.heard end new.sender new.told is.message
+    is.hears is.is is.joins)
+got_heard o limit me h Idle bytes old end new learns is =
+    none_heard o me old new is.0 (subst (LearnsOn o old.seen new.seen old.told) (sym is.1) learns)
+got_heard o limit me h Fault bytes old end new learns is =
+    none_heard o me old new is.0 (subst (LearnsOn o old.seen new.seen old.told) (sym is.1) learns)
 
 turn_heard : {O : Type 0} (o : Setting) (limit me : ℕ) (given : Received) (old : AtReceiver O) (end : Option Why)
     (new : AtReceiver O) → HearsNext o limit me given old end new →
-    HeardOn (datagram_by given.got given.bytes) old.sender new.sender
+    HeardOn o me (datagram_by given.got given.bytes) old new
 turn_heard o limit me given old end new is =
-    got_heard o limit me is.0 given.got given.bytes old end new is.2
+    got_heard o limit me is.0 given.got given.bytes old end new is.1 is.2
 
 turns_heard : {O : Type 0} (o : Setting) (limit me : ℕ) (given : List Received) (old new : AtReceiver O) →
-    Turns (HearsNext o limit me) given old new → HeardOn (datagrams_in given) old.sender new.sender
-turns_heard o limit me [] old new is = none_heard old.sender new.sender (ap (λ (r : AtReceiver _). r.sender) is)
+    Turns (HearsNext o limit me) given old new → HeardOn o me (datagrams_in given) old new
+turns_heard {O} o limit me [] old new is = subst (λ (s : AtReceiver O). HeardOn o me [] old s) (sym is)
+    (none_heard o me old old refl (none_on o old.seen old.seen old.told ([], append-nil old.seen)))
 turns_heard o limit me (given ∷ rest) old new is =
-    both_heard (datagram_by given.got given.bytes) (datagrams_in rest) old.sender is.0.sender new.sender
+    both_heard o me (datagram_by given.got given.bytes) (datagrams_in rest) old is.0 new
     (turn_heard o limit me given old None is.0 is.1) (turns_heard o limit me rest is.0 new is.2)
 
 all_heard : {O : Type 0} (o : Setting) (limit me : ℕ) (given : List Received) (old : AtReceiver O)
     (end : Option Why) (new : AtReceiver O) → EndsSo (HearsNext o limit me) given old end new →
-    HeardOn (datagrams_in given) old.sender new.sender
+    HeardOn o me (datagrams_in given) old new
 all_heard o limit me given old None new is = turns_heard o limit me given old new is
 all_heard o limit me given old (Some why) new is =
     let last : Received = is.1 in
     let all : datagrams_in (is.0 ++ last ∷ []) ≡ datagrams_in is.0 ++ datagram_by last.got last.bytes =
     flat_map-append (λ (r : Received). datagram_by r.got r.bytes) is.0 (last ∷ [])
     ∙ ap (λ l. datagrams_in is.0 ++ l) (append-nil (datagram_by last.got last.bytes)) in
-    rw (is.3, all) (both_heard (datagrams_in is.0) (datagram_by last.got last.bytes) old.sender is.2.sender new.sender
-    (turns_heard o limit me is.0 old is.2 is.4)
-    (turn_heard o limit me last is.2 (Some why) new is.5))
+    rw (is.3, all) (both_heard o me (datagrams_in is.0) (datagram_by last.got last.bytes) old is.2 new
+    (turns_heard o limit me is.0 old is.2 is.4) (turn_heard o limit me last is.2 (Some why) new is.5))
 
 -- ---- a life
 
 -- each datagram that the line gave in a life became one call of the seat, in order, or was counted
 pub each_is_heard : {O : Type 0} (posted : O → Option (List Posted)) (o : Setting) (limit : ℕ) (old : Owned O)
     (seat : Seated) (seen : List Change) (end : End) (new : Owned O) → HearsLife posted o limit old seat seen end new →
-    (h : List Event) → IsReturning old.returning h →
     (given : List Received) × Grows old.received new.received given
-    × AreHeard (datagrams_in given) seat.calls end.counts
-each_is_heard posted o limit old seat seen end new life h is =
-    let worked = (life.heard h is).2 in
-    let heard = all_heard o limit old.returning.rejoiner.me worked.given _ end.why _ worked.ends in (
-      worked.given,
-      worked.grown,
+    × AreHeard o old.returning (datagrams_in given) seat end.counts seen new.returning
+each_is_heard posted o limit old seat seen end new life = (
+  life.heard.given,
+  life.heard.grown,
+  λ h is.
+      let then = life.heard.ends h is in
+      let heard = all_heard o limit old.returning.rejoiner.me life.heard.given _ end.why _ then.2 in
+      let outcomes = outcomes_in heard.steps in (
+        then.0,
+        then.1,
+        record {
+          steps = heard.steps;
+          become = heard.become;
+          calls = heard.counts.calls;
+          wire = heard.counts.wire (omega arith) ∙ ap (λ n. min n (2 ^ 64 - 1)) (zero-add (wire_in outcomes));
+          refused = heard.counts.refused (omega arith)
+              ∙ ap (λ n. min n (2 ^ 64 - 1)) (zero-add (memory_in outcomes));
+          full = heard.counts.full ∙ zero-add (full_in outcomes);
+        },
+      ),
+)
+
+-- the same by changes of which the viewer saw a beginning
+pub heard_later : (o : Setting) (old : Returning) (datagrams : List (List ℕ × Address)) (seat : Seated)
+    (counts : Counts) (seen all : List Change) (new : Returning) → IsPrefix seen all →
+    AreHeard o old datagrams seat counts seen new → AreHeard o old datagrams seat counts all new
+heard_later o old datagrams seat counts seen all new later are = λ h is.
+    let then = are h is in
+    let heard = then.2 in (
+      then.0,
+      then.1,
       record {
-        outcomes = heard.outcomes;
-        become = heard.become;
-        heard = heard.heard;
-        wire = heard.wire (omega arith) ∙ ap (λ n. min n (2 ^ 64 - 1)) (zero-add (wire_in heard.outcomes));
-        joins = heard.joins;
-        refused = heard.refused (omega arith)
-            ∙ ap (λ n. min n (2 ^ 64 - 1)) (zero-add (memory_in heard.outcomes + heard.joins));
+        steps = heard.steps;
+        become = become_later o old.rejoiner.me [] seen all h then.0 datagrams heard.steps later heard.become;
+        calls = heard.calls;
+        wire = heard.wire;
+        refused = heard.refused;
+        full = heard.full;
       },
     )

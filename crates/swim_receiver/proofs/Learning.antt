@@ -3,7 +3,7 @@ use Rattle.std.proofs.Common.{◌≡◌, ℕ, suc, ◌+◌, ◌<◌, List, [], �
 use Rattle.std.proofs.Common.{◌≢◌, ◌-◌, ◌^◌, cond, false, min, nat_eq, append_assoc, arith}
 use Rattle.std.specs.List.{slice_index_or}
 use Rattle.std.proofs.Math.Seq.{take-suc}
-use Rattle.std.proofs.lemmas.List.Elements.{All-nil, All-cons, All-append}
+use mathlib.Core.List.{IsPrefix}
 use Rattle.swim_history.specs.declared.rows.Change.{Change}
 use Rattle.swim_history.specs.declared.rows.Row.{Row}
 use Rattle.swim_history.specs.Changes.{table_after}
@@ -11,51 +11,79 @@ use Rattle.swim_history.specs.Setting.{Setting}
 use Rattle.swim_rejoin.specs.Histories.{Event, table_in}
 use Rattle.swim_rejoin.specs.Rejoiners.{Follows, Kept}
 use Rattle.swim_rejoin.specs.Histories.Event.{Joined, Knocked, Looked, Ruled}
+use Rattle.swim_node.proofs.Prefixes.{begins_itself, begins_whole}
 use Rattle.swim_work.specs.declared.tidings.Note.{Note}
 use Rattle.swim_receiver.specs.declared.rejoining.Returning.{Returning}
-use Rattle.swim_receiver.specs.Rejoining.{IsNews, IsReturning, Learns, LearnsOn, joins_in, ruled_in, with_knocks}
+use Rattle.swim_receiver.specs.Rejoining.{AreNews, IsReturning, Learns, LearnsOn, joins_in, ruled_in, with_knocks}
 
-pub none_on : (o : Setting) (h : List Event) → LearnsOn o h h
-none_on o h = ([], refl, All-nil (IsNews o))
+-- news of a viewer that has seen more since
+news_later : (o : Setting) (saw seen since : List Change) (news : List Event) → IsPrefix seen since →
+    AreNews o saw seen news → AreNews o saw since news
+news_later o saw seen since [] later are = begins_whole saw seen since are later
+news_later o saw seen since (Knocked id number ∷ before) later are = news_later o saw seen since before later are
+news_later o saw seen since (Looked rows ∷ before) later are =
+    (are.0, begins_whole are.0 seen since are.1 later, are.2, are.3)
+news_later o saw seen since (Joined id period ∷ before) later are = absurd are
+news_later o saw seen since (Ruled rejoin ∷ before) later are = news_later o saw seen since before later are
 
-pub one_on : (o : Setting) (event : Event) (h : List Event) → IsNews o event → LearnsOn o h (event ∷ h)
-one_on o event h is = (event ∷ [], refl, All-cons (IsNews o) event [] is (All-nil (IsNews o)))
+-- some news, and then more
+news_both : (o : Setting) (saw seen since : List Change) (more news : List Event) → AreNews o saw seen news →
+    AreNews o seen since more → AreNews o saw since (more ++ news)
+news_both o saw seen since [] news first then = news_later o saw seen since news then first
+news_both o saw seen since (Knocked id number ∷ before) news first then =
+    news_both o saw seen since before news first then
+news_both o saw seen since (Looked rows ∷ before) news first then =
+    (then.0, then.1, then.2, news_both o saw seen then.0 before news first then.3)
+news_both o saw seen since (Joined id period ∷ before) news first then = absurd then
+news_both o saw seen since (Ruled rejoin ∷ before) news first then = news_both o saw seen since before news first then
 
-pub more_on : (o : Setting) (h mid now : List Event) → LearnsOn o h mid → LearnsOn o mid now → LearnsOn o h now
-more_on o h mid now first then = (
+pub none_on : (o : Setting) (saw seen : List Change) (h : List Event) → IsPrefix saw seen → LearnsOn o saw seen h h
+none_on o saw seen h later = ([], refl, later)
+
+pub more_on : (o : Setting) (saw seen since : List Change) (h mid now : List Event) → LearnsOn o saw seen h mid →
+    LearnsOn o seen since mid now → LearnsOn o saw since h now
+more_on o saw seen since h mid now first then = (
   then.0 ++ first.0,
   then.1 ∙ (ap (λ l. then.0 ++ l) first.1 ∙ sym (append_assoc then.0 first.0 h)),
-  All-append (IsNews o) then.0 first.0 then.2 first.2,
+  news_both o saw seen since then.0 first.0 first.2 then.2,
 )
 
-pub none_learnt : (o : Setting) (r : Returning) → Learns o r r
-none_learnt o r = λ h is. (h, none_on o h, is)
+pub on_later : (o : Setting) (saw seen since : List Change) (h now : List Event) → IsPrefix seen since →
+    LearnsOn o saw seen h now → LearnsOn o saw since h now
+on_later o saw seen since h now later is = (is.0, is.1, news_later o saw seen since is.0 later is.2)
 
-pub more_learnt : (o : Setting) (old mid new : Returning) → Learns o old mid → Learns o mid new → Learns o old new
-more_learnt o old mid new first then = λ h is.
+pub none_learnt : (o : Setting) (seen : List Change) (r : Returning) → Learns o seen seen r r
+none_learnt o seen r = λ h is. (h, none_on o seen seen h (begins_itself seen), is)
+
+pub no_news_learnt : (o : Setting) (saw seen : List Change) (r : Returning) → IsPrefix saw seen → Learns o saw seen r r
+no_news_learnt o saw seen r later = λ h is. (h, none_on o saw seen h later, is)
+
+pub more_learnt : (o : Setting) (saw seen since : List Change) (old mid new : Returning) → Learns o saw seen old mid →
+    Learns o seen since mid new → Learns o saw since old new
+more_learnt o saw seen since old mid new first then = λ h is.
     let a = first h is in
     let b = then a.0 a.2 in
-    (b.0, more_on o h a.0 b.0 a.1 b.1, b.2)
+    (b.0, more_on o saw seen since h a.0 b.0 a.1 b.1, b.2)
 
 -- ---- what the receiver is told
 
-pub looked_learnt : (o : Setting) (old new : Returning) (rows : List Row) (log : List Change) →
-    rows ≡ table_after o log →
-    ((h : List Event) → IsReturning old h → IsReturning new (Looked rows ∷ h)) → Learns o old new
-looked_learnt o old new rows log table told =
-    λ h is. (Looked rows ∷ h, one_on o (Looked rows) h (log, table), told h is)
+pub looked_learnt : (o : Setting) (saw seen : List Change) (old new : Returning) (rows : List Row) →
+    IsPrefix saw seen → rows ≡ table_after o seen →
+    ((h : List Event) → IsReturning old h → IsReturning new (Looked rows ∷ h)) → Learns o saw seen old new
+looked_learnt o saw seen old new rows later table told =
+    λ h is. (Looked rows ∷ h, (Looked rows ∷ [], refl, (seen, begins_itself seen, table, later)), told h is)
 
 pub not_0 : (n : ℕ) → n ≢ 0 → nat_eq n 0 ≡ false
 not_0 n other = grind arith
 
 -- which N is in force: with a 0 no rows are kept
-pub rule_learnt : (o : Setting) (old new : Returning) (rejoin : ℕ) →
+pub rule_learnt : (o : Setting) (seen : List Change) (old new : Returning) (rejoin : ℕ) →
     ((h : List Event) → Follows old.rejoiner h → Follows new.rejoiner (Ruled rejoin ∷ h)) →
     new.rows.items ≡ cond (nat_eq rejoin 0) [] old.rows.items → new.rejoins ≡ old.rejoins →
-    new.lookup ≡ old.lookup ++ rejoin ∷ [] → Learns o old new
-rule_learnt o old new rejoin follows rows count answered = λ h is. (
+    new.lookup ≡ old.lookup ++ rejoin ∷ [] → Learns o seen seen old new
+rule_learnt o seen old new rejoin follows rows count answered = λ h is. (
   Ruled rejoin ∷ h,
-  one_on o (Ruled rejoin) h tt,
+  (Ruled rejoin ∷ [], refl, begins_itself seen),
   (
     follows h is.0,
     rows ∙ ap (λ (rows : List Row). cond (nat_eq rejoin 0) [] rows) is.1,
@@ -123,12 +151,14 @@ knocks_told old new notes told same count unasked h is = (
   unasked ∙ (is.3 ∙ sym (ruled_with notes h)),
 )
 
-knocks_on : (o : Setting) (notes : List Note) (h : List Event) → LearnsOn o h (with_knocks notes h)
-knocks_on o [] h = none_on o h
-knocks_on o (note ∷ notes) h =
+knocks_on : (o : Setting) (seen : List Change) (notes : List Note) (h : List Event) →
+    LearnsOn o seen seen h (with_knocks notes h)
+knocks_on o seen [] h = none_on o seen seen h (begins_itself seen)
+knocks_on o seen (note ∷ notes) h =
     let one = Knocked note.id note.number in
-    more_on o h (one ∷ h) (with_knocks notes (one ∷ h)) (one_on o one h tt) (knocks_on o notes (one ∷ h))
+    more_on o seen seen seen h (one ∷ h) (with_knocks notes (one ∷ h)) (one ∷ [], refl, begins_itself seen)
+    (knocks_on o seen notes (one ∷ h))
 
-pub knocks_learnt : (o : Setting) (old new : Returning) (notes : List Note) →
-    ((h : List Event) → IsReturning old h → IsReturning new (with_knocks notes h)) → Learns o old new
-knocks_learnt o old new notes told = λ h is. (with_knocks notes h, knocks_on o notes h, told h is)
+pub knocks_learnt : (o : Setting) (seen : List Change) (old new : Returning) (notes : List Note) →
+    ((h : List Event) → IsReturning old h → IsReturning new (with_knocks notes h)) → Learns o seen seen old new
+knocks_learnt o seen old new notes told = λ h is. (with_knocks notes h, knocks_on o seen notes h, told h is)

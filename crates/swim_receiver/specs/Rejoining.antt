@@ -1,6 +1,7 @@
 -- Which members the receiver of a life joins again by itself.
-use Rattle.std.specs.Prelude.{◌≡◌, ℕ, ◌+◌, ◌-◌, ◌^◌, min, Bool, true, false, All, List, [], ◌∷◌, ◌++◌}
+use Rattle.std.specs.Prelude.{◌≡◌, ℕ, ◌+◌, ◌-◌, ◌^◌, min, Bool, true, false, List, [], ◌∷◌, ◌++◌}
 use Rattle.std.specs.Prelude.{Option, Some, None, option_and_then}
+use mathlib.Core.List.{IsPrefix}
 use Rattle.swim_wire.specs.Address.{Address}
 use Rattle.swim_wire.specs.Messages.{Message}
 use Rattle.swim_history.specs.declared.rows.Change.{Change}
@@ -17,17 +18,20 @@ use Rattle.swim_work.specs.Calling.{Hears, IsMessage, Joins}
 use Rattle.swim_work.specs.Posts.{AtSender}
 use Rattle.swim_receiver.specs.declared.rejoining.Returning.{Returning}
 
--- what the receiver learns between two datagrams: a table that some changes make of the opening, any knock, or which N
--- is in force
-abbrev pub IsNews : Setting → Event → Type 0
-IsNews o (Looked rows) = (log : List Change) × (rows ≡ table_after o log)
-IsNews o (Knocked id number) = Unit {0}
-IsNews o (Joined id period) = ⊥
-IsNews o (Ruled rejoin) = Unit {0}
+-- what the receiver learns between two datagrams, newest first, while its viewer, which had seen some changes, comes to
+-- have seen these: any knock; which N is in force; or the table after a beginning of them, which has all that the table
+-- before it showed
+abbrev pub AreNews : Setting → List Change → List Change → List Event → Type 0
+AreNews o saw seen [] = IsPrefix saw seen
+AreNews o saw seen (Knocked id number ∷ before) = AreNews o saw seen before
+AreNews o saw seen (Looked rows ∷ before) =
+    (then : List Change) × IsPrefix then seen × (rows ≡ table_after o then) × AreNews o saw then before
+AreNews o saw seen (Joined id period ∷ before) = ⊥
+AreNews o saw seen (Ruled rejoin ∷ before) = AreNews o saw seen before
 
 -- it learnt some of that
-abbrev pub LearnsOn : Setting → List Event → List Event → Type 0
-LearnsOn o h now = (more : List Event) × (now ≡ more ++ h) × All (IsNews o) more
+abbrev pub LearnsOn : Setting → List Change → List Change → List Event → List Event → Type 0
+LearnsOn o saw seen h now = (more : List Event) × (now ≡ more ++ h) × AreNews o saw seen more
 
 -- all that happened, and then these knocks, oldest first
 abbrev pub with_knocks : List Note → List Event → List Event
@@ -58,8 +62,9 @@ IsReturning r h =
     Follows r.rejoiner h × (r.rows.items ≡ table_in h) × (r.rejoins ≡ min (joins_in h) (2 ^ 64 - 1))
     × (r.lookup ≡ ruled_in h)
 
-abbrev pub Learns : Setting → Returning → Returning → Type 0
-Learns o old new = (h : List Event) → IsReturning old h → (now : List Event) × LearnsOn o h now × IsReturning new now
+abbrev pub Learns : Setting → List Change → List Change → Returning → Returning → Type 0
+Learns o saw seen old new =
+    (h : List Event) → IsReturning old h → (now : List Event) × LearnsOn o saw seen h now × IsReturning new now
 
 -- for the same member
 abbrev pub IsOfSame : Returning → Returning → Type 0

@@ -20,7 +20,7 @@ impl<'b, L: Line + Drop, O: Post + Drop> Receiver<'b, L, O> {
         ensures received { L.received self.new.line ≡ L.received self.old.line }
         ensures shown { AreShown N.opening viewer.old viewer.new (L.listed self.old.line) (L.listed self.new.line) }
         ensures same { IsOfSame self.old.returning self.new.returning }
-        ensures learns { Learns N.opening self.old.returning self.new.returning }
+        ensures learns { Learns N.opening viewer.old viewer.new self.old.returning self.new.returning }
         ensures post { self.new.post ≡ self.old.post }
     {
         if self.board.take_due() {
@@ -39,7 +39,7 @@ impl<'b, L: Line + Drop, O: Post + Drop> Receiver<'b, L, O> {
         ensures received { L.received self.new.line ≡ L.received self.old.line }
         ensures shown { AreShown N.opening viewer.old viewer.new (L.listed self.old.line) (L.listed self.new.line) }
         ensures same { IsOfSame self.old.returning self.new.returning }
-        ensures learns { Learns N.opening self.old.returning self.new.returning }
+        ensures learns { Learns N.opening viewer.old viewer.new self.old.returning self.new.returning }
         ensures post { self.new.post ≡ self.old.post }
     {
         if let Some(table) = viewer.list() {

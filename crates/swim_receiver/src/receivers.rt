@@ -102,9 +102,9 @@ impl<'b, L: Line + Drop, O: Post + Drop> Receiver<'b, L, O> {
     ) -> Option<Why>
         ensures heard { HasHeard N.opening N.limit
             (at_turn (at_sender hearing.old.caller.seat self.old.post hearing.old.caller.counts)
-            hearing.old.faults.in_a_row (L.received self.old.line) self.old.returning) result
+            hearing.old.faults.in_a_row (L.received self.old.line) self.old.returning hearing.old.viewer) result
             (at_turn (at_sender hearing.new.caller.seat self.new.post hearing.new.caller.counts)
-            hearing.new.faults.in_a_row (L.received self.new.line) self.new.returning) }
+            hearing.new.faults.in_a_row (L.received self.new.line) self.new.returning hearing.new.viewer) }
         ensures sent { SendsOn O.posted N.opening
             (at_sender hearing.old.caller.seat self.old.post hearing.old.caller.counts)
             (at_sender hearing.new.caller.seat self.new.post hearing.new.caller.counts) }
@@ -135,9 +135,9 @@ impl<'b, L: Line + Drop, O: Post + Drop> Receiver<'b, L, O> {
     ) -> Option<Why>
         ensures turn { HasTurned N.opening N.limit
             (at_turn (at_sender hearing.old.caller.seat self.old.post hearing.old.caller.counts)
-            hearing.old.faults.in_a_row (L.received self.old.line) self.old.returning) result
+            hearing.old.faults.in_a_row (L.received self.old.line) self.old.returning hearing.old.viewer) result
             (at_turn (at_sender hearing.new.caller.seat self.new.post hearing.new.caller.counts)
-            hearing.new.faults.in_a_row (L.received self.new.line) self.new.returning) }
+            hearing.new.faults.in_a_row (L.received self.new.line) self.new.returning hearing.new.viewer) }
         ensures sent { SendsOn O.posted N.opening
             (at_sender hearing.old.caller.seat self.old.post hearing.old.caller.counts)
             (at_sender hearing.new.caller.seat self.new.post hearing.new.caller.counts) }
@@ -162,9 +162,9 @@ impl<'b, L: Line + Drop, O: Post + Drop> Receiver<'b, L, O> {
     ) -> Option<Why>
         ensures turn { HasTurned N.opening N.limit
             (at_turn (at_sender hearing.old.caller.seat self.old.post hearing.old.caller.counts)
-            hearing.old.faults.in_a_row (L.received self.old.line) self.old.returning) result
+            hearing.old.faults.in_a_row (L.received self.old.line) self.old.returning hearing.old.viewer) result
             (at_turn (at_sender hearing.new.caller.seat self.new.post hearing.new.caller.counts)
-            hearing.new.faults.in_a_row (L.received self.new.line) self.new.returning) }
+            hearing.new.faults.in_a_row (L.received self.new.line) self.new.returning hearing.new.viewer) }
         ensures sent { SendsOn O.posted N.opening
             (at_sender hearing.old.caller.seat self.old.post hearing.old.caller.counts)
             (at_sender hearing.new.caller.seat self.new.post hearing.new.caller.counts) }

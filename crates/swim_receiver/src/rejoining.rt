@@ -1,6 +1,7 @@
 //! Members that the receiver joins again by itself.
 
 ghost use Rattle.std.specs.Prelude.{◌≡◌, ◌<◌, ◌≤◌, [], ◌∷◌, List, length, true};
+ghost use mathlib.Core.List.{IsPrefix};
 ghost use Rattle.swim_history.specs.declared.rows.Change.{Change};
 ghost use Rattle.swim_history.specs.Changes.{table_after};
 ghost use Rattle.swim_history.specs.Setting.{Setting};
@@ -16,7 +17,7 @@ use swim_wire::{Id, KNOWN_MEMBERS, Message, Peer};
 use swim_work::{Note, RejoinLookup, Tidings, TidingsBoard};
 
 /// What is remembered of members that come back, over all lives: when they were knocked at, judged and joined again. At
-/// each look it asks every how many starts of a period there is a knock.
+/// each look it asks which N is in force: there is a knock at each N-th start of a period.
 #[derive(Drop)]
 pub struct Returning<'b> {
     lookup: RejoinLookup<'b>,
@@ -53,7 +54,7 @@ impl<'b> Returning<'b> {
     /// it is forgotten with everything else.
     pub(crate) fn rule<R: Wait>(&mut self, rt: &R, board: &TidingsBoard)
         ensures same { IsOfSame self.old self.new }
-        ensures learns { (o : Setting) → Learns o self.old self.new }
+        ensures learns { (o : Setting) (seen : List Change) → Learns o seen seen self.old self.new }
     {
         self.take_over(rt, board);
         self.renew();
@@ -64,7 +65,7 @@ impl<'b> Returning<'b> {
     #[inline(never)]
     fn renew(&mut self)
         ensures same { IsOfSame self.old self.new }
-        ensures learns { (o : Setting) → Learns o self.old self.new }
+        ensures learns { (o : Setting) (seen : List Change) → Learns o seen seen self.old self.new }
     {
         let rejoin = self.lookup.rejoin();
         self.rejoiner.rule(rejoin);
@@ -77,7 +78,8 @@ impl<'b> Returning<'b> {
     pub(crate) fn looked_at(&mut self, rows: &[Row])
         requires { length rows.now ≤ KNOWN_MEMBERS }
         ensures same { IsOfSame self.old self.new }
-        ensures learns { (o : Setting) (log : List Change) → rows.now ≡ table_after o log → Learns o self.old self.new }
+        ensures learns { (o : Setting) (saw seen : List Change) → IsPrefix saw seen → rows.now ≡ table_after o seen
+            → Learns o saw seen self.old self.new }
         ensures rows { 0 < self.old.rejoiner.rejoin → self.new.rows.items ≡ rows.now }
     {
         if self.rejoiner.is_open() && !are_same(rows, self.rows.as_slice()) {
@@ -92,7 +94,7 @@ impl<'b> Returning<'b> {
     #[inline(never)]
     pub(crate) fn take_over<R: Wait>(&mut self, rt: &R, board: &TidingsBoard)
         ensures same { IsOfSame self.old self.new }
-        ensures learns { (o : Setting) → Learns o self.old self.new }
+        ensures learns { (o : Setting) (seen : List Change) → Learns o seen seen self.old self.new }
     {
         if self.rejoiner.is_open() {
             let tidings = board.take(rt);

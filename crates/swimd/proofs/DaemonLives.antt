@@ -6,7 +6,6 @@ use Rattle.swim_history.specs.declared.rows.Change.{Change}
 use Rattle.swim_history.specs.Changes.{changes}
 use Rattle.swim_history.specs.Setting.{Setting}
 use Rattle.swim_node.specs.Seats.{Seated}
-use Rattle.swim_rejoin.specs.Histories.{Event}
 use Rattle.swim_control.specs.SideBySide.{Brought, Called}
 use Rattle.swim_control.specs.Talks.{Talks}
 use Rattle.swim_work.specs.declared.paces.Beat.{Beat}
@@ -22,7 +21,6 @@ use Rattle.swim_desk.specs.declared.controllers.Controller.{Controller}
 use Rattle.swim_receiver.specs.Datagrams.{AreHeard, datagrams_in}
 use Rattle.swim_receiver.specs.Receiving.{HearsLife}
 use Rattle.swim_receiver.specs.Receiving.{Owned as Receiving}
-use Rattle.swim_receiver.specs.Rejoining.{IsReturning}
 use Rattle.swim_ticker.specs.Ticking.{TicksLife}
 use Rattle.swim_ticker.specs.Ticking.{Owned as Ticking}
 use Rattle.swim_ticker.specs.Ticks.{AreTicked, ticks_in}
@@ -38,6 +36,7 @@ use Rattle.swim_crew.specs.Lives.{AreEnded, AreEndedByLife, AreLived, AreLives, 
 use Rattle.swim_keeper.specs.declared.keepers.LifeKeeper.{LifeKeeper}
 use Rattle.swim_keeper.specs.Keeping.{IsSame, Outlets, closes_by, opens_by, records_by}
 use Rattle.swim_keeper.specs.Told.{EachIsTold, EachLife, IsAnnounced, IsWithout}
+use Rattle.swim_receiver.proofs.Datagrams.{heard_later}
 use Rattle.swim_ticker.proofs.Knocked.{knocked_later}
 use Rattle.swim_keeper.proofs.Lives.{announced, life_drawn, life_kept, same_both}
 use Rattle.swimd.specs.DaemonLives.{AreDaemonLives, AtDaemon, AtReceiving, AtTicking, Controls, IsDaemonLife, Receives}
@@ -47,10 +46,9 @@ use Rattle.swimd.proofs.Lines.{all_lines}
 -- the laws of the three workers, for posts that are known so
 abbrev pub IsHeard : {O : Type 0} → (O → Option (List Posted)) → Type 0
 IsHeard {O} posted =
-    (o : Setting) (limit : ℕ) (old new : Receiving O) (seat : Seated) (seen : List Change) (end : End)
-    (h : List Event) → HearsLife posted o limit old seat seen end new → IsReturning old.returning h →
-    (given : List Received) × Grows old.received new.received given
-    × AreHeard (datagrams_in given) seat.calls end.counts
+    (o : Setting) (limit : ℕ) (old new : Receiving O) (seat : Seated) (seen : List Change) (end : End) →
+    HearsLife posted o limit old seat seen end new → (given : List Received) × Grows old.received new.received given
+    × AreHeard o old.returning (datagrams_in given) seat end.counts seen new.returning
 
 abbrev pub IsTicked : {O : Type 0} → (O → Option (List Posted)) → Type 0
 IsTicked {O} posted =
@@ -77,7 +75,7 @@ controls faults talks x o limit seat seen end y =
     ControlsLife o limit (faults x) (faults y) (talks x) seat seen end (talks y)
 
 abbrev hearing : {O : Type 0} → (O → Option (List Posted)) → Receiving O → AtReceiving
-hearing posted r = record { received = r.received; posted = posted r.post }
+hearing posted r = record { received = r.received; posted = posted r.post; returning = r.returning }
 
 abbrev beating : {O : Type 0} → (O → Option (List Posted)) → Ticking O → AtTicking
 beating posted t = record {
@@ -88,22 +86,18 @@ beating posted t = record {
   knocks = t.knocks;
 }
 
--- something happened to members that may come back, of which the receiver knows
-abbrev Knows : {O : Type 0} → Receiving O → Type 0
-Knows r = (h : List Event) × IsReturning r.returning h
-
 received : {O : Type 0} (posted : O → Option (List Posted)) → IsHeard posted → (o : Setting) (limit : ℕ)
-    (seat : Seated) (seen : List Change) (end : End) (x y : Receiving O) → Knows x →
+    (seat : Seated) (seen all : List Change) (end : End) (x y : Receiving O) → IsPrefix seen all →
     HearsLife posted o limit x seat seen end y →
-    Receives o seat end (hearing posted x) (hearing posted y)
-received posted is_heard o limit seat seen end x y knows is =
-    let law = is_heard o limit x y seat seen end knows.0 is knows.1 in
-    record { given = law.0; grown = law.1; heard = law.2; sent = is.sent }
-
-knows_on : {O : Type 0} (posted : O → Option (List Posted)) (o : Setting) (limit : ℕ) (seat : Seated)
-    (seen : List Change) (end : End) (x y : Receiving O) → Knows x →
-    HearsLife posted o limit x seat seen end y → Knows y
-knows_on posted o limit seat seen end x y knows is = let then = is.heard knows.0 knows.1 in (then.0, then.1)
+    Receives o all seat end (hearing posted x) (hearing posted y)
+received posted is_heard o limit seat seen all end x y begins is =
+    let law = is_heard o limit x y seat seen end is in record {
+      given = law.0;
+      grown = law.1;
+      heard = heard_later o x.returning (datagrams_in law.0) seat end.counts seen all y.returning begins law.2;
+      same = is.same;
+      sent = is.sent;
+    }
 
 ticked : {O : Type 0} (posted : O → Option (List Posted)) → IsTicked posted → (o : Setting) (limit : ℕ)
     (seat : Seated) (seen all : List Change) (end : End) (x y : Ticking O) → IsPrefix seen all →
@@ -144,11 +138,10 @@ module _ {A B C W F H S V Q E I Y O : Type 0} (out : Outlets W F H S V Y) (poste
 
   life_lived : (terms : Terms) (life : ℕ) (o : Setting) (past : Past)
       (old new : Stand A B C (JournalRecorder V Q E I Y) (LifeKeeper W F H S)) → old.keeper.terms ≡ terms →
-      Knows (receiving old.crew.first) →
       IsKeptLife the_rules o terms.limit terms.seed life old past new →
-      IsSame old.keeper new.keeper × Knows (receiving new.crew.first)
+      IsSame old.keeper new.keeper
       × IsDaemonLife out.fresh terms life o past (seen old) (seen new)
-  life_lived terms life o past old new is_terms knows is =
+  life_lived terms life o past old new is_terms is =
       let kept = life_kept out (hears posted receiving) (ticks posted ticking) (controls faults talks) told terms life o
       past old new is_terms is in
       let all = changes o past.journal.past in
@@ -159,16 +152,14 @@ module _ {A B C W F H S V Q E I Y O : Type 0} (out : Outlets W F H S V Y) (poste
       let third : new.crew.third ≡ is.crew.third =
       ap (λ (c : CrewAt A B C (JournalRecorder V Q E I Y)). c.third) is.others in (
         kept.0,
-        subst (λ (x : A). Knows (receiving x)) (sym first)
-            (knows_on posted o terms.limit is.life.one is.life.by_first.seen past.ends.first (receiving old.crew.first)
-            (receiving is.crew.first) knows is.life.by_first.has_worked),
         record {
           lived = life_drawn (hears posted receiving) (ticks posted ticking) (controls faults talks) (records_by out)
               terms life o (record old.crew { recorder = is.recorder }) past is.crew is.life is.drawn;
-          received = subst (λ (x : A). Receives o is.life.one past.ends.first
+          received = subst (λ (x : A). Receives o all is.life.one past.ends.first
               (hearing posted (receiving old.crew.first)) (hearing posted (receiving x))) (sym first)
-              (received posted is_heard o terms.limit is.life.one is.life.by_first.seen past.ends.first
-              (receiving old.crew.first) (receiving is.crew.first) knows is.life.by_first.has_worked);
+              (received posted is_heard o terms.limit is.life.one is.life.by_first.seen all past.ends.first
+              (receiving old.crew.first) (receiving is.crew.first) is.life.by_first.begins
+              is.life.by_first.has_worked);
           ticked = subst (λ (x : B). Ticks o all is.life.two past.ends.second
               (beating posted (ticking old.crew.second)) (beating posted (ticking x))) (sym second)
               (ticked posted is_ticked o terms.limit is.life.two is.life.by_second.seen all past.ends.second
@@ -185,25 +176,21 @@ module _ {A B C W F H S V Q E I Y O : Type 0} (out : Outlets W F H S V Y) (poste
   lives_lived : (terms : Terms) (from : Setting)
       (old : Stand A B C (JournalRecorder V Q E I Y) (LifeKeeper W F H S)) (lives : List Past)
       (new : Stand A B C (JournalRecorder V Q E I Y) (LifeKeeper W F H S)) → old.keeper.terms ≡ terms →
-      Knows (receiving old.crew.first) →
       AreLives the_rules from terms.limit terms.seed
       old lives new →
-      IsSame old.keeper new.keeper × Knows (receiving new.crew.first)
+      IsSame old.keeper new.keeper
       × EachLife (IsDaemonLife out.fresh terms) from (seen old) lives (seen new)
-  lives_lived terms from old [] new is_terms knows is = (
+  lives_lived terms from old [] new is_terms is = (
     subst (λ (s : Stand A B C (JournalRecorder V Q E I Y) (LifeKeeper W F H S)). IsSame old.keeper s.keeper) (sym is)
         (refl, refl, refl, refl, refl),
-    subst (λ (s : Stand A B C (JournalRecorder V Q E I Y) (LifeKeeper W F H S)). Knows (receiving s.crew.first))
-        (sym is) knows,
     ap seen is,
   )
-  lives_lived terms from old (past ∷ before) new is_terms knows is =
-      let earlier = lives_lived terms from old before is.0 is_terms knows is.1 in
+  lives_lived terms from old (past ∷ before) new is_terms is =
+      let earlier = lives_lived terms from old before is.0 is_terms is.1 in
       let last = life_lived terms (number_after before) (opening_after from before) past is.0 new
-      (earlier.0.0 ∙ is_terms) earlier.1 is.2 in (
+      (earlier.0.0 ∙ is_terms) is.2 in (
         same_both old.keeper is.0.keeper new.keeper earlier.0 last.0,
-        last.1,
-        (seen is.0, earlier.2, last.2),
+        (seen is.0, earlier.1, last.1),
       )
 
   ended : (from : Setting) (lives : List Past)
@@ -235,21 +222,21 @@ module _ {A B C W F H S V Q E I Y O : Type 0} (out : Outlets W F H S V Y) (poste
 
   -- the lives of such a crew
   pub all_lived : (opening : Setting) (old new : Stand A B C (JournalRecorder V Q E I Y) (LifeKeeper W F H S))
-      (end : LivesEnd) → Knows (receiving old.crew.first) →
+      (end : LivesEnd) →
       AreLived the_rules opening
       old.keeper.terms.limit old.keeper.terms.seed old new end →
       IsSame old.keeper new.keeper × AreDaemonLives out.fresh old.keeper.terms opening (seen old) (seen new) end
-  all_lived opening old new end knows is =
-      let lived = lives_lived old.keeper.terms opening old is.lives is.after_lives refl knows is.lived in
+  all_lived opening old new end is =
+      let lived = lives_lived old.keeper.terms opening old is.lives is.after_lives refl is.lived in
       let last = ended opening is.lives is.after_lives new end is.ended in (
         same_both old.keeper is.after_lives.keeper new.keeper lived.0 last.0,
         record {
           lives = is.lives;
           after_lives = seen is.after_lives;
-          lived = lived.2;
+          lived = lived.1;
           ended = last.1;
           lines = all_lines out.fresh old.keeper.terms opening (seen old) is.lives (seen is.after_lives) (seen new) end
-              lived.2 last.1;
+              lived.1 last.1;
         },
       )
 

@@ -19,7 +19,7 @@ starts_by config old new ends.NoPlace is = is
 
 pub starts_so : (config : Config) (terms : Terms) (before after : AtDaemon) (new : Written) (end : LivesEnd)
     (outcome : Outcome) → terms ≡ record { seed = config.seed; limit = config.journal } → outcome ≡ outcome_of end →
-    new ≡ after.told.keeper.lines → IsBeginning before →
+    new ≡ after.told.keeper.lines → IsBeginning config.opening before →
     AreDaemonLives (Some []) terms config.opening before after end → Starts config before.told.keeper.lines new outcome
 starts_so config terms before after new end outcome is_terms is same beginning lived =
     subst (λ (o : Outcome). Starts config before.told.keeper.lines new o) (sym is)

@@ -53,7 +53,7 @@ pub record IsLivedBy (config : Config) (old new : Written) (outcome : Outcome) :
   pub after : AtDaemon
   pub lived : AreDaemonLives (Some []) (record { seed = config.seed; limit = config.journal }) config.opening before
       after end
-  pub beginning : IsBeginning before
+  pub beginning : IsBeginning config.opening before
   pub began : before.told.keeper.lines ≡ old
   pub ended : after.told.keeper.lines ≡ new
   pub is : outcome ≡ outcome_of end

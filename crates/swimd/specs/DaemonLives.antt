@@ -16,7 +16,9 @@ use Rattle.swim_work.specs.declared.workers.End.{End}
 use Rattle.swim_work.specs.Ends.{both}
 use Rattle.swim_work.specs.Gates.{Received}
 use Rattle.swim_work.specs.Posts.{Grows, HasSent, Posted, starts_in}
+use Rattle.swim_receiver.specs.declared.rejoining.Returning.{Returning}
 use Rattle.swim_receiver.specs.Datagrams.{AreHeard, datagrams_in}
+use Rattle.swim_receiver.specs.Rejoining.{IsOfSame, IsReturning}
 use Rattle.swim_ticker.specs.Knocking.{HasKnocked}
 use Rattle.swim_ticker.specs.Ticks.{AreTicked, ticks_in}
 use Rattle.swim_desk.specs.Connected.{AnswersLines, AreAnswered, BecomeSo, BringsSo}
@@ -34,13 +36,15 @@ use Rattle.swim_keeper.specs.declared.keepers.LifeKeeper.{LifeKeeper}
 use Rattle.swim_keeper.specs.Keeping.{Outlets, at_keeper}
 use Rattle.swim_keeper.specs.Told.{AtLives, EachLife, IsAnnounced, IsDrawnLife, IsKept, IsWithout, at_lives}
 
--- what is seen of a receiver: what its line gave so far, and what its post was handed
+-- what is seen of a receiver: what its line gave so far, what its post was handed, and what it remembers of members
+-- that come back
 pub record AtReceiving : Type 0 where
   pub received : Option (List Received)
   pub posted : Option (List Posted)
+  pub returning : Returning
 
--- and of a ticker: the beats of its pace, what its post and the post of its knocks were handed, what its lookup
--- answered so far of the N at each of whose starts is a knock, and how many knocks there were
+-- and of a ticker: the beats of its pace, what its post and the post of its knocks were handed, each N that its lookup
+-- answered so far (there is a knock at each N-th start of a period), and how many knocks there were
 pub record AtTicking : Type 0 where
   pub beats : Option (List Beat)
   pub posted : Option (List Posted)
@@ -48,8 +52,8 @@ pub record AtTicking : Type 0 where
   pub answered : List ℕ
   pub knocks : ℕ
 
-abbrev pub at_receiving : Option (List Received) → Option (List Posted) → AtReceiving
-at_receiving received posted = record { received = received; posted = posted }
+abbrev pub at_receiving : Option (List Received) → Option (List Posted) → Returning → AtReceiving
+at_receiving received posted returning = record { received = received; posted = posted; returning = returning }
 
 abbrev pub at_ticking : Option (List Beat) → Option (List Posted) → Option (List Posted) → List ℕ → ℕ → AtTicking
 at_ticking beats posted knocked answered knocks =
@@ -77,8 +81,8 @@ at_daemon told receiving ticking connections s = record {
 }
 
 -- nothing came in or went out yet, and a lookup was asked nothing
-abbrev pub none_received : AtReceiving
-none_received = at_receiving (Some []) (Some [])
+abbrev pub none_received : Returning → AtReceiving
+none_received returning = at_receiving (Some []) (Some []) returning
 
 abbrev pub none_ticked : AtTicking
 none_ticked = at_ticking (Some []) (Some []) (Some []) [] 0
@@ -94,20 +98,24 @@ pub record IsUntold (told : AtLives) : Type 0 where
   pub gallery : told.gallery ≡ []
   pub heard : told.heard ≡ Some []
 
--- a daemon before its first life
-pub record IsBeginning (d : AtDaemon) : Type 0 where
-  pub received : d.receiving ≡ none_received
+-- a daemon of this opening before its first life: nothing has happened to members that come back
+pub record IsBeginning (opening : Setting) (d : AtDaemon) : Type 0 where
+  pub received : d.receiving ≡ none_received d.receiving.returning
+  pub returning : IsReturning d.receiving.returning []
+  pub me : d.receiving.returning.rejoiner.me ≡ opening.me
   pub ticked : d.ticking ≡ none_ticked
   pub connected : d.connections ≡ none_connected
   pub told : IsUntold d.told
 
--- each datagram that the line gave in a life, in order, became one call of this seat, which made no other for a
--- datagram, or was refused, which is counted unless the journal was full; and the post was handed the datagrams of the
--- replies, each once, in order
-pub record Receives (o : Setting) (seat : Seated) (end : End) (old new : AtReceiving) : Type 0 where
+-- each datagram that the line gave in a life, in order, became one call of this seat, behind which whoever it shows to
+-- be there again was joined, by all that happened to members until then, and the seat made no other call; or it was
+-- refused, and counted. In what happened, the tables of this life are those after beginnings of these changes, one
+-- after the other. And the post was handed the datagrams of the replies, each once, in order
+pub record Receives (o : Setting) (all : List Change) (seat : Seated) (end : End) (old new : AtReceiving) : Type 0 where
   pub given : List Received
   pub grown : Grows old.received new.received given
-  pub heard : AreHeard (datagrams_in given) seat.calls end.counts
+  pub heard : AreHeard o old.returning (datagrams_in given) seat end.counts all new.returning
+  pub same : IsOfSame old.returning new.returning
   pub sent : HasSent o seat.calls old.posted new.posted end.counts.unsent
 
 -- each tick of the pace, in order, became one call of this seat, which made no other, or was refused, which is counted
@@ -141,7 +149,7 @@ pub record Controls (o : Setting) (limit : ℕ) (all : List Change) (seat : Seat
 pub record IsDaemonLife (fresh : Option (List ℕ)) (terms : Terms) (life : ℕ) (o : Setting) (past : Past)
     (old new : AtDaemon) : Type 0 where
   pub lived : IsDrawnLife terms life o past
-  pub received : Receives o lived.one past.ends.first old.receiving new.receiving
+  pub received : Receives o (changes o past.journal.past) lived.one past.ends.first old.receiving new.receiving
   pub ticked : Ticks o (changes o past.journal.past) lived.two past.ends.second old.ticking new.ticking
   pub controlled : Controls o terms.limit (changes o past.journal.past) lived.three past.ends.third old.connections
       new.connections

@@ -81,9 +81,11 @@ impl<'g, R: Files<File = File> + Net + Clock + Wait> Shared<'g, R> {
         log: G,
     ) -> Result<DaemonCrew<'g, R, D, G, K>, AllocError>
         ensures returning { IfOk result (λ crew. IsReturning (box_value crew.first).returning []) }
+        ensures me { IfOk result (λ crew. (box_value crew.first).returning.rejoiner.me ≡ config.now.opening.me) }
         ensures receiving { IfOk result (λ crew. at_receiving
             (⟦<GuardedLine<'g, R> as Line>⟧.received (box_value crew.first).line)
-            (⟦<GuardedPost<'g> as Post>⟧.posted (box_value crew.first).post) ≡ none_received) }
+            (⟦<GuardedPost<'g> as Post>⟧.posted (box_value crew.first).post) (box_value crew.first).returning
+            ≡ none_received (box_value crew.first).returning) }
         ensures ticking { IfOk result (λ crew. at_ticking
             (⟦<ClockPace<'g, R> as Pace>⟧.beats (box_value crew.second).pace)
             (⟦<GuardedPost<'g> as Post>⟧.posted (box_value crew.second).post)
@@ -109,9 +111,11 @@ impl<'g, R: Files<File = File> + Net + Clock + Wait> Shared<'g, R> {
         config: &Config,
     ) -> Result<Box<Receiver<'g, GuardedLine<'g, R>, GuardedPost<'g>>>, AllocError>
         ensures returning { IfOk result (λ receiver. IsReturning (box_value receiver).returning []) }
+        ensures me { IfOk result (λ receiver. (box_value receiver).returning.rejoiner.me ≡ config.now.opening.me) }
         ensures receiving { IfOk result (λ receiver. at_receiving
             (⟦<GuardedLine<'g, R> as Line>⟧.received (box_value receiver).line)
-            (⟦<GuardedPost<'g> as Post>⟧.posted (box_value receiver).post) ≡ none_received) }
+            (⟦<GuardedPost<'g> as Post>⟧.posted (box_value receiver).post) (box_value receiver).returning
+            ≡ none_received (box_value receiver).returning) }
     {
         let strangers = &self.counters.strangers;
         let book = self.reloading.book;

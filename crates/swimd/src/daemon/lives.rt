@@ -1,8 +1,6 @@
 //! The lives of a daemon's crew, and what its keeper tells of them.
 
-ghost use Rattle.std.specs.Prelude.{◌≡◌, List, box_value};
-ghost use Rattle.swim_rejoin.specs.Histories.{Event};
-ghost use Rattle.swim_receiver.specs.Rejoining.{IsReturning};
+ghost use Rattle.std.specs.Prelude.{◌≡◌, box_value};
 ghost use Rattle.swim_crew.specs.Crews.{stand_at};
 ghost use Rattle.swim_keeper.specs.Keeping.{outlets};
 ghost use Rattle.swim_keeper.specs.Notices.{Notices};
@@ -65,7 +63,6 @@ pub fn keep_lives<
     crew: DaemonCrew<'g, R, D, G, K>,
     keeper: &mut DaemonKeeper<'g, 'w, 'f, 'h, 's, 'b, R, W, F>,
 ) -> (LivesEnd, DaemonCrew<'g, R, D, G, K>)
-    requires returning { (h : List Event) × IsReturning (box_value crew.first).returning h }
     ensures same_writer { keeper.new.writer.ghost_name ≡ keeper.old.writer.ghost_name }
     ensures same_notices { keeper.new.notices.ghost_name ≡ keeper.old.notices.ghost_name }
     ensures lived { AreSeenLives (at_daemon
@@ -73,7 +70,8 @@ pub fn keep_lives<
         ⟦<Folder<'g, R> as Shelf<JournalFile<'g, R>>>⟧.opened ⟦<Folder<'g, R> as Shelf<JournalFile<'g, R>>>⟧.filed
         ⟦<Folder<'g, R> as Shelf<JournalFile<'g, R>>>⟧.fresh ⟦<JournalFile<'g, R> as Sink>⟧.written
         ⟦<JournalFile<'g, R> as Sink>⟧.held ⟦<Chronicler<'g> as Reporter>⟧.heard))
-        (λ r. at_receiving (⟦<GuardedLine<'g, R> as Line>⟧.received r.line) (⟦<GuardedPost<'g> as Post>⟧.posted r.post))
+        (λ r. at_receiving (⟦<GuardedLine<'g, R> as Line>⟧.received r.line) (⟦<GuardedPost<'g> as Post>⟧.posted r.post)
+        r.returning)
         (λ t. at_ticking (⟦<ClockPace<'g, R> as Pace>⟧.beats t.pace) (⟦<GuardedPost<'g> as Post>⟧.posted t.post)
         (⟦<GuardedPost<'g> as Post>⟧.posted t.knock_post) t.lookup t.knocks)
         (λ c. c.hall.connections)) ⟦<Folder<'g, R> as Shelf<JournalFile<'g, R>>>⟧.fresh keeper.old.terms opening

@@ -10,6 +10,8 @@ returns-clause-starts g c =
     c.terms_of-terms.ensures c.outcome_of.ensures (search rules)
     (record {
       received = c.in-Ok-crew.ensures.receiving;
+      returning = c.in-Ok-crew.ensures.returning;
+      me = c.in-Ok-crew.ensures.me;
       ticked = c.in-Ok-crew.ensures.ticking;
       connected = c.in-Ok-crew.ensures.connections;
       told = record {

@@ -15,11 +15,11 @@ returns-in-Some-look_and_hear-clause-heard g c =
     let heard = c.look_and_hear.new.hearing in
     last_heard g.N.Naming.opening g.N.Naming.limit
     (at_turn (at_sender began.caller.seat first.post began.caller.counts) began.faults.in_a_row
-    (g.L.Line.received first.line) first.returning)
+    (g.L.Line.received first.line) first.returning began.viewer)
     (at_turn (at_sender hearing.caller.seat old.post hearing.caller.counts) hearing.faults.in_a_row
-    (g.L.Line.received old.line) old.returning)
+    (g.L.Line.received old.line) old.returning hearing.viewer)
     (at_turn (at_sender heard.caller.seat new.post heard.caller.counts) heard.faults.in_a_row
-    (g.L.Line.received new.line) new.returning) c.in-Some-look_and_hear.end
+    (g.L.Line.received new.line) new.returning heard.viewer) c.in-Some-look_and_hear.end
     c.loop-turn.invariant.heard c.loop-turn.invariant.same c.in-Some-look_and_hear.ensures.turn
 
 pub returns-in-Some-look_and_hear-clause-sent : goal.returns-in-Some-look_and_hear-clause-sent
@@ -45,7 +45,7 @@ loop-turn-init g c =
     record {
       heard = none_heard g.N.Naming.opening g.N.Naming.limit
           (at_turn (at_sender began.caller.seat first.post began.caller.counts) began.faults.in_a_row
-          (g.L.Line.received first.line) first.returning);
+          (g.L.Line.received first.line) first.returning began.viewer);
       sent = λ start is. is;
       same = refl;
       shown = none_shown g.N.Naming.opening began.viewer (g.L.Line.listed first.line);
@@ -65,11 +65,11 @@ loop-turn-preserved g c =
     record {
       heard = one_more_heard g.N.Naming.opening g.N.Naming.limit
           (at_turn (at_sender began.caller.seat first.post began.caller.counts) began.faults.in_a_row
-          (g.L.Line.received first.line) first.returning)
+          (g.L.Line.received first.line) first.returning began.viewer)
           (at_turn (at_sender hearing.caller.seat old.post hearing.caller.counts) hearing.faults.in_a_row
-          (g.L.Line.received old.line) old.returning)
+          (g.L.Line.received old.line) old.returning hearing.viewer)
           (at_turn (at_sender heard.caller.seat new.post heard.caller.counts) heard.faults.in_a_row
-          (g.L.Line.received new.line) new.returning)
+          (g.L.Line.received new.line) new.returning heard.viewer)
           c.loop-turn.invariant.heard before c.in_default.ensures.turn;
       sent = λ start is. c.in_default.ensures.sent start (c.loop-turn.invariant.sent start is);
       same = same ∙ before;

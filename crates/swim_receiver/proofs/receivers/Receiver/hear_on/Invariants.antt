@@ -11,9 +11,10 @@ invariant-loop-turn g l = record {
   heard : HasHeard g.N.Naming.opening g.N.Naming.limit
       (at_turn
       (at_sender l.initial.hearing.caller.seat l.initial.self.post l.initial.hearing.caller.counts)
-      l.initial.hearing.faults.in_a_row (g.L.Line.received l.initial.self.line) l.initial.self.returning) None
+      l.initial.hearing.faults.in_a_row (g.L.Line.received l.initial.self.line) l.initial.self.returning
+      l.initial.hearing.viewer) None
       (at_turn (at_sender l.hearing.caller.seat l.self.post l.hearing.caller.counts) l.hearing.faults.in_a_row
-      (g.L.Line.received l.self.line) l.self.returning);
+      (g.L.Line.received l.self.line) l.self.returning l.hearing.viewer);
   sent : SendsOn g.O.Post.posted g.N.Naming.opening
       (at_sender l.initial.hearing.caller.seat l.initial.self.post l.initial.hearing.caller.counts)
       (at_sender l.hearing.caller.seat l.self.post l.hearing.caller.counts);

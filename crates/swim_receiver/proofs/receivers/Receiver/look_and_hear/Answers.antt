@@ -14,12 +14,12 @@ returns-clause-turn g c =
     let heard = c.hear_next.new.hearing in
     learnt_first g.N.Naming.opening g.N.Naming.limit
     (at_turn (at_sender hearing.caller.seat old.post hearing.caller.counts) hearing.faults.in_a_row
-    (g.L.Line.received old.line) old.returning)
+    (g.L.Line.received old.line) old.returning hearing.viewer)
     (at_turn (at_sender hearing.caller.seat mid.post hearing.caller.counts) hearing.faults.in_a_row
-    (g.L.Line.received mid.line) mid.returning)
+    (g.L.Line.received mid.line) mid.returning c.show.new.viewer)
     c.hear_next.result
     (at_turn (at_sender heard.caller.seat new.post heard.caller.counts) heard.faults.in_a_row
-    (g.L.Line.received new.line) new.returning)
+    (g.L.Line.received new.line) new.returning heard.viewer)
     c.show.ensures.learns c.show.ensures.same c.show.ensures.received
     (ap (λ post. at_sender hearing.caller.seat post hearing.caller.counts) c.show.ensures.post) refl
     c.hear_next.ensures.turn

@@ -13,6 +13,6 @@ returns-clause-works g c =
     (owned (g.L.Line.received new.line) (g.L.Line.listed new.line) new.post new.returning)
     c.new.result.seat hearing.caller.seat c.new.result.counts hearing.caller.counts c.none.result.in_a_row
     hearing.faults.in_a_row c.hear_on-why.result c.done.result.end c.args.viewer hearing.viewer
-    (search rules) (search rules) c.new.ensures.counts c.none.ensures c.hear_on-why.ensures.number
+    (search rules) (search rules) c.new.ensures.counts c.none.ensures (search rules) c.hear_on-why.ensures.number
     c.done.ensures.end c.hear_on-why.ensures.heard c.hear_on-why.ensures.sent c.hear_on-why.ensures.same
     c.hear_on-why.ensures.shown)

@@ -32,7 +32,7 @@ returns-clause-lived g c = (all_lived (outlets g.W.Sink.written g.W.Sink.failure
     ticking (knocks g.D.Door.faults) talks c.a_kept_life_is_told.ensures c.each_datagram_is_heard.ensures
     c.each_tick_is_a_call.ensures c.each_line_is_called.ensures.life c.args.opening
     (stand_at c.args.crew c.args.keeper.now) (stand_at c.run_lives-end.result.1 c.run_lives-end.new.keeper)
-    c.run_lives-end.result.0 c.requires.returning c.run_lives-end.ensures).1
+    c.run_lives-end.result.0 c.run_lives-end.ensures).1
 
 pub returns-clause-notices : goal.returns-clause-notices
 returns-clause-notices g c = all_noticed _ _ c.args.opening _ _ c.run_lives-end.result.0 (all_kept
