@@ -177,8 +177,11 @@ def a_group_with_another_program(machine):
 
 def a_group_that_changes_lives(machine):
     """Each journal is full every few seconds. One member is killed: it is judged by all, and nobody else is, in
-    whatever life."""
-    daemons = machine.group(5, tick_ms=50, journal=80)
+    whatever life. The end of a life loses a datagram. So that no probe is lost with all its relays, all others are
+    asked, and journals of different lengths aren't full at the same moment."""
+    lengths = {id: 60 + 10 * id for id in range(1, 6)}
+    daemons = [machine.daemon(id, tick_ms=50, k=3, journal=length) for id, length in lengths.items()]
+    introduced([it.start() for it in daemons])
     for it in daemons:
         until(lambda: it.lives_so_far() >= 1, f"member {it.id} has a second life")
     must(all_up(daemons), f"a verdict on a member that answers: {[it.states() for it in daemons]}")
@@ -195,7 +198,7 @@ def a_group_that_changes_lives(machine):
         judged = sum(life.judged for life in it.lives) + closing.judged
         must(closing.status == 0 and judged >= 1, f"member {it.id} ended {closing} after {it.lives}")
         must(
-            all(life[1] == 80 and life[3:] == (0, 0, 0) for life in it.lives),
+            all(life[1] == lengths[it.id] and life[3:] == (0, 0, 0) for life in it.lives),
             f"the lives of member {it.id} are {it.lives}",
         )
 
