@@ -4,17 +4,18 @@ use crate::fours::Four;
 use crate::jobs::Job;
 use crate::nodes::other;
 use std::sync::atomic::{AtomicBool, Ordering};
+use swim_history::Table;
 use swim_node::{Naming, Viewer};
 
-/// Lists the table until it is over, or so many times, and says how often member 2 stood in it.
+/// Looks at the table until it is over, or so many times, and says how often member 2 stood in it.
 pub(crate) fn list<N: Naming>(viewer: Viewer<N>, looks: u32, over: &AtomicBool) -> u32 {
     let mut viewer = viewer;
+    let mut table = Table::new();
     let mut seen = 0_u32;
     for _look in 0..looks {
-        if over.load(Ordering::SeqCst) {
+        if over.load(Ordering::SeqCst) || !viewer.look(&mut table) {
             break;
         }
-        let Some(table) = viewer.list() else { break };
         if table.as_slice().iter().any(|row| row.id == other()) {
             seen = seen.saturating_add(1);
         }

@@ -1,15 +1,15 @@
 -- What is asked beside a line, to write its answer.
 use Rattle.std.proofs.Common.{◌≡◌, ℕ, true, false, List, [], ◌∷◌, Option, Some, None, Ok, Err, codes, refl, sym, subst}
 use Rattle.swim_text.specs.Streams.{Puts}
+use Rattle.swim_trail.specs.Growing.{Grows, grows_both, grows_none}
 use Rattle.swim_commands.specs.Answers.{is_answer_to}
-use Rattle.swim_commands.specs.Asking.{AsksBeside, Grows, IsAskedBeside, Passes, Sent, counts_of, listed, sent_with}
+use Rattle.swim_commands.specs.Asking.{AsksBeside, IsAskedBeside, Passes, Sent, counts_of, listed, sent_with}
 use Rattle.swim_commands.specs.Asking.{text_by}
 use Rattle.swim_commands.specs.Forms.{needs_counts, shown}
 use Rattle.swim_commands.specs.declared.askers.Came.{Came}
 use Rattle.swim_commands.specs.declared.askers.Came.TheVariants as came
 use Rattle.swim_commands.specs.declared.forms.Form.{Form}
 use Rattle.swim_commands.specs.declared.outcomes.Outcome.TheVariants.{AskUnwritten}
-use Rattle.swim_commands.proofs.Growing.{grows_both, grows_none}
 
 -- nothing is, where no counts are needed
 pub none_beside : (form : Form) (answer counts : List ℕ) (a : Option (List Sent)) → needs_counts form answer ≡ false →

@@ -6,13 +6,13 @@ use Rattle.std.proofs.lemmas.List.Folds.{list_any-append}
 use Rattle.std.specs.List.{flat_map}
 use Rattle.std.specs.Io.KnownBytes.{Appends, Consumes}
 use Rattle.swim_text.specs.Streams.{appends_both, appends_none, keeps_self}
+use Rattle.swim_trail.specs.Growing.{Grows, grows_both, grows_none}
 use Rattle.swim_commands.specs.Answers.{is_stopping}
 use Rattle.swim_commands.specs.Forms.{is_unmet}
-use Rattle.swim_commands.specs.Asking.{Asker, Asking, EndsInStop, Exchange, Grows, HasAsked, IsDone, IsStopped}
+use Rattle.swim_commands.specs.Asking.{Asker, Asking, EndsInStop, Exchange, HasAsked, IsDone, IsStopped}
 use Rattle.swim_commands.specs.Asking.{Passes, Reads, Sent, asked_so, bytes_of, has_refusal}
 use Rattle.swim_commands.specs.Asking.{sent, shown_of, stopped_so}
 use Rattle.swim_commands.proofs.ControlLines.{all_taken}
-use Rattle.swim_commands.proofs.Growing.{grows_both, grows_none}
 use Rattle.swim_commands.specs.declared.askers.Came.{Came}
 use Rattle.swim_commands.specs.declared.askers.Came.TheVariants as came
 use Rattle.swim_commands.specs.declared.control_lines.NextLine.TheVariants.{Line, Over, Fault}

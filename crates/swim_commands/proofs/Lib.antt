@@ -2,7 +2,6 @@ pub mod Beside
 pub mod ControlLines
 pub mod Exchanges
 pub mod Given
-pub mod Growing
 pub mod Indented
 pub mod Lines
 pub mod LineTexts

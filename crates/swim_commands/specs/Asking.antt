@@ -6,6 +6,7 @@ use Rattle.std.specs.Io.KnownBytes.{Appends, Consumes, IsAtEnd, Keeps}
 use Rattle.swim_text.specs.Cutting.{feed_if}
 use Rattle.swim_text.specs.Lines.{has_feed}
 use Rattle.swim_text.specs.Streams.{PutsFront}
+use Rattle.swim_trail.specs.Growing.{Grows}
 use Rattle.swim_commands.specs.declared.askers.Came.{Came}
 use Rattle.swim_commands.specs.declared.askers.Came.TheVariants as came
 use Rattle.swim_commands.specs.declared.control_lines.NextLine.{NextLine}
@@ -70,12 +71,6 @@ pub record Sent : Type 0 where
   pub line : List ℕ
   pub came : Came
   pub answer : List ℕ
-
--- a known list grew by these
-abbrev pub Grows : {A : Type 0} → Option (List A) → Option (List A) → List A → Type 0
-Grows None new more = Unit {0}
-Grows (Some old) None more = ⊥
-Grows (Some old) (Some new) more = new ≡ old ++ more
 
 -- what came of an answer that was waited for: nothing of one that did not come
 abbrev pub text_by : Came → List ℕ → List ℕ

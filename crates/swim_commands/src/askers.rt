@@ -2,7 +2,8 @@
 
 ghost use Rattle.std.specs.Prelude.{◌≡◌, ◌∷◌, [], true, List, Option};
 ghost use Rattle.swim_commands.specs.Answers.{is_answer_to};
-ghost use Rattle.swim_commands.specs.Asking.{Grows, Sent};
+ghost use Rattle.swim_commands.specs.Asking.{Sent};
+ghost use Rattle.swim_trail.specs.Growing.{Grows};
 
 use crate::answers::ControlAnswer;
 

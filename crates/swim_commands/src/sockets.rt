@@ -2,7 +2,7 @@
 
 ghost use Rattle.std.specs.Prelude.{◌≡◌, None, true};
 ghost use Rattle.swim_commands.specs.Answers.{is_answer_to};
-ghost use Rattle.swim_commands.specs.Asking.{Grows};
+ghost use Rattle.swim_trail.specs.Growing.{Grows};
 
 use crate::answers::{ControlAnswer, STOPPING, is_answer, is_answer_to, is_refusal, is_stop};
 use crate::askers::{Asker, Came};

@@ -52,7 +52,7 @@ pub struct Config {
     pub fence: u32,
     /// Whether `fence` stands in the document.
     pub is_fence_given: bool,
-    /// Every how many starts of a period a failed member is knocked at: 0 to 65535, 0 for none.
+    /// The N of knocks: there is a knock at each N-th start of a period. 0 to 65535, 0 for none.
     pub rejoin: u32,
     /// Whether `rejoin` stands in the document.
     pub is_rejoin_given: bool,
@@ -103,7 +103,7 @@ pub struct FenceSettings {
 /// How members come back.
 #[derive(Clone, Copy)]
 pub struct Rejoin {
-    /// Every how many starts of a period a failed member is knocked at; 0 for none.
+    /// The N of knocks: there is a knock at each N-th start of a period; 0 for none.
     pub periods: u32,
     /// Whether it stands in the document.
     pub is_given: bool,

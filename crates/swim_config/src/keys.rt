@@ -41,7 +41,7 @@ pub enum ConfigKey {
     Keys,
     /// How many datagrams a second of an address are handed on, and a burst of as many.
     Fence,
-    /// Every how many starts of a period a failed member is knocked at.
+    /// The N of knocks: there is a knock at each N-th start of a period.
     Rejoin,
     /// The folder of the journal files.
     JournalDir,

@@ -6,6 +6,7 @@ use Rattle.std.proofs.lemmas.Grind.{flat_map-append}
 use Rattle.swim_history.specs.declared.rows.Change.{Change}
 use Rattle.swim_history.specs.declared.seats.Kept.{Kept}
 use Rattle.swim_history.specs.Setting.{Setting}
+use Rattle.swim_trail.specs.Growing.{Grows, grows_both, grows_none}
 use Rattle.swim_node.specs.Seats.{Seated}
 use Rattle.swim_control.specs.declared.connections.Stand.{Stand}
 use Rattle.swim_control.specs.Connections.{TakesTurn, newcomer}
@@ -13,8 +14,6 @@ use Rattle.swim_control.specs.Talks.{Talks}
 use Rattle.swim_work.specs.declared.counts.Why.{Why}
 use Rattle.swim_work.specs.declared.workers.End.{End}
 use Rattle.swim_work.specs.Callers.{fresh_seat}
-use Rattle.swim_work.specs.Posts.{Grows}
-use Rattle.swim_work.proofs.Posting.{grows_both, grows_none}
 use Rattle.swim_desk.specs.Controlling.{AreFull, AsksOnce, AtControl, ControlsLife, ControlsNext, HasControlled}
 use Rattle.swim_desk.specs.Controlling.{IsControlTurn, LetsIn, Serves, ShutsOut, Step, TakesStep, at_control, at_desk}
 use Rattle.swim_desk.specs.Controlling.{knocks_in, with_newcomer}

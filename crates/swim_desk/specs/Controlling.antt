@@ -3,6 +3,7 @@ use Rattle.std.specs.Prelude.{◌≡◌, ◌⊎◌, ℕ, ◌+◌, ◌-◌, ◌^�
 use Rattle.std.specs.Prelude.{flat_map, Option, Some, None}
 use Rattle.swim_history.specs.declared.rows.Change.{Change}
 use Rattle.swim_history.specs.Setting.{Setting}
+use Rattle.swim_trail.specs.Growing.{Grows}
 use Rattle.swim_node.specs.Seats.{Seated}
 use Rattle.swim_control.specs.declared.connections.Stand.{Stand}
 use Rattle.swim_control.specs.Connections.{TakesTurn, newcomer}
@@ -11,7 +12,6 @@ use Rattle.swim_work.specs.declared.counts.Why.{Why}
 use Rattle.swim_work.specs.declared.workers.End.{End}
 use Rattle.swim_work.specs.Callers.{fresh_seat, nothing}
 use Rattle.swim_work.specs.Ends.{end_at, one_fault_more}
-use Rattle.swim_work.specs.Posts.{Grows}
 use Rattle.swim_work.specs.Turns.{EndsSo}
 use Rattle.swim_desk.specs.Desk.{Asks, AtDesk}
 use Rattle.swim_desk.specs.Ending.{why_at}

@@ -1,7 +1,7 @@
 //! Where operators come in.
 
 ghost use Rattle.std.specs.Prelude.{◌≡◌, [], ◌∷◌};
-ghost use Rattle.swim_work.specs.Posts.{Grows};
+ghost use Rattle.swim_trail.specs.Growing.{Grows};
 ghost use Rattle.swim_desk.specs.Doors.{ComesNew, is_fault};
 
 use std::sync::Wait;

@@ -6,7 +6,7 @@ use Rattle.swim_devices.specs.declared.places.Presence.{Presence}
 use Rattle.swim_devices.specs.declared.places.Presence.TheVariants as met
 use Rattle.swim_devices.specs.declared.places.Sight.{Sight}
 use Rattle.swim_devices.specs.declared.places.Sight.TheVariants.{Free, Stale, Served, NoSocket, Unclear}
-use Rattle.swim_work.specs.Posts.{Grows}
+use Rattle.swim_trail.specs.Growing.{Grows}
 
 -- what a contract sees of a place: what was found there, whether the lock of its folder is held, and whether what was
 -- found was

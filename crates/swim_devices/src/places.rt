@@ -2,7 +2,7 @@
 
 ghost use Rattle.std.specs.Prelude.{◌≡◌, ◌↔◌, ◌∷◌, [], None, true};
 ghost use Rattle.swim_devices.specs.Places.{Clears, Removes, sight_of};
-ghost use Rattle.swim_work.specs.Posts.{Grows};
+ghost use Rattle.swim_trail.specs.Growing.{Grows};
 
 use mio::net::UnixStream;
 use std::fs::{File, TryLockError};

@@ -10,12 +10,13 @@ use Rattle.swim_history.specs.declared.entries.Entry.{Entry}
 use Rattle.swim_history.specs.Setting.{Setting}
 use Rattle.swim_history.specs.Clock.{period_number}
 use Rattle.swim_history.specs.Changes.{change_by, changes, table}
+use Rattle.swim_trail.specs.Growing.{Grows}
 use Rattle.swim_events.specs.declared.outlets.Offer.{Offer}
 use Rattle.swim_events.specs.declared.outlets.Offer.TheVariants.{Took, Full, Gone}
 use Rattle.swim_events.specs.declared.watchers.WatcherStanding.TheVariants.{Following}
 use Rattle.swim_events.specs.Texts.{change_text, life_text, table_text}
 use Rattle.swim_events.specs.Watchers.{AtWatcher, IsStream, after_sent, after_text}
-use Rattle.swim_events.specs.Guests.{AreSent, AtGuest, Grows, IsTurn, IsUntaken, Offering, kept_if, newcomer}
+use Rattle.swim_events.specs.Guests.{AreSent, AtGuest, IsTurn, IsUntaken, Offering, kept_if, newcomer}
 use Rattle.swim_events.specs.Guests.{put_text, told_of}
 use Rattle.swim_events.specs.Watched.{IsWatchedOver, Lived, lived_on}
 use Rattle.swim_events.specs.Telling.{AreTexts, AreTextsOver, AreTold, IsGuestTold, IsTaken, IsTelling, IsTellingOver}

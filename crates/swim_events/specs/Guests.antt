@@ -4,6 +4,7 @@ use Rattle.std.specs.Prelude.{map, Option, Some, None, if◌then◌else◌}
 use Rattle.std.specs.Option.{unwrap_or}
 use Rattle.swim_history.specs.declared.rows.Row.{Row}
 use Rattle.swim_history.specs.declared.rows.Change.{Change}
+use Rattle.swim_trail.specs.Growing.{Grows}
 use Rattle.swim_events.specs.declared.outlets.Offer.{Offer}
 use Rattle.swim_events.specs.declared.outlets.Offer.TheVariants.{Took, Full, Gone}
 use Rattle.swim_events.specs.declared.watchers.WatcherStanding.TheVariants.{Following, Lost}
@@ -21,13 +22,6 @@ pub record AtGuest : Type 0 where
   pub stuck : Option ℕ
   pub taken : Option (List ℕ)
   pub offers : Option (List Offering)
-
--- a list grew by these, where it is known; what isn't known stays so
-abbrev pub Grows : {A : Type 0} → Option (List A) → Option (List A) → List A → Type 0
-Grows None None more = Unit {0}
-Grows None (Some new) more = ⊥
-Grows (Some old) None more = ⊥
-Grows (Some old) (Some new) more = new ≡ old ++ more
 
 -- what an outlet takes of bytes: the first ones, or none
 abbrev pub Takes : Offer → List ℕ → Option (List ℕ) → Option (List ℕ) → Type 0

@@ -1,7 +1,8 @@
 //! The gates of those who watch: where they come in, and where their bytes go. Nothing of them waits.
 
 ghost use Rattle.std.specs.Prelude.{◌∷◌, [], IfSome};
-ghost use Rattle.swim_events.specs.Guests.{Grows, IsUntaken, Takes};
+ghost use Rattle.swim_events.specs.Guests.{IsUntaken, Takes};
+ghost use Rattle.swim_trail.specs.Growing.{Grows};
 
 /// What became of bytes that were offered.
 #[derive(Clone, Copy, Debug, PartialEq, Eq)]

@@ -1,14 +1,16 @@
 //! A journal as it is gone through, entry by entry.
 
 ghost use Rattle.std.specs.Prelude.{◌≡◌, ◌∷◌, ◌++◌, [], ◌-◌, List, Option, Some, None, OnOk, length, map, slice_get};
+ghost use Rattle.swim_history.specs.declared.entries.Choice.{Choice};
 ghost use Rattle.swim_history.specs.declared.entries.Entry.{Entry};
+ghost use Rattle.swim_history.specs.Called.{entry_of};
 ghost use Rattle.swim_history.specs.Setting.{Setting};
 ghost use Rattle.swim_evidence.specs.Evidence.{evidence, is_judged, is_probed, late, of_probed, probing_by, stray_in};
 ghost use Rattle.swim_evidence.specs.Trail.{Follows};
 
 use crate::findings::{Ask, Evidence, Finding, Findings, Stray};
 use std::alloc::{AllocError, Global};
-use swim_history::{Call, DropReason, Entry, Opening, Probe, Reply};
+use swim_history::{Call, Called, DropReason, Opening, Probe, Reply};
 use swim_wire::Id;
 
 /// A start that probed, and its place.
@@ -45,18 +47,19 @@ impl Trail {
         }
     }
 
-    /// Goes one entry on, which stands at that place. `Err` only where memory was refused.
-    pub fn note(&mut self, place: u32, entry: Entry) -> Result<(), AllocError>
-        ensures { (o : Setting) (h : List Entry) → Follows o h self.old → place ≡ length h →
-            OnOk result (Follows o (entry ∷ h) self.new) }
+    /// Goes one entry on, which stands at that place and has this call and this reply. `Err` only where memory was
+    /// refused.
+    pub fn note(&mut self, place: u32, called: Called) -> Result<(), AllocError>
+        ensures { (o : Setting) (h : List Entry) (choice : Choice) → Follows o h self.old → place ≡ length h →
+            OnOk result (Follows o (entry_of called choice ∷ h) self.new) }
     {
-        match entry.reply {
+        match called.reply {
             Reply::Started { judged, probe } => self.start(place, judged, probe),
             Reply::Asked { relays, .. } => {
                 self.ask = Some(Ask { place, relays });
                 Ok(())
             }
-            Reply::Dropped(DropReason::Stray) => self.note_stray(place, entry.call),
+            Reply::Dropped(DropReason::Stray) => self.note_stray(place, called.call),
             _ => Ok(()),
         }
     }

@@ -52,8 +52,8 @@ fn walk(alloc: Global, journal: &Journal, confirmed: u32) -> Result<Findings, Al
 {
     let mut trail = Trail::new(alloc, journal.opening());
     for place in 0..confirmed.min(journal.len()) {
-        if let Some(entry) = journal.entry(place) {
-            trail.note(place, entry)?;
+        if let Some(called) = journal.called(place) {
+            trail.note(place, called)?;
         }
     }
     Ok(trail.into_findings())

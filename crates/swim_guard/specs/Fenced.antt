@@ -2,13 +2,13 @@
 use Rattle.std.specs.Prelude.{◌≡◌, ℕ, ◌+◌, ◌≤◌, Bool, true, false, ◌&&◌, List, [], ◌∷◌, ◌++◌, Option, Some, None}
 use Rattle.std.specs.Prelude.{if◌then◌else◌}
 use Rattle.swim_wire.specs.Address.{Address}
+use Rattle.swim_trail.specs.Growing.{Grows}
 use Rattle.swim_fence.specs.Fences.{Kept, Follows, TakesRate}
 use Rattle.swim_fence.specs.Histories.{Event, is_same, passes}
 use Rattle.swim_fence.specs.Histories.Event.{Asked, Listed}
 use Rattle.swim_work.specs.declared.lines.Got.{Got}
 use Rattle.swim_work.specs.declared.lines.Got.TheVariants.{Datagram, Idle}
 use Rattle.swim_work.specs.Gates.{Received}
-use Rattle.swim_work.specs.Posts.{Grows}
 use Rattle.swim_guard.specs.declared.thrown.Thrown.{Thrown}
 use Rattle.swim_guard.specs.Thrown.{one_thrown}
 

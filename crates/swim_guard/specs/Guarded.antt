@@ -3,11 +3,12 @@ use Rattle.std.specs.Prelude.{◌≡◌, ℕ, ◌<◌, ◌≤◌, Bool, false, L
 use Rattle.std.specs.Prelude.{Option, Some, None}
 use Rattle.std.specs.Option.{option_map, option_to_list}
 use Rattle.swim_wire.specs.Address.{Address}
+use Rattle.swim_trail.specs.Growing.{Grows}
 use Rattle.swim_keys.specs.Sealing.{Keyring, opened, sealed}
 use Rattle.swim_work.specs.declared.lines.Got.{Got}
 use Rattle.swim_work.specs.declared.lines.Got.TheVariants.{Datagram, Idle}
 use Rattle.swim_work.specs.Gates.{Received}
-use Rattle.swim_work.specs.Posts.{Posted, Grows}
+use Rattle.swim_work.specs.Posts.{Posted}
 use Rattle.swim_guard.specs.declared.thrown.Thrown.{Thrown}
 use Rattle.swim_guard.specs.Thrown.{one_thrown}
 

@@ -3,7 +3,7 @@
 ghost use Rattle.std.specs.Prelude.{◌≡◌, ◌≤◌, ◌∷◌, ◌++◌, [], None, Some, length, map};
 ghost use Rattle.swim_fence.specs.Fences.{Follows};
 ghost use Rattle.swim_work.specs.Gates.{FitsInto};
-ghost use Rattle.swim_work.specs.Posts.{Grows};
+ghost use Rattle.swim_trail.specs.Growing.{Grows};
 ghost use Rattle.swim_guard.specs.Fenced.{AsksFence, IsShown, LetsOn, thrown_if};
 ghost use Rattle.swim_guard.specs.Thrown.{one_thrown};
 

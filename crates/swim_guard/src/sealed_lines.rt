@@ -3,7 +3,7 @@
 ghost use Rattle.std.specs.Prelude.{◌≡◌, ◌≤◌, ◌∷◌, ◌++◌, [], None, Some, length, map};
 ghost use Rattle.std.specs.Option.{option_map};
 ghost use Rattle.swim_work.specs.Gates.{FitsInto};
-ghost use Rattle.swim_work.specs.Posts.{Grows};
+ghost use Rattle.swim_trail.specs.Growing.{Grows};
 ghost use Rattle.swim_guard.specs.Guarded.{HandsOn, Judges, handed, text_by};
 
 use crate::rule_books::RuleBook;

@@ -1,7 +1,8 @@
 //! A post that signs what it is handed.
 
 ghost use Rattle.std.specs.Prelude.{◌≡◌, ◌≤◌, ◌∷◌, ◌++◌, [], Some, length, map};
-ghost use Rattle.swim_work.specs.Posts.{Grows, IsFresh};
+ghost use Rattle.swim_work.specs.Posts.{IsFresh};
+ghost use Rattle.swim_trail.specs.Growing.{Grows};
 ghost use Rattle.swim_guard.specs.Guarded.{Answers, Hands, signed_by};
 
 use crate::rule_books::RuleBook;

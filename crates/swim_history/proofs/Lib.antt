@@ -3,6 +3,7 @@ pub mod GapWalk
 pub mod GapsKept
 pub mod InOrder
 pub mod LastProbes
+pub mod Overwriting
 pub mod Places
 pub mod Room
 pub mod Storing

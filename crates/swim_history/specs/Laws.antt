@@ -6,6 +6,7 @@ pub mod Failing
 pub mod Clock
 pub mod Run
 pub mod InOrder
+pub mod Called
 pub mod Judgement
 pub mod Probes
 pub mod Waiting

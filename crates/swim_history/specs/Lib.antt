@@ -15,6 +15,7 @@ pub mod Judgement
 pub mod Probes
 pub mod Gap
 pub mod LastProbe
+pub mod Called
 pub mod Seats
 pub mod Reasons
 pub mod Sends

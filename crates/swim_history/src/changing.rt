@@ -17,6 +17,17 @@ pub fn copy_table(rows: &[Row]) -> Table
     copied(rows)
 }
 
+/// Has these rows take the place of those in a table. It takes no memory, and writes no more than there are rows.
+pub fn replace_rows(table: &mut Table, rows: &[Row])
+    requires { length rows.now ≤ KNOWN_MEMBERS }
+    ensures { table.new.items ≡ rows.now }
+{
+    table.truncate(rows.len());
+    let (front, others) = rows.split_at(table.len());
+    table.as_mut_slice().copy_from_slice(front);
+    let _all_fit = table.try_extend_from_slice(others);
+}
+
 /// Makes a change, unless more members would be known after it than may be: then the table stays as it was.
 pub fn change_table(table: &mut Table, change: &Change)
     requires { IsAscending table.old.items }

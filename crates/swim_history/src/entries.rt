@@ -26,3 +26,16 @@ pub struct Entry {
     pub choice: Choice,
     pub reply: Reply,
 }
+
+/// One call and its reply: an entry without what was drawn for it.
+#[derive(Debug, PartialEq, Eq, Drop)]
+pub struct Called {
+    /// Whose call it was: 0 to 3.
+    pub seat: u8,
+    /// How many calls of that seat stand before it.
+    pub number: u32,
+    pub call: Call,
+    pub reply: Reply,
+}
+
+const _: () = prove!(size_of::<Called>() == 176);

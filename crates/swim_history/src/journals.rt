@@ -2,8 +2,9 @@
 
 ghost use Rattle.std.specs.Prelude.{◌≡◌, ◌↔◌, ◌+◌, ◌^◌, ◌<◌, ◌≤◌, ◌==◌, ◌∷◌, ◌++◌, [], None, length, map, reverse};
 ghost use Rattle.std.specs.Prelude.{IfSome, IsOk, IfOk, OnOk, slice_get, true, if◌then◌else◌};
-ghost use Rattle.std.specs.Option.{option_to_list};
+ghost use Rattle.std.specs.Option.{option_map, option_to_list};
 ghost use Rattle.swim_history.specs.Setting.{IsSetting};
+ghost use Rattle.swim_history.specs.Called.{called_of};
 ghost use Rattle.swim_history.specs.Events.{is_starting, judged_in};
 ghost use Rattle.swim_history.specs.Storing.Written.{undrawn};
 ghost use Rattle.swim_history.specs.Run.{Continues, IsRun};
@@ -17,7 +18,7 @@ ghost use Rattle.swim_history.specs.Changes.{table, known_count, change_by, rows
 
 use crate::calls::Call;
 use crate::copies::copied;
-use crate::entries::Entry;
+use crate::entries::{Called, Entry};
 use crate::gaps::Gap;
 use crate::openings::Opening;
 use crate::probing::{Probed, collect_probed};
@@ -122,6 +123,14 @@ impl Journal {
         ensures { result ≡ slice_get (reverse self.now.past) place }
     {
         self.entries.get(place as usize)
+    }
+
+    /// Returns the call and the reply of the entry at a place, counted from 0 at the oldest: a fourth of what `entry`
+    /// copies.
+    pub fn called(&self, place: u32) -> Option<Called>
+        ensures { result ≡ option_map called_of (slice_get (reverse self.now.past) place) }
+    {
+        self.entries.called(place as usize)
     }
 
     /// Makes room for one more entry. `Err` only where the memory for it was refused.

@@ -23,8 +23,8 @@ mod tables;
 mod texts;
 
 pub use calls::Call;
-pub use changing::{change_table, copy_table};
-pub use entries::{Choice, Entry, SEATS};
+pub use changing::{change_table, copy_table, replace_rows};
+pub use entries::{Called, Choice, Entry, SEATS};
 pub use gaps::Gap;
 pub use journals::{Journal, Judged};
 pub use openings::{LONGEST_PERIOD, Opening, OpeningFault};

@@ -2,15 +2,17 @@
 
 ghost use Rattle.std.specs.Prelude.{◌≡◌, ◌+◌, ◌<◌, ◌≤◌, ◌==◌, ◌++◌, ◌∷◌, [], length, vec_len, vec_capacity, slice_get};
 ghost use Rattle.std.specs.Prelude.{slice_index_or, OnOk, IsOk};
+ghost use Rattle.std.specs.Option.{option_map};
 ghost use Rattle.swim_history.specs.declared.entries.Entry.{Entry};
 ghost use Rattle.swim_history.specs.declared.storage.Slot.TheVariants.{Whole};
+ghost use Rattle.swim_history.specs.Called.{called_of};
 ghost use Rattle.swim_history.specs.Storing.Storage.{ids_in, drawn_at, choice_among, entry_among, IsWithin};
-ghost use Rattle.swim_history.specs.Storing.StoredReplies.{IsAskedWithin, start_in};
+ghost use Rattle.swim_history.specs.Storing.StoredReplies.{reply_among, IsAskedWithin, start_in};
 ghost use Rattle.swim_history.specs.Storing.Written.{undrawn};
 
 use crate::calls::Call;
 use crate::copies::copied;
-use crate::entries::{Choice, Entry};
+use crate::entries::{Called, Choice, Entry};
 use crate::replies::{MOST_RELAYS, Relay, Reply};
 use crate::stored_replies::{Start, StoredReply, reply_among, start_in, store_reply};
 use std::alloc::{AllocError, Global};
@@ -185,6 +187,25 @@ impl Entries {
         }
     }
 
+    /// Returns the call and the reply of the entry at a place, counted from 0 at the oldest. It reads no ids.
+    pub(crate) fn called(&self, place: usize) -> Option<Called>
+        ensures { result ≡ option_map called_of (slice_get self.now.items place) }
+    {
+        match self.slots.as_slice().get(place)? {
+            Slot::Quiet { seat, number } => Some(Called {
+                seat: *seat,
+                number: *number,
+                call: Call::Tick,
+                reply: Reply::Quiet,
+            }),
+            Slot::Whole {
+                seat,
+                number,
+                place,
+            } => Some(called_among(self.relays.as_slice(), *seat, *number, &self.whole[*place])),
+        }
+    }
+
     /// What the entry at a place begins, if a period.
     pub(crate) fn start(&self, place: usize) -> Option<Start>
         requires { place < length self.now.items }
@@ -234,6 +255,25 @@ fn entry_among(ids: &[Id], relays: &[Relay], seat: u8, number: u32, stored: &Sto
         call: stored.call,
         choice: choice_among(ids, &stored.drawn),
         reply: reply_among(relays, &stored.reply),
+    }
+}
+
+/// Returns the call and the reply of an entry, from how it is stored.
+fn called_among(relays: &[Relay], seat: u8, number: u32, stored: &Stored) -> Called
+    requires { IsAskedWithin (length relays.now) stored.now.reply }
+    ensures { result ≡ record {
+      seat = seat;
+      number = number;
+      call = stored.now.call;
+      reply = reply_among relays.now stored.now.reply;
+    } }
+{
+    let reply = reply_among(relays, &stored.reply);
+    Called {
+        seat,
+        number,
+        call: stored.call,
+        reply,
     }
 }
 

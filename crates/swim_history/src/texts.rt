@@ -1,13 +1,22 @@
 //! The texts of a member table and of a gap, written to a sink. Each function answers whether the sink took its text.
+//! A row's line is written into an array first, and put at once.
 
-ghost use Rattle.std.specs.Prelude.{◌≡◌, ◌++◌, Some, codes, decimal};
+ghost use Rattle.std.specs.Prelude.{◌≡◌, ◌≤◌, ◌++◌, Some, codes, decimal, drop};
 ghost use Rattle.swim_text.specs.Streams.{Puts, failures_if};
 ghost use Rattle.swim_history.specs.Texts.{row_text, rows_text, table_text, gap_text, state_text, feed};
 
 use crate::gaps::Gap;
 use crate::rows::{Row, RowState};
-use swim_text::{Sink, put_number, put_numbered};
-use swim_wire::put_address;
+use itoa::write_digits;
+use swim_text::{Sink, put_numbered};
+use swim_wire::{ADDRESS_BYTES, write_address};
+
+/// How many bytes stand before a member's state in the line of its row at most: an id of ten digits, a space and an
+/// address.
+const BEFORE_STATE: usize = 11 + ADDRESS_BYTES;
+
+/// How many bytes the line of a row has at most: behind those ` failed `, a number of 20 digits and a line feed.
+const ROW_BYTES: usize = BEFORE_STATE + 29;
 
 /// A line for each row, and a dot.
 pub fn put_table<W: Sink>(writer: &mut W, rows: &[Row]) -> bool
@@ -39,36 +48,50 @@ fn put_row<W: Sink>(writer: &mut W, row: &Row) -> bool
     ensures bytes { Puts (W.written writer.old) (W.written writer.new) (row_text row.now) result }
     ensures failures { W.failures writer.new ≡ failures_if (W.failures writer.old) result }
 {
-    if !put_number(writer, u64::from(row.id.get())) {
-        return false;
-    }
-    if !put_address(writer, b" ", &row.peer) {
-        return false;
-    }
-    put_state(writer, row.state)
+    let mut line = [0; ROW_BYTES];
+    let start = write_row(row, &mut line);
+    writer.put(&line[start..])
 }
 
-/// Writes the state of a row's member, and the end of its line.
-fn put_state<W: Sink>(writer: &mut W, state: RowState) -> bool
-    ensures bytes { Puts (W.written writer.old) (W.written writer.new) (state_text state ++ feed) result }
-    ensures failures { W.failures writer.new ≡ failures_if (W.failures writer.old) result }
+/// Writes the line of a row at the end of the bytes, its last part first, and returns where it starts.
+fn write_row(row: &Row, line: &mut [u8; ROW_BYTES]) -> usize
+    ensures within { result ≤ ROW_BYTES }
+    ensures written { drop result line.new ≡ row_text row.now }
+{
+    let start = write_state(row.state, line);
+    let start = write_address(&row.peer, line, start) - 1;
+    line[start] = b' ';
+    write_digits(u64::from(row.id.get()), line, start)
+}
+
+/// Writes the state of a row's member and the end of its line at the end of the bytes, and returns where they start.
+fn write_state(state: RowState, line: &mut [u8; ROW_BYTES]) -> usize
+    ensures room { BEFORE_STATE ≤ result }
+    ensures within { result ≤ ROW_BYTES }
+    ensures written { drop result line.new ≡ state_text state ++ feed }
 {
     match state {
-        RowState::Up => writer.put(b" up\n"),
-        RowState::Failed(number) => put_failed(writer, number),
+        RowState::Up => {
+            let start = ROW_BYTES - 4;
+            line[start..].copy_from_slice(b" up\n");
+            start
+        }
+        RowState::Failed(number) => write_failed(number, line),
     }
 }
 
-/// Writes when a row's member failed, and the end of its line.
-fn put_failed<W: Sink>(writer: &mut W, number: u64) -> bool
-    ensures bytes { Puts (W.written writer.old) (W.written writer.new)
-        ((codes " failed " ++ decimal number) ++ feed) result }
-    ensures failures { W.failures writer.new ≡ failures_if (W.failures writer.old) result }
+/// Writes when a row's member failed and the end of its line at the end of the bytes, and returns where they start.
+fn write_failed(number: u64, line: &mut [u8; ROW_BYTES]) -> usize
+    ensures room { BEFORE_STATE ≤ result }
+    ensures within { result ≤ ROW_BYTES }
+    ensures written { drop result line.new ≡ (codes " failed " ++ decimal number) ++ feed }
 {
-    if !put_numbered(writer, b" failed ", number) {
-        return false;
-    }
-    writer.put(b"\n")
+    let end = ROW_BYTES - 1;
+    line[end] = b'\n';
+    let digits = write_digits(number, line, end);
+    let start = digits - 8;
+    line[start..digits].copy_from_slice(b" failed ");
+    start
 }
 
 /// The line of a gap, or that there is none.

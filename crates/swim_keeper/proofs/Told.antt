@@ -6,6 +6,7 @@ use Rattle.std.proofs.Common.{sym, ap, subst, ◌∙◌, inl, inr}
 use Rattle.swim_text.specs.Streams.{Puts}
 use Rattle.swim_history.specs.declared.entries.Entry.{Entry}
 use Rattle.swim_history.specs.Setting.{Setting}
+use Rattle.swim_trail.specs.Growing.{Grows}
 use Rattle.swim_targets.specs.Draws.{of_seed}
 use Rattle.swim_node.specs.Following.{filings_of}
 use Rattle.swim_events.specs.Guests.{AtGuest}
@@ -13,7 +14,6 @@ use Rattle.swim_journal.specs.Headings.{header_text, IsTellable}
 use Rattle.swim_journal.specs.Comments.{without_comments}
 use Rattle.swim_journal.specs.Replays.{IsDrawnRun, file_text}
 use Rattle.swim_journal.proofs.PlainFile.{file_plain}
-use Rattle.swim_work.specs.Posts.{Grows}
 use Rattle.swim_recorder.specs.declared.transcripts.Transcript.{Transcript}
 use Rattle.swim_recorder.specs.Files.{IsLifeFile}
 use Rattle.swim_recorder.specs.Recording.{AtRecorder, IsRecorded}

@@ -2,9 +2,9 @@
 use Rattle.std.specs.Prelude.{◌≡◌, ◌&&◌, ℕ, Bool, true, false, not, List, [], ◌∷◌, Option, Some, None}
 use Rattle.swim_text.specs.Streams.{Puts}
 use Rattle.swim_history.specs.Setting.{Setting}
+use Rattle.swim_trail.specs.Growing.{Grows}
 use Rattle.swim_journal.specs.Comments.{without_comments}
 use Rattle.swim_journal.specs.Headings.{header_text, IsTellable}
-use Rattle.swim_work.specs.Posts.{Grows}
 use Rattle.swim_recorder.specs.declared.transcripts.Transcript.{Transcript}
 use Rattle.swim_crew.specs.declared.pasts.Terms.{Terms}
 

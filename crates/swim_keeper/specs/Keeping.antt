@@ -1,7 +1,7 @@
 -- What a keeper does before a life and after it.
 use Rattle.std.specs.Prelude.{◌≡◌, ℕ, Bool, List, [], ◌∷◌, Option, None}
 use Rattle.swim_history.specs.Setting.{Setting, IsSetting}
-use Rattle.swim_work.specs.Posts.{Grows}
+use Rattle.swim_trail.specs.Growing.{Grows}
 use Rattle.swim_recorder.specs.declared.journal_recorder.JournalRecorder.{JournalRecorder}
 use Rattle.swim_recorder.specs.Recording.{AtRecorder, IsRecorded, at_recorder}
 use Rattle.swim_recorder.specs.Reports.{Report}

@@ -4,6 +4,7 @@ use Rattle.std.specs.Prelude.{Some, None}
 use Rattle.swim_history.specs.declared.entries.Entry.{Entry}
 use Rattle.swim_history.specs.Changes.{changes}
 use Rattle.swim_history.specs.Setting.{Setting}
+use Rattle.swim_trail.specs.Growing.{Grows}
 use Rattle.swim_node.specs.declared.receipts.OpenFault.{OpenFault}
 use Rattle.swim_node.specs.Following.{filings_of}
 use Rattle.swim_node.specs.OneHistory.{AreFullWhereMet, IsOneHistory}
@@ -15,7 +16,6 @@ use Rattle.swim_journal.specs.Headings.{header_text}
 use Rattle.swim_journal.specs.Replays.{file_text}
 use Rattle.swim_work.specs.declared.counts.Why.TheVariants.{JournalFull}
 use Rattle.swim_work.specs.Callers.{fresh_seat}
-use Rattle.swim_work.specs.Posts.{Grows}
 use Rattle.swim_recorder.specs.Files.{IsLifeFile}
 use Rattle.swim_recorder.specs.Recording.{AtRecorder, IsRecorded}
 use Rattle.swim_recorder.specs.Reports.{Report, HasHeardOf}

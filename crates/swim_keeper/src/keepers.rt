@@ -3,7 +3,7 @@
 ghost use Rattle.std.specs.Prelude.{◌≡◌, ◌∷◌, []};
 ghost use Rattle.swim_keeper.specs.Filing.{IsBegun, IsPutBack};
 ghost use Rattle.swim_keeper.specs.Notices.{Notices};
-ghost use Rattle.swim_work.specs.Posts.{Grows};
+ghost use Rattle.swim_trail.specs.Growing.{Grows};
 
 use crate::endings::tell_end;
 use crate::heralds::Herald;

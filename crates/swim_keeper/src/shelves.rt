@@ -3,7 +3,7 @@
 ghost use Rattle.std.specs.Prelude.{◌≡◌, ◌∷◌, [], IfSome};
 ghost use Rattle.swim_keeper.specs.Filing.{IsTakenBack};
 ghost use Rattle.swim_keeper.specs.Notices.{Notices};
-ghost use Rattle.swim_work.specs.Posts.{Grows};
+ghost use Rattle.swim_trail.specs.Growing.{Grows};
 
 use swim_text::Sink;
 

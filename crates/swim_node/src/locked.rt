@@ -28,7 +28,7 @@ use std::alloc::Global;
 use std::marker::Model;
 use std::sync::Wait;
 use swim_detector::{ApplyFault, Recorder};
-use swim_history::{Call, Entry, Gap, Journal, Kept, Opening};
+use swim_history::{Call, Called, Gap, Journal, Kept, Opening};
 use swim_targets::Chooser;
 use swim_wire::Id;
 
@@ -244,16 +244,15 @@ impl<N: Naming, C: Chooser, H: Wait + Drop> Locked<N, C, H> {
             return None;
         }
         let position = place as u32;
-        let Some(entry) = journal.entry(position) else {
+        let Some(called) = journal.called(position) else {
             return None;
         };
-        let Entry {
+        let Called {
             seat,
             number,
             call,
-            choice: _,
             reply,
-        } = entry;
+        } = called;
         let note = self.notes[place].again();
         let kept = Kept {
             position,

@@ -1,6 +1,6 @@
 //! Viewers: readers of a node's member table. They take no lock.
 
-ghost use Rattle.std.specs.Prelude.{◌≡◌, ◌≤◌, [], length, IfSome, IfNone};
+ghost use Rattle.std.specs.Prelude.{◌≡◌, ◌≤◌, [], length, IfSome, IfNone, MatchBool};
 ghost use mathlib.Core.List.{IsPrefix};
 ghost use Rattle.swim_history.specs.Changes.{table_after};
 ghost use Rattle.swim_node.specs.News.{HaveSeen, IsLongerOf};
@@ -13,7 +13,7 @@ use crossbeam_utils::rule::{Outcome, Protocol};
 use left_right::reader::Reader;
 use std::marker::{Model, PhantomData};
 use std::sync::Wait;
-use swim_history::{Row, Table, copy_table};
+use swim_history::{Row, Table, replace_rows};
 use swim_wire::KNOWN_MEMBERS;
 
 /// The rule of what readers are shown: it is the table of this node, after the changes that it tells.
@@ -82,17 +82,36 @@ impl<N: Naming> Viewer<N> {
         ensures table { IfSome result (λ table. table.items ≡ table_after N.opening self.new) }
         ensures none { IfNone result (self.new ≡ self.old) }
     {
-        match self.reader.take()?.enter_as::<Looks<N>>() {
+        let mut table = Table::new();
+        if self.look(&mut table) {
+            Some(table)
+        } else {
+            None
+        }
+    }
+
+    /// Has the rows of the member table as it was published last, ascending by id, take the place of those in a table
+    /// of the caller's. `false` once the node is closed: then these stay. It writes no more than there are rows, so it
+    /// suits who looks often, and keeps a table for it.
+    pub fn look(&mut self, table: &mut Table) -> bool
+        ensures later { IsPrefix self.old self.new }
+        ensures table { MatchBool result (table.new.items ≡ table_after N.opening self.new)
+            ((self.new ≡ self.old) × (table.new ≡ table.old)) }
+    {
+        let Some(reader) = self.reader.take() else {
+            return false;
+        };
+        match reader.enter_as::<Looks<N>>() {
             Ok(reading) => {
                 let shown = reading.get();
                 let news = News::new(shown.shown.again());
-                let table = self.see(shown.table.as_slice(), news);
+                let is_seen = self.see(shown.table.as_slice(), news, table);
                 self.reader = Some(reading.leave());
-                table
+                is_seen
             }
             Err(reader) => {
                 self.reader = Some(reader);
-                None
+                false
             }
         }
     }
@@ -115,21 +134,22 @@ impl<N: Naming> Viewer<N> {
         }
     }
 
-    // Sees the rows after the changes of some news, if they aren't older than what was seen.
-    fn see(&mut self, rows: &[Row], news: News<N>) -> Option<Table>
+    // Sees the rows after the changes of some news, if they aren't older than what was seen, and answers whether it did.
+    fn see(&mut self, rows: &[Row], news: News<N>, table: &mut Table) -> bool
         requires rows { rows.now ≡ table_after N.opening news }
         requires bound { length rows.now ≤ KNOWN_MEMBERS }
         ensures later { IsPrefix self.old self.new }
-        ensures table { IfSome result (λ table. table.items ≡ table_after N.opening self.new) }
-        ensures none { IfNone result (self.new ≡ self.old) }
+        ensures table { MatchBool result (table.new.items ≡ table_after N.opening self.new)
+            ((self.new ≡ self.old) × (table.new ≡ table.old)) }
     {
         // What is published only grows, so this comes only where this viewer learnt of a change, or saw one, and a look
         // showed less: never in fact.
         if !self.seen.begins(&news) {
-            return None;
+            return false;
         }
         self.seen = news;
-        Some(copy_table(rows))
+        replace_rows(table, rows);
+        true
     }
 }
 

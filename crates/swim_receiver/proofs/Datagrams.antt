@@ -12,10 +12,10 @@ use Rattle.swim_history.specs.declared.rows.Row.{Row}
 use Rattle.swim_history.specs.declared.rows.Change.{Change}
 use Rattle.swim_history.specs.declared.seats.Kept.{Kept}
 use Rattle.swim_history.specs.Setting.{Setting}
+use Rattle.swim_trail.specs.Growing.{Grows}
 use Rattle.swim_node.specs.declared.receipts.CallFault.{CallFault}
 use Rattle.swim_node.specs.declared.receipts.CallFault.TheVariants.{Wire, NoMemory, JournalFull}
 use Rattle.swim_node.specs.Answered.{MayRefuseBytes}
-use Rattle.swim_rejoin.specs.Histories.{Event}
 use Rattle.swim_work.specs.declared.counts.Counts.{Counts}
 use Rattle.swim_work.specs.declared.counts.Why.{Why}
 use Rattle.swim_work.specs.declared.lines.Got.{Got}
@@ -25,7 +25,7 @@ use Rattle.swim_work.specs.Calling.{Hears, IsMade, IsMessage, IsRefused}
 use Rattle.swim_work.specs.Gates.{Received}
 use Rattle.swim_work.specs.Outcomes.{Outcome, call_by, calls_among, memory_in}
 use Rattle.swim_work.specs.Outcomes.Outcome.{Answered, Refused}
-use Rattle.swim_work.specs.Posts.{AtSender, Grows, Posted}
+use Rattle.swim_work.specs.Posts.{AtSender, Posted}
 use Rattle.swim_work.specs.Turns.{EndsSo, Turns}
 use Rattle.swim_work.proofs.Outcomes.{counted, memory_both}
 use Rattle.swim_node.specs.Seats.{Seated}
@@ -33,6 +33,7 @@ use Rattle.swim_receiver.specs.declared.rejoining.Returning.{Returning}
 use Rattle.swim_receiver.specs.Datagrams.{AreHeard, BecomeSo, BecomesSo, IsJoined, Step, datagram_by, datagrams_in}
 use Rattle.swim_receiver.specs.Datagrams.{full_in, outcomes_in, outcomes_of, wire_in}
 use Rattle.swim_receiver.specs.Receiving.{AtReceiver, HearsGot, HearsLife, HearsNext, Owned}
+use Rattle.swim_receiver.specs.Happenings.{Happening}
 use Rattle.swim_receiver.specs.Rejoining.{IsJoinTold, JoinsThen, LearnsOn, whom}
 use Rattle.swim_receiver.proofs.Learning.{more_on, none_on, on_later}
 
@@ -122,8 +123,8 @@ refused_counted JournalFull old end new is = rw is.same (record {
 -- ---- a datagram
 
 -- what became of the call behind that for a datagram
-then_joined : {O : Type 0} (o : Setting) (limit : ℕ) (row : Option Row) (h : List Event) (mid : AtSender O)
-    (heard end : Option Why) (new : AtSender O) (told : List Event) →
+then_joined : {O : Type 0} (o : Setting) (limit : ℕ) (row : Option Row) (h : List Happening) (mid : AtSender O)
+    (heard end : Option Why) (new : AtSender O) (told : List Happening) →
     JoinsThen o limit row h mid heard end new told →
     (join : Option Outcome) × IsJoined row join h told × CountsOn (option_to_list join) mid new
 then_joined o limit None h mid heard end new told is = (None, (refl, is.2), none_counted mid new is.0)
@@ -145,15 +146,15 @@ then_joined o limit (Some row) h mid heard end new told (is_joined, inr (Journal
 )
 
 -- what became of a datagram
-abbrev IsStep : {O : Type 0} → ℕ → List Event → List ℕ × Address → AtSender O → AtSender O → List Event → Type 0
+abbrev IsStep : {O : Type 0} → ℕ → List Happening → List ℕ × Address → AtSender O → AtSender O → List Happening → Type 0
 IsStep me h d old new told =
     (step : Step) × BecomesSo me h d step.call step.join told × CountsOn (outcomes_of step) old new
 
 abbrev step_of : Outcome → Option Outcome → Step
 step_of call join = record { call = call; join = join }
 
-refused_step : {O : Type 0} (o : Setting) (limit me : ℕ) (h : List Event) (d : List ℕ × Address) (fault : CallFault)
-    (old : AtSender O) (end : Option Why) (new : AtSender O) (told : List Event) →
+refused_step : {O : Type 0} (o : Setting) (limit me : ℕ) (h : List Happening) (d : List ℕ × Address) (fault : CallFault)
+    (old : AtSender O) (end : Option Why) (new : AtSender O) (told : List Happening) →
     MayRefuseBytes d.0 o limit old.seat fault → IsRefused fault old end new → told ≡ h → IsStep me h d old new told
 refused_step o limit me h d (Wire f) old end new told may is still =
     (step_of (Refused (Wire f)) None, (may, (refl, still)), refused_counted (Wire f) old end new is)
@@ -169,16 +170,17 @@ one_longer calls k same =
     omega (arith, longer, as_long)
 
 -- the node refused the call, as there is no message
-no_message : {O : Type 0} (o : Setting) (limit me : ℕ) (h : List Event) (d : List ℕ × Address) (old : AtSender O)
-    (end : Option Why) (new : AtSender O) (told : List Event) → Hears o limit d.0 d.1 old end new →
+no_message : {O : Type 0} (o : Setting) (limit me : ℕ) (h : List Happening) (d : List ℕ × Address) (old : AtSender O)
+    (end : Option Why) (new : AtSender O) (told : List Happening) → Hears o limit d.0 d.1 old end new →
     new.seat.calls ≡ old.seat.calls → told ≡ h → IsStep me h d old new told
 no_message o limit me h d old end new told (inl (call, may, made)) same still =
     absurd (one_longer old.seat.calls made.kept (sym made.answered.calls ∙ same))
 no_message o limit me h d old end new told (inr (fault, may, is)) same still =
     refused_step o limit me h d fault old end new told may is still
 
-datagram_step : {O : Type 0} (o : Setting) (limit me : ℕ) (h : List Event) (bytes : List ℕ) (source : Address)
-    (old mid : AtSender O) (heard end : Option Why) (new : AtSender O) (told : List Event) (message : Option Message) →
+datagram_step : {O : Type 0} (o : Setting) (limit me : ℕ) (h : List Happening) (bytes : List ℕ) (source : Address)
+    (old mid : AtSender O) (heard end : Option Why) (new : AtSender O) (told : List Happening)
+    (message : Option Message) →
     Hears o limit bytes source old heard mid → IsMessage o bytes source old heard mid message →
     JoinsThen o limit (whom me h source message) h mid heard end new told → IsStep me h (bytes, source) old new told
 datagram_step {O} o limit me h bytes source old mid heard end new told None hears is joins =
@@ -195,8 +197,8 @@ datagram_step o limit me h bytes source old mid heard end new told (Some m) hear
 -- ---- some datagrams, and then others
 
 -- it learns of something before
-learnt_become : (o : Setting) (me : ℕ) (saw then seen : List Change) (h learnt : List Event)
-    (ds : List (List ℕ × Address)) (steps : List Step) (told : List Event) → LearnsOn o saw then h learnt →
+learnt_become : (o : Setting) (me : ℕ) (saw then seen : List Change) (h learnt : List Happening)
+    (ds : List (List ℕ × Address)) (steps : List Step) (told : List Happening) → LearnsOn o saw then h learnt →
     BecomeSo o me then learnt ds steps seen told → BecomeSo o me saw h ds steps seen told
 learnt_become o me saw then seen h learnt [] [] told learns is = more_on o saw then seen h learnt told learns is
 learnt_become o me saw then seen h learnt [] (step ∷ steps) told learns is = absurd is
@@ -204,7 +206,7 @@ learnt_become o me saw then seen h learnt (d ∷ ds) [] told learns is = absurd 
 learnt_become o me saw then seen h learnt (d ∷ ds) (step ∷ steps) told learns is =
     (is.0, is.1, is.2, more_on o saw then is.0 h learnt is.1 learns is.3, is.4, is.5)
 
-become_both : (o : Setting) (me : ℕ) (saw then seen : List Change) (h mid told : List Event)
+become_both : (o : Setting) (me : ℕ) (saw then seen : List Change) (h mid told : List Happening)
     (ds es : List (List ℕ × Address)) (xs ys : List Step) → BecomeSo o me saw h ds xs then mid →
     BecomeSo o me then mid es ys seen told → BecomeSo o me saw h (ds ++ es) (xs ++ ys) seen told
 become_both o me saw then seen h mid told [] es [] ys p q = learnt_become o me saw then seen h mid es ys told p q
@@ -213,7 +215,7 @@ become_both o me saw then seen h mid told (d ∷ ds) es [] ys p q = absurd p
 become_both o me saw then seen h mid told (d ∷ ds) es (x ∷ xs) ys p q =
     (p.0, p.1, p.2, p.3, p.4, become_both o me p.0 then seen p.2 mid told ds es xs ys p.5 q)
 
-become_later : (o : Setting) (me : ℕ) (saw seen since : List Change) (h told : List Event)
+become_later : (o : Setting) (me : ℕ) (saw seen since : List Change) (h told : List Happening)
     (ds : List (List ℕ × Address)) (steps : List Step) → IsPrefix seen since → BecomeSo o me saw h ds steps seen told →
     BecomeSo o me saw h ds steps since told
 become_later o me saw seen since h told [] [] later is = on_later o saw seen since h told later is
@@ -246,7 +248,7 @@ none_heard : {O : Type 0} (o : Setting) (me : ℕ) (old new : AtReceiver O) → 
 none_heard o me old new same learns =
     record { steps = []; become = learns; counts = none_counted old.sender new.sender same }
 
-one_heard : {O : Type 0} (o : Setting) (me : ℕ) (h : List Event) (d : List ℕ × Address) (old new : AtReceiver O) →
+one_heard : {O : Type 0} (o : Setting) (me : ℕ) (h : List Happening) (d : List ℕ × Address) (old new : AtReceiver O) →
     LearnsOn o old.seen new.seen old.told h → IsStep me h d old.sender new.sender new.told →
     HeardOn o me (d ∷ []) old new
 one_heard o me h d old new learns is = record {
@@ -257,7 +259,7 @@ one_heard o me h d old new learns is = record {
 
 -- ---- a turn
 
-got_heard : {O : Type 0} (o : Setting) (limit me : ℕ) (h : List Event) (got : Got) (bytes : List ℕ)
+got_heard : {O : Type 0} (o : Setting) (limit me : ℕ) (h : List Happening) (got : Got) (bytes : List ℕ)
     (old : AtReceiver O) (end : Option Why) (new : AtReceiver O) → LearnsOn o old.seen new.seen old.told h →
     HearsGot o limit me h got bytes old end new → HeardOn o me (datagram_by got bytes) old new
 got_heard o limit me h (Datagram count source) bytes old end new learns (is, none) =

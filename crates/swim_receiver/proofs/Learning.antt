@@ -10,37 +10,40 @@ use Rattle.swim_history.specs.Changes.{table_after}
 use Rattle.swim_history.specs.Setting.{Setting}
 use Rattle.swim_rejoin.specs.Histories.{Event, table_in}
 use Rattle.swim_rejoin.specs.Rejoiners.{Follows, Kept}
-use Rattle.swim_rejoin.specs.Histories.Event.{Joined, Knocked, Looked, Ruled}
+use Rattle.swim_rejoin.specs.Histories.Event.{Joined, Knocked, Ruled}
 use Rattle.swim_node.proofs.Prefixes.{begins_itself, begins_whole}
 use Rattle.swim_work.specs.declared.tidings.Note.{Note}
+use Rattle.swim_work.specs.declared.tidings.Tidings.{Tidings}
 use Rattle.swim_receiver.specs.declared.rejoining.Returning.{Returning}
-use Rattle.swim_receiver.specs.Rejoining.{AreNews, IsReturning, Learns, LearnsOn, joins_in, ruled_in, with_knocks}
+use Rattle.swim_receiver.specs.Happenings.{Happening, events_in, joins_in, with_knocks}
+use Rattle.swim_receiver.specs.Happenings.Happening.{Asked, Rejoined, Shown, Told}
+use Rattle.swim_receiver.specs.Rejoining.{AreNews, IsReturning, Learns, LearnsOn}
 
 -- news of a viewer that has seen more since
-news_later : (o : Setting) (saw seen since : List Change) (news : List Event) → IsPrefix seen since →
+news_later : (o : Setting) (saw seen since : List Change) (news : List Happening) → IsPrefix seen since →
     AreNews o saw seen news → AreNews o saw since news
 news_later o saw seen since [] later are = begins_whole saw seen since are later
-news_later o saw seen since (Knocked id number ∷ before) later are = news_later o saw seen since before later are
-news_later o saw seen since (Looked rows ∷ before) later are =
+news_later o saw seen since (Told tidings ∷ before) later are = news_later o saw seen since before later are
+news_later o saw seen since (Shown rows ∷ before) later are =
     (are.0, begins_whole are.0 seen since are.1 later, are.2, are.3)
-news_later o saw seen since (Joined id period ∷ before) later are = absurd are
-news_later o saw seen since (Ruled rejoin ∷ before) later are = news_later o saw seen since before later are
+news_later o saw seen since (Rejoined id ∷ before) later are = absurd are
+news_later o saw seen since (Asked rejoin ∷ before) later are = news_later o saw seen since before later are
 
 -- some news, and then more
-news_both : (o : Setting) (saw seen since : List Change) (more news : List Event) → AreNews o saw seen news →
+news_both : (o : Setting) (saw seen since : List Change) (more news : List Happening) → AreNews o saw seen news →
     AreNews o seen since more → AreNews o saw since (more ++ news)
 news_both o saw seen since [] news first then = news_later o saw seen since news then first
-news_both o saw seen since (Knocked id number ∷ before) news first then =
+news_both o saw seen since (Told tidings ∷ before) news first then =
     news_both o saw seen since before news first then
-news_both o saw seen since (Looked rows ∷ before) news first then =
+news_both o saw seen since (Shown rows ∷ before) news first then =
     (then.0, then.1, then.2, news_both o saw seen then.0 before news first then.3)
-news_both o saw seen since (Joined id period ∷ before) news first then = absurd then
-news_both o saw seen since (Ruled rejoin ∷ before) news first then = news_both o saw seen since before news first then
+news_both o saw seen since (Rejoined id ∷ before) news first then = absurd then
+news_both o saw seen since (Asked rejoin ∷ before) news first then = news_both o saw seen since before news first then
 
-pub none_on : (o : Setting) (saw seen : List Change) (h : List Event) → IsPrefix saw seen → LearnsOn o saw seen h h
+pub none_on : (o : Setting) (saw seen : List Change) (h : List Happening) → IsPrefix saw seen → LearnsOn o saw seen h h
 none_on o saw seen h later = ([], refl, later)
 
-pub more_on : (o : Setting) (saw seen since : List Change) (h mid now : List Event) → LearnsOn o saw seen h mid →
+pub more_on : (o : Setting) (saw seen since : List Change) (h mid now : List Happening) → LearnsOn o saw seen h mid →
     LearnsOn o seen since mid now → LearnsOn o saw since h now
 more_on o saw seen since h mid now first then = (
   then.0 ++ first.0,
@@ -48,7 +51,7 @@ more_on o saw seen since h mid now first then = (
   news_both o saw seen since then.0 first.0 first.2 then.2,
 )
 
-pub on_later : (o : Setting) (saw seen since : List Change) (h now : List Event) → IsPrefix seen since →
+pub on_later : (o : Setting) (saw seen since : List Change) (h now : List Happening) → IsPrefix seen since →
     LearnsOn o saw seen h now → LearnsOn o saw since h now
 on_later o saw seen since h now later is = (is.0, is.1, news_later o saw seen since is.0 later is.2)
 
@@ -69,9 +72,9 @@ more_learnt o saw seen since old mid new first then = λ h is.
 
 pub looked_learnt : (o : Setting) (saw seen : List Change) (old new : Returning) (rows : List Row) →
     IsPrefix saw seen → rows ≡ table_after o seen →
-    ((h : List Event) → IsReturning old h → IsReturning new (Looked rows ∷ h)) → Learns o saw seen old new
+    ((h : List Happening) → IsReturning old h → IsReturning new (Shown rows ∷ h)) → Learns o saw seen old new
 looked_learnt o saw seen old new rows later table told =
-    λ h is. (Looked rows ∷ h, (Looked rows ∷ [], refl, (seen, begins_itself seen, table, later)), told h is)
+    λ h is. (Shown rows ∷ h, (Shown rows ∷ [], refl, (seen, begins_itself seen, table, later)), told h is)
 
 pub not_0 : (n : ℕ) → n ≢ 0 → nat_eq n 0 ≡ false
 not_0 n other = grind arith
@@ -80,28 +83,38 @@ not_0 n other = grind arith
 pub rule_learnt : (o : Setting) (seen : List Change) (old new : Returning) (rejoin : ℕ) →
     ((h : List Event) → Follows old.rejoiner h → Follows new.rejoiner (Ruled rejoin ∷ h)) →
     new.rows.items ≡ cond (nat_eq rejoin 0) [] old.rows.items → new.rejoins ≡ old.rejoins →
-    new.lookup ≡ old.lookup ++ rejoin ∷ [] → Learns o seen seen old new
-rule_learnt o seen old new rejoin follows rows count answered = λ h is. (
-  Ruled rejoin ∷ h,
-  (Ruled rejoin ∷ [], refl, begins_itself seen),
+    new.lookup ≡ old.lookup ++ rejoin ∷ [] → new.inbox ≡ old.inbox → new.period ≡ old.period →
+    Learns o seen seen old new
+rule_learnt o seen old new rejoin follows rows count answered untaken same = λ h is. (
+  Asked rejoin ∷ h,
+  (Asked rejoin ∷ [], refl, begins_itself seen),
   (
-    follows h is.0,
+    follows (events_in h) is.0,
     rows ∙ ap (λ (rows : List Row). cond (nat_eq rejoin 0) [] rows) is.1,
     count ∙ is.2,
     answered ∙ ap (λ (answers : List ℕ). answers ++ rejoin ∷ []) is.3,
+    untaken ∙ is.4,
+    same ∙ is.5,
   ),
 )
 
 -- a member was joined again
-pub join_told : (old new : Returning) (id period : ℕ) →
-    ((h : List Event) → Follows old.rejoiner h → Follows new.rejoiner (Joined id period ∷ h)) →
+pub join_told : (old new : Returning) (id : ℕ) →
+    ((h : List Event) → Follows old.rejoiner h → Follows new.rejoiner (Joined id old.period ∷ h)) →
     new.rows.items ≡ old.rows.items → new.rejoins ≡ min (old.rejoins + 1) (2 ^ 64 - 1) → new.lookup ≡ old.lookup →
-    (h : List Event) → IsReturning old h → IsReturning new (Joined id period ∷ h)
-join_told old new id period follows same counted unasked h is =
-    let was : old.rejoins ≡ min (joins_in h) (2 ^ 64 - 1) = is.2 in
-    (follows h is.0, same ∙ is.1, omega (arith, was, counted), unasked ∙ is.3)
+    new.inbox ≡ old.inbox → new.period ≡ old.period →
+    (h : List Happening) → IsReturning old h → IsReturning new (Rejoined id ∷ h)
+join_told old new id follows same counted unasked untaken still h is =
+    let was : old.rejoins ≡ min (joins_in h) (2 ^ 64 - 1) = is.2 in (
+      subst (λ (period : ℕ). Follows new.rejoiner (Joined id period ∷ events_in h)) is.5 (follows (events_in h) is.0),
+      same ∙ is.1,
+      omega (arith, was, counted),
+      unasked ∙ is.3,
+      untaken ∙ is.4,
+      still ∙ is.5,
+    )
 
--- ---- knocks that the ticker told of
+-- ---- what the ticker left
 
 -- with these knocks
 abbrev pub TellsOf : Kept → Kept → List Note → Type 0
@@ -133,32 +146,19 @@ table_with : (notes : List Note) (h : List Event) → table_in (with_knocks note
 table_with [] h = refl
 table_with (note ∷ notes) h = table_with notes (Knocked note.id note.number ∷ h)
 
-joins_with : (notes : List Note) (h : List Event) → joins_in (with_knocks notes h) ≡ joins_in h
-joins_with [] h = refl
-joins_with (note ∷ notes) h = joins_with notes (Knocked note.id note.number ∷ h)
-
-ruled_with : (notes : List Note) (h : List Event) → ruled_in (with_knocks notes h) ≡ ruled_in h
-ruled_with [] h = refl
-ruled_with (note ∷ notes) h = ruled_with notes (Knocked note.id note.number ∷ h)
-
-pub knocks_told : (old new : Returning) (notes : List Note) → TellsOf old.rejoiner new.rejoiner notes →
-    new.rows.items ≡ old.rows.items → new.rejoins ≡ old.rejoins → new.lookup ≡ old.lookup →
-    (h : List Event) → IsReturning old h → IsReturning new (with_knocks notes h)
-knocks_told old new notes told same count unasked h is = (
-  told h is.0,
-  same ∙ (is.1 ∙ sym (table_with notes h)),
-  count ∙ (is.2 ∙ sym (ap (λ n. min n (2 ^ 64 - 1)) (joins_with notes h))),
-  unasked ∙ (is.3 ∙ sym (ruled_with notes h)),
+pub tidings_learnt : (o : Setting) (seen : List Change) (old new : Returning) (tidings : Tidings) →
+    TellsOf old.rejoiner new.rejoiner tidings.notes.items → new.rows.items ≡ old.rows.items →
+    new.rejoins ≡ old.rejoins → new.lookup ≡ old.lookup → new.inbox ≡ old.inbox ++ tidings ∷ [] →
+    new.period ≡ tidings.period → Learns o seen seen old new
+tidings_learnt o seen old new tidings told same count unasked taken period = λ h is. (
+  Told tidings ∷ h,
+  (Told tidings ∷ [], refl, begins_itself seen),
+  (
+    told (events_in h) is.0,
+    same ∙ (is.1 ∙ sym (table_with tidings.notes.items (events_in h))),
+    count ∙ is.2,
+    unasked ∙ is.3,
+    taken ∙ ap (λ (l : List Tidings). l ++ tidings ∷ []) is.4,
+    period,
+  ),
 )
-
-knocks_on : (o : Setting) (seen : List Change) (notes : List Note) (h : List Event) →
-    LearnsOn o seen seen h (with_knocks notes h)
-knocks_on o seen [] h = none_on o seen seen h (begins_itself seen)
-knocks_on o seen (note ∷ notes) h =
-    let one = Knocked note.id note.number in
-    more_on o seen seen seen h (one ∷ h) (with_knocks notes (one ∷ h)) (one ∷ [], refl, begins_itself seen)
-    (knocks_on o seen notes (one ∷ h))
-
-pub knocks_learnt : (o : Setting) (seen : List Change) (old new : Returning) (notes : List Note) →
-    ((h : List Event) → IsReturning old h → IsReturning new (with_knocks notes h)) → Learns o seen seen old new
-knocks_learnt o seen old new notes told = λ h is. (with_knocks notes h, knocks_on o seen notes h, told h is)

@@ -5,9 +5,9 @@ use Rattle.swim_wire.specs.Address.{Address}
 use Rattle.swim_history.specs.declared.rows.Change.{Change}
 use Rattle.swim_history.specs.declared.seats.Kept.{Kept}
 use Rattle.swim_history.specs.Setting.{Setting}
+use Rattle.swim_trail.specs.Growing.{Grows, grows_both, grows_none}
 use Rattle.swim_node.specs.Seats.{Seated}
 use Rattle.swim_node.proofs.Prefixes.{begins_itself}
-use Rattle.swim_rejoin.specs.Histories.{Event}
 use Rattle.swim_work.specs.declared.counts.Counts.{Counts}
 use Rattle.swim_work.specs.declared.counts.Why.{Why}
 use Rattle.swim_work.specs.declared.lines.Got.{Got}
@@ -16,15 +16,15 @@ use Rattle.swim_work.specs.declared.workers.End.{End}
 use Rattle.swim_work.specs.Ends.{end_at, one_fault_more}
 use Rattle.swim_work.specs.Gates.{Received}
 use Rattle.swim_work.specs.Callers.{SendsOn, fresh_seat, nothing}
-use Rattle.swim_work.specs.Posts.{AtSender, Grows, Posted, at_sender}
+use Rattle.swim_work.specs.Posts.{AtSender, Posted, at_sender}
 use Rattle.swim_work.specs.Turns.{EndsSo, HasWorked}
-use Rattle.swim_work.proofs.Posting.{grows_both, grows_none}
 use Rattle.swim_work.proofs.Sent.{none_sent}
 use Rattle.swim_work.proofs.Turning.{last_turned, one_more_turned}
 use Rattle.swim_receiver.specs.declared.rejoining.Returning.{Returning}
 use Rattle.swim_receiver.specs.Receiving.{AtReceiver, AtTurn, HasHeard, HasTurned, HearsGot, HearsLife}
 use Rattle.swim_receiver.specs.Receiving.{HearsNext, Owned}
 use Rattle.swim_receiver.specs.Receiving.{at_receiver, at_turn}
+use Rattle.swim_receiver.specs.Happenings.{Happening}
 use Rattle.swim_receiver.specs.Rejoining.{HearsAndJoins, IsOfSame, IsReturning, Learns, LearnsOn}
 use Rattle.swim_receiver.specs.Showing.{AreShown}
 use Rattle.swim_receiver.proofs.Learning.{more_on, none_on}
@@ -89,7 +89,7 @@ last_heard o limit first old new why heard same is = record {
 -- ---- within a turn
 
 -- what comes of an answer of the line doesn't depend on what was told, or seen, before
-got_from : {O : Type 0} (o : Setting) (limit me : ℕ) (h a b : List Event) (saw seen : List Change) (got : Got)
+got_from : {O : Type 0} (o : Setting) (limit me : ℕ) (h a b : List Happening) (saw seen : List Change) (got : Got)
     (bytes : List ℕ) (s : AtSender O) (row : ℕ) (end : Option Why) (new : AtReceiver O) →
     HearsGot o limit me h got bytes (at_receiver s row a saw) end new →
     HearsGot o limit me h got bytes (at_receiver s row b seen) end new
@@ -131,7 +131,7 @@ pub datagram_turned : {O : Type 0} (o : Setting) (limit : ℕ) (old : AtTurn O) 
     Grows old.received new.received (given ∷ []) → given.got ≡ Datagram count source →
     bytes ≡ take count given.bytes → new.row ≡ 0 → sender ≡ old.sender →
     Learns o old.seen new.seen old.returning mid → IsOfSame old.returning mid →
-    ((h : List Event) → IsReturning mid h → (told : List Event) × IsReturning new.returning told
+    ((h : List Happening) → IsReturning mid h → (told : List Happening) × IsReturning new.returning told
     × HearsAndJoins o limit mid.rejoiner.me h bytes source sender end new.sender told) →
     HasTurned o limit old end new
 datagram_turned o limit old mid end new given count source bytes sender grows got is_bytes none is_sender learns same
@@ -153,7 +153,7 @@ datagram_turned o limit old mid end new given count source bytes sender grows go
           (b.0, b.1, (a.0, a.1, of));
     }
 
-no_more : (o : Setting) (saw seen : List Change) (h : List Event) → seen ≡ saw → LearnsOn o saw seen h h
+no_more : (o : Setting) (saw seen : List Change) (h : List Happening) → seen ≡ saw → LearnsOn o saw seen h h
 no_more o saw seen h unseen = none_on o saw seen h (subst (IsPrefix saw) (sym unseen) (begins_itself saw))
 
 -- nothing came

@@ -4,23 +4,23 @@ use Rattle.swim_wire.specs.Address.{Address}
 use Rattle.swim_wire.specs.Messages.{Message}
 use Rattle.swim_history.specs.declared.rows.Row.{Row}
 use Rattle.swim_history.specs.Setting.{Setting}
-use Rattle.swim_rejoin.specs.Histories.{Event}
-use Rattle.swim_rejoin.specs.Histories.Event.{Joined}
+use Rattle.swim_receiver.specs.Happenings.Happening.{Rejoined}
 use Rattle.swim_work.specs.declared.counts.Why.{Why}
 use Rattle.swim_work.specs.Calling.{Hears, IsMessage, Joins}
 use Rattle.swim_work.specs.Posts.{AtSender}
 use Rattle.swim_receiver.specs.declared.rejoining.Returning.{Returning}
+use Rattle.swim_receiver.specs.Happenings.{Happening}
 use Rattle.swim_receiver.specs.Rejoining.{HearsAndJoins, IsJoinTold, IsReturning, JoinsAgain, JoinsThen, whom}
 
 -- a member was joined again, and that is remembered
 pub joined_again : {O : Type 0} (o : Setting) (limit : ℕ) (row : Row) (before after : Returning) (old : AtSender O)
     (end : Option Why)
-    (new : AtSender O) (is_joined : Bool) (period : ℕ) → Joins o limit row old end new is_joined → is_joined ≡ true →
-    ((h : List Event) → IsReturning before h → IsReturning after (Joined row.id period ∷ h)) →
+    (new : AtSender O) (is_joined : Bool) → Joins o limit row old end new is_joined → is_joined ≡ true →
+    ((h : List Happening) → IsReturning before h → IsReturning after (Rejoined row.id ∷ h)) →
     JoinsAgain o limit row before old end new after
-joined_again o limit row before after old end new true period joins is told =
-    (true, joins, λ h returning. (Joined row.id period ∷ h, told h returning, (period, refl)))
-joined_again o limit row before after old end new false period joins is told = absurd (cc is)
+joined_again o limit row before after old end new true joins is told =
+    (true, joins, λ h returning. (Rejoined row.id ∷ h, told h returning, refl))
+joined_again o limit row before after old end new false joins is told = absurd (cc is)
 
 -- it wasn't, and nothing is
 pub not_joined : {O : Type 0} (o : Setting) (limit : ℕ) (row : Row) (returning : Returning) (old : AtSender O)
@@ -31,7 +31,7 @@ not_joined o limit row returning old end new true joins is = absurd (cc is)
 not_joined o limit row returning old end new false joins is = (false, joins, λ h was. (h, was, refl))
 
 -- nobody is to be joined again
-pub none_joined : {O : Type 0} (o : Setting) (limit me : ℕ) (h : List Event) (bytes : List ℕ) (source : Address)
+pub none_joined : {O : Type 0} (o : Setting) (limit me : ℕ) (h : List Happening) (bytes : List ℕ) (source : Address)
     (old : AtSender O) (heard : Option Why) (mid : AtSender O) (message : Option Message) (found : Option Row) →
     Hears o limit bytes source old heard mid → IsMessage o bytes source old heard mid message → found ≡ None →
     found ≡ whom me h source message → HearsAndJoins o limit me h bytes source old heard mid h
@@ -46,7 +46,7 @@ none_joined o limit me h bytes source old heard mid message found hears is none 
 }
 
 -- and a member was joined again
-pub one_joined : {O : Type 0} (o : Setting) (limit me : ℕ) (h told : List Event) (bytes : List ℕ)
+pub one_joined : {O : Type 0} (o : Setting) (limit me : ℕ) (h told : List Happening) (bytes : List ℕ)
     (source : Address)
     (old : AtSender O) (heard : Option Why) (mid : AtSender O) (message : Option Message) (found : Option Row)
     (row : Row)

@@ -6,10 +6,9 @@ use Rattle.swim_wire.specs.Address.{Address}
 use Rattle.swim_history.specs.declared.rows.Change.{Change}
 use Rattle.swim_history.specs.Changes.{table_after}
 use Rattle.swim_history.specs.Setting.{Setting}
+use Rattle.swim_trail.specs.Growing.{Grows, grows_both, grows_none}
 use Rattle.swim_node.proofs.Prefixes.{begins_itself, begins_whole}
-use Rattle.swim_work.specs.Posts.{Grows}
 use Rattle.swim_receiver.specs.Showing.{AreMembers, AreShown, addresses_in}
-use Rattle.swim_work.proofs.Posting.{grows_none, grows_both}
 
 pub none_shown : (o : Setting) (seen : List Change) (now : Option (List (List Address))) → AreShown o seen seen now now
 none_shown o seen now = record {

@@ -1,4 +1,5 @@
 pub mod Datagrams
+pub mod Happenings
 pub mod Receiving
 pub mod Rejoining
 pub mod Showing

@@ -3,8 +3,8 @@ use Rattle.std.specs.Prelude.{◌≡◌, ℕ, List, [], ◌∷◌, take, Option,
 use Rattle.swim_wire.specs.Address.{Address}
 use Rattle.swim_history.specs.declared.rows.Change.{Change}
 use Rattle.swim_history.specs.Setting.{Setting}
+use Rattle.swim_trail.specs.Growing.{Grows}
 use Rattle.swim_node.specs.Seats.{Seated}
-use Rattle.swim_rejoin.specs.Histories.{Event}
 use Rattle.swim_work.specs.declared.counts.Why.{Why}
 use Rattle.swim_work.specs.declared.lines.Got.{Got}
 use Rattle.swim_work.specs.declared.lines.Got.TheVariants.{Datagram, Idle, Fault}
@@ -12,9 +12,10 @@ use Rattle.swim_work.specs.declared.workers.End.{End}
 use Rattle.swim_work.specs.Ends.{end_at, one_fault_more}
 use Rattle.swim_work.specs.Gates.{Received}
 use Rattle.swim_work.specs.Callers.{fresh_seat, nothing}
-use Rattle.swim_work.specs.Posts.{AtSender, Grows, HasSent, Posted, at_sender}
+use Rattle.swim_work.specs.Posts.{AtSender, HasSent, Posted, at_sender}
 use Rattle.swim_work.specs.Turns.{EndsSo}
 use Rattle.swim_receiver.specs.declared.rejoining.Returning.{Returning}
+use Rattle.swim_receiver.specs.Happenings.{Happening}
 use Rattle.swim_receiver.specs.Rejoining.{HearsAndJoins, IsOfSame, IsReturning, LearnsOn}
 use Rattle.swim_receiver.specs.Showing.{AreShown}
 
@@ -23,15 +24,15 @@ use Rattle.swim_receiver.specs.Showing.{AreShown}
 pub record AtReceiver (O : Type 0) : Type 0 where
   pub sender : AtSender O
   pub row : ℕ
-  pub told : List Event
+  pub told : List Happening
   pub seen : List Change
 
-abbrev pub at_receiver : {O : Type 0} → AtSender O → ℕ → List Event → List Change → AtReceiver O
+abbrev pub at_receiver : {O : Type 0} → AtSender O → ℕ → List Happening → List Change → AtReceiver O
 at_receiver sender row told seen = record { sender = sender; row = row; told = told; seen = seen }
 
 -- what comes of an answer of the line: a datagram is heard, and whoever it shows to be there again is joined; a fault
 -- counts, and any other answer ends the row
-abbrev pub HearsGot : {O : Type 0} → Setting → ℕ → ℕ → List Event → Got → List ℕ → AtReceiver O → Option Why →
+abbrev pub HearsGot : {O : Type 0} → Setting → ℕ → ℕ → List Happening → Got → List ℕ → AtReceiver O → Option Why →
     AtReceiver O → Type 0
 HearsGot o limit me h (Datagram count source) bytes old end new =
     HearsAndJoins o limit me h (take count bytes) source old.sender end new.sender new.told × (new.row ≡ 0)
@@ -43,7 +44,7 @@ HearsGot o limit me h Fault bytes old end new =
 -- a turn, in which it may look at the member table by its viewer, learn of knocks, and which N is in force
 abbrev pub HearsNext : {O : Type 0} → Setting → ℕ → ℕ → Received → AtReceiver O → Option Why → AtReceiver O → Type 0
 HearsNext o limit me given old end new =
-    (h : List Event) × LearnsOn o old.seen new.seen old.told h
+    (h : List Happening) × LearnsOn o old.seen new.seen old.told h
     × HearsGot o limit me h given.got given.bytes old end new
 
 -- what a contract sees of it: the caller that sends, how many faults the line gave in a row, what the line gave so far,
@@ -64,7 +65,8 @@ pub record HasTurned {O : Type 0} (o : Setting) (limit : ℕ) (old : AtTurn O) (
     0 where
   pub given : Received
   pub grown : Grows old.received new.received (given ∷ [])
-  pub turned : (h : List Event) → IsReturning old.returning h → (told : List Event) × IsReturning new.returning told
+  pub turned : (h : List Happening) → IsReturning old.returning h →
+      (told : List Happening) × IsReturning new.returning told
       × HearsNext o limit old.returning.rejoiner.me given (at_receiver old.sender old.row h old.seen) end
       (at_receiver new.sender new.row told new.seen)
 
@@ -73,7 +75,8 @@ pub record HasHeard {O : Type 0} (o : Setting) (limit : ℕ) (old : AtTurn O) (e
     0 where
   pub given : List Received
   pub grown : Grows old.received new.received given
-  pub ends : (h : List Event) → IsReturning old.returning h → (told : List Event) × IsReturning new.returning told
+  pub ends : (h : List Happening) → IsReturning old.returning h →
+      (told : List Happening) × IsReturning new.returning told
       × EndsSo (HearsNext o limit old.returning.rejoiner.me) given (at_receiver old.sender old.row h old.seen) end
       (at_receiver new.sender new.row told new.seen)
 

@@ -6,7 +6,7 @@ use Rattle.swim_history.specs.declared.rows.Change.{Change}
 use Rattle.swim_history.specs.declared.rows.Row.{Row}
 use Rattle.swim_history.specs.Changes.{table_after}
 use Rattle.swim_history.specs.Setting.{Setting}
-use Rattle.swim_work.specs.Posts.{Grows}
+use Rattle.swim_trail.specs.Growing.{Grows}
 
 -- the addresses of all that stand in a table, whether they are up or failed
 abbrev pub addresses_in : List Row → List Address

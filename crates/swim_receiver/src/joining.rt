@@ -1,9 +1,9 @@
 //! What the receiver does about a datagram: it gives it to the node, and joins the member that it shows to be there again.
 
 ghost use Rattle.std.specs.Prelude.{◌≡◌, ◌<◌, List, Some};
-ghost use Rattle.swim_rejoin.specs.Histories.{Event};
 ghost use Rattle.swim_work.specs.Callers.{SendsOn};
 ghost use Rattle.swim_work.specs.Posts.{at_sender};
+ghost use Rattle.swim_receiver.specs.Happenings.{Happening};
 ghost use Rattle.swim_receiver.specs.Rejoining.{HearsAndJoins, IsOfSame, IsReturning, JoinsAgain};
 
 use crate::receivers::Receiver;
@@ -25,7 +25,7 @@ impl<'b, L: Line + Drop, O: Post + Drop> Receiver<'b, L, O> {
         source: Peer,
     ) -> Option<Why>
         ensures same { IsOfSame self.old.returning self.new.returning }
-        ensures hears { (h : List Event) → IsReturning self.old.returning h → (told : List Event)
+        ensures hears { (h : List Happening) → IsReturning self.old.returning h → (told : List Happening)
             × IsReturning self.new.returning told
             × HearsAndJoins N.opening N.limit self.old.returning.rejoiner.me h bytes.now source
             (at_sender caller.old.seat self.old.post caller.old.counts) result
@@ -45,7 +45,7 @@ impl<'b, L: Line + Drop, O: Post + Drop> Receiver<'b, L, O> {
 
     /// Joins a member again. Where it was joined, it's time to look at the table: it shows it as up. Why the receiver
     /// ends, if it does.
-    #[tactic(auto, using(crate::proofs::Rejoined::joined_again, crate::proofs::Rejoined::not_joined))]
+    #[tactic(auto, using(crate::proofs::Rejoined::not_joined))]
     fn join_again<N: Naming, C: Chooser, H: Wait + Drop, R: Wait>(
         &mut self,
         rt: &R,

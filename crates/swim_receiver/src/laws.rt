@@ -6,7 +6,7 @@ ghost use Rattle.swim_history.specs.Setting.{Setting};
 ghost use Rattle.swim_node.specs.Seats.{Seated};
 ghost use Rattle.swim_work.specs.declared.workers.End.{End};
 ghost use Rattle.swim_work.specs.Gates.{Received};
-ghost use Rattle.swim_work.specs.Posts.{Grows};
+ghost use Rattle.swim_trail.specs.Growing.{Grows};
 ghost use Rattle.swim_receiver.specs.Datagrams.{AreHeard, datagrams_in};
 ghost use Rattle.swim_receiver.specs.Receiving.{HearsLife, Owned};
 

@@ -24,10 +24,9 @@ impl<'b, L: Line + Drop, O: Post + Drop> Receiver<'b, L, O> {
         ensures post { self.new.post ≡ self.old.post }
     {
         if self.board.take_due() {
-            let board = self.board;
-            self.returning.rule(rt, board);
+            self.returning.rule(rt);
             self.look(viewer);
-            self.returning.take_over(rt, board);
+            self.returning.take_over(rt);
         }
     }
 

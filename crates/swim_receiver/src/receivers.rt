@@ -13,7 +13,7 @@ use std::sync::Wait;
 use std::sync::atomic::{AtomicBool, Ordering};
 use swim_node::{Naming, Node, Seat, Viewer};
 use swim_targets::Seeded;
-use swim_work::{Caller, Done, End, Faults, Got, Line, Meter, Post, TidingsBoard, Why, Worker};
+use swim_work::{Caller, Done, Faults, Got, Line, Meter, Post, TidingsBoard, Why, Worker};
 
 /// As many bytes as are taken of a datagram: more than one of the protocol has, so that one that is too long is seen to
 /// be.
@@ -56,7 +56,12 @@ impl<'b, L: Line + Drop, O: Post + Drop> Worker for Receiver<'b, L, O> {
         };
         let why = self.hear_on(rt, node, over, &mut hearing, meter);
         hearing.caller.show(meter);
-        done(hearing, why)
+        let Hearing {
+            caller,
+            faults: _,
+            viewer,
+        } = hearing;
+        caller.done(viewer, why)
     }
 }
 
@@ -67,27 +72,6 @@ struct Hearing<N: Naming> {
     caller: Caller<N>,
     faults: Faults,
     viewer: Viewer<N>,
-}
-
-/// Hands back the seat and the viewer.
-fn done<N: Naming>(hearing: Hearing<N>, why: Option<Why>) -> Done<N>
-    ensures seat { result.seat ≡ hearing.caller.seat }
-    ensures viewer { result.viewer ≡ hearing.viewer }
-    ensures end { result.end ≡ record { why = why; counts = hearing.caller.counts } }
-{
-    let Hearing {
-        caller,
-        faults: _,
-        viewer,
-    } = hearing;
-    Done {
-        seat: caller.seat,
-        viewer,
-        end: End {
-            why,
-            counts: caller.counts,
-        },
-    }
 }
 
 impl<'b, L: Line + Drop, O: Post + Drop> Receiver<'b, L, O> {
@@ -119,36 +103,12 @@ impl<'b, L: Line + Drop, O: Post + Drop> Receiver<'b, L, O> {
                 return None;
             }
             hearing.caller.show(meter);
-            if let Some(end) = self.look_and_hear(rt, node, hearing) {
+            self.show(rt, &mut hearing.viewer);
+            if let Some(end) = self.hear_next(rt, node, hearing) {
                 return Some(end);
             }
         }
         unreachable!()
-    }
-
-    /// Looks at the members, where it is time to. Then a turn of the receiver; why it ends, if it does.
-    fn look_and_hear<N: Naming, H: Wait + Drop, R: Wait>(
-        &mut self,
-        rt: &R,
-        node: &Node<N, Seeded, H>,
-        hearing: &mut Hearing<N>,
-    ) -> Option<Why>
-        ensures turn { HasTurned N.opening N.limit
-            (at_turn (at_sender hearing.old.caller.seat self.old.post hearing.old.caller.counts)
-            hearing.old.faults.in_a_row (L.received self.old.line) self.old.returning hearing.old.viewer) result
-            (at_turn (at_sender hearing.new.caller.seat self.new.post hearing.new.caller.counts)
-            hearing.new.faults.in_a_row (L.received self.new.line) self.new.returning hearing.new.viewer) }
-        ensures sent { SendsOn O.posted N.opening
-            (at_sender hearing.old.caller.seat self.old.post hearing.old.caller.counts)
-            (at_sender hearing.new.caller.seat self.new.post hearing.new.caller.counts) }
-        ensures same { IsOfSame self.old.returning self.new.returning }
-        ensures shown { AreShown N.opening hearing.old.viewer hearing.new.viewer (L.listed self.old.line)
-            (L.listed self.new.line) }
-        ensures number { hearing.new.caller.seat.number ≡ hearing.old.caller.seat.number }
-        ensures full { result ≡ Some Why.JournalFull → 0 < hearing.new.caller.seat.full }
-    {
-        self.show(rt, &mut hearing.viewer);
-        self.hear_next(rt, node, hearing)
     }
 
     /// A turn of the receiver; why it ends, if it does. What the ticker left meanwhile is known before a datagram is

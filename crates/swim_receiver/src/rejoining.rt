@@ -6,21 +6,24 @@ ghost use Rattle.swim_history.specs.declared.rows.Change.{Change};
 ghost use Rattle.swim_history.specs.Changes.{table_after};
 ghost use Rattle.swim_history.specs.Setting.{Setting};
 ghost use Rattle.swim_rejoin.specs.Histories.{Event};
-ghost use Rattle.swim_rejoin.specs.Histories.Event.{Joined};
 ghost use Rattle.swim_rejoin.specs.Rejoiners.{Follows};
-ghost use Rattle.swim_receiver.specs.Rejoining.{IsOfSame, IsReturning, Learns, whom, with_knocks};
+ghost use Rattle.swim_receiver.specs.Happenings.{Happening, with_knocks};
+ghost use Rattle.swim_receiver.specs.Happenings.Happening.{Rejoined};
+ghost use Rattle.swim_receiver.specs.Rejoining.{IsOfSame, IsReturning, Learns, whom};
 
 use std::sync::Wait;
 use swim_history::{Row, Table, copy_table};
 use swim_rejoin::Rejoiner;
 use swim_wire::{Id, KNOWN_MEMBERS, Message, Peer};
-use swim_work::{Note, RejoinLookup, Tidings, TidingsBoard};
+use swim_work::{Note, RejoinLookup, TidingsBoard, TidingsInbox};
 
 /// What is remembered of members that come back, over all lives: when they were knocked at, judged and joined again. At
-/// each look it asks which N is in force: there is a knock at each N-th start of a period.
+/// each look it takes what the ticker left, and asks which N is in force: there is a knock at each N-th start of a
+/// period.
 #[derive(Drop)]
 pub struct Returning<'b> {
     lookup: RejoinLookup<'b>,
+    inbox: TidingsInbox<'b>,
     rejoiner: Rejoiner,
     // The rows of the table that the rejoiner was told last.
     rows: Table,
@@ -36,6 +39,7 @@ impl<'b> Returning<'b> {
     {
         Returning {
             lookup: RejoinLookup::new(board),
+            inbox: TidingsInbox::new(board),
             rejoiner: Rejoiner::new(me),
             rows: Table::new(),
             period: 0,
@@ -52,11 +56,11 @@ impl<'b> Returning<'b> {
 
     /// Takes over which rule is in force now. What the ticker left until then is taken over by the rule that was: with 0
     /// it is forgotten with everything else.
-    pub(crate) fn rule<R: Wait>(&mut self, rt: &R, board: &TidingsBoard)
+    pub(crate) fn rule<R: Wait>(&mut self, rt: &R)
         ensures same { IsOfSame self.old self.new }
         ensures learns { (o : Setting) (seen : List Change) → Learns o seen seen self.old self.new }
     {
-        self.take_over(rt, board);
+        self.take_over(rt);
         self.renew();
     }
 
@@ -92,30 +96,20 @@ impl<'b> Returning<'b> {
     /// since it was looked up.
     // Kept out of line, as `Receiver::look` is: `show` runs twice for every datagram.
     #[inline(never)]
-    pub(crate) fn take_over<R: Wait>(&mut self, rt: &R, board: &TidingsBoard)
+    pub(crate) fn take_over<R: Wait>(&mut self, rt: &R)
         ensures same { IsOfSame self.old self.new }
         ensures learns { (o : Setting) (seen : List Change) → Learns o seen seen self.old self.new }
     {
         if self.rejoiner.is_open() {
-            let tidings = board.take(rt);
-            self.learn(&tidings);
+            let tidings = self.inbox.take(rt);
+            self.period = tidings.period;
+            knocked(&mut self.rejoiner, tidings.notes.as_slice());
         }
-    }
-
-    /// Learns which period runs, and of these knocks, and of nothing else.
-    fn learn(&mut self, tidings: &Tidings)
-        ensures same { IsOfSame self.old self.new }
-        ensures period { self.new.period ≡ tidings.now.period }
-        ensures knocks { (h : List Event) → IsReturning self.old h
-            → IsReturning self.new (with_knocks tidings.now.notes.items h) }
-    {
-        self.period = tidings.period;
-        knocked(&mut self.rejoiner, tidings.notes.as_slice());
     }
 
     /// Who is to be joined again after the message from there, with its row.
     pub(crate) fn whom(&self, message: &Option<Message>, source: &Peer) -> Option<Row>
-        ensures { (h : List Event) → IsReturning self.now h
+        ensures { (h : List Happening) → IsReturning self.now h
             → result ≡ whom self.now.rejoiner.me h source.now message.now }
     {
         match message {
@@ -127,8 +121,7 @@ impl<'b> Returning<'b> {
     /// The member was joined again.
     pub(crate) fn joined(&mut self, id: Id)
         ensures same { IsOfSame self.old self.new }
-        ensures joined { (h : List Event) → IsReturning self.old h
-            → IsReturning self.new (Joined id self.old.period ∷ h) }
+        ensures joined { (h : List Happening) → IsReturning self.old h → IsReturning self.new (Rejoined id ∷ h) }
     {
         self.rejoins = self.rejoins.saturating_add(1);
         self.rejoiner.joined(id, self.period);

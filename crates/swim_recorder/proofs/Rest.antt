@@ -1,26 +1,23 @@
 -- The calls of a journal at their places.
-use Rattle.std.proofs.Common.{◌≡◌, inl, inr, ℕ, zero, suc, ◌+◌, ◌≤◌, List, [], ◌∷◌, ◌++◌, length, reverse, take}
+use Rattle.std.proofs.Common.{◌≡◌, inl, inr, ℕ, suc, ◌+◌, ◌≤◌, List, [], ◌∷◌, ◌++◌, length, reverse, take}
 use Rattle.std.proofs.Common.{Some, None, sym, ap, ◌∙◌, arith, slice_get}
+use Rattle.std.specs.Option.{option_map}
 use Rattle.std.proofs.lemmas.List.{length-reverse, take_all}
 use Rattle.std.proofs.lemmas.Option.{get_or_from_slice_get, slice_get_within}
 use Rattle.std.proofs.Math.Seq.{take-suc}
 use mathlib.Core.List.{reverse-cons}
 use Rattle.swim_history.specs.declared.entries.Entry.{Entry}
+use Rattle.swim_history.specs.Called.{called_of}
+use Rattle.swim_history.specs.Laws.Called.{called_all}
 use Rattle.swim_node.specs.Answered.{kept}
 use Rattle.swim_node.specs.Following.{filing_of, filings_of}
 use Rattle.swim_node.proofs.Filing.{last_or_before, last_there, still_there}
 use Rattle.swim_node.proofs.Reading.{filings_length}
 
-none_there : {A : Type 0} (xs : List A) (i : ℕ) → slice_get xs i ≡ None → length xs ≤ i
-none_there [] i is = omega arith
-none_there (x ∷ xs) zero is = absurd (cc is)
-none_there (x ∷ xs) (suc i) is = let rest = none_there xs i is in omega (arith, rest)
-
 -- where there is no entry the journal is over
-pub none_beyond : (h : List Entry) (place : ℕ) → slice_get (reverse h) place ≡ None → length h ≤ place
-none_beyond h place is =
-    let none = none_there (reverse h) place is in
-    let long = length-reverse h in omega (arith, none, long)
+pub none_beyond : (h : List Entry) (place : ℕ) → None ≡ option_map called_of (slice_get (reverse h) place) →
+    length h ≤ place
+none_beyond h place is = rw (← length-reverse h) (called_all (reverse h) place is)
 
 -- the call of an entry is at the entry's place
 pub call_there : (h : List Entry) (place : ℕ) (e : Entry) → slice_get (reverse h) place ≡ Some e →

@@ -11,6 +11,7 @@ use Rattle.swim_history.specs.Changes.{change_by, changes, table}
 use Rattle.swim_history.specs.Clock.{period_number}
 use Rattle.swim_history.specs.Run.{IsRun}
 use Rattle.swim_history.specs.Setting.{Setting, IsSetting}
+use Rattle.swim_trail.specs.Growing.{Grows, grows_both}
 use Rattle.swim_node.specs.Cells.{Filing}
 use Rattle.swim_node.specs.Following.{filing_of, filings_of}
 use Rattle.swim_events.specs.Guests.{AreSent, AtGuest, Offering, newcomer, put_text, told_of}
@@ -18,8 +19,6 @@ use Rattle.swim_events.specs.Telling.{AreTold, life_texts}
 use Rattle.swim_events.specs.Texts.{change_text, life_text}
 use Rattle.swim_events.specs.Watched.{Lived, lived_on}
 use Rattle.swim_events.specs.Watching.{Known, known}
-use Rattle.swim_work.specs.Posts.{Grows}
-use Rattle.swim_work.proofs.Posting.{grows_both}
 use Rattle.swim_recorder.specs.Recording.{Tells, TellsAll}
 use Rattle.swim_recorder.specs.Reports.{Report, Began, Called, life_reports}
 use Rattle.swim_recorder.specs.Watched.{Happened, IsCourse, Put, Comes, Turn, lived}

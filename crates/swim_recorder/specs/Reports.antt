@@ -5,9 +5,9 @@ use Rattle.swim_history.specs.declared.entries.Entry.{Entry}
 use Rattle.swim_history.specs.Changes.{change_by}
 use Rattle.swim_history.specs.Clock.{period_number}
 use Rattle.swim_history.specs.Setting.{Setting}
+use Rattle.swim_trail.specs.Growing.{Grows}
 use Rattle.swim_node.specs.Cells.{Filing}
 use Rattle.swim_node.specs.Following.{filing_of}
-use Rattle.swim_work.specs.Posts.{Grows}
 
 -- what it hears: that a life begins from this opening, and a call of it, whose it is, with its reply, and what it
 -- changed of the member table

@@ -3,7 +3,7 @@
 ghost use Rattle.std.specs.Prelude.{◌≡◌, ◌≤◌, IfNone, IfSome, Some, length, slice_get};
 ghost use Rattle.swim_node.specs.Following.{filings_of};
 
-use swim_history::{Entry, Journal, Kept};
+use swim_history::{Called, Journal, Kept};
 use swim_node::Followed;
 
 /// The call at a place of a journal, counted from 0 at the oldest. There is none beyond the journal's end.
@@ -15,16 +15,15 @@ pub(crate) fn call_at(journal: &Journal, place: usize) -> Option<Followed>
         return None;
     }
     let position = place as u32;
-    let Some(entry) = journal.entry(position) else {
+    let Some(called) = journal.called(position) else {
         return None;
     };
-    let Entry {
+    let Called {
         seat,
         number,
         call,
-        choice: _,
         reply,
-    } = entry;
+    } = called;
     let kept = Kept {
         position,
         number,

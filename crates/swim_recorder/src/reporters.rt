@@ -1,7 +1,7 @@
 //! Who hears of each call of a life's journal, once it was read: for a log, and for what is counted.
 
 ghost use Rattle.std.specs.Prelude.{◌≡◌, ◌∷◌, []};
-ghost use Rattle.swim_work.specs.Posts.{Grows};
+ghost use Rattle.swim_trail.specs.Growing.{Grows};
 ghost use Rattle.swim_recorder.specs.Reports.{Report};
 ghost use Rattle.swim_recorder.specs.Reports.Report.{Began, Called};
 

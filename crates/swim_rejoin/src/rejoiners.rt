@@ -17,8 +17,9 @@ use swim_wire::{Id, KNOWN_MEMBERS, Message, Peer, PeriodNumber};
 /// What is kept of the members of a table.
 type Knowns = ArrayVec<Known, KNOWN_MEMBERS>;
 
-/// Whom a member joins again by itself: it is told every how many starts there is a knock, of each knock, of the
-/// member table as often as that is looked at, and of each join that it gave the word for.
+/// Whom a member joins again by itself: it is told which N is in force (there is a knock at each N-th start of a
+/// period), of each knock, of the member table as often as that is looked at, and of each join that it gave the word
+/// for.
 #[derive(Drop)]
 pub struct Rejoiner {
     rejoin: u16,

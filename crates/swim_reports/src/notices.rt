@@ -5,7 +5,7 @@ ghost use Rattle.swim_text.specs.Lines.{has_feed};
 ghost use Rattle.swim_keeper.specs.Endings.{TellsText};
 ghost use Rattle.swim_keeper.specs.Notices.{Notices, line_text};
 ghost use Rattle.swim_trail.specs.Noted.{value_in};
-ghost use Rattle.swim_work.specs.Posts.{Grows};
+ghost use Rattle.swim_trail.specs.Growing.{Grows};
 
 use crate::bulletins::Bulletin;
 use crate::happenings::tell_changes;

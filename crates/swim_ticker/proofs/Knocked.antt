@@ -14,12 +14,13 @@ use Rattle.swim_history.specs.declared.rows.Change.{Change}
 use Rattle.swim_history.specs.declared.rows.Row.{Row}
 use Rattle.swim_history.specs.Changes.{table_after}
 use Rattle.swim_history.specs.Setting.{Setting}
+use Rattle.swim_trail.specs.Growing.{Grows}
 use Rattle.swim_rejoin.specs.declared.knockers.KnockPing.{KnockPing}
 use Rattle.swim_rejoin.specs.Knockers.{Kept, Follows, knock_at}
 use Rattle.swim_rejoin.specs.Knocking.{Start, at_start, knocked_by}
 use Rattle.swim_work.specs.Ends.{both}
 use Rattle.swim_work.specs.Noting.{Begins}
-use Rattle.swim_work.specs.Posts.{ArePosted, Grows, Posted, datagram, handed}
+use Rattle.swim_work.specs.Posts.{ArePosted, Posted, datagram, handed}
 use Rattle.swim_work.proofs.Posting.{none_posted, one_more_posted}
 use Rattle.swim_work.proofs.Sent.{are_both}
 use Rattle.swim_ticker.specs.Knocking.{AreKnocks, AreLooks, AtKnocking, HasKnocked, IsKnocking, KnocksOn, LooksOn}

@@ -8,6 +8,7 @@ use Rattle.std.proofs.lemmas.List.Elements.{All-nil, All-cons, All-append}
 use Rattle.swim_history.specs.declared.calls.Call.TheVariants.{Tick}
 use Rattle.swim_history.specs.declared.rows.Change.{Change}
 use Rattle.swim_history.specs.Setting.{Setting}
+use Rattle.swim_trail.specs.Growing.{Grows}
 use Rattle.swim_node.specs.declared.receipts.CallFault.{CallFault}
 use Rattle.swim_node.specs.declared.receipts.CallFault.TheVariants as faults
 use Rattle.swim_node.specs.Answered.{MayRefuse}
@@ -20,7 +21,7 @@ use Rattle.swim_work.specs.declared.workers.End.{End}
 use Rattle.swim_work.specs.Calling.{IsMade, IsRefused}
 use Rattle.swim_work.specs.Outcomes.{Outcome, call_by, calls_among, memory_in}
 use Rattle.swim_work.specs.Outcomes.Outcome.{Answered, Refused}
-use Rattle.swim_work.specs.Posts.{AtSender, Grows, Posted}
+use Rattle.swim_work.specs.Posts.{AtSender, Posted}
 use Rattle.swim_work.specs.Turns.{EndsSo, TicksNext, Turns}
 use Rattle.swim_work.proofs.Outcomes.{counted, memory_both}
 use Rattle.swim_ticker.specs.Ticking.{Owned, TicksLife}

@@ -99,11 +99,8 @@ fn look<N: Naming>(viewer: &mut Viewer<N>, table: &mut Table, is_open: bool)
     ensures later { IsPrefix viewer.old viewer.new }
     ensures look { LooksOn N.opening viewer.old table.old.items viewer.new table.new.items }
 {
-    if !is_open {
-        return;
-    }
-    if let Some(shown) = viewer.list() {
-        *table = shown;
+    if is_open {
+        let _is_shown = viewer.look(table);
     }
 }
 

@@ -11,9 +11,7 @@ use std::sync::Wait;
 use std::sync::atomic::{AtomicBool, Ordering};
 use swim_node::{Naming, Node, Seat, Viewer};
 use swim_targets::Seeded;
-use swim_work::{
-    Beat, Caller, Done, End, Meter, Pace, Post, RejoinLookup, TidingsBoard, Why, Worker,
-};
+use swim_work::{Beat, Caller, Done, Meter, Pace, Post, RejoinLookup, TidingsBoard, Why, Worker};
 
 /// Gives a node the ticks of a pace, and sends the datagrams of the replies by a post. At each N-th start of a period
 /// it knocks at a member that was judged failed, by a second post; at each start it asks which N is in force. On the
@@ -26,7 +24,7 @@ pub struct Ticker<'b, P: Pace + Drop, O: Post + Drop> {
     pub post: O,
     /// Takes the knocks.
     pub knock_post: O,
-    /// Answers every how many starts there is a knock. With 0 nobody is knocked at.
+    /// Answers which N is in force: there is a knock at each N-th start of a period. With 0 nobody is knocked at.
     pub lookup: RejoinLookup<'b>,
     /// Knocks so far, over all lives. The count stops at 2^64-1.
     pub knocks: u64,
@@ -57,7 +55,8 @@ impl<'b, P: Pace + Drop, O: Post + Drop> Worker for Ticker<'b, P, O> {
         let why = self.tick_on(rt, node, over, &mut ticking, meter);
         ticking.show(meter);
         self.knocks = self.knocks.saturating_add(ticking.knocking.knocks);
-        done(ticking, why)
+        let Ticking { caller, knocking } = ticking;
+        caller.done(knocking.viewer, why)
     }
 }
 
@@ -73,23 +72,6 @@ impl<N: Naming> Ticking<N> {
     fn show(&self, meter: &Meter) {
         self.caller.show(meter);
         meter.show_knocks(self.knocking.knocks);
-    }
-}
-
-/// Hands back the seat and the viewer.
-fn done<N: Naming>(ticking: Ticking<N>, why: Option<Why>) -> Done<N>
-    ensures seat { result.seat ≡ ticking.caller.seat }
-    ensures viewer { result.viewer ≡ ticking.knocking.viewer }
-    ensures end { result.end ≡ record { why = why; counts = ticking.caller.counts } }
-{
-    let Ticking { caller, knocking } = ticking;
-    Done {
-        seat: caller.seat,
-        viewer: knocking.viewer,
-        end: End {
-            why,
-            counts: caller.counts,
-        },
     }
 }
 

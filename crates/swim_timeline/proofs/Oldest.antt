@@ -1,33 +1,29 @@
 -- The oldest entries of a history, as a walk by places meets them.
-use Rattle.std.proofs.Common.{◌≡◌, ℕ, ◌+◌, ◌<◌, ◌≤◌, List, [], ◌∷◌, ◌++◌, length, get_or, take, drop, reverse, Some}
-use Rattle.std.proofs.Common.{None, sym, ap, subst, ◌∙◌, inl, inr, arith}
-use Rattle.std.specs.Prelude.{slice_get}
-use Rattle.std.proofs.lemmas.Option.{slice_get_within, get_or_from_slice_get, slice_get_cases}
-use Rattle.std.proofs.lemmas.List.{take_more, reverse-append, reverse-reverse, take-append-drop, length-reverse}
+use Rattle.std.proofs.Common.{◌≡◌, ℕ, ◌+◌, ◌≤◌, List, ◌∷◌, ◌++◌, length, take, drop, reverse, Some, None}
+use Rattle.std.proofs.Common.{sym, ap, subst, ◌∙◌, arith, slice_get}
+use Rattle.std.specs.Option.{option_map}
+use Rattle.std.proofs.lemmas.List.{reverse-append, reverse-reverse, take-append-drop, length-reverse}
 use Rattle.std.proofs.lemmas.List.{length-take}
+use Rattle.swim_history.specs.declared.entries.Called.{Called}
+use Rattle.swim_history.specs.declared.entries.Choice.{Choice}
 use Rattle.swim_history.specs.declared.entries.Entry.{Entry}
+use Rattle.swim_history.specs.Called.{called_of, entry_of}
 use Rattle.swim_history.specs.Setting.{Setting}
 use Rattle.swim_history.specs.Run.{IsRun}
+use Rattle.swim_history.specs.Laws.Called.{called_all, called_next}
 use Rattle.swim_history.specs.Laws.Run.{IsRun-older}
 
 abbrev pub oldest : ℕ → List Entry → List Entry
 oldest i h = reverse (take i (reverse h))
 
--- one more of them
-pub oldest_more : (h : List Entry) (i : ℕ) (e : Entry) → Some e ≡ slice_get (reverse h) i →
-    oldest (i + 1) h ≡ e ∷ oldest i h
-oldest_more h i e is =
-    let lt : i < length (reverse h) = slice_get_within (reverse h) i e (sym is) in
-    ap reverse (take_more (reverse h) i e lt) ∙ reverse-append (take i (reverse h)) (get_or (reverse h) i e ∷ [])
-    ∙ ap (λ (x : Entry). x ∷ oldest i h) (get_or_from_slice_get (reverse h) i e e (sym is))
+-- one more of them, by its call and its reply
+pub oldest_more : (h : List Entry) (i : ℕ) (c : Called) → Some c ≡ option_map called_of (slice_get (reverse h) i) →
+    (choice : Choice) × (oldest (i + 1) h ≡ entry_of c choice ∷ oldest i h)
+oldest_more h i c is = called_next (reverse h) i c is
 
 -- where there is none, all were met
-pub none_left : (h : List Entry) (i : ℕ) → None ≡ slice_get (reverse h) i → length h ≤ i
-none_left h i is =
-    elim (slice_get_cases (reverse h) i).1 [
-      | inl found ↦ absurd (cc (is, found.2))
-      | inr past ↦ rw (← length-reverse h) past.0
-    ]
+pub none_left : (h : List Entry) (i : ℕ) → None ≡ option_map called_of (slice_get (reverse h) i) → length h ≤ i
+none_left h i is = rw (← length-reverse h) (called_all (reverse h) i is)
 
 -- they are as many as that at the most
 pub oldest_length : (h : List Entry) (i : ℕ) → length (oldest i h) ≤ i

@@ -1,17 +1,20 @@
 //! The clock of a run.
 
 ghost use Rattle.std.specs.Prelude.{◌≡◌, ◌<◌, ◌^◌, ◌∷◌, List};
+ghost use Rattle.swim_history.specs.declared.entries.Choice.{Choice};
 ghost use Rattle.swim_history.specs.declared.entries.Entry.{Entry};
+ghost use Rattle.swim_history.specs.Called.{entry_of};
 ghost use Rattle.swim_history.specs.Clock.{number_at, ticks as ticks_of};
 
-use swim_history::{Call, Entry, Opening, Reply};
+use swim_history::{Call, Called, Opening, Reply};
 
-/// How many ticks there are with one more entry.
-pub(crate) fn ticks_with(ticks: u32, entry: &Entry) -> u32
+/// How many ticks there are with one more entry, of this call and this reply.
+pub(crate) fn ticks_with(ticks: u32, called: &Called) -> u32
     requires { ticks < u32.MAX }
-    ensures { (h : List Entry) → ticks ≡ ticks_of h → result ≡ ticks_of (entry.now ∷ h) }
+    ensures { (h : List Entry) (choice : Choice) → ticks ≡ ticks_of h →
+        result ≡ ticks_of (entry_of called.now choice ∷ h) }
 {
-    match (&entry.call, &entry.reply) {
+    match (&called.call, &called.reply) {
         (Call::Tick, Reply::Refused(_)) => ticks,
         (Call::Tick, _) => ticks + 1,
         _ => ticks,

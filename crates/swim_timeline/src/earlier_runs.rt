@@ -6,7 +6,7 @@ ghost use Rattle.swim_history.specs.Changes.{change_by, rows_after, IsAscending}
 ghost use Rattle.swim_timeline.specs.Shown.{Begins};
 
 use crate::clock::{number_at, ticks_with};
-use swim_history::{Entry, Journal, KNOWN_MEMBERS, Table, change_by, change_table, table_of};
+use swim_history::{Called, Journal, KNOWN_MEMBERS, Table, change_by, change_table, table_of};
 
 /// What a run came to before a tick.
 #[derive(Drop)]
@@ -28,11 +28,11 @@ pub(crate) fn begin_at(journal: &Journal, first: u32) -> EarlierRun
         rows: table_of(opening.rows()),
     };
     for place in 0..journal.len() {
-        if let Some(entry) = journal.entry(place) {
+        if let Some(called) = journal.called(place) {
             let ended = number_at(opening, ticks);
-            ticks = ticks_with(ticks, &entry);
+            ticks = ticks_with(ticks, &called);
             if ticks < first {
-                beginning.add(ended, &entry);
+                beginning.add(ended, &called);
             }
         }
     }
@@ -41,17 +41,17 @@ pub(crate) fn begin_at(journal: &Journal, first: u32) -> EarlierRun
 
 impl EarlierRun {
     /// Takes one more entry; `ended` is the last period number used before it.
-    fn add(&mut self, ended: u64, entry: &Entry)
+    fn add(&mut self, ended: u64, called: &Called)
         requires entries { self.old.entries < u32.MAX }
         requires ascends { IsAscending self.old.rows.items }
-        requires fits { let change = change_by entry.now.call entry.now.reply ended in
+        requires fits { let change = change_by called.now.call called.now.reply ended in
             length (rows_after self.old.rows.items (option_to_list change)) ≤ KNOWN_MEMBERS }
         ensures entries { self.new.entries ≡ self.old.entries + 1 }
-        ensures rows { let change = change_by entry.now.call entry.now.reply ended in
+        ensures rows { let change = change_by called.now.call called.now.reply ended in
             self.new.rows.items ≡ rows_after self.old.rows.items (option_to_list change) }
     {
         self.entries += 1;
-        if let Some(change) = change_by(&entry.call, &entry.reply, ended) {
+        if let Some(change) = change_by(&called.call, &called.reply, ended) {
             change_table(&mut self.rows, &change);
         }
     }

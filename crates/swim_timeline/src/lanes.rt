@@ -5,7 +5,7 @@ ghost use Rattle.swim_timeline.specs.Lanes.{with_rows, lanes_then};
 
 use std::alloc::{AllocError, Global};
 use std::collections::BTreeMap;
-use swim_history::{Call, Entry, Reply, Row};
+use swim_history::{Call, Called, Reply, Row};
 use swim_wire::{Id, Peer};
 
 /// The members that a picture has lanes for, ascending by id, each with the address that it had last.
@@ -23,10 +23,10 @@ pub(crate) fn lanes_of(alloc: Global, rows: &[Row]) -> Result<Lanes, AllocError>
 }
 
 /// Adds the lane of a member that an entry lists. `Err` only where memory was refused.
-pub(crate) fn add_lane(lanes: &mut Lanes, entry: &Entry) -> Result<(), AllocError>
-    ensures { OnOk result (lanes.new.entries ≡ lanes_then lanes.old.entries entry.now.call entry.now.reply) }
+pub(crate) fn add_lane(lanes: &mut Lanes, called: &Called) -> Result<(), AllocError>
+    ensures { OnOk result (lanes.new.entries ≡ lanes_then lanes.old.entries called.now.call called.now.reply) }
 {
-    if let (Call::Join(id, peer), Reply::Joined { .. }) = (&entry.call, &entry.reply) {
+    if let (Call::Join(id, peer), Reply::Joined { .. }) = (&called.call, &called.reply) {
         lanes.insert(*id, *peer)?;
     }
     Ok(())

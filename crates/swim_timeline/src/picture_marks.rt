@@ -5,7 +5,7 @@ ghost use Rattle.swim_timeline.specs.Marks.{mark_at, marks_by, marks_of_judged, 
 
 use arrayvec::ArrayVec;
 use std::alloc::AllocError;
-use swim_history::{Call, Entry, MOST_RELAYS, Probe, Relay, Reply};
+use swim_history::{Call, Called, MOST_RELAYS, Probe, Relay, Reply};
 use swim_wire::Id;
 
 /// What happened to a member (sections 3.1 and 4.3 of the SWIM paper). The numbers are those of periods.
@@ -39,11 +39,11 @@ pub(crate) fn add_marks(
     marks: &mut Vec<PictureMark>,
     tick: u32,
     ended: u64,
-    entry: &Entry,
+    called: &Called,
 ) -> Result<(), AllocError>
-    ensures { OnOk result (marks.new.items ≡ marks.old.items ++ marks_by tick ended entry.now.call entry.now.reply) }
+    ensures { OnOk result (marks.new.items ≡ marks.old.items ++ marks_by tick ended called.now.call called.now.reply) }
 {
-    match &entry.reply {
+    match &called.reply {
         Reply::Started { judged, probe } => {
             add_judgement(marks, tick, ended, *judged)?;
             add_probe(marks, tick, *probe)
@@ -57,15 +57,15 @@ pub(crate) fn add_marks(
             let relays = copied(relays.as_slice());
             add(marks, tick, *target, MarkKind::Asked(*number, relays))
         }
-        Reply::Heard => match &entry.call {
+        Reply::Heard => match &called.call {
             Call::Hear(_, ack) => add(marks, tick, ack.target, MarkKind::Heard(ack.number.get())),
             _ => Ok(()),
         },
-        Reply::Joined { .. } => match &entry.call {
+        Reply::Joined { .. } => match &called.call {
             Call::Join(id, _) => add(marks, tick, *id, MarkKind::Joined),
             _ => Ok(()),
         },
-        Reply::Removed => match &entry.call {
+        Reply::Removed => match &called.call {
             Call::Remove(id) => add(marks, tick, *id, MarkKind::Removed),
             _ => Ok(()),
         },

@@ -1,7 +1,9 @@
 //! What a picture shows of a run that may be too long for it.
 
 ghost use Rattle.std.specs.Prelude.{◌≡◌, ◌<◌, ◌^◌, ◌∷◌, List, IfOk, OnOk};
+ghost use Rattle.swim_history.specs.declared.entries.Choice.{Choice};
 ghost use Rattle.swim_history.specs.declared.entries.Entry.{Entry};
+ghost use Rattle.swim_history.specs.Called.{entry_of};
 ghost use Rattle.swim_history.specs.Clock.{number_at};
 ghost use Rattle.swim_timeline.specs.Shown.{Draws, Shows};
 
@@ -11,7 +13,7 @@ use crate::lanes::{Lanes, add_lane, lanes_of};
 use crate::picture_marks::{PictureMark, add_marks};
 use crate::spans::Span;
 use std::alloc::{AllocError, Global};
-use swim_history::{Entry, Journal, Opening};
+use swim_history::{Called, Journal, Opening};
 
 /// What a picture shows of a run: all that happened within some ticks.
 #[derive(Drop)]
@@ -44,25 +46,25 @@ pub fn show(alloc: Global, journal: &Journal, span: Span) -> Result<Picture, All
         lanes,
     };
     for place in 0..journal.len() {
-        if let Some(entry) = journal.entry(place) {
-            shown.note(opening, span, &entry)?;
+        if let Some(called) = journal.called(place) {
+            shown.note(opening, span, &called)?;
         }
     }
     Ok(shown)
 }
 
 impl Picture {
-    /// Takes one more entry of the run.
-    fn note(&mut self, opening: &Opening, span: Span, entry: &Entry) -> Result<(), AllocError>
+    /// Takes one more entry of the run, by its call and its reply.
+    fn note(&mut self, opening: &Opening, span: Span, called: &Called) -> Result<(), AllocError>
         requires ticks { self.old.ticks < u32.MAX }
         requires entries { self.old.entries < u32.MAX }
         requires number { number_at opening.now.last opening.now.period self.old.ticks < 2 ^ 64 }
         ensures before { OnOk result (self.new.before ≡ self.old.before) }
-        ensures drawn { (h : List Entry) → Draws opening.now h span.first span.until self.old →
-            OnOk result (Draws opening.now (entry.now ∷ h) span.first span.until self.new) }
+        ensures drawn { (h : List Entry) (choice : Choice) → Draws opening.now h span.first span.until self.old →
+            OnOk result (Draws opening.now (entry_of called.now choice ∷ h) span.first span.until self.new) }
     {
         let ended = number_at(opening, self.ticks);
-        self.ticks = ticks_with(self.ticks, entry);
+        self.ticks = ticks_with(self.ticks, called);
         if u64::from(self.ticks) > span.until {
             return Ok(());
         }
@@ -70,8 +72,8 @@ impl Picture {
         if self.ticks < span.first {
             return Ok(());
         }
-        add_lane(&mut self.lanes, entry)?;
-        add_marks(&mut self.marks, self.ticks, ended, entry)?;
+        add_lane(&mut self.lanes, called)?;
+        add_marks(&mut self.marks, self.ticks, ended, called)?;
         Ok(())
     }
 }

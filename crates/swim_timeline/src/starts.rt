@@ -10,7 +10,7 @@ use crate::clock::ticks_with;
 use crate::spans::Span;
 use crate::times::{StartTime, Times};
 use std::alloc::{AllocError, Global};
-use swim_history::{Entry, Journal, Reply};
+use swim_history::{Called, Journal, Reply};
 
 /// A start of a period, by its tick, and when that was.
 #[derive(Clone, Copy)]
@@ -32,11 +32,11 @@ pub(crate) fn starts_in(
     let mut found = Vec::new(alloc);
     let mut ticks = 0;
     for place in 0..journal.len() {
-        if let Some(entry) = journal.entry(place) {
-            ticks = ticks_with(ticks, &entry);
+        if let Some(called) = journal.called(place) {
+            ticks = ticks_with(ticks, &called);
             add_start(
                 &mut found,
-                start_by(span, ticks, time_at(times, place), &entry),
+                start_by(span, ticks, time_at(times, place), &called),
             )?;
         }
     }
@@ -62,10 +62,10 @@ fn time_at(times: &Times, place: u32) -> Option<StartTime>
 
 /// Returns the start that an entry is, if it is one within these ticks and its time is known: `tick` is how many ticks
 /// there were with it.
-fn start_by(span: Span, tick: u32, time: Option<StartTime>, entry: &Entry) -> Option<TimedStart>
-    ensures { result ≡ start_by span.first span.until tick time entry.now.reply }
+fn start_by(span: Span, tick: u32, time: Option<StartTime>, called: &Called) -> Option<TimedStart>
+    ensures { result ≡ start_by span.first span.until tick time called.now.reply }
 {
-    match (&entry.reply, time) {
+    match (&called.reply, time) {
         (Reply::Started { .. }, Some(time)) if is_shown(span, tick) => {
             Some(TimedStart { tick, time })
         }

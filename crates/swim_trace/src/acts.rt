@@ -3,7 +3,7 @@
 ghost use Rattle.std.specs.Prelude.{◌≡◌};
 ghost use Rattle.swim_trace.specs.Acts.{act_by, answer_in, heard_by, name_of, probed_by};
 
-use swim_history::{Call, DropReason, Entry, Probe, Reply};
+use swim_history::{Call, Called, DropReason, Probe, Reply};
 use swim_wire::{Id, Kind, Message, Peer};
 
 /// What a probe is known by, everywhere in the group: who began it, of whom, and in which of the initiator's periods.
@@ -65,10 +65,10 @@ pub struct Act {
 }
 
 /// What an entry of that member has to do with a probe; `None` where it has nothing to do with any.
-pub(crate) fn act_by(spot: Spot, me: Id, entry: &Entry) -> Option<Act>
-    ensures { result ≡ act_by spot me entry.now.call entry.now.reply }
+pub(crate) fn act_by(spot: Spot, me: Id, called: &Called) -> Option<Act>
+    ensures { result ≡ act_by spot me called.now.call called.now.reply }
 {
-    match (&entry.call, &entry.reply) {
+    match (&called.call, &called.reply) {
         (Call::Hear(source, message), reply) => {
             let answer = answer_in(reply)?;
             Some(heard_by(spot, me, *source, message, answer))

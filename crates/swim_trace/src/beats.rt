@@ -10,7 +10,7 @@ ghost use Rattle.swim_trace.specs.Beats.{kept_of, reach, ticks_with, with_beat};
 
 use std::alloc::{AllocError, Global};
 use std::collections::HashMap;
-use swim_history::{Call, Entry, Journal, Reply};
+use swim_history::{Call, Called, Journal, Reply};
 use swim_wire::{Id, Kind, Message};
 
 /// A ping that came to its target from the member that began the probe.
@@ -63,8 +63,8 @@ impl Rhythm {
         let me = journal.opening().me();
         let mut found = Rhythm::new(alloc);
         for place in 0..confirmed.min(journal.len()) {
-            if let Some(entry) = journal.entry(place) {
-                found.note(me, place, &entry)?;
+            if let Some(called) = journal.called(place) {
+                found.note(me, place, &called)?;
             }
         }
         Ok(found)
@@ -96,16 +96,16 @@ impl Rhythm {
     }
 
     /// Goes one entry on, which stands at that place.
-    fn note(&mut self, me: Id, place: u32, entry: &Entry) -> Result<(), AllocError>
+    fn note(&mut self, me: Id, place: u32, called: &Called) -> Result<(), AllocError>
         ensures beats { OnOk result ((m : ℕ) → kept_of m self.new
-            ≡ with_beat m (beat_in me place self.old.ticks entry.now.call) (kept_of m self.old)) }
-        ensures ticks { OnOk result (self.new.ticks ≡ ticks_with self.old.ticks entry.now.call entry.now.reply) }
+            ≡ with_beat m (beat_in me place self.old.ticks called.now.call) (kept_of m self.old)) }
+        ensures ticks { OnOk result (self.new.ticks ≡ ticks_with self.old.ticks called.now.call called.now.reply) }
     {
         let ticks = self.ticks;
-        if let Some(beat) = beat_in(me, place, ticks, &entry.call) {
+        if let Some(beat) = beat_in(me, place, ticks, &called.call) {
             self.add(beat)?;
         }
-        self.ticks = ticks_with(ticks, &entry.call, &entry.reply);
+        self.ticks = ticks_with(ticks, &called.call, &called.reply);
         Ok(())
     }
 

@@ -9,7 +9,7 @@ ghost use Rattle.swim_trace.specs.Index.{IsWanted, Knows, KeepsWanted, run_of, w
 use crate::acts::{Act, Spot, act_by};
 use std::alloc::{AllocError, Global};
 use std::collections::HashMap;
-use swim_history::{Entry, Journal};
+use swim_history::{Called, Journal};
 use swim_wire::Id;
 
 /// The entries of files that have to do with probes of some numbers, those that are wanted. Numbers are wanted first,
@@ -59,8 +59,8 @@ impl ActIndex {
     {
         let me = journal.opening().me();
         for place in 0..confirmed.min(journal.len()) {
-            if let Some(entry) = journal.entry(place) {
-                self.note(Spot { file, place }, me, &entry)?;
+            if let Some(called) = journal.called(place) {
+                self.note(Spot { file, place }, me, &called)?;
             }
         }
         Ok(())
@@ -77,12 +77,12 @@ impl ActIndex {
     }
 
     /// Goes one entry on, which stands there.
-    fn note(&mut self, spot: Spot, me: Id, entry: &Entry) -> Result<(), AllocError>
+    fn note(&mut self, spot: Spot, me: Id, called: &Called) -> Result<(), AllocError>
         ensures { OnOk result ((n : ℕ) → option_map (λ acts. acts.items) (get nat_eq self.new.acts n)
-            ≡ with_more (if_numbered n (act_by spot me entry.now.call entry.now.reply))
+            ≡ with_more (if_numbered n (act_by spot me called.now.call called.now.reply))
             (option_map (λ acts. acts.items) (get nat_eq self.old.acts n))) }
     {
-        match act_by(spot, me, entry) {
+        match act_by(spot, me, called) {
             Some(act) => self.add(act),
             None => Ok(()),
         }

@@ -1,7 +1,8 @@
 -- From line to line: what has been shown when one more was.
 use Rattle.std.proofs.Common.{◌≡◌, ℕ, Bool, List, [], ◌∷◌, Option, Some, None, refl}
 use Rattle.swim_text.specs.Streams.{keeps_self}
-use Rattle.swim_watch.specs.Hearings.{Grows, Hearing}
+use Rattle.swim_trail.specs.Growing.{Grows}
+use Rattle.swim_watch.specs.Hearings.{Hearing}
 use Rattle.swim_watch.specs.Watching.{Passes, Shows, Watched, Watches, heard_at}
 use Rattle.swim_watch.specs.declared.watching.WatchEnd.TheVariants as ends
 use Rattle.swim_watch.specs.declared.watching.Passed.TheVariants as passed

@@ -3,7 +3,8 @@ use Rattle.std.specs.Prelude.{◌≡◌, ℕ, Bool, true, false, List, [], ◌�
 use Rattle.std.specs.Io.KnownBytes.{Appends, Keeps}
 use Rattle.serde_json.specs.Written.{compact_text}
 use Rattle.swim_text.specs.Streams.{PutsFront}
-use Rattle.swim_watch.specs.Hearings.{Grows, Hearing}
+use Rattle.swim_trail.specs.Growing.{Grows}
+use Rattle.swim_watch.specs.Hearings.{Hearing}
 use Rattle.swim_watch.specs.Lines.{said_of}
 use Rattle.swim_watch.specs.Objects.{shown_data}
 use Rattle.swim_watch.specs.declared.watching.WatchEnd.{WatchEnd}

@@ -1,7 +1,8 @@
 //! Where the lines of events come from.
 
 ghost use Rattle.std.specs.Prelude.{◌∷◌, [], MatchBool, List, Option, Some, None};
-ghost use Rattle.swim_watch.specs.Hearings.{Grows, Hearing};
+ghost use Rattle.swim_watch.specs.Hearings.{Hearing};
+ghost use Rattle.swim_trail.specs.Growing.{Grows};
 
 use arrayvec::ArrayVec;
 use swim_text::Sink;

@@ -2,19 +2,9 @@
 use Rattle.std.proofs.Common.{◌≡◌, ℕ, Bool, List, [], ◌∷◌, ◌++◌, Option, Some, None, refl, sym, ap, ◌∙◌}
 use Rattle.std.proofs.Common.{append_assoc}
 use Rattle.std.proofs.Common.{append-nil, length, map, suc, ◌-◌}
-use Rattle.swim_web.specs.Asked.{Grows}
 use Rattle.swim_web.specs.Changes.{changes_text}
 use Rattle.swim_web.specs.Recent.{Kept, Notes, events_text, kept_then, noted, seen_of}
-
-nothing : (o : Option (List (List ℕ))) → Grows o o []
-nothing None = tt
-nothing (Some xs) = sym (append-nil xs)
-
-both : (o m n : Option (List (List ℕ))) (xs ys : List (List ℕ)) → Grows o m xs → Grows m n ys → Grows o n (xs ++ ys)
-both None m n xs ys p q = tt
-both (Some x) None n xs ys p q = absurd p
-both (Some x) (Some y) None xs ys p q = absurd q
-both (Some x) (Some y) (Some z) xs ys p q = q ∙ ap (λ l. l ++ ys) p ∙ append_assoc x xs ys
+use Rattle.swim_trail.specs.Growing.{Grows, grows_both, grows_none}
 
 noted_more : (kept : Kept) (lines : List (List ℕ)) (line : List ℕ) →
     noted kept (lines ++ line ∷ []) ≡ kept_then (noted kept lines) line
@@ -22,13 +12,13 @@ noted_more kept [] line = refl
 noted_more kept (x ∷ lines) line = noted_more (kept_then kept x) lines line
 
 pub notes_none : (o : Option (List (List ℕ))) (kept : Kept) → Notes o o kept kept
-notes_none o kept = record { lines = []; heard = nothing o; kept = refl }
+notes_none o kept = record { lines = []; heard = grows_none o; kept = refl }
 
 pub notes_more : (o m n : Option (List (List ℕ))) (old mid new : Kept) (line : List ℕ) → Notes o m old mid →
     Grows m n (line ∷ []) → new ≡ kept_then mid line → Notes o n old new
 notes_more o m n old mid new line before grows is = record {
   lines = before.lines ++ line ∷ [];
-  heard = both o m n before.lines (line ∷ []) before.heard grows;
+  heard = grows_both o m n before.lines (line ∷ []) before.heard grows;
   kept = is ∙ ap (λ k. kept_then k line) before.kept ∙ sym (noted_more old before.lines line);
 }
 
@@ -41,14 +31,14 @@ pub notes_both : (o m n : Option (List (List ℕ))) (old mid new : Kept) → Not
     Notes o n old new
 notes_both o m n old mid new p q = record {
   lines = p.lines ++ q.lines;
-  heard = both o m n p.lines q.lines p.heard q.heard;
+  heard = grows_both o m n p.lines q.lines p.heard q.heard;
   kept = q.kept ∙ ap (λ k. noted k q.lines) p.kept ∙ sym (noted_both old p.lines q.lines);
 }
 
 pub notes_end : (o m n : Option (List (List ℕ))) (old mid : Kept) → Notes o m old mid → Grows m n [] → Notes o n old mid
 notes_end o m n old mid before grows = record {
   lines = before.lines ++ [];
-  heard = both o m n before.lines [] before.heard grows;
+  heard = grows_both o m n before.lines [] before.heard grows;
   kept = before.kept ∙ ap (noted old) (sym (append-nil before.lines));
 }
 

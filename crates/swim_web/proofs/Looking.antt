@@ -5,7 +5,7 @@ use Rattle.std.proofs.Common.{subst, ◌∙◌, append_assoc, append-nil}
 use Rattle.std.specs.List.{list_all}
 use Rattle.http_server.specs.declared.response.Response.{Response}
 use Rattle.http_server.specs.Exchange.{Call, Chain}
-use Rattle.swim_web.specs.Asked.{Grows, OnlyLooks, Sent, is_look, line_of}
+use Rattle.swim_web.specs.Asked.{OnlyLooks, Sent, is_look, line_of}
 use Rattle.swim_web.specs.Asking.{AsksNothing, AsksTold, AsksUnless, Looked, told_if}
 use Rattle.swim_web.specs.Recent.{Kept}
 use Rattle.swim_web.specs.Replies.{Answers, Serves}
@@ -13,16 +13,7 @@ use Rattle.swim_web.specs.declared.pages.Page.{Page}
 use Rattle.swim_web.specs.declared.pages.Page.TheVariants as pages
 use Rattle.swim_web.specs.declared.questions.Question.{Question}
 use Rattle.swim_web.specs.declared.questions.Question.TheVariants as questions
-
-pub grows_none : (o : Option (List Sent)) → Grows o o []
-grows_none None = tt
-grows_none (Some xs) = sym (append-nil xs)
-
-grows_both : (o m n : Option (List Sent)) (xs ys : List Sent) → Grows o m xs → Grows m n ys → Grows o n (xs ++ ys)
-grows_both None m n xs ys p q = tt
-grows_both (Some x) None n xs ys p q = absurd p
-grows_both (Some x) (Some y) None xs ys p q = absurd q
-grows_both (Some x) (Some y) (Some z) xs ys p q = q ∙ ap (λ l. l ++ ys) p ∙ append_assoc x xs ys
+use Rattle.swim_trail.specs.Growing.{Grows, grows_both, grows_none}
 
 -- ---- each question looks
 

@@ -4,18 +4,13 @@ use Rattle.std.specs.List.{list_all}
 use Rattle.std.specs.Str.{bytes_eq}
 use Rattle.swim_web.specs.declared.questions.Question.{Question}
 use Rattle.swim_web.specs.declared.questions.Question.TheVariants as questions
+use Rattle.swim_trail.specs.Growing.{Grows}
 
 -- a question that was asked, and what came of it
 pub record Sent : Type 0 where
   pub question : Question
   pub is_answered : Bool
   pub answer : List ℕ
-
--- a known list grew by these
-abbrev pub Grows : {A : Type 0} → Option (List A) → Option (List A) → List A → Type 0
-Grows None new more = Unit {0}
-Grows (Some old) None more = ⊥
-Grows (Some old) (Some new) more = new ≡ old ++ more
 
 -- the control line that asks a question
 abbrev pub line_of : Question → List ℕ

@@ -1,7 +1,8 @@
 -- How a daemon is asked, and what there is to be told.
 use Rattle.std.specs.Prelude.{◌≡◌, ℕ, Bool, true, false, not, List, [], ◌∷◌, Option, Some, None}
-use Rattle.swim_web.specs.Asked.{Grows, Sent}
+use Rattle.swim_web.specs.Asked.{Sent}
 use Rattle.swim_web.specs.declared.questions.Question.{Question}
+use Rattle.swim_trail.specs.Growing.{Grows}
 
 -- what was asked so far, as far as that is known, and whether the daemon owed an answer just now
 pub record Looked : Type 0 where

@@ -2,7 +2,7 @@
 use Rattle.std.specs.Prelude.{◌≡◌, ℕ, ◌-◌, Bool, true, false, nat_le, List, [], ◌∷◌, ◌++◌, length, drop, Option, codes}
 use Rattle.std.specs.Prelude.{decimal, if◌then◌else◌}
 use Rattle.swim_text.specs.Streams.{one_more}
-use Rattle.swim_web.specs.Asked.{Grows}
+use Rattle.swim_trail.specs.Growing.{Grows}
 
 -- an event was heard, or none
 abbrev pub Hears : Option (List (List ℕ)) → Option (List (List ℕ)) → List ℕ → Bool → Type 0

@@ -1,7 +1,8 @@
 //! Daemons that are asked questions.
 
 ghost use Rattle.std.specs.Prelude.{◌≡◌, ◌∷◌, [], List, Option};
-ghost use Rattle.swim_web.specs.Asked.{Grows, Sent};
+ghost use Rattle.swim_web.specs.Asked.{Sent};
+ghost use Rattle.swim_trail.specs.Growing.{Grows};
 ghost use Rattle.swim_web.specs.Asking.{AsksTold};
 
 use crate::questions::Question;

@@ -17,4 +17,4 @@ pub use messages::{Key, Kind, Message, Version};
 pub use orders::{KNOWN_MEMBERS, Order};
 pub use peers::Peer;
 pub use pieces::{Piece, put_pieces};
-pub use texts::put_address;
+pub use texts::{ADDRESS_BYTES, put_address, write_address};

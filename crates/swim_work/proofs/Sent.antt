@@ -11,6 +11,7 @@ use Rattle.swim_history.specs.declared.replies.Reply.{Reply}
 use Rattle.swim_history.specs.declared.seats.Kept.{Kept}
 use Rattle.swim_history.specs.Sends.{sends_of}
 use Rattle.swim_history.specs.Setting.{Setting}
+use Rattle.swim_trail.specs.Growing.{grows_both}
 use Rattle.swim_node.specs.declared.receipts.CallFault.{CallFault}
 use Rattle.swim_node.specs.declared.receipts.CallFault.TheVariants as faults
 use Rattle.swim_node.specs.declared.receipts.Receipt.{Receipt}
@@ -21,7 +22,7 @@ use Rattle.swim_work.specs.declared.counts.Why.{Why}
 use Rattle.swim_work.specs.Ends.{both}
 use Rattle.swim_work.specs.Finished.{IsFinished}
 use Rattle.swim_work.specs.Posts.{Posted, ArePosted, handed, datagram, HasSent, messages_of}
-use Rattle.swim_work.proofs.Posting.{grows_both, none_posted}
+use Rattle.swim_work.proofs.Posting.{none_posted}
 
 -- some messages, and then others
 pub are_both : (xs ys : List (Address × Message)) (a b c : Option (List Posted)) (m n : ℕ) →

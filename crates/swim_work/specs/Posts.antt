@@ -8,6 +8,7 @@ use Rattle.swim_history.specs.declared.seats.Kept.{Kept}
 use Rattle.swim_history.specs.Events.{is_starting}
 use Rattle.swim_history.specs.Sends.{sends_of}
 use Rattle.swim_history.specs.Setting.{Setting}
+use Rattle.swim_trail.specs.Growing.{Grows}
 use Rattle.swim_node.specs.Seats.{Seated}
 use Rattle.swim_work.specs.declared.counts.Counts.{Counts}
 
@@ -16,13 +17,6 @@ pub record Posted : Type 0 where
   pub bytes : List ℕ
   pub to : Address
   pub is_taken : Bool
-
--- a list grew by these, where it is known; what isn't known stays so
-abbrev pub Grows : {A : Type 0} → Option (List A) → Option (List A) → List A → Type 0
-Grows None None more = Unit {0}
-Grows None (Some new) more = ⊥
-Grows (Some old) None more = ⊥
-Grows (Some old) (Some new) more = new ≡ old ++ more
 
 -- where to, and which bytes: of what was handed over, and of a message that is to be
 abbrev pub handed : Posted → Address × List ℕ

@@ -1,12 +1,13 @@
 -- The turns of a worker, one for each answer of its gate.
 use Rattle.std.specs.Prelude.{◌≡◌, ℕ, List, [], ◌∷◌, ◌++◌, Option, Some, None}
 use Rattle.swim_history.specs.Setting.{Setting}
+use Rattle.swim_trail.specs.Growing.{Grows}
 use Rattle.swim_work.specs.declared.counts.Why.{Why}
 use Rattle.swim_work.specs.declared.counts.Why.TheVariants.{Stopped}
 use Rattle.swim_work.specs.declared.paces.Beat.{Beat}
 use Rattle.swim_work.specs.declared.paces.Beat.TheVariants as beats
 use Rattle.swim_work.specs.Calling.{Ticks}
-use Rattle.swim_work.specs.Posts.{AtSender, Grows}
+use Rattle.swim_work.specs.Posts.{AtSender}
 
 -- the gate gave one answer, and this is what came of it
 pub record IsTurn {A S : Type 0} (turn : A → S → Option Why → S → Type 0) (before after : Option (List A)) (old : S)

@@ -10,9 +10,10 @@ use crate::counts::{Counts, Why};
 use crate::meters::Meter;
 use crate::posts::Post;
 use crate::sending::finish;
+use crate::workers::{Done, End};
 use std::sync::Wait;
 use swim_history::Row;
-use swim_node::{Naming, Node, Seat};
+use swim_node::{Naming, Node, Seat, Viewer};
 use swim_targets::Chooser;
 use swim_wire::{Message, Peer};
 
@@ -34,6 +35,22 @@ impl<N: Naming> Caller<N> {
         Caller {
             seat,
             counts: Counts::none(),
+        }
+    }
+
+    /// What its worker hands back after a life: with this viewer, and why it ended.
+    pub fn done(self, viewer: Viewer<N>, why: Option<Why>) -> Done<N>
+        ensures seat { result.seat ≡ self.seat }
+        ensures viewer { result.viewer ≡ viewer }
+        ensures end { result.end ≡ record { why = why; counts = self.counts } }
+    {
+        Done {
+            seat: self.seat,
+            viewer,
+            end: End {
+                why,
+                counts: self.counts,
+            },
         }
     }
 

@@ -5,6 +5,7 @@
 mod answers;
 mod calling;
 mod counts;
+mod inboxes;
 mod lines;
 mod meters;
 mod paces;
@@ -18,6 +19,7 @@ mod workers;
 pub use answers::{has_joined, has_started, message_of};
 pub use calling::Caller;
 pub use counts::{Counts, Faults, Why};
+pub use inboxes::TidingsInbox;
 pub use lines::{Got, Line};
 pub use meters::{Meter, Metered, Meters};
 pub use paces::{Beat, Pace};

@@ -1,5 +1,5 @@
 //! What the ticker leaves for the receiver: that it's time to look at the member table, and its knocks; and what both
-//! look up: every how many starts there is one.
+//! look up: the N that is in force, where there is a knock at each N-th start of a period.
 
 ghost use Rattle.std.specs.Prelude.{◌≡◌, [], Some};
 ghost use Rattle.swim_work.specs.Noting.{Begins, noted};
@@ -91,8 +91,8 @@ impl Tidings {
 }
 
 /// Where the ticker leaves tidings, and the receiver takes them. A flag says that it's time to look: before the first
-/// datagram, and after each tick. Beside them stands every how many starts of a period there is a knock, which
-/// others may change meanwhile.
+/// datagram, and after each tick. Beside them stands the N that is in force (there is a knock at each N-th start of a
+/// period), which others may change meanwhile.
 #[derive(Drop)]
 pub struct TidingsBoard {
     rejoin: AtomicU16,
@@ -115,7 +115,7 @@ impl TidingsBoard {
         self.rejoin.store(rejoin, Ordering::SeqCst);
     }
 
-    /// Every how many starts there is a knock.
+    /// The N that is in force: there is a knock at each N-th start of a period.
     pub(crate) fn rejoin(&self) -> u16 {
         self.rejoin.load(Ordering::SeqCst)
     }

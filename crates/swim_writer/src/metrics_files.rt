@@ -2,7 +2,7 @@
 
 ghost use Rattle.std.specs.Prelude.{◌≡◌, ◌∷◌, [], IfOk, MatchResult, Some, map};
 ghost use Rattle.swim_metrics.specs.Texts.{exposition_text};
-ghost use Rattle.swim_work.specs.Posts.{Grows};
+ghost use Rattle.swim_trail.specs.Growing.{Grows};
 ghost use Rattle.swim_writer.specs.Documents.{document, document_in};
 
 use crate::new_files::{GivenText, NewFile};

@@ -5,13 +5,14 @@ use mathlib.Core.List.{IsPrefix}
 use Rattle.swim_history.specs.declared.rows.Change.{Change}
 use Rattle.swim_history.specs.Changes.{changes}
 use Rattle.swim_history.specs.Setting.{Setting}
+use Rattle.swim_trail.specs.Growing.{Grows}
 use Rattle.swim_node.specs.Seats.{Seated}
 use Rattle.swim_control.specs.SideBySide.{Brought, Called}
 use Rattle.swim_control.specs.Talks.{Talks}
 use Rattle.swim_work.specs.declared.paces.Beat.{Beat}
 use Rattle.swim_work.specs.declared.workers.End.{End}
 use Rattle.swim_work.specs.Gates.{Received}
-use Rattle.swim_work.specs.Posts.{Grows, Posted, starts_in}
+use Rattle.swim_work.specs.Posts.{Posted, starts_in}
 use Rattle.swim_guard.specs.Fenced.{AtFence}
 use Rattle.swim_guard.specs.Guarded.{AtLine, AtPost, handed as judged_so}
 use Rattle.swim_devices.specs.Pacing.{Pacing}

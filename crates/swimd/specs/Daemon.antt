@@ -13,11 +13,11 @@ use Rattle.swim_config.specs.Beginnings.{begun_at}
 use Rattle.swim_config.specs.Configuration.{config_of}
 use Rattle.swim_keeper.specs.Endings.{Written}
 use Rattle.swim_keeper.specs.Notices.{Notices}
-use Rattle.swim_work.specs.Posts.{Grows}
 use Rattle.swim_config.specs.Reading.{OrNoMemory}
 use Rattle.swimd.specs.Checking.{Warned}
 use Rattle.swimd.specs.DaemonLives.{AreDaemonLives, AtDaemon, IsBeginning}
 use Rattle.swim_writer.specs.Documents.{Document, document}
+use Rattle.swim_trail.specs.Growing.{Grows}
 
 -- the file at this path was read, and nothing else; this was its text, and this is the configuration that it is
 abbrev pub IsWritten : List ℕ → List ℕ → Option (List Document) → Option (List Document) → Config → Type 0
@@ -41,7 +41,8 @@ outcome_of ends.Socket = Socket
 outcome_of ends.NoMemory = Refused faults.NoMemory
 outcome_of ends.NoPlace = NoPlace
 
--- every how many starts of a period a daemon of this configuration knocks; the key has no higher number
+-- the N of a daemon of this configuration: there is a knock at each N-th start of a period. The key has no higher
+-- number
 abbrev pub rejoin_of : Config → ℕ
 rejoin_of config = min config.rejoin (2 ^ 16 - 1)
 

@@ -7,6 +7,7 @@ use Rattle.swim_history.specs.declared.seats.Kept.{Kept}
 use Rattle.swim_history.specs.Changes.{changes}
 use Rattle.swim_history.specs.Seats.{kept_of}
 use Rattle.swim_history.specs.Setting.{Setting}
+use Rattle.swim_trail.specs.Growing.{Grows}
 use Rattle.swim_node.specs.Seats.{Seated}
 use Rattle.swim_control.specs.Desks.{Told}
 use Rattle.swim_control.specs.SideBySide.{Brought, Called}
@@ -15,7 +16,7 @@ use Rattle.swim_work.specs.declared.paces.Beat.{Beat}
 use Rattle.swim_work.specs.declared.workers.End.{End}
 use Rattle.swim_work.specs.Ends.{both}
 use Rattle.swim_work.specs.Gates.{Received}
-use Rattle.swim_work.specs.Posts.{Grows, HasSent, Posted, starts_in}
+use Rattle.swim_work.specs.Posts.{HasSent, Posted, starts_in}
 use Rattle.swim_receiver.specs.declared.rejoining.Returning.{Returning}
 use Rattle.swim_receiver.specs.Datagrams.{AreHeard, datagrams_in}
 use Rattle.swim_receiver.specs.Rejoining.{IsOfSame, IsReturning}

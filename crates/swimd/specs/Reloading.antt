@@ -6,8 +6,8 @@ use Rattle.swim_config.specs.declared.config.Config.{Config}
 use Rattle.swim_config.specs.Reading.{OrNoMemory}
 use Rattle.swim_reload.specs.Reloaded.{reloaded_text}
 use Rattle.swim_reload.specs.Rereading.{configs_of}
-use Rattle.swim_work.specs.Posts.{Grows}
 use Rattle.swim_writer.specs.Documents.{Document, document}
+use Rattle.swim_trail.specs.Growing.{Grows}
 
 -- the file at this path was read, and nothing else: this is its configuration, and the line tells which keys need a
 -- start, beside the configuration of the text at the start

@@ -49,9 +49,9 @@ fn same_front(left: &[u8], right: &[u8]) -> usize
 /// The line of a journal file that tells the newest entry. `None` where there is no entry, and in want of memory.
 pub fn newest_line(alloc: Global, journal: &Journal) -> Option<Page> {
     let place = journal.len().checked_sub(1)?;
-    let entry = journal.entry(place)?;
+    let called = journal.called(place)?;
     let mut line = Page::new(alloc);
-    if line.put(b"= ") && put_placed(&mut line, place, &entry.reply) {
+    if line.put(b"= ") && put_placed(&mut line, place, &called.reply) {
         Some(line)
     } else {
         None

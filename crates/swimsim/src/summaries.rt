@@ -33,8 +33,8 @@ impl JournalSummary {
         let mut dropped = ReasonCounts::default();
         let mut refused = ReasonCounts::default();
         for place in 0..journal.len() {
-            if let Some(entry) = journal.entry(place) {
-                count(&entry.reply, &mut dropped, &mut refused);
+            if let Some(called) = journal.called(place) {
+                count(&called.reply, &mut dropped, &mut refused);
             }
         }
         Ok(JournalSummary {

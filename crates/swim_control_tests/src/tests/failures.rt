@@ -77,9 +77,8 @@ fn tells_a_failing_write(rt: HostRuntime) {
             failed = puts + 1;
         }
     }
-    // The puts of the answers: the table takes 4 for each row and 1 for its end, and a fault 3. A row is an id, a space,
-    // an address, and the state with the line feed.
-    assert_same(&rt, &failed, &15);
+    // The puts of the answers: the table takes 1 for each row and 1 for its end, and a fault 3.
+    assert_same(&rt, &failed, &9);
 }
 
 /// Where the flush after so many others fails, that is told, and this text has been answered so.

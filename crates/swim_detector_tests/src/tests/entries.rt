@@ -1,7 +1,7 @@
 //! Entries as a journal gives them back. It stores orders and relays apart from what else an entry has.
 
 use super::*;
-use swim_history::{Choice, Entry, Journal};
+use swim_history::{Called, Choice, Entry, Journal};
 
 pub(super) fn entry(seat: u8, number: u32, call: Call, reply: Reply, choice: Choice) -> Entry {
     Entry {
@@ -22,9 +22,21 @@ pub(super) fn assert_entries<R: Abort>(rt: &R, journal: &Journal, entries: &[Ent
     assert_entry(rt, journal, journal.len(), None);
 }
 
-// The entry at that place is this one, or there is none.
+// The entry at that place is this one, or there is none. So are its call and its reply alone.
 fn assert_entry<R: Abort>(rt: &R, journal: &Journal, place: u32, expected: Option<&Entry>) {
     assert_same_at(rt, place, &journal.entry(place).as_ref(), &expected);
+    match (journal.called(place), expected) {
+        (Some(called), Some(entry)) => assert_called(rt, place, &called, entry),
+        (None, None) => {}
+        _ => panic!(rt; "a call at {place}"),
+    }
+}
+
+fn assert_called<R: Abort>(rt: &R, place: u32, called: &Called, entry: &Entry) {
+    assert_same_at(rt, place, &called.seat, &entry.seat);
+    assert_same_at(rt, place, &called.number, &entry.number);
+    assert_same_at(rt, place, &called.call, &entry.call);
+    assert_same_at(rt, place, &called.reply, &entry.reply);
 }
 
 // The first round goes by the first order, and the first relays by the second.

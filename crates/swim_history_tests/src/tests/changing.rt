@@ -1,4 +1,4 @@
-ghost use Rattle.std.specs.Prelude.{◌<◌};
+ghost use Rattle.std.specs.Prelude.{◌<◌, ◌≤◌, length};
 
 use super::{address, assert_same, id};
 use std::process::Abort;
@@ -40,4 +40,28 @@ fn a_full_table_stays(rt: HostRuntime) {
         &copy_table(table.as_slice()).as_slice(),
         &table.as_slice(),
     );
+}
+
+// Fewer rows, as many, and more take the place of those that stood there.
+#[test]
+fn rows_are_replaced(rt: HostRuntime) {
+    let rows = [
+        row(1, 1, RowState::Up),
+        row(2, 2, RowState::Failed(7)),
+        row(5, 5, RowState::Up),
+    ];
+    let rows = rows.as_slice();
+    let mut table = Table::new();
+    assert_replaced(&rt, &mut table, &rows[..2]);
+    assert_replaced(&rt, &mut table, &rows[2..]);
+    assert_replaced(&rt, &mut table, &rows[1..2]);
+    assert_replaced(&rt, &mut table, rows);
+    assert_replaced(&rt, &mut table, &[]);
+}
+
+fn assert_replaced<R: Abort>(rt: &R, table: &mut Table, rows: &[Row])
+    requires { length rows.now ≤ 128 }
+{
+    replace_rows(table, rows);
+    assert_same(rt, &table.as_slice(), &rows);
 }

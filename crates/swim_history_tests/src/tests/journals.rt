@@ -277,3 +277,28 @@ fn assert_entries<R: Abort>(rt: &R, journal: &Journal) {
     assert_entry(rt, journal, 1, Some(&ask()));
     assert_entry(rt, journal, 6, None);
 }
+
+fn assert_called<R: Abort>(rt: &R, journal: &Journal, place: u32, expected: Option<&Called>) {
+    assert_same(rt, &journal.called(place).as_ref(), &expected);
+}
+
+// An entry without what was drawn for it.
+fn called_of(entry: Entry) -> Called {
+    Called {
+        seat: entry.seat,
+        number: entry.number,
+        call: entry.call,
+        reply: entry.reply,
+    }
+}
+
+#[test]
+fn gives_calls_and_replies_back(rt: HostRuntime) {
+    assert_calls(&rt, &played(&rt, rt.alloc()));
+}
+
+fn assert_calls<R: Abort>(rt: &R, journal: &Journal) {
+    assert_called(rt, journal, 0, Some(&called_of(first_start())));
+    assert_called(rt, journal, 1, Some(&called_of(ask())));
+    assert_called(rt, journal, 6, None);
+}

@@ -75,6 +75,9 @@ fn assert_lists<N: Naming, R: Abort>(rt: &R, viewer: &mut Viewer<N>) {
         Some(table) => assert_same(rt, &table.as_slice(), &rows.as_slice()),
         None => panic!(rt; "a list"),
     }
+    let mut table = Table::new();
+    assert!(rt; viewer.look(&mut table));
+    assert_same(rt, &table.as_slice(), &rows.as_slice());
 }
 
 // The joiner was put among those to be probed, so the first period probes it.
@@ -94,6 +97,10 @@ fn probes_the_joiner() -> Step {
 fn lists_nothing<N: Naming, R: Abort>(rt: &R, viewer: Viewer<N>) {
     let mut viewer = viewer;
     assert!(rt; viewer.list().is_none());
+    let mut table = Table::new();
+    table.push(up(9));
+    assert!(rt; !viewer.look(&mut table));
+    assert_same(rt, &table.as_slice(), &[up(9)].as_slice());
 }
 
 // A member joins, and the last call makes no change: who learns its news lists all that the journal's rows show.

@@ -1,6 +1,6 @@
 use std::process::Abort;
 use std::test::*;
-use swim_wire::Peer;
+use swim_wire::{Peer, write_address};
 
 // A text is that address, and is written so.
 fn assert_address<R: Abort>(rt: &R, text: &str, ip: [u8; 4], port: u16) {
@@ -22,6 +22,19 @@ fn assert_none<R: Abort>(rt: &R, text: &str) {
 fn read_and_written(rt: HostRuntime) {
     assert_address(&rt, "10.0.0.2:7000", [10, 0, 0, 2], 7000);
     assert_address(&rt, "255.255.255.255:65535", [255, 255, 255, 255], 65535);
+}
+
+// What stands behind it stays.
+#[test]
+fn written_before_other_bytes(rt: HostRuntime) {
+    let peer = Peer {
+        ip: [10, 0, 200, 31],
+        port: 7000,
+    };
+    let mut bytes = *b"---------------------------- up";
+    let start = write_address(&peer, &mut bytes, 28);
+    assert!(rt; bytes == *b"------------10.0.200.31:7000 up");
+    assert!(rt; start == 12);
 }
 
 #[test]

@@ -1,7 +1,7 @@
 //! Who reads a file's text whole, by its path.
 
 ghost use Rattle.std.specs.Prelude.{◌≡◌, ◌++◌, ◌∷◌, [], Some, MatchResult, map};
-ghost use Rattle.swim_work.specs.Posts.{Grows};
+ghost use Rattle.swim_trail.specs.Growing.{Grows};
 ghost use Rattle.swim_writer.specs.Documents.{document, document_in};
 
 use arrayvec::ArrayVec;
@@ -17,7 +17,7 @@ use swim_trail::{Remembered, Trail};
 /// Who reads files of text, each whole.
 pub trait Documents {
     ghost use Rattle.std.specs.Prelude.{List, Option, ◌≡◌, ◌∷◌, [], MatchResult};
-    ghost use Rattle.swim_work.specs.Posts.{Grows};
+    ghost use Rattle.swim_trail.specs.Growing.{Grows};
     ghost use Rattle.swim_writer.specs.Documents.{Document, document};
 
     // the files that it read so far, oldest first, where those are known

@@ -29,7 +29,7 @@ pub struct Reloading<'p> {
     pub started: &'p [u8],
     /// The rules by which datagrams are let in and signed that are in force.
     pub book: &'p RuleBook,
-    /// Where it is told every how many starts of a period there is a knock.
+    /// Where it is told which N is in force: there is a knock at each N-th start of a period.
     pub board: &'p TidingsBoard,
 }
 
@@ -132,7 +132,8 @@ fn line_of(outcome: Outcome) -> ReloadText
     line.into_text()
 }
 
-/// Every how many starts of a period a daemon of this configuration knocks. The key has no higher number.
+/// The N of a daemon of this configuration: there is a knock at each N-th start of a period. The key has no higher
+/// number.
 pub fn rejoin_of(config: &Config) -> u16
     ensures { result ≡ rejoin_of config.now }
 {

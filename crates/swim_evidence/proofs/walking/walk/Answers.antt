@@ -1,9 +1,8 @@
-use Rattle.std.proofs.Common.{List, min, subst, ◌≡◌, ◌+◌, ◌<◌, ◌∷◌, length, reverse, take, arith, sym, ap, ◌∙◌, inl}
-use Rattle.std.proofs.Common.{inr}
+use Rattle.std.proofs.Common.{List, min, subst, ◌≡◌, ◌<◌, length, reverse, take, arith, sym, ap, ◌∙◌}
 use Rattle.std.proofs.lemmas.List.{reverse-reverse, length-reverse, length-take}
 use Rattle.std.proofs.lemmas.Grind.{common_steps}
-use Rattle.std.proofs.lemmas.Option.{get_or_from_slice_get, slice_get_cases}
-use Rattle.swim_history.specs.Laws.InOrder.{past_more, run_so_far}
+use Rattle.swim_history.specs.Laws.Called.{called_all, called_next}
+use Rattle.swim_history.specs.Laws.InOrder.{run_so_far}
 use Rattle.swim_history.specs.declared.entries.Entry.{Entry}
 use Rattle.swim_history.specs.Run.{IsRun}
 use Rattle.swim_evidence.specs.Evidence.{findings, judgements_told}
@@ -20,19 +19,14 @@ loop-place-preserved c =
     let there : place < length entries =
     rw (length-reverse c.args.journal.now.past)
     (omega (arith, c.loop-place-test.true, c.min-place-end.ensures, c.len.ensures.value)) in
-    elim c.match-entry.branch [
+    elim c.match-called.branch [
       | in-Some+in_ok-note w ↦
-          let e = w.in-Some.entry in
-          let more : reverse (take (place + 1) entries) ≡ e ∷ h = past_more entries place e there ∙
-          ap (λ x. x ∷ h) (get_or_from_slice_get entries place e e (sym w.in-Some.ensures)) in
+          let next = called_next entries place w.in-Some.called w.in-Some.ensures in
           let counted : place ≡ length h =
           sym (length-reverse (take place entries) ∙ (length-take place entries ∙ omega arith)) in
-          rw (more, w.trail-is) (w.in_ok-note.ensures o h c.loop-place.invariant counted)
+          rw (next.1, w.trail-is) (w.in_ok-note.ensures o h next.0 c.loop-place.invariant counted)
       | in_default w ↦
-          elim (slice_get_cases entries place).1 [
-            | inl found ↦ absurd (cc (w.in_default.ensures, found.2))
-            | inr past ↦ absurd (omega (arith, there, past.0))
-          ]
+          let over = called_all entries place w.in_default.ensures in absurd (omega (arith, there, over))
     ]
 
 pub returns-clause-judgements : goal.returns-clause-judgements

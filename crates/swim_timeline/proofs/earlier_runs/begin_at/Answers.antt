@@ -1,5 +1,6 @@
 use Rattle.std.proofs.Common.{◌≡◌, ℕ, ◌+◌, ◌≤◌, ◌<◌, ◌∷◌, List, length, sym, ap, subst, ◌∙◌, arith}
 use Rattle.swim_history.specs.declared.entries.Entry.{Entry}
+use Rattle.swim_history.specs.Called.{entry_of}
 use Rattle.swim_history.specs.Setting.{Setting}
 use Rattle.swim_history.specs.Clock.{number_at, ticks}
 use Rattle.swim_history.specs.Run.{IsRun}
@@ -47,12 +48,11 @@ add-requires-clause-fits c =
     let place = c.loop-place.place in
     let o = c.opening-opening.result.now in
     let older = oldest place journal.past in
-    let entry = c.in-Some.entry in
-    let more : oldest (place + 1) journal.past ≡ entry ∷ older =
-    oldest_more journal.past place entry c.in-Some.ensures in
-    let run : IsRun journal.opening (entry ∷ older) = subst (λ (l : List Entry). IsRun journal.opening l) more
+    let more = oldest_more journal.past place c.in-Some.called c.in-Some.ensures in
+    let entry = entry_of c.in-Some.called more.0 in
+    let run : IsRun journal.opening (entry ∷ older) = subst (λ (l : List Entry). IsRun journal.opening l) more.1
     (oldest_run journal.opening journal.past (place + 1) c.opening-opening.ensures.run) in
-    let now = c.ticks_with-ticks.ensures older c.loop-place.invariant.0 in
+    let now = c.ticks_with-ticks.ensures older more.0 c.loop-place.invariant.0 in
     let few : ticks older < c.args.first = omega (arith, ticks_more entry older, now, c.if-ticks-first.true) in
     let ended = c.number_at-ended.ensures ∙ ap (λ (t : ℕ). number_at o.last o.period t) c.loop-place.invariant.0 in
     begins_fits o older entry c.args.first c.number_at-ended.result c.loop-place.beginning
@@ -66,29 +66,27 @@ loop-place-preserved c =
     let place = c.loop-place.place in
     let o = c.opening-opening.result.now in
     let older = oldest place journal.past in
-    elim c.match-entry.branch [
+    elim c.match-called.branch [
       | in-Some+then-ticks-first w ↦
-          let entry = w.in-Some.entry in
-          let more : oldest (place + 1) journal.past ≡ entry ∷ older =
-          oldest_more journal.past place entry w.in-Some.ensures in
-          let now = w.ticks_with-ticks.ensures older c.loop-place.invariant.0 in
+          let more = oldest_more journal.past place w.in-Some.called w.in-Some.ensures in
+          let entry = entry_of w.in-Some.called more.0 in
+          let now = w.ticks_with-ticks.ensures older more.0 c.loop-place.invariant.0 in
           let few : ticks (entry ∷ older) < c.args.first = omega (arith, now, w.if-ticks-first.true) in
           let few_before : ticks older < c.args.first = omega (arith, ticks_more entry older, few) in
           let ended = w.number_at-ended.ensures ∙
           ap (λ (t : ℕ). number_at o.last o.period t) c.loop-place.invariant.0 in
-          rw (more, w.ticks-is, w.beginning-is) (
+          rw (more.1, w.ticks-is, w.beginning-is) (
             now,
             begins_more o older entry c.args.first w.number_at-ended.result c.loop-place.beginning _ few_before few
                 ended c.loop-place.invariant.1
                 w.add.ensures.entries w.add.ensures.rows,
           )
       | in-Some+else-ticks-first w ↦
-          let entry = w.in-Some.entry in
-          let more : oldest (place + 1) journal.past ≡ entry ∷ older =
-          oldest_more journal.past place entry w.in-Some.ensures in
-          let now = w.ticks_with-ticks.ensures older c.loop-place.invariant.0 in
+          let more = oldest_more journal.past place w.in-Some.called w.in-Some.ensures in
+          let entry = entry_of w.in-Some.called more.0 in
+          let now = w.ticks_with-ticks.ensures older more.0 c.loop-place.invariant.0 in
           let many : c.args.first ≤ ticks (entry ∷ older) = omega (arith, now, w.if-ticks-first.false) in
-          rw (more, w.ticks-is, w.beginning-is)
+          rw (more.1, w.ticks-is, w.beginning-is)
           (now, begins_still o older entry c.args.first c.loop-place.beginning many c.loop-place.invariant.1)
       | in_default w ↦
           let none : length journal.past ≤ place = none_left journal.past place w.in_default.ensures in

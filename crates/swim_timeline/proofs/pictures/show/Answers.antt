@@ -1,4 +1,4 @@
-use Rattle.std.proofs.Common.{◌≡◌, ◌+◌, ◌≤◌, ◌∷◌, length, arith}
+use Rattle.std.proofs.Common.{◌≤◌, length, arith}
 use Rattle.swim_timeline.proofs.Oldest.{oldest, oldest_more, none_left}
 use Rattle.swim_timeline.proofs.Within.{shown_fits}
 use Rattle.swim_timeline.proofs.pictures.show.Goals as goal
@@ -29,13 +29,12 @@ pub loop-place-preserved : goal.loop-place-preserved
 loop-place-preserved c =
     let journal = c.args.journal.now in
     let place = c.loop-place.place in
-    elim c.match-entry.branch [
+    elim c.match-called.branch [
       | in-Some+in_ok-note w ↦
-          let more : oldest (place + 1) journal.past ≡ w.in-Some.entry ∷ oldest place journal.past =
-          oldest_more journal.past place w.in-Some.entry w.in-Some.ensures in
-          let drawn = w.in_ok-note.ensures.drawn (oldest place journal.past)
+          let more = oldest_more journal.past place w.in-Some.called w.in-Some.ensures in
+          let drawn = w.in_ok-note.ensures.drawn (oldest place journal.past) more.0
           (rw c.opening-opening.ensures.value c.loop-place.invariant.1) in
-          rw (more, w.shown-is)
+          rw (more.1, w.shown-is)
           (rw w.in_ok-note.ensures.before c.loop-place.invariant.0, rw (← c.opening-opening.ensures.value) drawn)
       | in_default w ↦
           let none : length journal.past ≤ place = none_left journal.past place w.in_default.ensures in

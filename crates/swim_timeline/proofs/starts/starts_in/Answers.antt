@@ -1,4 +1,5 @@
-use Rattle.std.proofs.Common.{◌≡◌, ◌+◌, ◌≤◌, ◌∷◌, length, Option, ap, ◌∙◌, arith}
+use Rattle.std.proofs.Common.{◌≡◌, ◌≤◌, length, Option, ap, ◌∙◌, arith}
+use Rattle.swim_history.specs.Called.{entry_of}
 use Rattle.swim_timeline.specs.declared.times.StartTime.{StartTime}
 use Rattle.swim_timeline.specs.Starts.{start_by}
 use Rattle.swim_timeline.proofs.Oldest.{oldest, oldest_count, oldest_more, none_left}
@@ -25,15 +26,15 @@ loop-place-preserved c =
     let older = oldest place past in
     let within : place ≤ length past = omega (arith, c.loop-place-test.true, c.len-place-end.ensures.value) in
     let count : length older ≡ place = oldest_count past place within in
-    elim c.match-entry.branch [
+    elim c.match-called.branch [
       | in-Some+in_ok-add_start w ↦
-          let entry = w.in-Some.entry in
+          let more = oldest_more past place w.in-Some.called w.in-Some.ensures in
+          let entry = entry_of w.in-Some.called more.0 in
           let tick = w.ticks_with-ticks.result in
-          let more : oldest (place + 1) past ≡ entry ∷ older = oldest_more past place entry w.in-Some.ensures in
-          let now = w.ticks_with-ticks.ensures older c.loop-place.invariant.0 in
+          let now = w.ticks_with-ticks.ensures older more.0 c.loop-place.invariant.0 in
           let by = w.start_by.ensures ∙
           ap (λ (t : Option StartTime). start_by span.first span.until tick t entry.reply) w.time_at.ensures in
-          rw (more, w.ticks-is, w.found-is, w.in_ok-add_start.ensures) (
+          rw (more.1, w.ticks-is, w.found-is, w.in_ok-add_start.ensures) (
             now,
             starts_more span.first span.until place tick times entry older c.loop-place.found.items w.start_by.result
                 count now c.loop-place.invariant.1 by,

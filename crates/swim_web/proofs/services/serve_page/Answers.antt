@@ -1,9 +1,9 @@
 use Rattle.std.proofs.Common.{refl, subst, sym}
-use Rattle.swim_web.proofs.Looking.{grows_none}
 use Rattle.swim_web.specs.Changes.{changes_text}
 use Rattle.swim_web.specs.Replies.{IsReply, Serves}
 use Rattle.swim_web.specs.declared.replies.Kind.TheVariants as kinds
 use Rattle.swim_web.proofs.services.serve_page.Goals as goal
+use Rattle.swim_trail.specs.Growing.{grows_none}
 
 pub returns-in-Front : goal.returns-in-Front
 returns-in-Front g c =

@@ -7,4 +7,4 @@ pub returns-clause-joined : goal.returns-clause-joined
 returns-clause-joined c =
     let old : Returning = c.args.self.now in
     let new : Returning = record old { rejoiner = c.joined.new.self; rejoins = c.saturating_add-self.result } in
-    join_told old new c.args.id c.args.self.now.period c.joined.ensures.follows refl (search rules) refl
+    join_told old new c.args.id c.joined.ensures.follows refl (search rules) refl refl refl

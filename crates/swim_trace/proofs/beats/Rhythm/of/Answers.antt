@@ -1,8 +1,8 @@
-use Rattle.std.proofs.Common.{◌≡◌, ◌+◌, ◌^◌, ◌<◌, ◌∷◌, length, reverse, take, min, arith, sym, ap, ◌∙◌, inl, inr}
+use Rattle.std.proofs.Common.{◌≡◌, ◌^◌, ◌<◌, length, reverse, take, min, arith, sym, ap, ◌∙◌}
 use Rattle.std.proofs.lemmas.Grind.{common_steps}
 use Rattle.std.proofs.lemmas.List.{length-reverse, length-take}
-use Rattle.std.proofs.lemmas.Option.{get_or_from_slice_get, slice_get_cases}
-use Rattle.swim_history.specs.Laws.InOrder.{past_more}
+use Rattle.swim_history.specs.Called.{entry_of}
+use Rattle.swim_history.specs.Laws.Called.{called_all, called_next}
 use Rattle.swim_trace.proofs.Rhythms.{one_more_follows}
 use Rattle.swim_trace.proofs.beats.Rhythm.of.Goals as goal
 use Rattle.swim_trace.proofs.beats.Rhythm.of.Goals.{in-Some+in_ok-note, in_default}
@@ -20,21 +20,17 @@ loop-place-preserved c =
     (omega (arith, c.loop-place-test.true, c.min-place-end.ensures, c.len.ensures.value)) in
     let counted : place ≡ length h =
     sym (length-reverse (take place entries) ∙ (length-take place entries ∙ omega (arith, there))) in
-    elim c.match-entry.branch [
+    elim c.match-called.branch [
       | in-Some+in_ok-note w ↦
-          let e = w.in-Some.entry in
-          let more : reverse (take (place + 1) entries) ≡ e ∷ h = past_more entries place e there ∙
-          ap (λ x. x ∷ h) (get_or_from_slice_get entries place e e (sym w.in-Some.ensures)) in
+          let next = called_next entries place w.in-Some.called w.in-Some.ensures in
+          let e = entry_of w.in-Some.called next.0 in
           let few : place < 2 ^ 32 =
           omega (arith, c.loop-place-test.true, c.min-place-end.ensures, c.len.type_inv) in
-          rw (more, w.found-is)
+          rw (next.1, w.found-is)
           (one_more_follows c.me-me.result place h e c.loop-place.found w.note.new.self c.loop-place.invariant
           counted few w.in_ok-note.ensures.beats w.in_ok-note.ensures.ticks)
       | in_default w ↦
-          elim (slice_get_cases entries place).1 [
-            | inl found ↦ absurd (cc (w.in_default.ensures, found.2))
-            | inr past ↦ absurd (omega (arith, there, past.0))
-          ]
+          let over = called_all entries place w.in_default.ensures in absurd (omega (arith, there, over))
     ]
 
 pub returns : goal.returns
