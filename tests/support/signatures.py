@@ -6,7 +6,9 @@ from pathlib import Path
 # What isn't code: comments to the end of the line, and texts. A lifetime has one tick, and a character two.
 NO_CODE = re.compile(r"//[^\n]*|b?\"(?:\\.|[^\"\\])*\"|b?'(?:\\.|[^'\\])'", re.DOTALL)
 FUNCTION = re.compile(r"\bfn\s+(\w+)\s*")
-USE = re.compile(r"^\s*(?:pub(?:\(crate\))? )?use crate::(\{.*?\}|[\w:]+)", re.MULTILINE | re.DOTALL)
+USE = re.compile(
+    r"^\s*(?:pub(?:\(\w+\))? )?use (crate|self|super(?:::super)*)::(\{.*?\}|[\w:*]+)", re.MULTILINE | re.DOTALL
+)
 OPENS, CLOSES = "(<[{", ")>]}"
 
 
@@ -60,14 +62,23 @@ def imports_of(modules):
     """Which modules of a crate each of them imports."""
     imported = {}
     for name, path in modules.items():
-        words = {word for use in USE.findall(code_of(path)) for word in paths_in(use)}
+        words = {word for room, use in USE.findall(code_of(path)) for word in paths_in(room_of(name, room), use)}
         imported[name] = {it for it in (longest(modules, word) for word in words) if it and it != name}
     return imported
 
 
-def paths_in(use):
+def room_of(name, room):
+    """The parts of the path in which a module's `use` begins: `crate`, `self`, `super` or `super::super`."""
+    if room == "crate":
+        return []
+    parts = [] if name in ("lib", "main") else name.split("::")
+    return parts[: len(parts) - room.count("super")]
+
+
+def paths_in(room, use):
     """The paths of a `use` below the crate."""
-    return re.findall(r"[\w:]+", use) if use.startswith("{") else [use]
+    words = re.findall(r"[\w:*]+", use) if use.startswith("{") else [use]
+    return ["::".join([*room, word]) for word in words]
 
 
 def longest(modules, path):

@@ -24,6 +24,11 @@ IMPORTS = {
     "second": "use crate::{first, rooms::third};\n",
     "rooms/third": "use crate::first::First;\n// use crate::alone::Alone;\n",
     "alone": "use crate::first::First;\nuse std::mem;\n",
+    "rooms/fourth": "use super::{fifth::*, third};\n",
+    "rooms/fifth": "pub(super) use super::fourth::Fourth;\n",
+    "deep": "mod inner;\npub use self::inner::Inner;\n",
+    "deep/inner": "use super::super::deep::Deep;\nuse super::other::*;\n",
+    "deep/other": "use self::inner::Inner;\n",
 }
 
 
@@ -41,7 +46,8 @@ def circles_of_imports_are_found(_programs, folder):
         path.parent.mkdir(parents=True, exist_ok=True)
         path.write_text(text, encoding="utf-8")
     found = cycles_of(imports_of(modules_of(folder)))
-    return unlike("the circles", [["first", "rooms::third", "second"]], found)
+    circles = [["deep", "deep::inner"], ["first", "rooms::third", "second"], ["rooms::fifth", "rooms::fourth"]]
+    return unlike("the circles", circles, found)
 
 
 SHAPING = [parameters_are_counted, circles_of_imports_are_found]
