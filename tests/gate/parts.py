@@ -75,7 +75,7 @@ ROOMS = [
     room("bench/frames", "swimd's stacks, and the frames that every datagram pays for", SWIMD, OBJDUMP, is_short=True),
     room("tools/layout", "sources, definitions and proofs are laid out as `rt ci` wants them", (), is_short=True),
     room("tools/contracts", "docs/CONTRACTS.md is what the sources say", (), is_short=True),
-    room("tools/by_hand", "no proof was written by hand, and no trail is noted in, but those that are known", (), is_short=True),
+    room("tools/by_hand", "proofs by hand, and what notes in trails, are those that are known", (), is_short=True),
     room("tools/quotes", "the clauses that documents quote are what the sources say", (), is_short=True),
     room(
         "tools/run",
