@@ -7,27 +7,31 @@ from typing import NamedTuple
 # The text in front of a block names what it quotes: a definition or a function, and the file below crates/ in which it
 # stands.
 NAMED = re.compile(r"`(?:\w+::)*(\w+)` \(([\w/]+\.(?:rt|antt))\)")
-INDENT = "    "
-# From a definition's name on to the next empty line; from the name of a function, or of a ghost value, on to the next
+INDENT, COLUMNS = "    ", 120
+# From a definition's line on to the next empty line; from the line of a function, or of a ghost value, on to the next
 # one of either.
 DEFINED = r"^(?:abbrev )?(?:pub )?(?:record |data )?{}\b"
-PARTS = re.compile(r"(?=\b(?:fn|ghost) \w)")
+PART = r" *(?:[\w()]+ )*(?:fn|ghost) {}\b"
+PARTS = re.compile("^(?=" + PART.format(r"\w+") + ")", re.MULTILINE)
 COMMENT = re.compile(r"(?:^|(?<=\s))(?://|--).*$", re.MULTILINE)
+# The last clause of a method of a trait has a semicolon, which counts for nothing.
+LAST = r"\};$"
 SHOWN = 60
 
 
 class Block(NamedTuple):
-    """What is quoted: in which line it begins, of what, from which file, and its words."""
+    """What is quoted: in which line it begins, how many lines it has, of what, from which file, and its words."""
 
     line: int
+    count: int
     name: str
     path: str
     words: str
 
 
 def collapsed(text):
-    """The words of a text. The last clause of a method of a trait has a semicolon, which counts for nothing."""
-    return re.sub(r"\};$", "}", " ".join(text.split()))
+    """The words of a text."""
+    return re.sub(LAST, "}", " ".join(text.split()))
 
 
 def blocks_of(text, first=1):
@@ -40,7 +44,7 @@ def blocks_of(text, first=1):
             continue
         if quoted:
             name, path = (NAMED.findall(collapsed(" ".join(prose))) or [("", "")])[-1]
-            yield Block(begins, name, path, collapsed(" ".join(quoted)))
+            yield Block(begins, len(quoted), name, path, collapsed(" ".join(quoted)))
             quoted = []
         prose.append(line)
 
@@ -50,7 +54,7 @@ def items_of(path, name):
     text = path.read_text(encoding="utf-8")
     lines = [COMMENT.sub("", line).rstrip() for line in text.splitlines() if not line.lstrip().startswith(("//", "--"))]
     if path.suffix == ".rt":
-        found = [it for it in PARTS.split("\n".join(lines)) if re.match(rf"(?:fn|ghost) {name}\b", it)]
+        found = [it for it in PARTS.split("\n".join(lines)) if re.match(PART.format(name), it)]
     else:
         found = [it for it in "\n".join(lines).split("\n\n") if re.search(DEFINED.format(name), it, re.MULTILINE)]
     return [[line for line in it.splitlines() if line] for it in found]
@@ -83,6 +87,44 @@ def fault_of(block, top):
     if not any(says(it, block.words) for it in items):
         return f"{block.name} of {block.path} doesn't say so"
     return None
+
+
+def whole(lines, is_code):
+    """What is quoted of an item: of a function its clauses, of a ghost value all up to the semicolon, and all of a
+    definition."""
+    if not is_code:
+        return lines
+    start = next((place for place, line in enumerate(lines) if re.match(r" +(requires|ensures)\b", line)), 0)
+    indent = indent_of(lines[start])
+    if start:
+        ends = (place for place in range(start, len(lines)) if indent_of(lines[place]) < indent)
+        lines = [re.sub(LAST, "}", line) for line in lines]
+    else:
+        ends = (place for place, line in enumerate(lines, 1) if line.endswith(";"))
+    return [line[indent:] for line in lines[start : next(ends, len(lines))]]
+
+
+def set_in(line):
+    """A line of a source as it is quoted: in several lines, where it is too long."""
+    line, lines = INDENT + line, []
+    rest = " " * indent_of(line) + INDENT
+    while len(line) > COLUMNS:
+        cut = line.rindex(" ", 0, COLUMNS)
+        lines.append(line[:cut])
+        line = rest + line[cut + 1 :]
+    return [*lines, line]
+
+
+def requoted(text, top):
+    """A text in which each block that isn't what the sources say is made anew of what is named, if they have that."""
+    lines = text.splitlines()
+    for block in reversed([*blocks_of(text)]):
+        path = Path(top, "crates", block.path)
+        items = items_of(path, block.name) if path.is_file() else []
+        if items and fault_of(block, top):
+            start, said = block.line - 1, whole(items[0], path.suffix == ".rt")
+            lines[start : start + block.count] = [it for line in said for it in set_in(line)]
+    return "\n".join(lines)
 
 
 def misquoted(text, top, first=1):

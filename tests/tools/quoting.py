@@ -2,7 +2,7 @@
 
 from pathlib import Path
 
-from tests.support.quotes import misquoted, section_of
+from tests.support.quotes import misquoted, requoted, section_of
 from tests.tools.copies import unlike
 
 DEFINITIONS = """\
@@ -104,6 +104,25 @@ def what_does_not_stand_there_is_named(_programs, folder):
     return said
 
 
+def what_changed_is_quoted_anew(_programs, folder):
+    """Of what is named the text has then all that the sources say, and all else stays as it is."""
+    top, other = with_sources(folder), TEXT
+    for old, new in [
+        ("    pub long : ℕ\n    pub is : long ≡ size\n", "    pub long : ℕ\n    pub is : long ≡ 1\n"),
+        ("        ≡ 1 }", "        ≡ 2 }"),
+        ("λ old new. new ≡ old", "λ old new. old ≡ new"),
+    ]:
+        other = other.replace(old, new)
+    whole = TEXT.replace("    pub long", "    pub record IsThing (size : ℕ) : Type 0 where\n      pub long")
+    whole = whole.replace("    pub is", "      pub is").replace("result\n        ≡ 1", "result ≡ 1")
+    whole = whole.replace("{ λ old new. new ≡ old }", "{ λ old new.\n        new ≡ old };")
+    return [
+        *unlike("what is right", TEXT.rstrip("\n"), requoted(TEXT, top)),
+        *unlike("what is quoted anew", whole.rstrip("\n"), requoted(other, top)),
+        *unlike("what is misquoted then", [], [*misquoted(requoted(other, top), top)]),
+    ]
+
+
 def a_section_ends_with_the_next(_programs, _folder):
     """At a heading that is as high or higher, and not at a lower one."""
     text = "# All\n\n### One\n\n#### Low\n\n    a\n\n### Two\n\n    b\n"
@@ -113,4 +132,9 @@ def a_section_ends_with_the_next(_programs, _folder):
     ]
 
 
-QUOTING = [what_is_quoted_stands_there, what_does_not_stand_there_is_named, a_section_ends_with_the_next]
+QUOTING = [
+    what_is_quoted_stands_there,
+    what_does_not_stand_there_is_named,
+    what_changed_is_quoted_anew,
+    a_section_ends_with_the_next,
+]
