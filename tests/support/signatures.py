@@ -1,4 +1,4 @@
-"""What the functions of a source take, and which modules of a crate import which."""
+"""What the functions of a source take, which of them note in a `Trail`, and which modules of a crate import which."""
 
 import re
 from pathlib import Path
@@ -9,6 +9,7 @@ FUNCTION = re.compile(r"\bfn\s+(\w+)\s*")
 USE = re.compile(
     r"^\s*(?:pub(?:\(\w+\))? )?use (crate|self|super(?:::super)*)::(\{.*?\}|[\w:*]+)", re.MULTILINE | re.DOTALL
 )
+TRAIL = re.compile(r"\b(\w+): (?:&mut )?Trail<|\blet mut (\w+) = Trail::new\(\)")
 OPENS, CLOSES = "(<[{", ")>]}"
 
 
@@ -47,6 +48,17 @@ def functions_of(path):
             types, place = bracketed(code, place)
         parameters, _ = bracketed(code, code.index("(", place))
         yield found.group(1), sum(not it.startswith("'") for it in types), len(parameters)
+
+
+def noting_in(path):
+    """The functions of a source that note in a `Trail`, be it a field, a parameter or a value of their own."""
+    code = code_of(path)
+    trails = [one or other for one, other in TRAIL.findall(code)]
+    notes = re.compile(rf"\b(?:{'|'.join(trails)})\.note\(")
+    starts = [*FUNCTION.finditer(code)] if trails else []
+    for found, end in zip(starts, [*(it.start() for it in starts[1:]), len(code)]):
+        if notes.search(code, found.end(), end):
+            yield found.group(1)
 
 
 def modules_of(folder):

@@ -1,8 +1,9 @@
-"""What tests/tools/layout reads out of sources: what functions take, and the circles of modules."""
+"""What tests/tools/layout and by_hand read out of sources: what functions take, the circles of modules, and what notes
+in a trail."""
 
 from pathlib import Path
 
-from tests.support.signatures import cycles_of, functions_of, imports_of, modules_of
+from tests.support.signatures import cycles_of, functions_of, imports_of, modules_of, noting_in
 from tests.tools.copies import unlike
 
 WIDE = """\
@@ -30,6 +31,35 @@ IMPORTS = {
     "deep/inner": "use super::super::deep::Deep;\nuse super::other::*;\n",
     "deep/other": "use self::inner::Inner;\n",
 }
+NOTING = """\
+pub struct Gate {
+    answered: Trail<u8>,
+    notes: Notes,
+}
+
+fn new() -> Gate {
+    Gate { answered: Trail::new(), notes: Notes::new() }
+}
+
+fn answer(&mut self) {
+    self.answered.note(&1, &[]);
+}
+
+fn remark(&mut self) {
+    // self.answered.note(&1, &[]);
+    self.notes.note(1);
+}
+
+fn show(shown: &mut Trail<Page>) {
+    shown.note(&page, text);
+}
+
+fn told() -> Trail<u8> {
+    let mut told = Trail::new();
+    told.note(&2, &[]);
+    told
+}
+"""
 
 
 def parameters_are_counted(_programs, folder):
@@ -50,4 +80,11 @@ def circles_of_imports_are_found(_programs, folder):
     return unlike("the circles", circles, found)
 
 
-SHAPING = [parameters_are_counted, circles_of_imports_are_found]
+def what_notes_in_a_trail_is_found(_programs, folder):
+    """Whoever notes in something else is let be, and so is who makes a trail, or reads of one."""
+    path = Path(folder, "noting.rt")
+    path.write_text(NOTING, encoding="utf-8")
+    return unlike("what notes", ["answer", "show", "told"], [*noting_in(path)])
+
+
+SHAPING = [parameters_are_counted, circles_of_imports_are_found, what_notes_in_a_trail_is_found]
