@@ -109,7 +109,9 @@ fn is_of(metric: Metric, line: &[u8]) -> bool
 {
     let head = metric.head();
     let name = head.name.as_bytes();
-    line.starts_with(name) && follows(head.kind, &line[name.len()..])
+    // What follows on the name is looked at first: it is a byte for most, and names begin alike.
+    let rest = line.get(name.len()..).unwrap_or_default();
+    follows(head.kind, rest) && line.starts_with(name)
 }
 
 /// Whether labels follow on the name, or what a histogram has in front of them.
