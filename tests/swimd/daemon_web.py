@@ -78,19 +78,50 @@ def each_page(machine):
     must(daemon.stop().status == 0, "the daemon ended otherwise")
 
 
-def the_page_and_its_policy(machine):
-    """The page has no outside resource, and the policy has the hashes of its script and its style."""
-    with WebServer(machine, f"{machine.folder}/nobody") as web:
-        reply = must_answer(web, "/", 200, kind="text/html; charset=utf-8")
+def must_be_allowed(reply, tag, name, count):
+    """The page has so many texts in such tags, and its policy allows them by their hashes, and nothing else."""
     text, policy = reply.body.decode(), reply.fields["content-security-policy"]
-    for tag, name in (("script", "script-src"), ("style", "style-src")):
-        found = re.findall(f"<{tag}>(.*?)</{tag}>", text, re.S)
-        must(len(found) == 1, f"{len(found)} texts in <{tag}>")
-        digest = base64.b64encode(hashlib.sha256(found[0].encode()).digest()).decode()
-        must(f"; {name} 'sha256-{digest}';" in policy, f"sha256-{digest} of <{tag}> isn't in {policy}")
+    found = re.findall(f"<{tag}>(.*?)</{tag}>", text, re.S)
+    must(len(found) == text.count(f"<{tag}") == count, f"{len(found)} texts in <{tag}>")
+    digests = [base64.b64encode(hashlib.sha256(it.encode()).digest()).decode() for it in found]
+    wanted = " ".join([f"; {name}", *(f"'sha256-{it}'" for it in digests)]) + ";"
+    must(not found or wanted in policy, f"{wanted} isn't in {policy}")
+    must(found or f"{name} " not in policy, f"{name} is in {policy}")
+
+
+def must_need_nothing_else(reply):
+    """A page has no outside resource, and no style or script in an attribute, which its policy would forbid."""
+    text, policy = reply.body.decode(), reply.fields["content-security-policy"]
     outside = [it for it in re.findall(r"(?:https?:)?//[\w.]+", text) if it != "http://www.w3.org"]
     must(not outside, f"the page names {outside}")
-    must(not re.search(r" (?:style|on\w+)=", text), "the page has a style or a script that its policy forbids")
+    must(not re.search(r"[\s\"'](?:style|on\w+)=", text), "the page has a style or a script in an attribute")
+    must("unsafe" not in policy, f"the policy is {policy}")
+
+
+def the_page_and_its_policy(machine):
+    """Neither the front page nor that of a verdict has an outside resource, and the policy of each has the hashes of
+    its script and its styles."""
+    daemon, file, number = judged_and_ended(machine)
+    with WebServer(machine, daemon.control, "--journals", os.path.dirname(file.path)) as web:
+        for path, scripts, styles in (("/", 1, 1), (f"/verdicts/2/{number}", 0, 2)):
+            reply = must_answer(web, path, 200, kind="text/html; charset=utf-8")
+            must_be_allowed(reply, "script", "script-src", scripts)
+            must_be_allowed(reply, "style", "style-src", styles)
+            must_need_nothing_else(reply)
+
+
+def promtool_agrees_with_the_page(machine):
+    """`promtool check metrics` has nothing to say of `/metrics`."""
+    promtool = shutil.which("promtool")
+    if not promtool:
+        return leave_out("promtool isn't installed, so that says nothing of the metrics of swimd web")
+    daemon = machine.started(members=MEMBERS, tick_ms=MINUTE)
+    with WebServer(machine, daemon.control) as web:
+        until(lambda: b"\nswimd_member_up{" in daemon.ask(b"stats\n"), "the members are counted")
+        body = must_answer(web, "/metrics", 200).body
+    ran = subprocess.run([promtool, "check", "metrics"], input=body, capture_output=True)
+    must((ran.returncode, ran.stderr) == (0, b""), f"promtool says {ran!r}")
+    must(daemon.stop().status == 0, "the daemon ended otherwise")
 
 
 def a_verdict_is_shown(machine):
@@ -133,6 +164,8 @@ def a_verdict_is_explained(machine):
             must(part in text, f"{part} isn't in the page {text[:2_000]}")
         must(f"\nswimsim --timeline run.svg --around 2 {file.path}\n" in text, "the page has another command")
         must("<script" not in text, "the page has a script")
+        head = web.get(f"/verdicts/2/{number}", "HEAD")
+        must((head.status, head.body, head.fields) == (200, b"", page.fields), f"HEAD of it is answered {head}")
         began = datetime.datetime.fromtimestamp(int(PROBED.search(line).group(1)), datetime.timezone.utc)
         must(f", {began:%Y-%m-%dT%H:%M:%SZ}</td>" in text, f"the probe's time isn't in {text[:2_000]}")
         must(b'{"explained":true,' in web.get("/verdicts.json").body, "verdicts are told as having no pages")
@@ -322,6 +355,7 @@ def what_the_page_shows(machine):
 
 PAGES = [
     each_page,
+    promtool_agrees_with_the_page,
     the_page_and_its_policy,
     a_verdict_is_shown,
     a_verdict_is_explained,

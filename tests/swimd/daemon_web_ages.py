@@ -1,5 +1,5 @@
-"""How long ago members failed, as the page of `swimd web` has it, by its script alone and in a browser. The spans were
-worked out by hand from docs/FORMATS.md."""
+"""How long ago members failed and were last heard, as the page of `swimd web` has it, by its script alone and in a
+browser. The spans were worked out by hand from docs/FORMATS.md."""
 
 import contextlib
 import shutil
@@ -38,6 +38,15 @@ WORKED = [
     (15, b"0.399", {12: "1 s", 13: "0 s"}),
     (MOST, b"60.000", {1: "213503982334 days"}),
 ]
+# What is told of members that are up, by the period in which they were last heard: none has no sample.
+HEARD = {
+    LARGE + 1: "up heard about 0 s ago",
+    LARGE: "up heard about 0 s ago",
+    LARGE - 3: "up heard about 3 s ago",
+    LARGE - 120: "up heard about 2 min ago",
+    1: "up heard about 104249991374 days ago",
+    None: "up",
+}
 UNTOLD = [b".\n", NUMBER + b".\n", SECONDS + b".\n", NUMBER + b'swimd_period_seconds{member="1"} x\n.\n']
 NARROW = 400
 # Two lines are higher.
@@ -83,6 +92,20 @@ def ages_by_the_script(machine):
             must((found, page["alarm"]) == (["failed in period 5"], ""), f"with the counts {stats} the page is {page}")
 
 
+def heard_by_the_script(machine):
+    """A member that is up is told with when it was last heard, and without if that isn't known."""
+    if not shutil.which("node"):
+        return leave_out("node is not on PATH, so the script of the page of swimd web isn't run")
+    rows = list(enumerate(HEARD, 2))
+    heard = b"".join(b'swimd_member_heard_period{member="1",id="%d"} %d\n' % it for it in rows if it[1] is not None)
+    with served(machine) as (daemon, web):
+        daemon.answers[b"list\n"] = b"".join(b"%d 10.0.0.2:7000 up\n" % id for id, _ in rows) + b".\n"
+        for front, wanted in ((counts(LARGE, b"1.000"), [*HEARD.values()]), (NUMBER + b".\n", ["up"] * len(HEARD))):
+            daemon.answers[b"stats\n"] = front.removesuffix(b".\n") + heard + b".\n"
+            found = [row[2].rstrip() for row in shown(web)["members"]]
+            must(found == wanted, f"with the counts {front} the page shows {found}")
+
+
 def ages_on_a_narrow_screen(machine):
     """In Chromium: an age changes with the daemon's counts, fits beside the longest numbers, and isn't told when these
     counts no longer come."""
@@ -108,4 +131,4 @@ def ages_on_a_narrow_screen(machine):
         it.wait(f"{AGE} === '' && !document.getElementById('alarm').hidden", NEXT)
 
 
-AGES_SHOWN = [ages_by_the_script, ages_on_a_narrow_screen]
+AGES_SHOWN = [ages_by_the_script, heard_by_the_script, ages_on_a_narrow_screen]

@@ -1,5 +1,5 @@
 """The page of `swimd web` in a browser: a kill that shows, how long ago it was, its link, and the page about the
-verdict."""
+verdict, which is as dark and as narrow."""
 
 import time
 
@@ -46,6 +46,8 @@ def must_tell_an_age(browser, daemon, killed):
     # From the daemon's answer on the age stays as it is told.
     times = f"[...Array({NEXT}).keys()].map(it => clock(Date.now() - 1000 * ({ages[1]} + it)))"
     must(browser.value(f"{times}.includes({row}.title)"), "the time of the verdict is another")
+    heard = "[...document.querySelectorAll('#members .age')].map(it => it.textContent)[1]"
+    browser.wait(f"/^heard about \\d+ s ago$/.test({heard})", NEXT)
 
 
 def must_fit(browser):
@@ -60,6 +62,19 @@ def must_fit(browser):
     browser.call("Emulation.setEmulatedMedia", features=[{"name": "prefers-color-scheme", "value": "dark"}])
     found = browser.value("getComputedStyle(document.body).backgroundColor")
     must(found == "rgb(13, 17, 23)", f"in the dark the page is {found}")
+
+
+def must_fit_as_well(browser):
+    """The page of a verdict is no wider than the screen, and dark with its picture, whose style its policy allows."""
+    must(browser.value("document.documentElement.scrollWidth") <= 400, "the page of the verdict is wider")
+    for name, style, wanted in (
+        ("body", "backgroundColor", "rgb(13, 17, 23)"),
+        (".wide", "backgroundColor", "rgb(13, 17, 23)"),
+        ("svg .heading", "fill", "rgb(230, 237, 243)"),
+        ("svg .grid", "stroke", "rgb(42, 49, 60)"),
+    ):
+        found = browser.value(f"getComputedStyle(document.querySelector('{name}')).{style}")
+        must(found == wanted, f"in the dark {name} has {style} {found}")
 
 
 def a_kill_is_followed_to_its_page(machine):
@@ -89,6 +104,7 @@ def a_kill_is_followed_to_its_page(machine):
         words = it.value("document.querySelector('pre').textContent")
         must(words.startswith(f"judged 2 in period {number}: probed at entry "), f"the evidence is {words}")
         must(it.value("document.querySelector('svg').getBoundingClientRect().height") > 100, "there is no picture")
+        must_fit_as_well(it)
         must(it.value("document.title") == f"Member 2, period {number}", "the page has another title")
         must(not it.faults, f"the page says {it.faults}")
         elsewhere = [url for url in it.asked if not url.startswith((home, "data:"))]

@@ -1,7 +1,10 @@
-"""Who asks `swimd web`: what is no request, pieces and pipelines, guests who are slow beside one who isn't, and a fuzz,
-behind which the daemon was asked for its table and its counts and nothing else."""
+"""Who asks `swimd web`: what is no request, pieces and pipelines, guests who are slow beside one who isn't, as many as
+there are places, and a fuzz, behind which the daemon was asked for its table and its counts and nothing else."""
 
+import contextlib
+import os
 import random
+import select
 import socket
 import threading
 import time
@@ -9,13 +12,16 @@ import time
 from tests.support.daemons import must, until
 from tests.support.web_servers import WebServer, all_of
 from tests.swimd.daemon_watchers import MINUTE
+from tests.swimd.daemon_web import judged_and_ended
 
 TABLE = b"2 10.0.0.2:7000 up\n3 10.0.0.3:7000 failed 12\n.\n"
 STATS = b'swimd_member_id{member="1"} 1\nswimd_ticks_total{member="1"} 4711\n.\n'
 SLOW = 100
 HONEST = 2
-# A guest who sends no whole request is gone within so many seconds.
+PLACES = 32
+# A guest who sends no whole request is gone within so many seconds, and after these if all places are taken.
 GIVEN_UP = 12
+CROWDED = 0.3
 MUTATIONS = 10_000
 SEED = 61
 PIECES = (b"\r\n", b"\r\n\r\n", b" ", b"\0", b"stop\n", b"%0a", b"Transfer-Encoding: chunked\r\n")
@@ -70,6 +76,7 @@ def what_is_refused(machine):
             (request(web, path="/../healthz"), 404),
             (request(web, path="/verdicts/2/7"), 404),
             (request(web, "POST", more=b"Content-Length: 1\r\n") + b"a", 413),
+            (request(web, more=b"Transfer-Encoding: gzip, chunked\r\n"), 501),
             (request(web, more=b"X: " + b"a" * 9_000 + b"\r\n"), 431),
             (request(web, more=fields), 431),
             (request(web, path="/" + "a" * 9_000), 414),
@@ -86,6 +93,24 @@ def what_is_refused(machine):
             must(found == status, f"{text[:60]!r} is answered {found}, and not {status}")
         must(web.get("/healthz").status == 200, "the server doesn't go on")
     must(daemon.stop().status == 0, "the daemon ended otherwise")
+
+
+def refusals_close(machine):
+    """What is no request, or is too large, is answered without a body, and the server hangs up by itself."""
+    with WebServer(machine, f"{machine.folder}/nobody") as web:
+        for text, status in (
+            (b"GET /healthz HTTP/1.1\r\n\r\n", b"400"),
+            (request(web, "POST", more=b"Content-Length: 1\r\n") + b"a", b"413"),
+            (request(web, path="/" + "a" * 9_000), b"414"),
+            (request(web, more=b"X: " + b"a" * 9_000 + b"\r\n"), b"431"),
+            (request(web, more=b"Transfer-Encoding: gzip, chunked\r\n"), b"501"),
+        ):
+            with web.connect() as connection:
+                connection.sendall(text)
+                line, *fields = all_of(connection).split(b"\r\n")
+            must(line.startswith(b"HTTP/1.1 " + status + b" "), f"{text[:60]!r} is answered {line!r}")
+            wanted = {b"content-length: 0", b"connection: close"}
+            must(set(fields[:-2]) == wanted and fields[-2:] == [b"", b""], f"behind {line!r} stands {fields}")
 
 
 def pieces_and_pipelines(machine):
@@ -131,6 +156,43 @@ def slow_guests(machine):
     daemon.close()
 
 
+def places(machine):
+    """Of a hundred who come at once and send nothing 32 are let in at a time, and sent away soon. One less may stay."""
+    with WebServer(machine, f"{machine.folder}/nobody") as web, contextlib.ExitStack() as opened:
+        before, counts = web.descriptors(), []
+        guests = [opened.enter_context(web.connect()) for _ in range(SLOW)]
+
+        def is_left():
+            counts.append(web.descriptors() - before)
+            return select.select(guests[PLACES - 1 : PLACES], [], [], 0)[0]
+
+        until(is_left, "the first 32 are sent away", GIVEN_UP / 2)
+        must(max(counts) == PLACES, f"{max(counts)} are let in")
+    with WebServer(machine, f"{machine.folder}/nobody") as web, contextlib.ExitStack() as opened:
+        before = web.descriptors()
+        for _ in range(PLACES - 1):
+            opened.enter_context(web.connect())
+        time.sleep(3 * CROWDED)
+        must(web.descriptors() - before == PLACES - 1, "somebody leaves who has time")
+
+
+def a_request_that_came_meanwhile(machine):
+    """A whole request that came while the server waited for the daemon is answered, though that takes longer than a
+    guest has when all places are taken."""
+    daemon = FakeDaemon(f"{machine.folder}/fake")
+    daemon.answers[b"list\n"] = b""
+    with WebServer(machine, f"{machine.folder}/fake") as web, contextlib.ExitStack() as opened:
+        early, asking = (opened.enter_context(web.connect()) for _ in range(2))
+        asking.sendall(request(web, more=b"Connection: close\r\n"))
+        until(lambda: daemon.lines, "the daemon is asked")
+        early.sendall(request(web, more=b"Connection: close\r\n"))
+        for _ in range(PLACES):
+            opened.enter_context(web.connect())
+        for guest, name in ((asking, "who asked"), (early, "whose request came meanwhile")):
+            must(all_of(guest).startswith(b"HTTP/1.1 503 "), f"the guest {name} isn't answered")
+    daemon.close()
+
+
 def mutated(chance, text):
     """The text with some of its bytes left out, doubled, or changed."""
     text = bytearray(text)
@@ -150,12 +212,14 @@ def mutated(chance, text):
 
 def ten_thousand_mutations(machine):
     """The daemon was asked `list` and `stats`, and nothing else; the server answers, and has grown by little."""
+    _, file, number = judged_and_ended(machine)
+    folder, verdict = os.path.dirname(file.path), f"/verdicts/2/{number}"
     daemon, chance = FakeDaemon(f"{machine.folder}/fake"), random.Random(SEED)
-    with WebServer(machine, f"{machine.folder}/fake") as web:
+    with WebServer(machine, f"{machine.folder}/fake", "--journals", folder) as web:
         valid = [
             request(web, method, path, more)
             for method in ("GET", "HEAD", "POST")
-            for path in ("/", "/healthz", "/metrics", "/members.json", "/events", "/stop")
+            for path in ("/", "/healthz", "/metrics", "/members.json", "/events", "/verdicts.json", verdict, "/stop")
             for more in (b"", b"Content-Length: 5\r\n", b"Last-Event-ID: 7\r\nConnection: keep-alive\r\n")
         ]
         for case in range(MUTATIONS):
@@ -171,4 +235,12 @@ def ten_thousand_mutations(machine):
     daemon.close()
 
 
-GUESTS = [what_is_refused, pieces_and_pipelines, slow_guests, ten_thousand_mutations]
+GUESTS = [
+    what_is_refused,
+    refusals_close,
+    pieces_and_pipelines,
+    slow_guests,
+    places,
+    a_request_that_came_meanwhile,
+    ten_thousand_mutations,
+]

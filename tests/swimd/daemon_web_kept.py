@@ -11,6 +11,8 @@ from tests.swimd.daemon_web import judged_and_ended, lines_on
 
 # What one request may make the server read beside a journal file, and comments that make a file longer than that.
 LITTLE, COMMENTS = 16_384, b"# nothing\n" * 10_000
+# A longer file is no journal that is read.
+MOST_BYTES = 268_435_456
 # A comment, and a call with a wrong answer that has as many bytes.
 FINE, WRONG = b"# abcdefghijk\n", b"tick\n= 1 else\n"
 # The clock by which the system says when a file changed goes on within this time.
@@ -109,6 +111,22 @@ def a_newer_file_is_looked_at(machine):
         must_keep(web, verdict, page)
 
 
+def a_file_above_the_limit(machine):
+    """A newer file of as many bytes as may be is read; with one byte more it is passed over."""
+    daemon, file, number = judged_and_ended(machine)
+    folder = f"{machine.folder}/large"
+    os.makedirs(folder)
+    for name in ("1-5-0", "1-6-0"):
+        with open(f"{folder}/{name}.swim", "wb") as written:
+            written.write(file.text)
+    with WebServer(machine, daemon.control, "--journals", folder) as web:
+        for size, name in ((MOST_BYTES, "1-6-0"), (MOST_BYTES + 1, "1-5-0")):
+            os.truncate(f"{folder}/1-6-0.swim", size)
+            page, _ = asked(web, 2, number)
+            must(page and f"/{name}.swim</code>" in page, f"with {size} bytes the page is {page!r:.2000}")
+        must(web.memory() < MOST_BYTES, f"the server has {web.memory()} bytes")
+
+
 def each_verdict_has_its_page(machine):
     """Nine verdicts in turn, of which eight are kept: each page is about its own, with its own evidence."""
     members = [(id, "127.0.0.1:9") for id in range(2, 12)]
@@ -128,4 +146,4 @@ def each_verdict_has_its_page(machine):
             must(f"<th scope=\"row\">Acks of period {number}</th>" in page, f"the table is another: {page:.2500}")
 
 
-KEPT = [a_page_is_kept, a_newer_file_is_looked_at, each_verdict_has_its_page]
+KEPT = [a_page_is_kept, a_newer_file_is_looked_at, a_file_above_the_limit, each_verdict_has_its_page]

@@ -23,7 +23,7 @@ th, td { text-align: left; padding: .45rem 1.25rem .45rem 0; border-bottom: 1px 
   vertical-align: baseline }
 th { color: var(--quiet); font-weight: 500; width: 30% }
 .alarm { border-left: 4px solid var(--alarm); padding-left: .75rem }
-.wide { overflow-x: auto; border: 1px solid var(--line); border-radius: 6px; background: #fff }
+.wide { overflow-x: auto; border: 1px solid var(--line); border-radius: 6px; background: var(--page) }
 .wide:focus-visible, a:focus-visible { outline: 3px solid var(--link); outline-offset: 2px }
 </style>
 </head>

@@ -3,7 +3,7 @@
 /// What the page may do: its own script runs, its own style is shown, and it asks nobody but its server. The hashes are
 /// those of the texts between `<script>` and `</script>`, and between `<style>` and `</style>`.
 pub(crate) const FRONT_POLICY: &str = "default-src 'none'; \
-    script-src 'sha256-wlX5KmheMAI1jODxLHJ37xdKiB//2ywISXoBSpDciuI='; \
+    script-src 'sha256-rnhfxTByioODwDp5jTNbkUoN/4Gm5kbcnV2+fZnkob0='; \
     style-src 'sha256-7IplzbKOX5TGKGjnFzDH7r2VseL/LzSCpNlSTYVxi+Y='; \
     connect-src 'self'; img-src 'self' data:; base-uri 'none'; form-action 'none'; frame-ancestors 'none'";
 
@@ -162,9 +162,9 @@ function putFailed(tr, verdict) {
   return told;
 }
 // showAge fills it.
-function putAge(parent, period) {
+function putAge(parent, member) {
   parent.append(" ");
-  ages.push({ age: put(parent, "span", "", "age quiet"), period: BigInt(period) });
+  ages.push({ age: put(parent, "span", "", "age quiet"), member });
 }
 // Since the end of a period, where the one that runs counts as over.
 function secondsSince(period) {
@@ -177,12 +177,14 @@ function spanOf(seconds) {
   if (seconds < 172800n) return seconds / 3600n + " h";
   return seconds / 86400n + " days";
 }
-function showAge({ age, period }) {
-  if (!periods) {
+// A failed member's verdict is told by the table, and when another was last heard by the counts.
+function showAge({ age, member }) {
+  const failed = member.state === "failed", period = failed ? member.period : periods?.heard(member.id);
+  if (!periods || !/^\d+$/.test(period)) {
     age.textContent = age.title = "";
     return;
   }
-  const seconds = secondsSince(period), text = "about " + spanOf(seconds) + " ago";
+  const seconds = secondsSince(BigInt(period)), text = (failed ? "about " : "heard about ") + spanOf(seconds) + " ago";
   const time = Date.now() - 1000 * Number(seconds);
   if (age.textContent !== text) age.textContent = text;
   age.title = time > 0 ? clock(time) : "";
@@ -205,7 +207,7 @@ function showMembers(members) {
     tr.className = m.state === "failed" ? "is-failed" : "";
     put(tr, "th", m.id, "number").scope = "row";
     put(put(tr, "td"), "code", m.peer);
-    if (m.state === "failed") putAge(putFailed(tr, m), m.period); else putState(tr, "up", "up");
+    putAge(m.state === "failed" ? putFailed(tr, m) : putState(tr, "up", "up"), m);
   });
 }
 const words = { up: e => "up at " + e.peer, gone: () => "removed",
@@ -245,7 +247,8 @@ function samplesOf(text) {
 function periodsOf(found) {
   const running = found.get("swimd_period_number"), seconds = found.get("swimd_period_seconds");
   if (!/^\d+$/.test(running) || !/^\d+\.\d{3}$/.test(seconds)) return undefined;
-  return { running: BigInt(running), ms: BigInt(seconds.replace(".", "")) };
+  const heard = id => found.get('swimd_member_heard_period{id="' + id + '"}');
+  return { running: BigInt(running), ms: BigInt(seconds.replace(".", "")), heard };
 }
 const figures = [["swimd_period_number", "Period"], ["swimd_period_seconds", "Seconds of a period"],
   ["swimd_verdicts_total", "Verdicts"], ["swimd_journal_entries", "Entries of this life"],

@@ -2,6 +2,7 @@
 
 ghost use Rattle.std.specs.Prelude.{◌≡◌, box_value};
 ghost use Rattle.swim_web.specs.Asked.{OnlyLooks};
+ghost use Rattle.swim_web.specs.Guests.{is_late};
 
 use crate::daemons::Daemon;
 use crate::services::Web;
@@ -31,18 +32,19 @@ pub enum Stand {
 pub struct Guest {
     connection: Connection,
     stream: TcpStream,
-    // When the last answer was ready, or the guest came.
-    since: Instant,
+    // When its time began: with its first turn, and after each answer with the next one. A turn may take long, as when
+    // the daemon is slow, and that is no time of the guest's.
+    since: Option<Instant>,
     stand: Stand,
 }
 
 impl Guest {
-    /// Returns a guest who came at this moment.
-    pub fn new(connection: Connection, stream: TcpStream, since: Instant) -> Guest {
+    /// Returns a guest whose time begins with its first turn.
+    pub fn new(connection: Connection, stream: TcpStream) -> Guest {
         Guest {
             connection,
             stream,
-            since,
+            since: None,
             stand: Stand::Busy,
         }
     }
@@ -52,7 +54,8 @@ impl Guest {
         self.stand
     }
 
-    /// Has a turn at this moment. A guest whose request or answer takes longer than `most` is over.
+    /// Has a turn that began at this moment. A guest whose request or answer takes longer than `most` is over, but only
+    /// after what it has sent by now was read and answered.
     #[tactic(auto, using(crate::proofs::Looking::looks_none))]
     fn turn<D: Daemon + Drop, S: Shelf + Drop>(
         &mut self,
@@ -63,22 +66,42 @@ impl Guest {
         ensures { OnlyLooks (D.asked (box_value web.old.daemon)) (D.asked (box_value web.new.daemon))
             × (web.new.recent ≡ web.old.recent) }
     {
-        if now.duration_since(self.since) > most {
+        let since = self.since.unwrap_or(now);
+        self.since = Some(since);
+        self.take_steps(web);
+        if is_late(self.since, now, most) {
             self.stand = Stand::Over;
-            return;
         }
+    }
+
+    /// Reads, answers and writes in turn, until nothing more can be done, or up to the steps of a turn.
+    #[tactic(auto, using(crate::proofs::Looking::looks_none))]
+    fn take_steps<D: Daemon + Drop, S: Shelf + Drop>(&mut self, web: &mut Web<D, S>)
+        ensures { OnlyLooks (D.asked (box_value web.old.daemon)) (D.asked (box_value web.new.daemon))
+            × (web.new.recent ≡ web.old.recent) }
+    {
         self.stand = Stand::Busy;
         for _step in 0..STEPS {
             let had_output = self.connection.wants_write();
             advance(&mut self.connection, web);
             if self.connection.wants_write() && !had_output {
-                self.since = now;
+                self.since = None;
             }
             self.stand = step(&mut self.connection, &mut self.stream);
             if self.stand != Stand::Busy {
                 return;
             }
         }
+    }
+}
+
+/// Returns whether more than `most` has passed since a guest's time began, if it began.
+fn is_late(since: Option<Instant>, now: Instant, most: Duration) -> bool
+    ensures { result ≡ is_late since now most }
+{
+    match since {
+        Some(since) => now.duration_since(since).as_nanos() > most.as_nanos(),
+        None => false,
     }
 }
 
@@ -101,8 +124,8 @@ fn step(connection: &mut Connection, stream: &mut TcpStream) -> Stand {
     }
 }
 
-/// Gives each guest a turn. A request may take `most` to come, from the answer before it on, and its answer as long to
-/// be taken. Whatever guests send, the daemon is only looked at, and the events stay.
+/// Gives each guest a turn. A request may take `most` to come, from the turn behind the answer before it on, and its
+/// answer as long to be taken. Whatever guests send, the daemon is only looked at, and the events stay.
 #[tactic(auto, using(crate::proofs::Looking::looks_none))]
 pub fn turns<D: Daemon + Drop, S: Shelf + Drop>(
     guests: &mut [Guest],

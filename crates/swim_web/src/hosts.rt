@@ -66,7 +66,7 @@ pub fn run<R: Net + Clock + RandomSource + Wait, D: Daemon + Drop, S: Shelf + Dr
         poll.poll(&mut events, Some(Duration::from_millis(wait_ms)))?;
         let now = Instant::now(rt)?;
         listen(teller, &mut web.recent);
-        let_in(rt, alloc, listener, &poll, &mut guests, now);
+        let_in(rt, alloc, listener, &poll, &mut guests);
         let most = most_for(guests.len());
         turns(guests.as_mut_slice(), web, now, most);
         guests.retain(|guest| guest.stand() != Stand::Over);
@@ -117,7 +117,6 @@ fn let_in<R: RandomSource>(
     listener: &TcpListener,
     poll: &Poll,
     guests: &mut Vec<Guest>,
-    now: Instant,
 ) {
     for _guest in guests.len()..GUESTS {
         let Ok((mut stream, _address)) = listener.accept() else {
@@ -132,7 +131,7 @@ fn let_in<R: RandomSource>(
             && is_watched
         {
             let connection = Connection::new(alloc, keys, limits());
-            let _is_kept = guests.push(Guest::new(connection, stream, now));
+            let _is_kept = guests.push(Guest::new(connection, stream));
         }
     }
 }

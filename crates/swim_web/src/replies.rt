@@ -10,10 +10,12 @@ use http::{HeaderName, HeaderValue, StatusCode, header};
 use http_server::Response;
 use std::alloc::AllocError;
 
-/// What a page about a verdict may do: its style and its picture's are shown. It has no script, and asks for nothing.
-pub(crate) const VERDICT_POLICY: &str =
-    "default-src 'none'; style-src 'unsafe-inline'; img-src data:; \
-    base-uri 'none'; form-action 'none'; frame-ancestors 'none'";
+/// What a page about a verdict may do: its own style and that of its picture are shown. It has no script, and asks for
+/// nothing. The hashes are those of the texts between `<style>` and `</style>`.
+pub(crate) const VERDICT_POLICY: &str = "default-src 'none'; \
+    style-src 'sha256-Dy7GRDvvYrOBJnfm54f3q1p4ZlGedn8oHMVvBAozZbc=' \
+    'sha256-DETRP922j08JsmR5ZahO9up9na2z7ducf873B/dVe44='; \
+    img-src data:; base-uri 'none'; form-action 'none'; frame-ancestors 'none'";
 
 /// What the body of a response is.
 #[derive(Clone, Copy, Debug, PartialEq, Eq)]
@@ -46,7 +48,7 @@ impl Kind {
         }
     }
 
-    /// Returns the value of `content-security-policy`. That of the page has the hashes of its script and its style.
+    /// Returns the value of `content-security-policy`. That of a page has the hashes of its script and of its styles.
     fn policy(self) -> HeaderValue
         ensures { result.bytes ≡ policy_text self }
     {

@@ -1,6 +1,6 @@
 use Rattle.std.proofs.Common.{◌∙◌, box_value}
 use Rattle.swim_web.proofs.Looking.{looks_both}
-use Rattle.swim_web.proofs.guests.Guest.turn.Goals as goal
+use Rattle.swim_web.proofs.guests.Guest.take_steps.Goals as goal
 
 pub returns-then-ne : goal.returns-then-ne
 returns-then-ne g c = (

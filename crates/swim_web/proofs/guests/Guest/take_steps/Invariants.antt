@@ -1,6 +1,6 @@
 use Rattle.std.proofs.Common.{◌≡◌, box_value}
 use Rattle.swim_web.specs.Asked.{OnlyLooks}
-use Rattle.swim_web.proofs.guests.Guest.turn.Given as goal
+use Rattle.swim_web.proofs.guests.Guest.take_steps.Given as goal
 
 abbrev pub invariant-loop-step : goal.invariant-loop-step
 invariant-loop-step g l =
