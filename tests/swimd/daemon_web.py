@@ -13,7 +13,7 @@ import time
 from tests.support.configurations import HOST
 from tests.support.daemons import must, until
 from tests.support.journals import journals
-from tests.support.parts import TOP, leave_out
+from tests.support.parts import TOP, content, leave_out
 from tests.support.sayings import first_line_of
 from tests.support.web_servers import WebServer
 from tests.swimd.daemon_metrics import FILES_NAMES, NAMES, OF_MEMBERS, parsed
@@ -151,6 +151,30 @@ def lines_on(machine, path, number):
     return found[0], ran.stderr.decode()
 
 
+def must_be_drawn(machine, text, number, path):
+    """The page of a verdict on member 2 names the command that draws its picture."""
+    command = f"--timeline run.svg --around 2 --period {number} {path}"
+    must(f"\nswimsim {command}\n</pre>" in text, f"the page has another command: {text[-500:]}")
+    subprocess.run([machine.simulator, *command.split(" ")], cwd=machine.folder, capture_output=True, timeout=20)
+    drawn = content(f"{machine.folder}/run.svg").decode()
+    must(f" tabindex=\"0\">\n{drawn}</div>\n" in text, f"the page has another picture: {text[:2_000]}")
+
+
+def a_member_is_judged_twice(machine):
+    """The page of each verdict has the picture of its own period, as the command on it draws it."""
+    daemon = machine.started(members=[(2, "127.0.0.1:9")], k=0, rtt=1, period=3, tick_ms=20)
+    judged = lambda: [int(it.state.split(" ")[1]) for it in daemon.table().values() if it.state.startswith("failed")]
+    (first,) = until(judged, "it judges")
+    must(daemon.ask(b"join 2 127.0.0.1:9\n").startswith(b"joined"), "it joins no more")
+    (second,) = until(judged, "it judges again")
+    must(daemon.stop().status == 0 and first < second, "the daemon ended otherwise")
+    (file,) = journals(daemon.values["journal_dir"], 1)
+    with WebServer(machine, daemon.control, "--journals", os.path.dirname(file.path)) as web:
+        for number in (first, second):
+            text = must_answer(web, f"/verdicts/2/{number}", 200).body.decode()
+            must_be_drawn(machine, text, number, file.path)
+
+
 def a_verdict_is_explained(machine):
     """A page says of a verdict what `swimsim --verify` does, and where the file isn't verified, that. No other path
     shows a verdict."""
@@ -162,7 +186,7 @@ def a_verdict_is_explained(machine):
         text, (line, _) = page.body.decode(), lines_on(machine, file.path, number)
         for part in (f"<pre>{line}\n", f"<code>{file.path}</code>", "The file is verified, and whole.", "<svg "):
             must(part in text, f"{part} isn't in the page {text[:2_000]}")
-        must(f"\nswimsim --timeline run.svg --around 2 {file.path}\n" in text, "the page has another command")
+        must_be_drawn(machine, text, number, file.path)
         must("<script" not in text, "the page has a script")
         head = web.get(f"/verdicts/2/{number}", "HEAD")
         must((head.status, head.body, head.fields) == (200, b"", page.fields), f"HEAD of it is answered {head}")
@@ -359,6 +383,7 @@ PAGES = [
     the_page_and_its_policy,
     a_verdict_is_shown,
     a_verdict_is_explained,
+    a_member_is_judged_twice,
     a_verdict_tells_milliseconds,
     a_verdict_in_other_folders,
     events_are_passed_on,

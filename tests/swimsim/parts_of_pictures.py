@@ -1,4 +1,5 @@
-"""Parts of a picture that were worked out by hand, as tests/swimsim/run makes them: `--from` and `--around`."""
+"""Parts of a picture that were worked out by hand, as tests/swimsim/run makes them: `--from` and `--around`, which may
+have a period."""
 
 import os
 import re
@@ -40,6 +41,13 @@ ALL_OF_2 = ["2 joined, tick 30", "probe of 2, period 18, tick 31",
             "no ack of 2 by the timeout, period 18: nobody asked, tick 32",
             "2 judged failed, period 18, tick 34"]
 BOTH = ["Cut: the first 15 ticks, and 15 entries, and the last 15 ticks, and 15 entries, are left out."]
+# Member 2 is the only one of this life, and judged twice: at tick 4 at the end of period 8, and after it joined again
+# behind tick 30, in period 17, at tick 34 at the end of period 18. So round the first one are periods 8 to 13, ticks 1
+# to 18, and round the second periods 13 to 23, ticks 16 to 48, of 63 ticks and 64 entries.
+TWICE = b"open 1 0 1 3 7 100\nrow 2 10.0.0.2:7000\n" + b"tick\n" * 30 + b"join 2 10.0.0.2:7000\n" + b"tick\n" * 33
+FIRST_OF_2 = ["probe of 2, period 8, tick 1", "no ack of 2 by the timeout, period 8: nobody asked, tick 2",
+              "2 judged failed, period 8, tick 4"]
+BEHIND_FIRST = ["Cut: the last 45 ticks, and 46 entries, are left out."]
 DRAWN = [
     (["--from", "11"], JUDGED, OF_2, CUT),
     (["--from", "8"], JUDGED, OF_BOTH, []),
@@ -47,6 +55,10 @@ DRAWN = [
     (["--around", "2"], JUDGED, OF_BOTH, []),
     (["--around", "2"], LATER, OF_BOTH, BEHIND),
     (["--around", "2"], ALONE, ALL_OF_2, BOTH),
+    (["--around", "2", "--period", "18"], ALONE, ALL_OF_2, BOTH),
+    (["--around", "2"], TWICE, ALL_OF_2, BOTH),
+    (["--around", "2", "--period", "18"], TWICE, ALL_OF_2, BOTH),
+    (["--period", "8", "--around", "2"], TWICE, FIRST_OF_2, BEHIND_FIRST),
 ]
 REFUSED = [
     (["--from", "7"], "the run has no period 7"),
@@ -54,10 +66,17 @@ REFUSED = [
     (["--from", "18446744073709551615"], "the run has no period 18446744073709551615"),
     (["--around", "4"], "member 4 was not judged in this run"),
     (["--around", "1"], "member 1 was not judged in this run"),
+    (["--around", "2", "--period", "9"], "member 2 was not judged in period 9 of this run"),
+    (["--around", "3", "--period", "8"], "member 3 was not judged in period 8 of this run"),
+    (["--around", "4", "--period", "8"], "member 4 was not judged in period 8 of this run"),
+    (["--around", "2", "--period", "18446744073709551615"],
+     "member 2 was not judged in period 18446744073709551615 of this run"),
 ]
 NUMBERS = [["--from", "0"], ["--around", "0"], ["--from", "x"], ["--around", ""], ["--from", "-1"],
            ["--around", "4294967296"],
-           ["--from", "18446744073709551616"], ["--from", "1", "--from", "2"]]
+           ["--from", "18446744073709551616"], ["--from", "1", "--from", "2"],
+           ["--around", "2", "--period", "0"], ["--around", "2", "--period", "18446744073709551616"],
+           ["--around", "2", "--period", ""]]
 
 
 def played(program, script, *words):
@@ -92,14 +111,18 @@ def with_a_part_of_a_picture(program):
 
 
 def with_other_numbers_of_a_part(program):
-    """A number that can't be one, a part without a picture, and two parts are refused before anything is played or
-    written."""
+    """A number that can't be one, a part without a picture, a period of no part, and two parts are refused before
+    anything is played or written."""
     said = []
     with tempfile.TemporaryDirectory() as folder:
         path = f"{folder}/run.svg"
         tries = [["--timeline", path, *words] for words in NUMBERS]
         tries += [["--from", "8"], ["--around", "2"], ["--timeline", path, "--from", "8", "--around", "2"],
-                  ["--timeline", path, "--from"],
+                  ["--timeline", path, "--from"], ["--around", "2", "--period", "8"], ["--period", "8"],
+                  ["--timeline", path, "--period", "8"], ["--timeline", path, "--from", "8", "--period", "8"],
+                  ["--timeline", path, "--from", "8", "--around", "2", "--period", "8"],
+                  ["--verify", path, "--period", "8"], ["--verify", path, "--around", "2", "--period", "8"],
+                  ["--trace", path, "--around", "2", "--period", "8"],
                   ["--verify", path, "--from", "8"], ["--around", "2", "--verify", path]]
         for words in tries:
             ran = played(program, JUDGED, *words)

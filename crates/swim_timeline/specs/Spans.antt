@@ -1,6 +1,7 @@
 -- Which ticks of a run a picture shows.
 use Rattle.std.specs.Prelude.{ℕ, ◌+◌, ◌-◌, ◌*◌, ◌==◌, ◌&&◌, Bool, nat_le, nat_lt, min, List, [], ◌∷◌, Option, Some}
 use Rattle.std.specs.Prelude.{None, if◌then◌else◌}
+use Rattle.std.specs.List.{list_any}
 use Rattle.swim_history.specs.declared.entries.Entry.{Entry}
 use Rattle.swim_history.specs.declared.journals.Judged.{Judged}
 use Rattle.swim_history.specs.Setting.{Setting}
@@ -8,7 +9,7 @@ use Rattle.swim_history.specs.Clock.{period_number}
 use Rattle.swim_history.specs.Judgement.{judgements}
 use Rattle.swim_timeline.specs.declared.spans.Span.{Span}
 use Rattle.swim_timeline.specs.declared.spans.View.{View}
-use Rattle.swim_timeline.specs.declared.spans.View.TheVariants.{Start, From, Around}
+use Rattle.swim_timeline.specs.declared.spans.View.TheVariants.{Start, From, Around, At}
 
 -- how many periods a picture shows at the most; how many of them before and behind the one at whose end a member was
 -- judged
@@ -41,6 +42,14 @@ judged_last member found [] = found
 judged_last member found (judged ∷ later) =
     judged_last member (if judged.member == member then Some judged.number else found) later
 
+-- these judgements have that of the member at the end of the period with this number
+abbrev pub was_judged : ℕ → ℕ → List Judged → Bool
+was_judged member number all = list_any (λ judged. judged.member == member && judged.number == number) all
+
+-- that period, if they have it
+abbrev pub judged_at : ℕ → ℕ → List Judged → Option ℕ
+judged_at member number all = if was_judged member number all then Some number else None
+
 -- how many periods are shown before that one
 abbrev pub periods_before : Setting → ℕ → ℕ
 periods_before o number = min periods_aside (number - (o.last + 1))
@@ -55,3 +64,4 @@ abbrev pub span_of : Setting → List Entry → View → Option Span
 span_of o h Start = Some (span_of_periods o 0 most_periods)
 span_of o h (From number) = span_from o h number most_periods
 span_of o h (Around member) = span_around o h (judged_last member None (judgements o h))
+span_of o h (At member number) = span_around o h (judged_at member number (judgements o h))

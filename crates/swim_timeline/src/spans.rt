@@ -3,8 +3,8 @@
 ghost use Rattle.std.specs.Prelude.{◌≡◌, ◌*◌, ◌+◌, ◌<◌, ◌≤◌, ◌^◌, IfOk, None, Some};
 ghost use Rattle.swim_history.specs.Clock.{period_number, ticks};
 ghost use Rattle.swim_history.specs.Judgement.{judgements};
-ghost use Rattle.swim_timeline.specs.Spans.{first_tick, judged_last, periods_before, span_around, span_from, span_of};
-ghost use Rattle.swim_timeline.specs.Spans.{span_of_periods};
+ghost use Rattle.swim_timeline.specs.Spans.{first_tick, judged_at, judged_last, periods_before, span_around, span_from};
+ghost use Rattle.swim_timeline.specs.Spans.{span_of, span_of_periods, was_judged};
 
 use std::alloc::AllocError;
 use swim_history::{Journal, Judged, Opening};
@@ -25,6 +25,8 @@ pub enum View {
     From(u64),
     /// The one at whose end this member was judged failed last, and [`PERIODS_ASIDE`] before it and behind it.
     Around(Id),
+    /// The one with this number, at whose end this member was judged failed, and [`PERIODS_ASIDE`] before it and behind it.
+    At(Id, u64),
 }
 
 /// Some ticks of a run, with what happened at each and up to the next one.
@@ -37,7 +39,7 @@ pub struct Span {
 }
 
 impl Span {
-    /// The ticks that a picture shows of a run; `None` where the run has no such period, or never judged the member.
+    /// The ticks that a picture shows of a run; `None` where the run has no such period, or didn't judge the member then.
     /// `Err` only where memory was refused.
     pub fn of(journal: &Journal, view: View) -> Result<Option<Span>, AllocError>
         ensures { IfOk result (λ span. span ≡ span_of journal.now.opening journal.now.past view) }
@@ -49,15 +51,11 @@ impl Span {
                 let judged = journal.judgements()?;
                 Ok(around(journal, last_of(judged.as_slice(), member)))
             }
+            View::At(member, number) => {
+                let judged = journal.judgements()?;
+                Ok(around(journal, at(judged.as_slice(), member, number)))
+            }
         }
-    }
-
-    /// The ticks of the period with this number, and of [`PERIODS_ASIDE`] before it and behind it; `None` where the first
-    /// of these didn't begin.
-    pub fn round(journal: &Journal, number: u64) -> Option<Span>
-        ensures { result ≡ span_around journal.now.opening journal.now.past (Some number) }
-    {
-        around(journal, Some(number))
     }
 }
 
@@ -120,4 +118,22 @@ fn last_of(judged: &[Judged], member: Id) -> Option<u64>
         }
     }
     found
+}
+
+/// The period with this number, if the member was judged at its end.
+fn at(judged: &[Judged], member: Id, number: u64) -> Option<u64>
+    ensures { result ≡ judged_at member number judged.now }
+{
+    if was_judged(judged, member, number) {
+        Some(number)
+    } else {
+        None
+    }
+}
+
+/// Whether the member was judged at the end of the period with this number.
+fn was_judged(judged: &[Judged], member: Id, number: u64) -> bool
+    ensures { result ≡ was_judged member number judged.now }
+{
+    judged.iter().any(|judged| judged.member == member && judged.number == number)
 }

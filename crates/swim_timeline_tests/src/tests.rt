@@ -1,4 +1,5 @@
 mod clock;
+mod views;
 
 use std::alloc::Global;
 use std::fmt::Debug;
@@ -9,7 +10,7 @@ use swim_doubles::FailingPage;
 use swim_history::{Call, Journal, Opening, Row, RowState};
 use swim_targets::Scripted;
 use swim_text::Page;
-use swim_timeline::{MarkKind, Picture, PictureMark, Span, Times, View, put_timeline, show};
+use swim_timeline::{MarkKind, Picture, PictureMark, Span, Times, put_timeline, show};
 use swim_wire::{Id, Kind, Message, Peer, PeriodNumber, Version};
 
 // The two are the same. A call of this is proved at once, and an `assert_eq!` in some seconds.
@@ -191,45 +192,6 @@ fn assert_behind_last<R: Abort>(rt: &R, shown: &Picture) {
     let judged = state_at(shown.before.rows.as_slice(), 1);
     assert_same(rt, &judged, &Some(RowState::Failed(9)));
     assert!(rt; shown.marks.is_empty());
-}
-
-// Periods 8, 9 and 10 began at ticks 1, 4 and 7. Member 3 was judged at the end of period 9, which is the second one:
-// so the periods round it begin with period 8, and end with 14. Member 4 wasn't judged.
-#[test]
-fn a_view_is_of_periods_that_began(rt: HostRuntime) -> Result<(), Fail> {
-    let wanted = [
-        (View::Start, Some(span(0, 1200))),
-        (View::From(7), None),
-        (View::From(8), Some(span(1, 1200))),
-        (View::From(10), Some(span(7, 1206))),
-        (View::From(11), None),
-        (View::Around(id(3)), Some(span(1, 21))),
-        (View::Around(id(4)), None),
-    ];
-    assert_views(&rt, &journal(&rt, rt.alloc())?, &wanted);
-    Ok(())
-}
-
-// Round the second one are the same, and round the first one it and five behind it. Of those round the sixteenth the
-// first would be the eleventh, which didn't begin.
-#[test]
-fn the_periods_round_one_that_began(rt: HostRuntime) -> Result<(), Fail> {
-    let journal = journal(&rt, rt.alloc())?;
-    assert_same(&rt, &Span::round(&journal, 7), &None);
-    assert_same(&rt, &Span::round(&journal, 8), &Some(span(1, 18)));
-    assert_same(&rt, &Span::round(&journal, 9), &Some(span(1, 21)));
-    assert_same(&rt, &Span::round(&journal, 16), &None);
-    Ok(())
-}
-
-fn assert_views<R: Abort>(rt: &R, journal: &Journal, wanted: &[(View, Option<Span>)]) {
-    for (view, span) in wanted {
-        assert_view(rt, journal, *view, *span);
-    }
-}
-
-fn assert_view<R: Abort>(rt: &R, journal: &Journal, view: View, wanted: Option<Span>) {
-    assert_same(rt, &Span::of(journal, view), &Ok(wanted));
 }
 
 #[test]

@@ -3,7 +3,8 @@ use Rattle.std.specs.Prelude.{◌≡◌, ℕ, List, [], ◌∷◌, Option, Some,
 use Rattle.swim_evidence.specs.declared.findings.Evidence.{Evidence}
 use Rattle.swim_history.specs.Storing.Written.{Written}
 use Rattle.swim_timeline.specs.declared.spans.Span.{Span}
-use Rattle.swim_timeline.specs.Spans.{span_around}
+use Rattle.swim_timeline.specs.declared.spans.View.TheVariants.{At}
+use Rattle.swim_timeline.specs.Spans.{span_of}
 use Rattle.swim_verdicts.specs.declared.examining.Played.{Played}
 use Rattle.swim_verdicts.specs.declared.told_texts.TextKind.{TextKind}
 
@@ -42,11 +43,11 @@ abbrev pub Draws : Played → Option Span → Pictures → List ℕ → Type 0
 Draws p None drawn picture = (drawn ≡ []) × (picture ≡ [])
 Draws p (Some span) drawn picture = drawn ≡ (record { played = p; span = span }, picture) ∷ []
 
--- the picture shows the periods round the one with that number, by the journal of that file, if it has one
-abbrev pub IsPictureBy : Played → Option Written → ℕ → Pictures → List ℕ → Type 0
-IsPictureBy p None number drawn picture = (drawn ≡ []) × (picture ≡ [])
-IsPictureBy p (Some journal) number drawn picture =
-    Draws p (span_around journal.opening journal.past (Some number)) drawn picture
+-- the picture shows the periods round the verdict, by the journal of that file, if it has one
+abbrev pub IsPictureBy : Played → Option Written → Evidence → Pictures → List ℕ → Type 0
+IsPictureBy p None e drawn picture = (drawn ≡ []) × (picture ≡ [])
+IsPictureBy p (Some journal) e drawn picture =
+    Draws p (span_of journal.opening journal.past (At e.member e.number)) drawn picture
 
-abbrev pub IsPicture : Played → ℕ → Pictures → List ℕ → Type 0
-IsPicture p number drawn picture = IsPictureBy p p.journal number drawn picture
+abbrev pub IsPicture : Played → Evidence → Pictures → List ℕ → Type 0
+IsPicture p e drawn picture = IsPictureBy p p.journal e drawn picture

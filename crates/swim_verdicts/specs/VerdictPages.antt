@@ -48,19 +48,21 @@ page_text member number path standing rest =
     ++ (standing ++ (rest ++ codes "</main>\n</body>\n</html>\n"))))))))))))))
 
 -- what follows the head: the words, the table, the picture, and the commands that show the same
-abbrev pub rest_text : ℕ → List ℕ → List ℕ → List ℕ → List ℕ → List ℕ
-rest_text member path words table picture =
+abbrev pub rest_text : ℕ → ℕ → List ℕ → List ℕ → List ℕ → List ℕ → List ℕ
+rest_text member number path words table picture =
     codes "<h2>Evidence</h2>\n<pre>"
     ++ (words ++ (codes "</pre>\n<table>\n"
-    ++ (table ++ (codes "</table>\n<h2>The periods round it</h2>\n<div class=\"wide\" tabindex=\"0\">\n"
+    ++ (table ++ (codes "</table>\n<h2>The periods round it</h2>\n"
+    ++ (codes "<div class=\"wide\" role=\"region\" aria-label=\"The periods round it\" tabindex=\"0\">\n"
     ++ (picture ++ (codes "</div>\n<h2>By hand</h2>\n<pre>swimsim --verify "
     ++ (path ++ (codes "\nswimsim --timeline run.svg --around "
-    ++ (decimal member ++ (codes " "
-    ++ (path ++ codes "\n</pre>\n")))))))))))
+    ++ (decimal member ++ (codes " --period "
+    ++ (decimal number ++ (codes " "
+    ++ (path ++ codes "\n</pre>\n"))))))))))))))
 
 -- the page about a verdict that the file with this path tells: its head names that verdict, it says how that file
 -- stands, its words and the time of the probe were written of that verdict in that file, its table has what the
--- evidence has, and its picture was drawn of that file, round the period
+-- evidence has, and its picture was drawn of that file, round that verdict
 pub record IsVerdictPage (path : List ℕ) (p : Played) (e : Evidence) (page : Sheet) : Type 0 where
   pub standing : List ℕ
   pub stands : IsStanding p standing
@@ -69,6 +71,6 @@ pub record IsVerdictPage (path : List ℕ) (p : Played) (e : Evidence) (page : S
   pub time : List ℕ
   pub timed : IsOf Time p e page.times time
   pub picture : List ℕ
-  pub drawn : IsPicture p e.number page.pictures picture
+  pub drawn : IsPicture p e page.pictures picture
   pub is : page.text ≡ page_text e.member e.number (html_text path) standing
-      (rest_text e.member (html_text path) words (table_text e time) picture)
+      (rest_text e.member e.number (html_text path) words (table_text e time) picture)

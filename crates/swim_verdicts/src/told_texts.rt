@@ -14,7 +14,7 @@ use std::marker::Model;
 use swim_evidence::{Evidence, Finding};
 use swim_history::Journal;
 use swim_text::Page as Text;
-use swim_timeline::{Span, put_timeline};
+use swim_timeline::{Span, View, put_timeline};
 use swim_trail::{Remembered, Trail};
 
 /// What a text is to tell of a verdict.
@@ -106,16 +106,19 @@ fn noted(kind: TextKind, played: &Played, evidence: &Evidence, text: &str) -> Tr
     told
 }
 
-/// Draws the picture of the periods of a file round the one with this number. Without a journal it is empty.
+/// Draws the picture of the periods of a file round a verdict. Without a journal it is empty.
 pub(crate) fn picture_round(
     alloc: Global,
     played: &Played,
-    number: u64,
+    evidence: &Evidence,
 ) -> Result<(Text, Trail<OfTicks>), AllocError>
-    ensures { IfOk result (λ drawn. IsPicture played.now number drawn.1.items drawn.0.text) }
+    ensures { IfOk result (λ drawn. IsPicture played.now evidence.now drawn.1.items drawn.0.text) }
 {
     match &played.journal {
-        Some(journal) => draw_if_any(alloc, played, journal, Span::round(journal, number)),
+        Some(journal) => {
+            let span = Span::of(journal, View::At(evidence.member, evidence.number))?;
+            draw_if_any(alloc, played, journal, span)
+        }
         None => Ok(no_picture(alloc)),
     }
 }

@@ -76,10 +76,10 @@ impl<'a> VerdictPage<'a> {
         let (words, told) = tell_words(alloc, self.played, evidence)?;
         let (time, timed) = tell_time(alloc, self.played, evidence)?;
         let table = table_of(alloc, evidence, time.as_str())?;
-        let (picture, drawn) = picture_round(alloc, self.played, evidence.number)?;
+        let (picture, drawn) = picture_round(alloc, self.played, evidence)?;
         let rest = rest_of(
             alloc,
-            evidence.member,
+            evidence,
             path.text(),
             words.as_str().as_bytes(),
             table.text(),
@@ -197,27 +197,31 @@ fn page_of<'x>(
 /// Returns what follows the head of a page.
 fn rest_of<'x>(
     alloc: Global,
-    member: Id,
+    evidence: &Evidence,
     path: &'x [u8],
     words: &'x [u8],
     table: &'x [u8],
     picture: &'x [u8],
 ) -> Result<Text, AllocError>
-    ensures { IfOk result (λ rest. rest.text ≡ rest_text member path.now words.now table.now picture.now) }
+    ensures { IfOk result (λ rest. rest.text
+        ≡ rest_text evidence.now.member evidence.now.number path.now words.now table.now picture.now) }
 {
     let pieces = [
         Piece::Text(b"<h2>Evidence</h2>\n<pre>"),
         Piece::Text(words),
         Piece::Text(b"</pre>\n<table>\n"),
         Piece::Text(table),
+        Piece::Text(b"</table>\n<h2>The periods round it</h2>\n"),
         Piece::Text(
-            b"</table>\n<h2>The periods round it</h2>\n<div class=\"wide\" tabindex=\"0\">\n",
+            b"<div class=\"wide\" role=\"region\" aria-label=\"The periods round it\" tabindex=\"0\">\n",
         ),
         Piece::Text(picture),
         Piece::Text(b"</div>\n<h2>By hand</h2>\n<pre>swimsim --verify "),
         Piece::Text(path),
         Piece::Text(b"\nswimsim --timeline run.svg --around "),
-        Piece::Number(u64::from(member.get())),
+        Piece::Number(u64::from(evidence.member.get())),
+        Piece::Text(b" --period "),
+        Piece::Number(evidence.number),
         Piece::Text(b" "),
         Piece::Text(path),
         Piece::Text(b"\n</pre>\n"),

@@ -10,7 +10,7 @@ use Rattle.clap.specs.Simple.{on_top}
 use Rattle.clap.specs.declared.builder.ArgAction.TheVariants.{SetTrue}
 use Rattle.clap.specs.declared.builder.value_parser.ValueParser.TheVariants.{Unsigned}
 use Rattle.swim_timeline.specs.declared.spans.View.{View}
-use Rattle.swim_timeline.specs.declared.spans.View.TheVariants.{Start, From, Around}
+use Rattle.swim_timeline.specs.declared.spans.View.TheVariants.{Start, From, Around, At}
 
 -- the path of the script
 abbrev pub script_rule : Rule
@@ -90,10 +90,11 @@ TellsNumber limit number written = (written ≡ None → number ≡ None) × ((t
     → digits_value 10 (without_leading_plus text) < limit → number ≡ Some (digits_value 10 (without_leading_plus text)))
 
 -- which periods the picture shows
-abbrev pub view_of : Option ℕ → Option ℕ → View
-view_of (Some number) around = From number
-view_of None (Some member) = Around member
-view_of None None = Start
+abbrev pub view_of : Option ℕ → Option ℕ → Option ℕ → View
+view_of (Some number) around period = From number
+view_of None (Some member) (Some number) = At member number
+view_of None (Some member) None = Around member
+view_of None None period = Start
 
 -- something of a picture is asked that stands beside no picture, or both from a period on and round a judgement
 abbrev pub IsUnplaced : Options → Type 0
@@ -121,7 +122,8 @@ IsMixed options =
     ((0 < length options.verify.items) × ((0 < length options.trace.items) ⊎ AsksForScript options))
     ⊎ ((0 < length options.trace.items) × AsksForRun options)
 
--- judgements are named that are to be traced, and no files
+-- judgements are named that are to be traced, and no files; a period is named, and neither files nor a member round
+-- whose judgement the picture lies
 abbrev pub IsUntraced : Options → Type 0
-IsUntraced options =
-    (IsSome options.judged ⊎ IsSome options.period ⊎ (options.json ≡ true)) × (length options.trace.items ≡ 0)
+IsUntraced options = (length options.trace.items ≡ 0)
+    × (IsSome options.judged ⊎ (options.json ≡ true) ⊎ (IsSome options.period × (options.around ≡ None)))

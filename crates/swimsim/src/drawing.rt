@@ -75,6 +75,10 @@ fn nothing_shown(view: View) -> Error {
             let id = member.get();
             anyhow!("member {id} was not judged in this run")
         }
+        View::At(member, number) => {
+            let id = member.get();
+            anyhow!("member {id} was not judged in period {number} of this run")
+        }
     }
 }
 

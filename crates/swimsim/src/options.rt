@@ -31,7 +31,7 @@ pub struct Options<'a> {
     pub timeline: Option<&'a str>,
     /// The period with which the picture begins; `None` where no period is named.
     pub from: Option<u64>,
-    /// The member round whose last judgement the picture lies; `None` where none is named.
+    /// The member round whose judgement the picture lies; `None` where none is named.
     pub around: Option<Id>,
     /// Whether the picture is written over whatever stands there.
     pub force: bool,
@@ -41,7 +41,7 @@ pub struct Options<'a> {
     pub trace: Vec<&'a str>,
     /// Whose judgements are traced; `None` for those of all members.
     pub judged: Option<Id>,
-    /// In which period they were made; `None` for all periods.
+    /// In which period they were made, or the one round which the picture lies; `None` for all periods, or the last.
     pub period: Option<u64>,
     /// Whether what is traced is written as JSON.
     pub json: bool,
@@ -83,11 +83,15 @@ impl<'a> Options<'a> {
             || (self.force && self.timeline.is_none())
     }
 
-    /// Whether some judgements are named that are to be traced, and no files.
+    /// Whether some judgements are named that are to be traced, and no files; or a period, which may also be that of the
+    /// picture.
     pub fn is_untraced(&self) -> bool
         ensures { IsTrue result ↔ IsUntraced self.now }
     {
-        (self.judged.is_some() || self.period.is_some() || self.json) && self.trace.is_empty()
+        self.trace.is_empty()
+            && (self.judged.is_some()
+                || self.json
+                || (self.period.is_some() && self.around.is_none()))
     }
 
     /// Whether a part of a picture is asked for, and no picture.
@@ -106,12 +110,13 @@ impl<'a> Options<'a> {
 
     /// Which periods the picture shows.
     pub fn view(&self) -> View
-        ensures { result ≡ view_of self.now.from self.now.around }
+        ensures { result ≡ view_of self.now.from self.now.around self.now.period }
     {
-        match (self.from, self.around) {
-            (Some(number), _) => View::From(number),
-            (None, Some(member)) => View::Around(member),
-            (None, None) => View::Start,
+        match (self.from, self.around, self.period) {
+            (Some(number), _, _) => View::From(number),
+            (None, Some(member), Some(number)) => View::At(member, number),
+            (None, Some(member), None) => View::Around(member),
+            (None, None, _) => View::Start,
         }
     }
 }
@@ -343,6 +348,6 @@ fn period<'a>(alloc: Global) -> Arg<'a>
     ensures local { result.global ≡ false }
 {
     let most = u64::MAX;
-    let help = "Traces the judgements of period P alone";
+    let help = "Traces the judgements of period P alone; beside --around draws that of period P";
     number(alloc, "period", "P", most, help)
 }

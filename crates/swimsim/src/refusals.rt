@@ -26,14 +26,14 @@ pub fn refuse_mixed(alloc: Global) -> Result<Error, AllocError>
     )
 }
 
-/// The answer to words that name judgements to be traced, and no files.
+/// The answer to words that name judgements, and neither files to be traced nor a picture round one of them.
 pub fn refuse_untraced(alloc: Global) -> Result<Error, AllocError>
     ensures { IfOk result (λ answer. kind_of answer ≡ ErrorKind.MissingRequiredArgument) }
 {
     refuse(
         alloc,
         ErrorKind::MissingRequiredArgument,
-        "--judged, --period and --json stand beside --trace FILE",
+        "--judged, --period and --json stand beside --trace FILE, and --period beside --around ID too",
     )
 }
 

@@ -16,11 +16,11 @@ returns c =
     let standing = c.as_bytes-2.result.now in
     let words_are : string_bytes c.in_ok-words.words ≡ words =
     sym (c.as_bytes.ensures.value ∙ c.as_str-2.ensures.value) in
-    let rest_is : c.text-5.result.now ≡ rest_text e.member path words (table_text e time) picture =
+    let rest_is : c.text-5.result.now ≡ rest_text e.member e.number path words (table_text e time) picture =
     c.text-5.ensures ∙ (c.in_ok-rest.ensures
-    ∙ (ap (λ (at : List ℕ). rest_text e.member at words c.text-2.result.now picture)
+    ∙ (ap (λ (at : List ℕ). rest_text e.member e.number at words c.text-2.result.now picture)
     (c.text.ensures ∙ c.in_ok-path.ensures)
-    ∙ ap (λ (table : List ℕ). rest_text e.member path words table picture)
+    ∙ ap (λ (table : List ℕ). rest_text e.member e.number path words table picture)
     (c.text-2.ensures ∙ c.in_ok-table.ensures))) in
     record {
       standing = standing;
@@ -31,7 +31,7 @@ returns c =
       time = time;
       timed = subst (IsOf Time p e c.in_ok-time.timed.items) (sym c.as_str.ensures.value) c.in_ok-time.ensures;
       picture = picture;
-      drawn = subst (IsPicture p e.number c.in_ok-picture.drawn.items) (sym c.text-3.ensures)
+      drawn = subst (IsPicture p e c.in_ok-picture.drawn.items) (sym c.text-3.ensures)
           c.in_ok-picture.ensures;
       is = c.in_ok-text.ensures
           ∙ (ap (λ (at : List ℕ). page_text e.member e.number at standing c.text-5.result.now)
