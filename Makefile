@@ -17,7 +17,7 @@ UNIT = $(DESTDIR)$(PREFIX)/lib/systemd/system
 
 help:
 	@echo 'make run        plays examples/first.swim: by the proved swimsim where that was built, and else by its sources, as'
-	@echo '                they are before any proof, within a minute'
+	@echo '                they are before any proof, in about a minute'
 	@echo 'make demo       shows a group of five at work and its page; one of them is killed, and their journal files tell of it;'
 	@echo '                where no proved programs were built, by their sources as they are, within three minutes'
 	@echo 'make build      proves and builds swimsim and swimd if need be, which takes half an hour at first and says how far'
@@ -26,7 +26,7 @@ help:
 	@echo '                tests of those, and runs the short parts of tests/; it takes what was proved before as it is'
 	@echo 'make test       rt ci (every proof and test), and the parts of tests/ that run the built programs, in some 40 minutes'
 	@echo '                with four processors; tests/all --list names them, and tests/all --only NAME runs one'
-	@echo 'make edits      tries wrong bodies, each of which the prover has to refuse: half an hour behind a make test'
+	@echo 'make edits      tries wrong bodies, each of which the prover has to refuse: some 45 minutes behind a make test'
 	@echo 'make compare    runs swimsim and tests/reference on random scripts, and swimd on random configurations and'
 	@echo '                control lines beside models of both, and compares what they write'
 	@echo 'make fuzz       gives both programs mutations of valid scripts, datagrams, configurations and control lines, for ten'

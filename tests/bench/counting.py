@@ -1,12 +1,12 @@
 """Instructions of the built programs, counted by valgrind. Counts are the same wherever they are made: the C library is
-told to use what each processor has. What the system does isn't counted."""
+told to copy and clear in the plain way, which each processor has. What the system does isn't counted."""
 
 import re
 import socket
 from pathlib import Path
 
 from tests.bench import bench_scripts
-from tests.bench.measuring import BenchFault, Counter
+from tests.bench.measuring import VALGRIND, BenchFault, instructions
 from tests.support.configurations import HOST
 from tests.support.daemons import Machine, must, udp_socket, until
 from tests.support.datagrams import PING, datagram
@@ -23,10 +23,6 @@ WIDEST_FENCE = 2**32 - 1
 KEYED = {"keys": key_texts(FIRST)}
 # What is said of a thread in the file that valgrind writes of it.
 TOTAL = re.compile(r"^(?:summary|totals): (\d+)", re.MULTILINE)
-# Else the C library copies by what the processor at hand has, and a count is that processor's.
-PLAIN_COPIES = ["env", "GLIBC_TUNABLES=glibc.cpu.hwcaps=-AVX,-AVX2,-AVX512F,-AVX512VL,-AVX512BW,-BMI2,-ERMS,-FSRM"]
-VALGRIND = [*PLAIN_COPIES, "valgrind", "--tool=callgrind"]
-CALLGRIND = Counter([*VALGRIND, "--callgrind-out-file=/dev/null"], r"Collected : (\d+)")
 
 
 def ping(daemon, count):
@@ -88,5 +84,5 @@ def of_event(path, part, folder, few=2_000, many=20_000):
     for events in (few, many):
         script = f"{folder}/{part.__name__}-{events}.swim"
         bench_scripts.write(script, part, most_events=events)
-        counts.append(CALLGRIND.count([path], script))
+        counts.append(instructions([path], script))
     return (counts[1] - counts[0]) / (many - few)

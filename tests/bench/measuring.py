@@ -4,7 +4,6 @@ take."""
 import filecmp
 import os
 import re
-import shutil
 import subprocess
 import time
 from typing import NamedTuple
@@ -65,30 +64,18 @@ def must_agree(programs, script, folder):
         os.remove(output)
 
 
-class Counter(NamedTuple):
-    """A command that counts the instructions of a program, and how the count is found in what it writes."""
-
-    words: list
-    pattern: str
-
-    def count(self, words, script):
-        with open(script, "rb") as source:
-            ran = subprocess.run(
-                [*self.words, *words], stdin=source, stdout=subprocess.DEVNULL, stderr=subprocess.PIPE, text=True
-            )
-        found = re.search(self.pattern, ran.stderr, re.MULTILINE)
-        if ran.returncode or not found:
-            raise BenchFault(f"{self.words[0]} counted no instructions of {words[0]}")
-        return int(found[1])
+# By itself the C library copies and clears by what the processor at hand has, and a count is that processor's.
+PLAIN_COPIES = ["env", "GLIBC_TUNABLES=glibc.cpu.hwcaps=-AVX,-AVX2,-AVX512F,-AVX512VL,-AVX512BW,-BMI2,-ERMS,-FSRM"]
+VALGRIND = [*PLAIN_COPIES, "valgrind", "--tool=callgrind"]
+COLLECTED = re.compile(r"Collected : (\d+)")
 
 
-def counter():
-    """How instructions are counted here; None where they can't be."""
-    perf = Counter(["perf", "stat", "-x,", "-e", "instructions:u", "--"], r"^(\d+),")
-    if shutil.which("perf"):
-        tried = subprocess.run([*perf.words, "true"], capture_output=True, text=True)
-        if re.match(r"\d+,", tried.stderr):
-            return perf
-    if shutil.which("valgrind"):
-        return Counter(["valgrind", "--tool=callgrind", "--callgrind-out-file=/dev/null"], r"Collected : (\d+)")
-    return None
+def instructions(words, script):
+    """The instructions that a program takes on a script, counted by valgrind."""
+    command = [*VALGRIND, "--callgrind-out-file=/dev/null", *words]
+    with open(script, "rb") as source:
+        ran = subprocess.run(command, stdin=source, stdout=subprocess.DEVNULL, stderr=subprocess.PIPE, text=True)
+    found = COLLECTED.search(ran.stderr)
+    if ran.returncode or not found:
+        raise BenchFault(f"valgrind counted no instructions of {words[0]}")
+    return int(found[1])

@@ -51,7 +51,7 @@ ALL_PROGRAMS = (
 
 CHECK = Part("check", "what changed, and what stands on it, over what was proved before", ["tests/support/check"])
 # What proves leaves the processors to the parts that are played meanwhile: some of these tell how soon a daemon answers.
-CI = Part("ci", "every proof and test of the crates, from nothing (`rt ci`)", ["nice", "-n", "19", "rt", "ci"])
+CI = Part("ci", "every proof and test of the crates (`rt ci`)", ["nice", "-n", "19", "rt", "ci"])
 EDITS = Part(
     "edits", "wrong bodies that the prover has to refuse, those of a crate tried together", ["tests/edits/run"]
 )

@@ -1,5 +1,5 @@
 """Programs that aren't proved yet, compiled from their sources as these are, with checks while they run. They are some
-ten times slower than the proved ones, and there within a minute or so.
+ten times slower than the proved ones, and there in about a minute.
 
 `rt try` compiles such a program, runs it once and removes it. So it is told to run it on a named pipe, which the
 program opens and waits at; meanwhile the program is copied. The copy is kept in the crate's out/, under a name that is
@@ -105,7 +105,7 @@ def unproved(crates, *names):
     paths = {it: kept(crates, it) for it in names}
     missing = [it for it in names if not os.path.exists(paths[it])]
     if missing:
-        say(f"compiling {' and '.join(missing)} without a proof, which takes a minute or two; it is kept for the next time")
+        say(f"compiling {' and '.join(missing)} without a proof, which takes about a minute; it is kept for the next time")
         with ThreadPoolExecutor(len(missing)) as pool:
             waited_for([pool.submit(compile_one, crates, it, paths[it]) for it in missing], missing)
     return [paths[it] for it in names]

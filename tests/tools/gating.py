@@ -109,22 +109,52 @@ def last_of(ran):
     return (ran.stdout.splitlines() or [""])[-1]
 
 
-def times_are_put_into_the_document(_programs, folder):
-    """Those of a run with four processors, by part and by crate; a document without their places is left as it is."""
+# Of the crates by which d stands on a, c is proved longest. What its tests take isn't seen in a chain.
+CRATES = "a:\nb: a thiserror\nc: a\nd: b c\nd_tests: d\n"
+SECONDS_OF_CRATES = {
+    "a": {"proof": 10.2}, "b": {"proof": 19.9, "tests": 500}, "c": {"proof": 20.4}, "d": {"proof": 12.3, "edits": 4.6}
+}
+CHAIN = "In the run of 2026-01-02 that was a, c, d: 43 seconds of a processor, 12 of them for d."
+
+
+def with_times(folder):
     copy = Copy(folder)
     for path in ("tests/tools/times", "docs/GATE.md"):
         copy.put_file(path, open(f"{TOP}/{path}", encoding="utf-8").read(), mode=0o755)
+    copy.put_file("crates.txt", CRATES)
+    return copy
+
+
+def put_times(copy, **values):
+    """Puts the times of a run into the copy's document: the status, and the document."""
     part = {"part": "ci", "seconds": 2_000.4, "processor": 7_000.6, "passed": 1, "failed": 0}
-    told = {"when": "2026-01-02", "processors": 4, "seconds": 2_100, "parts": [part],
-            "crates": {"swim_wire": {"proof": 12.3, "edits": 4.6}}}
-    copy.put_file("out/gate.json", json.dumps(told))
+    told = {"when": "2026-01-02", "processors": 4, "seconds": 2_100, "parts": [part], "crates": SECONDS_OF_CRATES}
+    copy.put_file("out/gate.json", json.dumps({**told, **values}))
     ran = copy.run("tests/tools/times")
     with open(f"{copy.top}/docs/GATE.md", encoding="utf-8") as file:
-        text = file.read()
-    wanted = ["A run of 2026-01-02, in seconds:", "| ci | 2,000 | 7,001 |", "| swim_wire | 12 | - | 5 |"]
-    said = unlike("the status", 0, ran.returncode) + [f"it lacks {it!r}" for it in wanted if it not in text]
+        return ran.returncode, file.read()
+
+
+def times_are_put_into_the_document(_programs, folder):
+    """Those of a run with four processors, by part and by crate, and the longest chain; a document without their places
+    is left as it is."""
+    copy = with_times(folder)
+    status, text = put_times(copy)
+    wanted = ["A run of 2026-01-02, in seconds:", "| ci | 2,000 | 7,001 |", "| d | 12 | - | 5 |", CHAIN]
+    said = unlike("the status", 0, status) + [f"it lacks {it!r}" for it in wanted if it not in text]
     copy.put_file("docs/GATE.md", "nothing\n")
-    return said + unlike("the other status", 1, copy.run("tests/tools/times").returncode)
+    return said + unlike("the other status", (1, "nothing\n"), put_times(copy))
+
+
+def two_processors_leave_the_crates(_programs, folder):
+    """A run with two processors puts its parts into their own table. Crates and chain stay those of four."""
+    copy = with_times(folder)
+    _, four = put_times(copy)
+    status, both = put_times(copy, when="2026-03-04", processors=2, crates={"a": {"proof": 77.7}})
+    places = re.compile(r"<!-- ([^>]*) -->(.*?)<!-- end of \1 -->", re.DOTALL)
+    before, after = (dict(places.findall(it)) for it in (four, both))
+    moved = [it for it in after if after[it] != before[it]]
+    return unlike("the status", 0, status) + unlike("what it puts", ["parts with two processors"], moved)
 
 
 def no_edit_is_tried_for_who_is_gone(_programs, _folder):
@@ -140,5 +170,6 @@ GATING = [
     edits_are_tried_beside_the_rest,
     a_part_without_its_program_fails,
     times_are_put_into_the_document,
+    two_processors_leave_the_crates,
     no_edit_is_tried_for_who_is_gone,
 ]
