@@ -155,7 +155,7 @@ def the_summary_in_the_page_of_swimd_is_right(programs, _prefix):
 def drop_ins():
     """The lines that docs/OPERATING.md has for a service, by the paths that it gives them."""
     text = content(f"{TOP}/docs/OPERATING.md").decode()
-    for found in re.finditer(r"/(swimd\.service\.d/\w+\.conf)\b", text):
+    for found in re.finditer(r"/(swimd(?:-web)?\.service\.d/\w+\.conf)\b", text):
         lines = re.search(r"(?m)(?:^    .*\n)+", text[found.end() :])
         yield found[1], lines[0].replace("    ", "")
 
