@@ -29,15 +29,16 @@ def free_port():
 class WebServer:
     """A `swimd web` that runs, at a port where nobody else listens."""
 
-    def __init__(self, machine, control, *words, host=HOST):
+    def __init__(self, machine, control, *words, host=HOST, **how):
         self.program, self.words, self.host = machine.program, ["--control", control, *words], host
+        self.how = how
 
     def __enter__(self):
         for _ in range(PORTS_TRIED):
             self.port = free_port()
             words = [self.program, "web", "--listen", f"{self.host}:{self.port}", *self.words]
             self.child = subprocess.Popen(words, stdin=subprocess.DEVNULL, stdout=subprocess.PIPE,
-                                          stderr=subprocess.PIPE, bufsize=0)
+                                          stderr=subprocess.PIPE, bufsize=0, **self.how)
             self.said = b""
             until(lambda: self.hear() and b"\n" in self.said, "it says where it serves")
             if LINE_OF_START in self.said:

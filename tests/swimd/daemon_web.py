@@ -17,6 +17,7 @@ from tests.support.parts import TOP, content, leave_out
 from tests.support.sayings import first_line_of
 from tests.support.web_servers import WebServer
 from tests.swimd.daemon_metrics import FILES_NAMES, NAMES, OF_MEMBERS, parsed
+from tests.swimd.daemon_starting import NOBODY
 from tests.swimd.daemon_watchers import MINUTE, watched
 
 MEMBERS = [(2, "10.0.0.2:7000"), (30, "10.0.0.3:7000")]
@@ -341,6 +342,48 @@ def addresses(machine):
         must(web.get("/", Host="n8").status == 421, "a name that wasn't given is known")
 
 
+def journal_folders(machine):
+    """That a journal folder can't be read is told at the start. The pages are there all the same, and a folder that is
+    made later is read."""
+    daemon, file, number = judged_and_ended(machine)
+    missing, plain = f"{machine.folder}/missing", f"{machine.folder}/plain"
+    with open(plain, "wb"):
+        pass
+    for path, why in (
+        (plain, "a part of the path is no folder"),
+        (f"{missing}/below", "no such file or folder"),
+        (missing, "no such file or folder"),
+    ):
+        with WebServer(machine, daemon.control, "--journals", path) as web:
+            must_answer(web, f"/verdicts/2/{number}", 404, b"no such verdict\n")
+            web.hear()
+            warning = web.said.split(b"\n", 1)[1].split(b" ", 1)[1]
+            must(warning == f"warning: journals {path}: {why}\n".encode(), f"{web.said!r} is told")
+            if path == missing:
+                os.mkdir(missing)
+                shutil.copy(file.path, missing)
+                must_answer(web, f"/verdicts/2/{number}", 200)
+    with WebServer(machine, daemon.control, "--journals", missing) as web:
+        must_answer(web, f"/verdicts/2/{number}", 200)
+        web.hear()
+        must(web.said.count(b"\n") == 1, f"{web.said!r} is told of a folder that can be read")
+
+
+def a_closed_folder(machine):
+    """A journal folder that this user may not read is told as that."""
+    if os.getuid() != 0:
+        return leave_out("a journal folder that swimd web may not read needs another user than this one")
+    closed = f"{machine.folder}/closed"
+    os.mkdir(closed, 0o700)
+    os.chmod(machine.folder, 0o755)
+    control, as_nobody = f"{machine.folder}/nobody", {"preexec_fn": lambda: os.setuid(NOBODY)}
+    with WebServer(machine, control, "--journals", closed, **as_nobody) as web:
+        must_answer(web, "/verdicts/2/7", 404, b"no such verdict\n")
+        web.hear()
+        said = f" warning: journals {closed}: permission denied\n"
+        must(web.said.endswith(said.encode()), f"{web.said!r} is told")
+
+
 def shown(web):
     """What the page's script shows, by node."""
     words = ["node", f"{TOP}/tests/support/page_screen.js", f"http://{HOST}:{web.port}/"]
@@ -390,5 +433,7 @@ PAGES = [
     no_daemon_at_first,
     a_daemon_that_stands_still,
     addresses,
+    journal_folders,
+    a_closed_folder,
     what_the_page_shows,
 ]

@@ -2,6 +2,7 @@
 
 import os
 import re
+import subprocess
 import time
 
 from tests.support.daemons import must, until
@@ -127,6 +128,48 @@ def a_file_above_the_limit(machine):
         must(web.memory() < MOST_BYTES, f"the server has {web.memory()} bytes")
 
 
+def other_verdicts_cost_nothing(machine):
+    """It is kept which verdicts a file tells: for others, of whatever period, it isn't read again."""
+    daemon, file, number = judged_and_ended(machine)
+    folder = f"{machine.folder}/others"
+    os.makedirs(folder)
+    for name in ("1-5-0", "1-6-0"):
+        with open(f"{folder}/{name}.swim", "wb") as written:
+            written.write(file.text + COMMENTS)
+    with WebServer(machine, daemon.control, "--journals", folder) as web:
+        must(asked(web, 2, number + 1)[0] is None, "another verdict is shown")
+        for other in range(number + 2, number + 52):
+            for member in (2, 3):
+                found, count = asked(web, member, other)
+                must(found is None and count < LITTLE, f"{count} bytes are read for a verdict that no file tells")
+        page = must_read(web, (2, number))
+        must("/1-6-0.swim</code>" in page, f"the page is {page:.2000}")
+
+
+def a_fault_before_the_verdict(machine):
+    """A file with a fault before the verdict doesn't tell it, and the answer says what speaks against the file."""
+    daemon, file, number = judged_and_ended(machine)
+    folder = f"{machine.folder}/changed"
+    path = f"{folder}/1-5-0.swim"
+    os.makedirs(folder)
+    at = file.text.index(b"\n= ") + len(b"\n= ")
+    with open(path, "wb") as changed:
+        changed.write(file.text[:at] + b"?" + file.text[at + 1 :])
+    ran = subprocess.run([machine.simulator, "--verify", path], capture_output=True, timeout=20)
+    must(ran.stderr.startswith(f"swimsim: {path}: line ".encode()), f"it is verified as {ran.stderr!r}")
+    wanted = b"no such verdict\n" + ran.stderr.removeprefix(b"swimsim: ")
+    with WebServer(machine, daemon.control, "--journals", folder) as web:
+        for other in (number, number, number + 1):
+            reply = web.get(f"/verdicts/2/{other}")
+            must((reply.status, reply.body) == (404, wanted), f"it is answered {reply.status} {reply.body!r}")
+        with open(f"{folder}/1-4-0.swim", "wb") as whole:
+            whole.write(file.text)
+        page, _ = asked(web, 2, number)
+        must(page and "/1-4-0.swim</code>" in page, f"the page is {page!r:.2000}")
+        reply = web.get(f"/verdicts/2/{number + 1}")
+        must((reply.status, reply.body) == (404, wanted), f"a whole file is told: {reply.body!r}")
+
+
 def each_verdict_has_its_page(machine):
     """Nine verdicts in turn, of which eight are kept: each page is about its own, with its own evidence."""
     members = [(id, "127.0.0.1:9") for id in range(2, 12)]
@@ -146,4 +189,11 @@ def each_verdict_has_its_page(machine):
             must(f"<th scope=\"row\">Acks of period {number}</th>" in page, f"the table is another: {page:.2500}")
 
 
-KEPT = [a_page_is_kept, a_newer_file_is_looked_at, a_file_above_the_limit, each_verdict_has_its_page]
+KEPT = [
+    a_page_is_kept,
+    a_newer_file_is_looked_at,
+    a_file_above_the_limit,
+    other_verdicts_cost_nothing,
+    a_fault_before_the_verdict,
+    each_verdict_has_its_page,
+]

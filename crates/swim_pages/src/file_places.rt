@@ -62,4 +62,11 @@ impl Place {
             && self.number == other.number
             && self.path.as_str() == other.path.as_str()
     }
+    /// Returns whether it is in this file, in this state.
+    pub fn is_in(&self, path: &str, mark: &FileMark) -> bool
+        ensures path { result ≡ true → path.now ≡ self.now.path.bytes }
+        ensures mark { result ≡ true → mark.now ≡ self.now.mark }
+    {
+        *mark == self.mark && path == self.path.as_str()
+    }
 }

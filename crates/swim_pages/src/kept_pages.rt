@@ -1,14 +1,14 @@
-//! What was found of verdicts in files, which is kept: pages, and that files don't tell one.
+//! What was found of verdicts in files, which is kept: pages, and which verdicts files tell.
 
 ghost use Rattle.std.specs.Prelude.{◌≡◌, ◌<◌, IfOk, IfSome, length};
-ghost use Rattle.swim_pages.specs.Shelves.{AreSame, IsUntold, IsWritten};
+ghost use Rattle.swim_pages.specs.Shelves.{AreSame, IsBlankAt, IsWritten};
 ghost use Rattle.swim_verdicts.specs.Examined.{IsEvidence};
 
 use crate::file_places::Place;
+use crate::kept_files::KeptFile;
 use std::alloc::{AllocError, Global};
 use std::marker::Model;
 use swim_evidence::Evidence;
-use swim_trail::Remembered;
 use swim_verdicts::{Played, VerdictPage, WrittenPage};
 
 /// How many pages are kept, and the most bytes that each of them has.
@@ -16,8 +16,8 @@ const KEPT_PAGES: usize = 8;
 
 const KEPT_BYTES: usize = 1_048_576;
 
-/// Of how many verdicts and files it is kept that the file doesn't tell the verdict.
-const KEPT_BLANKS: usize = 256;
+/// Of how many files it is kept which verdicts they tell.
+const KEPT_FILES: usize = 1_024;
 
 /// A page that was written, with the place where its verdict was looked for.
 #[derive(Drop)]
@@ -77,54 +77,11 @@ impl KeptPage {
     }
 }
 
-/// A file that was played, and doesn't tell the verdict of its place.
-#[derive(Drop)]
-pub struct BlankFile {
-    place: Place,
-    played: Remembered<Played>,
-}
-
-impl Model for BlankFile {
-    ghost use Rattle.std.specs.Coded.{codes};
-    ghost use Rattle.swim_pages.specs.contracts.file_places.Place as spot;
-    ghost use Rattle.swim_verdicts.specs.contracts.examining.Played as file;
-    ghost use Rattle.swim_pages.specs.Shelves.{IsUntold, PlacedFile};
-
-    ghost Value = { PlacedFile };
-
-    ghost coded = { Prim.hlevel (codes, spot.the_row.coded, file.the_row.coded) };
-
-    ghost view = { λ b. record { place = b.place; played = b.played.value } };
-
-    ghost invariant = { λ b. IsUntold b.place b.played.value };
-}
-
-impl BlankFile {
-    /// Returns the file that was played at this place.
-    pub fn of(place: Place, played: &Played) -> BlankFile
-        requires { IsUntold place played.now }
-        ensures { result ≡ record { place = place; played = played.now } }
-    {
-        BlankFile {
-            place,
-            played: Remembered::of(played),
-        }
-    }
-
-    /// Returns the place where it was played.
-    fn place(&self) -> &Place
-        ensures place { result.now ≡ self.now.place }
-        ensures untold { IsUntold self.now.place self.now.played }
-    {
-        &self.place
-    }
-}
-
-/// The last pages that were written, and the last files that were found not to tell a verdict.
+/// The last pages that were written, and the last files that were played.
 #[derive(Drop)]
 pub struct KeptPages {
     pages: Vec<KeptPage>,
-    blanks: Vec<BlankFile>,
+    files: Vec<KeptFile>,
 }
 
 impl KeptPages {
@@ -132,7 +89,7 @@ impl KeptPages {
     pub fn new(alloc: Global) -> KeptPages {
         KeptPages {
             pages: Vec::new(alloc),
-            blanks: Vec::new(alloc),
+            files: Vec::new(alloc),
         }
     }
 
@@ -148,13 +105,13 @@ impl KeptPages {
         None
     }
 
-    /// Returns the file of a place, if it is kept that it doesn't tell the verdict.
-    pub fn blank_at(&self, place: &Place) -> Option<&BlankFile>
-        ensures { IfSome result (λ blank. AreSame blank.now.place place.now) }
+    /// Returns the file of a place, if it is kept which verdicts it tells, and this one isn't among them.
+    pub fn blank_at(&self, place: &Place) -> Option<&KeptFile>
+        ensures { IfSome result (λ file. IsBlankAt place.now file.now) }
     {
-        for blank in self.blanks.iter() {
-            if blank.place().is(place) {
-                return Some(blank);
+        for file in self.files.iter() {
+            if file.is_blank(place) {
+                return Some(file);
             }
         }
         None
@@ -171,12 +128,12 @@ impl KeptPages {
         let _is_kept = self.pages.push(page);
     }
 
-    /// Keeps that a file doesn't tell a verdict, if need be in the stead of the oldest.
-    pub fn keep_blank(&mut self, blank: BlankFile) {
-        if self.blanks.len() >= KEPT_BLANKS {
-            let _oldest = self.blanks.remove(0);
+    /// Keeps which verdicts a file tells, in the stead of what was kept of the same file, or of the oldest.
+    pub fn keep_file(&mut self, file: KeptFile) {
+        if let Some(gone) = self.leaving_for(file.path()) {
+            let _gone = self.files.remove(gone);
         }
-        let _is_kept = self.blanks.push(blank);
+        let _is_kept = self.files.push(file);
     }
 
     /// Returns which page leaves when one of this place comes, if one has to.
@@ -189,6 +146,22 @@ impl KeptPages {
             }
         }
         if self.pages.len() >= KEPT_PAGES {
+            Some(0)
+        } else {
+            None
+        }
+    }
+
+    /// Returns which file leaves when one with this path comes, if one has to.
+    fn leaving_for(&self, path: &str) -> Option<usize>
+        ensures { IfSome result (λ gone. gone < length self.now.files.items) }
+    {
+        for at in 0..self.files.len() {
+            if self.files[at].path() == path {
+                return Some(at);
+            }
+        }
+        if self.files.len() >= KEPT_FILES {
             Some(0)
         } else {
             None

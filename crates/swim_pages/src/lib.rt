@@ -2,7 +2,9 @@
 //! its journal files, by which verdicts are explained.
 #![tactic(auto)]
 
+mod doubts;
 mod file_places;
+mod kept_files;
 mod kept_pages;
 mod web_daemons;
 mod web_events;

@@ -1,20 +1,24 @@
 //! The journal files in which `web` looks verdicts up.
 
-ghost use Rattle.std.specs.Prelude.{◌≡◌, IfOk, IfSome};
+ghost use Rattle.std.specs.Prelude.{◌≡◌, IfSome};
+ghost use Rattle.swim_pages.specs.Doubts.{AreDoubts};
 ghost use Rattle.swim_pages.specs.Shelves.{ShowsLast};
-ghost use Rattle.swim_pages.specs.Looked.{place_of};
+ghost use Rattle.swim_verdicts.specs.Examined.{IsEvidence};
 ghost use Rattle.swim_web.specs.declared.shelves.Found.TheVariants as finds;
 
+use crate::doubts::{doubt, objection_to};
 use crate::file_places::{FileMark, Place};
-use crate::kept_pages::{BlankFile, KeptPage, KeptPages};
-use std::alloc::{AllocError, Global};
+use crate::kept_files::KeptFile;
+use crate::kept_pages::{KeptPage, KeptPages};
+use std::alloc::Global;
 use std::fs::File;
 use std::marker::Model;
 use std::rt::Files;
 use swim_disk::{FilePath, journals_in, judged_in, path_of};
+use swim_evidence::Evidence;
 use swim_text::{Page as Text, Sink};
 use swim_trail::{Remembered, Trail};
-use swim_verdicts::{evidence_of, play};
+use swim_verdicts::{Played, evidence_of, play};
 use swim_web::{Found, Shelf};
 use swim_wire::Id;
 
@@ -64,15 +68,17 @@ impl<'r, 'p, R: Files<File = File>> FileShelf<'r, 'p, R> {
     }
 
     /// Looks for the verdict in the files of a folder, the newest first.
-    fn find_in(&mut self, dir: &str, member: Id, number: u64, page: &mut Text) -> Found
-        ensures { result ≡ finds.Page → ShowsLast self.new.shown.items member number page.new.text }
+    fn find_in(&mut self, dir: &str, member: Id, number: u64, text: &mut Text) -> Found
+        requires { AreDoubts member number text.old.text }
+        ensures page { result ≡ finds.Page → ShowsLast self.new.shown.items member number text.new.text }
+        ensures nothing { result ≡ finds.Nothing → AreDoubts member number text.new.text }
     {
         let Ok(files) = journals_in(self.rt, self.alloc, dir) else {
             return Found::NoMemory;
         };
         for file in files.iter().rev() {
             let path = path_of(dir, file.member, file.stamp);
-            let found = self.find_at(path, member, number, page);
+            let found = self.find_at(path, member, number, text);
             if found != Found::Nothing {
                 return found;
             }
@@ -81,8 +87,11 @@ impl<'r, 'p, R: Files<File = File>> FileShelf<'r, 'p, R> {
     }
 
     /// Looks for the verdict in a file, unless it is kept what was found in it as it stands.
-    fn find_at(&mut self, path: FilePath, member: Id, number: u64, page: &mut Text) -> Found
-        ensures { result ≡ finds.Page → ShowsLast self.new.shown.items member number page.new.text }
+    #[tactic(auto, using(crate::proofs::Doubting::one_more_doubted))]
+    fn find_at(&mut self, path: FilePath, member: Id, number: u64, text: &mut Text) -> Found
+        requires { AreDoubts member number text.old.text }
+        ensures page { result ≡ finds.Page → ShowsLast self.new.shown.items member number text.new.text }
+        ensures nothing { result ≡ finds.Nothing → AreDoubts member number text.new.text }
     {
         let Some((file, mark)) = open(self.rt, path.as_str()) else {
             return Found::Nothing;
@@ -93,41 +102,67 @@ impl<'r, 'p, R: Files<File = File>> FileShelf<'r, 'p, R> {
             member,
             number,
         };
-        if self.kept.blank_at(&place).is_some() {
-            return Found::Nothing;
+        if let Some(file) = self.kept.blank_at(&place) {
+            return doubt(self.alloc, file.path(), file.objection(), text);
         }
         match self.kept.page_at(&place) {
-            Some(kept) => show(self.alloc, kept, member, number, &mut self.shown, page),
-            None => self.find_anew(place, file, page),
+            Some(kept) => show(self.alloc, kept, member, number, &mut self.shown, text),
+            None => self.find_anew(place, file, text),
         }
     }
 
     /// Looks for the verdict in a file that is open, and keeps what is found.
-    fn find_anew(&mut self, place: Place, file: File, page: &mut Text) -> Found
-        ensures { result ≡ finds.Page → ShowsLast self.new.shown.items place.member place.number page.new.text }
+    #[tactic(auto, using(crate::proofs::Doubting::one_more_doubted))]
+    fn find_anew(&mut self, place: Place, file: File, text: &mut Text) -> Found
+        requires { AreDoubts place.member place.number text.old.text }
+        ensures page { result ≡ finds.Page →
+            ShowsLast self.new.shown.items place.member place.number text.new.text }
+        ensures nothing { result ≡ finds.Nothing → AreDoubts place.member place.number text.new.text }
+    {
+        let played = play(self.alloc, file);
+        if let Some(kept) = KeptFile::of(self.alloc, &place, &played) {
+            self.kept.keep_file(kept);
+        }
+        let Ok(found) = &played.found else {
+            return Found::NoMemory;
+        };
+        let member = place.member;
+        let number = place.number;
+        match evidence_of(found.findings.as_slice(), member, number) {
+            Some(evidence) => self.show_anew(place, &played, evidence, text),
+            None => doubt(self.alloc, place.path.as_str(), objection_to(&played), text),
+        }
+    }
+
+    /// Writes the page about a verdict that the file of this place tells, which was played; shows it, and keeps it.
+    fn show_anew(
+        &mut self,
+        place: Place,
+        played: &Played,
+        evidence: &Evidence,
+        text: &mut Text,
+    ) -> Found
+        requires { IsEvidence played.now place.member place.number evidence.now }
+        ensures page { result ≡ finds.Page →
+            ShowsLast self.new.shown.items place.member place.number text.new.text }
+        ensures found { result ≡ finds.Nothing → ⊥ }
     {
         let member = place.member;
         let number = place.number;
-        match look_in(self.alloc, place, file) {
-            Ok(Looked::Page(made)) => {
-                let found = show(self.alloc, &made, member, number, &mut self.shown, page);
-                self.kept.keep_page(made);
-                found
-            }
-            Ok(Looked::Blank(blank)) => {
-                self.kept.keep_blank(blank);
-                Found::Nothing
-            }
-            Err(AllocError) => Found::NoMemory,
-        }
+        let Ok(made) = KeptPage::write(self.alloc, place, played, evidence) else {
+            return Found::NoMemory;
+        };
+        let found = show(self.alloc, &made, member, number, &mut self.shown, text);
+        self.kept.keep_page(made);
+        found
     }
 }
 
 impl<'r, 'p, R: Files<File = File>> Shelf for FileShelf<'r, 'p, R> {
     ghost use Rattle.std.specs.Prelude.{is_some};
-    ghost use Rattle.swim_pages.specs.Shelves.{ShowsLast};
+    ghost use Rattle.swim_pages.specs.Shelves.{IsFound};
 
-    ghost tells = { λ s member number text. ShowsLast s.shown.items member number text };
+    ghost tells = { λ s found member number text. IsFound s.shown.items found member number text };
 
     ghost opened = { λ s. is_some s.dir };
 
@@ -135,40 +170,19 @@ impl<'r, 'p, R: Files<File = File>> Shelf for FileShelf<'r, 'p, R> {
         self.dir.is_some()
     }
 
-    fn find(&mut self, member: Id, number: u64, page: &mut Text) -> Found {
+    #[tactic(auto, using(crate::proofs::Doubting::none_doubted))]
+    fn find(&mut self, member: Id, number: u64, text: &mut Text) -> Found {
+        *text = Text::new(self.alloc);
         let Some(dir) = self.dir else {
             return Found::Nothing;
         };
-        match self.find_in(dir, member, number, page) {
+        match self.find_in(dir, member, number, text) {
             Found::Nothing => {
                 let below = judged_in(dir);
-                self.find_in(below.as_str(), member, number, page)
+                self.find_in(below.as_str(), member, number, text)
             }
             found => found,
         }
-    }
-}
-
-/// What was found in a file.
-#[derive(Drop)]
-enum Looked {
-    /// The verdict.
-    Page(KeptPage),
-    /// That the file doesn't tell it.
-    Blank(BlankFile),
-}
-
-/// Looks for the verdict of a place in its file, which is open. Fails if memory is refused.
-fn look_in(alloc: Global, place: Place, file: File) -> Result<Looked, AllocError>
-    ensures { IfOk result (λ looked. place_of looked ≡ place) }
-{
-    let played = play(alloc, file);
-    let Ok(found) = &played.found else {
-        return Err(AllocError);
-    };
-    match evidence_of(found.findings.as_slice(), place.member, place.number) {
-        Some(evidence) => Ok(Looked::Page(KeptPage::write(alloc, place, &played, evidence)?)),
-        None => Ok(Looked::Blank(BlankFile::of(place, &played))),
     }
 }
 
@@ -179,22 +193,22 @@ fn show(
     member: Id,
     number: u64,
     shown: &mut Trail<ShownPage>,
-    page: &mut Text,
+    text: &mut Text,
 ) -> Found
     requires member { kept.now.place.member ≡ member }
     requires number { kept.now.place.number ≡ number }
-    ensures page { result ≡ finds.Page → ShowsLast shown.new.items member number page.new.text }
+    ensures page { result ≡ finds.Page → ShowsLast shown.new.items member number text.new.text }
     ensures found { result ≡ finds.Nothing → ⊥ }
 {
-    let text = kept.text();
+    let page = kept.text();
     let of = ShownPage {
         page: Remembered::of(kept),
     };
-    shown.note(&of, text);
-    let Some(copy) = copied(alloc, text) else {
+    shown.note(&of, page);
+    let Some(copy) = copied(alloc, page) else {
         return Found::NoMemory;
     };
-    *page = copy;
+    *text = copy;
     Found::Page
 }
 

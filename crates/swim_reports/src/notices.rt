@@ -247,6 +247,13 @@ impl Notice {
         notice
     }
 
+    /// That the folder at this path, in which journal files are looked for, can't be read, and why.
+    pub fn is_unreadable<K: Clock>(clock: &K, dir: &str, why: &str) -> Notice {
+        let mut notice = Notice::begun(clock);
+        let _is_added = write!(notice, "warning: journals {dir}: {why}");
+        notice
+    }
+
     /// How many lines of lives standard output didn't take.
     pub fn left_out<K: Clock>(clock: &K, count: u64) -> Notice {
         let mut notice = Notice::begun(clock);

@@ -13,6 +13,7 @@ use Rattle.swim_web.specs.declared.pages.Page.{Page}
 use Rattle.swim_web.specs.declared.pages.Page.TheVariants as pages
 use Rattle.swim_web.specs.declared.questions.Question.{Question}
 use Rattle.swim_web.specs.declared.questions.Question.TheVariants as questions
+use Rattle.swim_web.specs.declared.shelves.Found.{Found}
 use Rattle.swim_trail.specs.Growing.{Grows, grows_both, grows_none}
 
 -- ---- each question looks
@@ -76,8 +77,8 @@ asking_looks : (is_late : Bool) (question : Question) (o n : Looked) (Tells : Op
 asking_looks true question o n Tells is = none_looks o n is.0
 asking_looks false question o n Tells is = grown_looks o.asked n.asked (is.sent ∷ []) is.once
 
-serves_looks : (T : ℕ → ℕ → List ℕ → Type 0) (is_open : Bool) (page : Page) (kept : Kept) (o : Looked) (r : Response)
-    (n : Looked) → Serves T is_open page kept o r n → OnlyLooks o.asked n.asked
+serves_looks : (T : Found → ℕ → ℕ → List ℕ → Type 0) (is_open : Bool) (page : Page) (kept : Kept) (o : Looked)
+    (r : Response) (n : Looked) → Serves T is_open page kept o r n → OnlyLooks o.asked n.asked
 serves_looks T is_open pages.Health kept o r n is = asking_looks o.is_late questions.List o n _ is
 serves_looks T is_open pages.Metrics kept o r n is = asking_looks o.is_late questions.Stats o n _ is
 serves_looks T is_open pages.Members kept o r n is = asking_looks o.is_late questions.List o n _ is
@@ -90,8 +91,8 @@ serves_looks T is_open pages.Unknown kept o r n is = none_looks o n is.0
 serves_looks T is_open pages.Forbidden kept o r n is = none_looks o n is.0
 
 -- whatever requests came one after the other
-pub chain_looks : {S : Type 0} (T : S → ℕ → ℕ → List ℕ → Type 0) (opened : S → Bool) (names : S → List ℕ → Bool)
-    (kept : S → Kept) (looked : S → Looked) (old : S) (calls : List Call) (new : S) →
+pub chain_looks : {S : Type 0} (T : S → Found → ℕ → ℕ → List ℕ → Type 0) (opened : S → Bool)
+    (names : S → List ℕ → Bool) (kept : S → Kept) (looked : S → Looked) (old : S) (calls : List Call) (new : S) →
     Chain (λ a q r b. Answers (T b) (opened a) (names a) (kept a) (looked a) q r (kept b) (looked b)) old calls new →
     OnlyLooks (looked old).asked (looked new).asked
 chain_looks T opened names kept looked old [] new is =
@@ -101,8 +102,8 @@ chain_looks T opened names kept looked old (c ∷ calls) new is =
     (serves_looks (T is.0) _ _ (kept old) (looked old) c.1 (looked is.0) is.1.0)
     (chain_looks T opened names kept looked is.0 calls new is.2)
 
-pub chain_keeps : {S : Type 0} (T : S → ℕ → ℕ → List ℕ → Type 0) (opened : S → Bool) (names : S → List ℕ → Bool)
-    (kept : S → Kept) (looked : S → Looked) (old : S) (calls : List Call) (new : S) →
+pub chain_keeps : {S : Type 0} (T : S → Found → ℕ → ℕ → List ℕ → Type 0) (opened : S → Bool)
+    (names : S → List ℕ → Bool) (kept : S → Kept) (looked : S → Looked) (old : S) (calls : List Call) (new : S) →
     Chain (λ a q r b. Answers (T b) (opened a) (names a) (kept a) (looked a) q r (kept b) (looked b)) old calls new →
     kept new ≡ kept old
 chain_keeps T opened names kept looked old [] new is = ap kept is

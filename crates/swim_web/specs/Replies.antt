@@ -1,5 +1,5 @@
 -- The responses.
-use Rattle.std.specs.Prelude.{◌≡◌, ℕ, ◌-◌, ◌⊎◌, Bool, List, [], ◌∷◌, Option, Some, None, codes}
+use Rattle.std.specs.Prelude.{◌≡◌, ℕ, ◌-◌, ◌⊎◌, Bool, List, [], ◌∷◌, ◌++◌, Option, Some, None, codes}
 use Rattle.std.specs.Prelude.{length}
 use Rattle.std.specs.Prelude.{take, drop, if◌then◌else◌}
 use Rattle.std.specs.Option.{option_and_then}
@@ -25,6 +25,8 @@ use Rattle.swim_web.specs.declared.questions.Question.TheVariants as questions
 use Rattle.swim_web.specs.declared.replies.TheConstants.{VERDICT_POLICY}
 use Rattle.swim_web.specs.declared.replies.Kind.{Kind}
 use Rattle.swim_web.specs.declared.replies.Kind.TheVariants as kinds
+use Rattle.swim_web.specs.declared.shelves.Found.{Found}
+use Rattle.swim_web.specs.declared.shelves.Found.TheVariants as finds
 
 abbrev pub kind_text : Kind → List ℕ
 kind_text kinds.Text = codes "text/plain; charset=utf-8"
@@ -85,21 +87,24 @@ AreMembers (Some answer) r =
     ((rows : List Row) × (answer ≡ table_text rows) × IsReply 200 kinds.Json (members_text rows) r)
     ⊎ (IsNoTable answer × IsUnanswered r)
 
--- a page about a verdict, as the shelf showed it; or no file has the verdict
-abbrev pub IsVerdict : (List ℕ → Type 0) → Response → Type 0
+-- a page about a verdict, as the shelf wrote it; or no file has the verdict, and behind that stands what the shelf
+-- wrote against the files that it looked at; or memory was refused
+abbrev pub IsVerdict : (Found → List ℕ → Type 0) → Response → Type 0
 IsVerdict Tells r =
-    ((text : List ℕ) × Tells text × IsReply 200 kinds.Verdict text r)
-    ⊎ IsReply 404 kinds.Text (codes "no such verdict\n") r
+    ((text : List ℕ) × Tells finds.Page text × IsReply 200 kinds.Verdict text r)
+    ⊎ ((text : List ℕ) × Tells finds.Nothing text × IsReply 404 kinds.Text (codes "no such verdict\n" ++ text) r)
+    ⊎ IsResponse 500 [] [] r
 
 -- ---- pages
 
--- what a page comes to, with what the shelf showed of verdicts, whether it may show any, and the events that are kept
-abbrev pub Serves : (ℕ → ℕ → List ℕ → Type 0) → Bool → Page → Kept → Looked → Response → Looked → Type 0
+-- what a page comes to, with what the shelf found of verdicts, whether it may show any, and the events that are kept
+abbrev pub Serves : (Found → ℕ → ℕ → List ℕ → Type 0) → Bool → Page → Kept → Looked → Response → Looked → Type 0
 Serves T is_open pages.Health kept old r new = Asks questions.List old new (λ told. IsHealth told r)
 Serves T is_open pages.Metrics kept old r new = Asks questions.Stats old new (λ told. AreMetrics told r)
 Serves T is_open pages.Members kept old r new = Asks questions.List old new (λ told. AreMembers told r)
 Serves T is_open pages.Front kept old r new = AsksNothing old new × IsReply 200 kinds.Html FRONT_PAGE.now r
-Serves T is_open (pages.Verdict member number) kept old r new = AsksNothing old new × IsVerdict (T member number) r
+Serves T is_open (pages.Verdict member number) kept old r new =
+    AsksNothing old new × IsVerdict (λ found text. T found member number text) r
 Serves T is_open pages.Changes kept old r new =
     AsksNothing old new × IsReply 200 kinds.Json (changes_text is_open kept.lines) r
 Serves T is_open (pages.Events number) kept old r new =
@@ -112,7 +117,7 @@ Serves T is_open pages.Forbidden kept old r new =
     AsksNothing old new × IsReply 405 kinds.Text (codes "only GET and HEAD\n") r
 
 -- what a request comes to; no event comes or goes by it
-abbrev pub Answers : (ℕ → ℕ → List ℕ → Type 0) → Bool → (List ℕ → Bool) → Kept → Looked → Request (List ℕ) →
+abbrev pub Answers : (Found → ℕ → ℕ → List ℕ → Type 0) → Bool → (List ℕ → Bool) → Kept → Looked → Request (List ℕ) →
     Response → Kept → Looked → Type 0
 Answers T is_open is_name kept old request r kept_new new =
     Serves T is_open (page_asked is_name (head_of request)) kept old r new × (kept_new ≡ kept)

@@ -1,6 +1,6 @@
 //! What each request is answered.
 
-ghost use Rattle.std.specs.Prelude.{◌≡◌, Some, option_copied};
+ghost use Rattle.std.specs.Prelude.{◌≡◌, ◌++◌, Some, codes, option_copied};
 ghost use Rattle.http_server.specs.Response.{IsBlank};
 ghost use Rattle.swim_metrics.specs.Headed.{headed};
 ghost use Rattle.swim_web.specs.Asking.{Asks, told_if};
@@ -25,7 +25,7 @@ use http_server::{Response, Service};
 use std::alloc::{AllocError, Global};
 use swim_history::Row;
 use swim_metrics::put_headed;
-use swim_text::Page as Text;
+use swim_text::{Page as Text, Sink};
 use swim_wire::Id;
 
 /// Serves what a daemon answers.
@@ -172,17 +172,12 @@ fn serve_verdict<S: Shelf>(
     response: &mut Response,
 )
     requires { IsBlank response.old }
-    ensures { IsVerdict (S.tells shelf.new member number) response.new }
+    ensures { IsVerdict (λ found text. S.tells shelf.new found member number text) response.new }
 {
-    let mut page = Text::new(alloc);
-    match shelf.find(member, number, &mut page) {
-        Found::Page => reply(response, StatusCode::OK, Kind::Verdict, page.text()),
-        Found::Nothing => reply(
-            response,
-            StatusCode::NOT_FOUND,
-            Kind::Text,
-            b"no such verdict\n",
-        ),
+    let mut text = Text::new(alloc);
+    match shelf.find(member, number, &mut text) {
+        Found::Page => reply(response, StatusCode::OK, Kind::Verdict, text.text()),
+        Found::Nothing => reply_lacking(alloc, response, text.text()),
         Found::NoMemory => response.status = StatusCode::INTERNAL_SERVER_ERROR,
     }
 }
@@ -303,6 +298,19 @@ fn reply_events(alloc: Global, response: &mut Response, recent: &Recent, number:
     let mut text = Text::new(alloc);
     if recent.put_stream(&mut text, number) {
         reply(response, StatusCode::OK, Kind::Events, text.text());
+    } else {
+        response.status = StatusCode::INTERNAL_SERVER_ERROR;
+    }
+}
+
+/// Replies that no file tells a verdict, and what speaks against the files that were looked at.
+fn reply_lacking(alloc: Global, response: &mut Response, doubts: &[u8])
+    requires { IsBlank response.old }
+    ensures { IsReply 404 Kind.Text (codes "no such verdict\n" ++ doubts.now) response.new }
+{
+    let mut text = Text::new(alloc);
+    if text.put(b"no such verdict\n") && text.put(doubts) {
+        reply(response, StatusCode::NOT_FOUND, Kind::Text, text.text());
     } else {
         response.status = StatusCode::INTERNAL_SERVER_ERROR;
     }

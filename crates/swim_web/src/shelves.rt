@@ -1,6 +1,7 @@
 //! Shelves with journal files, in which verdicts are looked up.
 
 ghost use Rattle.std.specs.Prelude.{◌≡◌, ℕ, Bool, List};
+ghost use Rattle.swim_web.specs.declared.shelves.Found.{Found};
 
 use swim_text::Page as Text;
 use swim_wire::Id;
@@ -18,8 +19,9 @@ pub enum Found {
 
 /// Journal files, which are only read.
 pub trait Shelf {
-    // That it showed this text last, as the page about the verdict on a member at the end of a period.
-    ghost tells: { Self → ℕ → ℕ → List ℕ → Type 0 };
+    // That this is what it found last of the verdict on a member at the end of a period, and that this is the text that
+    // it wrote of that: a page about the verdict, or what speaks against the files that it looked at.
+    ghost tells: { Self → Found → ℕ → ℕ → List ℕ → Type 0 };
 
     // Whether it has a place in which files may be.
     ghost opened: { Self → Bool };
@@ -28,7 +30,8 @@ pub trait Shelf {
     fn is_open(&self) -> bool
         ensures { result ≡ opened self.now };
 
-    /// Looks for the verdict on a member at the end of the period with this number, and writes a page about it.
-    fn find(&mut self, member: Id, number: u64, page: &mut Text) -> Found
-        ensures { result ≡ Found.Page → tells self.new member number page.new.text };
+    /// Looks for the verdict on a member at the end of the period with this number, and writes a page about it. If no file
+    /// tells it, a line for each file that isn't verified is written.
+    fn find(&mut self, member: Id, number: u64, text: &mut Text) -> Found
+        ensures { tells self.new result member number text.new.text };
 }

@@ -35,7 +35,8 @@ impl Daemon for FixedDaemon {
     }
 }
 
-/// Has a page about the verdict on member 3 in period 12, and no memory for that in period 13.
+/// Has a page about the verdict on member 3 in period 12, no memory for that in period 13, and a file without that of
+/// period 14 against which something speaks.
 #[derive(Drop)]
 struct FixedShelf {
     count: u32,
@@ -44,7 +45,7 @@ struct FixedShelf {
 impl Shelf for FixedShelf {
     ghost use Rattle.std.specs.Prelude.{true};
 
-    ghost tells = { λ s member number text. Unit {0} };
+    ghost tells = { λ s found member number text. Unit {0} };
 
     ghost opened = { λ s. true };
 
@@ -52,14 +53,15 @@ impl Shelf for FixedShelf {
         true
     }
 
-    fn find(&mut self, member: Id, number: u64, page: &mut Page) -> Found {
+    fn find(&mut self, member: Id, number: u64, text: &mut Page) -> Found {
         self.count = self.count.saturating_add(1);
         if member.get() != 3 {
             return Found::Nothing;
         }
         match number {
-            12 if page.put(b"why\n") => Found::Page,
+            12 if text.put(b"why\n") => Found::Page,
             13 => Found::NoMemory,
+            14 if text.put(b"1-5-0.swim: line 9: differs\n") => Found::Nothing,
             _ => Found::Nothing,
         }
     }
@@ -295,11 +297,16 @@ fn shows_verdicts(rt: HostRuntime) -> Result<(), Fail> {
             "HTTP/1.1 500 ",
             b"\r\n\r\n".as_slice(),
         ),
+        (
+            "GET /verdicts/3/14 HTTP/1.1\r\nHost: swim:1\r\n\r\n",
+            "HTTP/1.1 404 ",
+            b"\r\n\r\nno such verdict\n1-5-0.swim: line 9: differs\n".as_slice(),
+        ),
     ] {
         let sent = served(&rt, &mut web, request)?;
         assert_sent(&rt, sent.as_slice(), first, last);
     }
-    assert_eq!(rt; web.shelf.count, 3);
+    assert_eq!(rt; web.shelf.count, 4);
     assert_eq!(rt; web.daemon.count, 0);
     Ok(())
 }

@@ -53,7 +53,7 @@ pub fn serve_web<R: Files<File = File> + Net + Clock + RandomSource + Wait, F: S
     let Ok(mut web) = web_over(alloc, request, daemon, shelf) else {
         return Outcome::Refused(ConfigFault::NoMemory);
     };
-    announce(rt, alloc, request.listen, faults);
+    announce(rt, alloc, request, faults);
     let mut events = SocketEvents::of(rt, alloc, request.events);
     match run(rt, alloc, &mut listener, &mut web, &mut events) {
         Ok(()) | Err(_) => Outcome::WebOver,
@@ -97,13 +97,20 @@ fn names(alloc: Global, request: &WebRequest<'_>) -> Result<Vec<String>, AllocEr
     Ok(names)
 }
 
-/// Tells where pages are served, and warns if others than this machine may reach them.
-fn announce<R: Net + Clock, F: Sink>(rt: &R, alloc: Global, listen: Peer, faults: &mut F)
+/// Tells where pages are served, and warns if others than this machine may reach them, or the folder of journal files
+/// can't be read.
+fn announce<R: Files + Net + Clock, F: Sink>(
+    rt: &R,
+    alloc: Global,
+    request: &WebRequest<'_>,
+    faults: &mut F,
+)
     ensures { Notices (F.written faults.old, F.failures faults.old)
         (F.written faults.new, F.failures faults.new) }
 {
-    tell_serving(rt, alloc, listen, faults);
-    warn_open(rt, alloc, listen, faults);
+    tell_serving(rt, alloc, request.listen, faults);
+    warn_open(rt, alloc, request.listen, faults);
+    warn_unreadable(rt, alloc, request.journals, faults);
 }
 
 /// Tells where pages are served.
@@ -123,5 +130,24 @@ fn warn_open<R: Net + Clock, F: Sink>(rt: &R, alloc: Global, listen: Peer, fault
 {
     if listen.ip[0] != LOOPBACK {
         Notice::is_open(rt, listen).tell_notice(rt, alloc, faults);
+    }
+}
+
+/// Warns if there is a folder of journal files that can't be read. It may be there later.
+#[tactic(auto, using(swim_keeper::specs::Notices::no_notices))]
+fn warn_unreadable<R: Files + Net + Clock, F: Sink>(
+    rt: &R,
+    alloc: Global,
+    journals: Option<&str>,
+    faults: &mut F,
+)
+    ensures { Notices (F.written faults.old, F.failures faults.old)
+        (F.written faults.new, F.failures faults.new) }
+{
+    let Some(dir) = journals else {
+        return;
+    };
+    if let Err(fault) = rt.open_dir(dir) {
+        Notice::is_unreadable(rt, dir, words_why(&fault)).tell_notice(rt, alloc, faults);
     }
 }

@@ -1,0 +1,2 @@
+pub mod Doubting
+pub mod Verdicts
