@@ -13,6 +13,7 @@ import subprocess
 import tempfile
 
 from tests.swimsim.cases import SECONDS, difference
+from tests.swimsim.verified_json import BadObject, lines_of
 from tests.swimsim.verified_files import (
     ack, one, told, ASKED, EVIDENCE, FIRST, HEAD, HEAD_2, JUDGED, ONE, ONE_TELLS, QUIET, ROWS, STARTED, TELLS, TICK,
     TWO, TWO_TELLS, Verified, WHOLE
@@ -210,16 +211,28 @@ WANTS = re.compile(rb"swimsim: a: no memory (?:before entry 0|behind entry (\d+)
 
 
 def verified(program, case):
-    """What isn't as expected of files that are verified."""
+    """What isn't as expected of files that are verified, as lines and as JSON."""
     with tempfile.TemporaryDirectory() as folder:
         for name, text in case.files:
             with open(f"{folder}/{name}", "w", encoding="ascii") as file:
                 file.write(text)
         words = [os.path.abspath(program), "--verify", *(name for name, _ in case.files)]
-        ran = subprocess.run(words, cwd=folder, capture_output=True, timeout=SECONDS)
+        run = lambda *more: subprocess.run([*words, *more], cwd=folder, capture_output=True, timeout=SECONDS)
+        ran, json = run(), run("--json")
     said = [] if ran.returncode == case.status else [f"status {ran.returncode}, and not {case.status}"]
     said += difference("standard output", case.stdout.encode(), ran.stdout)
-    return said + difference("standard error", case.stderr.encode(), ran.stderr)
+    said += difference("standard error", case.stderr.encode(), ran.stderr)
+    return said + said_otherwise(ran, json)
+
+
+def said_otherwise(ran, json):
+    """What a run with `--json` doesn't say as the same without it does."""
+    said = [] if json.returncode == ran.returncode else [f"as JSON: status {json.returncode}, and not {ran.returncode}"]
+    said += difference("standard error as JSON", ran.stderr, json.stderr)
+    try:
+        return said + difference("standard output as JSON", ran.stdout, lines_of(json.stdout.decode()).encode())
+    except (BadObject, ValueError, KeyError, TypeError) as fault:
+        return [*said, f"as JSON: {fault!r} in {json.stdout[:400]!r}"]
 
 
 def verified_with_other_digits(program):
@@ -302,8 +315,29 @@ def how_it_ended(ran):
     return "not loaded" if is_unloaded and not ran.stdout and b"a:" not in ran.stderr else None
 
 
+# A file name with a quote, a backslash, a control character and a letter of two bytes, and its text in JSON.
+STRANGE, SPELLED = "a\"\\\x1f\xe9", r'"a\"\\\u001f'.encode() + "\xe9\"".encode()
+
+
+def verified_bytes_as_json(program):
+    """The bytes of objects, written down by hand."""
+    timed = [*WHOLE[:6], "# 1764072000.007\n", *WHOLE[6:], ack(2, 1), "= 4 dropped 6\n"]
+    with tempfile.TemporaryDirectory() as folder:
+        with open(f"{folder}/{STRANGE}", "w", encoding="ascii") as file:
+            file.writelines(timed)
+        words = [os.path.abspath(program), "--json", "--verify", STRANGE]
+        ran = subprocess.run(words, cwd=folder, capture_output=True, timeout=SECONDS)
+    entry = lambda place: b'{"file":%s,"entry":%d}' % (SPELLED, place)
+    wanted = b'{"file":%s,"entries":5,"confirmed":5,"periods":2,"judged":1,' % SPELLED
+    wanted += b'"sound":true,"cut":false,"new_start":false}\n'
+    wanted += b'{"judged":2,"period":1,"probed":%s,"time":1764072000.007,"relays":[3],' % entry(0)
+    wanted += b'"asked":%s,"until":%s}\n' % (entry(1), entry(3))
+    wanted += b'{"ack":2,"period":1,"at":%s,"why":"too late"}\n' % entry(4)
+    return difference("standard output", wanted, ran.stdout)
+
+
 def verified_with_other_words(program):
-    """`--verify` stands beside files alone, of which there is one at least, and which can be opened."""
+    """`--verify` stands beside files, of which there is one at least, and which can be opened, and `--json` alone."""
     said = []
     for words in (
         ["--verify"],
@@ -311,6 +345,8 @@ def verified_with_other_words(program):
         ["--explain", "--verify", "a"],
         ["--verify", "a", "--", "b"],
         ["--force", "--verify", "a"],
+        ["--json", "--verify", "a", "--decode"],
+        ["--verify", "a", "--json", "--judged", "2"],
     ):
         ran = subprocess.run([program, *words], capture_output=True, timeout=SECONDS)
         if ran.returncode != 2 or ran.stdout or not ran.stderr.startswith(b"error: "):
@@ -334,6 +370,6 @@ def verified_cases():
             yield f"verified: {make.__name__}: {case.name}", lambda program, case=case: verified(program, case)
     for attempt in (
         verified_with_other_digits, verified_with_another_version, verified_with_moved_lines, verified_with_other_words,
-        verified_in_little_memory
+        verified_in_little_memory, verified_bytes_as_json
     ):
         yield attempt.__name__, attempt

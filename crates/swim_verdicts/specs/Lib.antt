@@ -1,9 +1,11 @@
 pub mod CommentTimes
+pub mod JsonTexts
 pub mod Meanings
 pub mod Verifying
 pub mod Examined
 pub mod ToldTexts
 pub mod Unseen
+pub mod VerdictJson
 pub mod VerdictPages
 pub mod VerdictTables
 pub mod VerdictTexts

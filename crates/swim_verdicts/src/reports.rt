@@ -5,6 +5,12 @@ use std::fmt;
 use swim_evidence::{Ask, Evidence, Finding, Findings, Stray};
 use swim_timeline::{StartTime, Times};
 
+/// Why an ack doesn't count that came in the period at whose end its member was judged.
+pub(crate) const OTHER_PERIOD: &str = "another period";
+
+/// Why one doesn't that came behind the judgement.
+pub(crate) const TOO_LATE: &str = "too late";
+
 /// How much is told of a journal file.
 #[derive(Clone, Copy, PartialEq, Eq)]
 pub enum Extent {
@@ -18,15 +24,15 @@ pub enum Extent {
 #[derive(Drop)]
 pub struct Report<'a> {
     extent: Extent,
-    path: &'a str,
+    pub(crate) path: &'a str,
     /// How many entries were played.
-    entries: u32,
+    pub(crate) entries: u32,
     /// How many of them are confirmed, from the first on.
-    confirmed: u32,
+    pub(crate) confirmed: u32,
     /// What these tell.
-    found: &'a Findings,
+    pub(crate) found: &'a Findings,
     /// When periods began, by the places of their starts.
-    times: &'a Times,
+    pub(crate) times: &'a Times,
 }
 
 impl<'a> Report<'a> {
@@ -44,6 +50,15 @@ impl<'a> Report<'a> {
             Err(_) => None,
         }
     }
+
+    /// How many judgements it tells.
+    pub(crate) fn judged(&self) -> usize {
+        let findings = self.found.findings.as_slice();
+        findings
+            .iter()
+            .filter(|finding| is_judgement(finding))
+            .count()
+    }
 }
 
 impl<'a> fmt::Display for Report<'a> {
@@ -52,11 +67,7 @@ impl<'a> fmt::Display for Report<'a> {
         let entries = self.entries;
         let confirmed = self.confirmed;
         let periods = self.found.periods;
-        let findings = self.found.findings.as_slice();
-        let judged = findings
-            .iter()
-            .filter(|finding| is_judgement(finding))
-            .count();
+        let judged = self.judged();
         write!(
             f,
             "{path}: entries {entries} confirmed {confirmed} periods {periods} judged {judged}\n"
@@ -64,7 +75,7 @@ impl<'a> fmt::Display for Report<'a> {
         if self.extent == Extent::Counts {
             return Ok(());
         }
-        for finding in findings {
+        for finding in self.found.findings.as_slice() {
             show_finding(finding, self.times, f)?;
         }
         Ok(())
@@ -86,8 +97,8 @@ pub(crate) fn show_finding<W: fmt::Write>(
 ) -> fmt::Result {
     match finding {
         Finding::Judged(evidence) => show_judgement(evidence, times.get(&evidence.probed), f),
-        Finding::Other(stray) => show_stray(stray, "another period", f),
-        Finding::Late(stray) => show_stray(stray, "too late", f),
+        Finding::Other(stray) => show_stray(stray, OTHER_PERIOD, f),
+        Finding::Late(stray) => show_stray(stray, TOO_LATE, f),
     }
 }
 

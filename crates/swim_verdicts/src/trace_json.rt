@@ -1,6 +1,7 @@
 //! What became of the datagrams of a probe, as JSON.
 
 use crate::accounts::Account;
+use crate::json_texts::JsonText;
 use crate::meanings::kind_name;
 use crate::presences::Clock;
 use crate::trace_lines::TraceReport;
@@ -9,28 +10,6 @@ use swim_evidence::Standing;
 use swim_trace::{
     Act, Answer, Conclusion, Deed, Fate, Leg, Pace, Presence, Spot, Way, is_heard_on, is_passed_on,
 };
-
-/// A text as a JSON string.
-#[derive(Clone, Copy)]
-pub struct JsonText<'a>(pub &'a str);
-
-impl<'a> fmt::Display for JsonText<'a> {
-    fn fmt<W: fmt::Write>(&self, f: &mut fmt::Formatter<W>) -> fmt::Result {
-        f.write_char('"')?;
-        for letter in self.0.chars() {
-            match letter {
-                '"' => f.write_str("\\\"")?,
-                '\\' => f.write_str("\\\\")?,
-                letter if (letter as u32) < 0x20 => {
-                    let code = letter as u32;
-                    write!(f, "\\u{code:04x}")?;
-                }
-                _ => f.write_char(letter)?,
-            }
-        }
-        f.write_char('"')
-    }
-}
 
 /// The object of a file that was played: whose it is, how many entries are confirmed, and whether something speaks
 /// against it.

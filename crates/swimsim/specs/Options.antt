@@ -57,8 +57,8 @@ file_line =
     (number_rule (codes "judged") (2 ^ 32 - 1)))
     (number_rule (codes "period") (2 ^ 64 - 1))
 
--- these, whether the last is written as JSON, and whether a script's entries are numbered, beside what clap gives each
--- program that has a version, `--help` and `--version`
+-- these, whether what is told of files is written as JSON, and whether a script's entries are numbered, beside what
+-- clap gives each program that has a version, `--help` and `--version`
 abbrev pub command_line : App
 command_line = with_rule (with_rule file_line (flag_rule (codes "json"))) (flag_rule (codes "numbers"))
 
@@ -122,8 +122,9 @@ IsMixed options =
     ((0 < length options.verify.items) × ((0 < length options.trace.items) ⊎ AsksForScript options))
     ⊎ ((0 < length options.trace.items) × AsksForRun options)
 
--- judgements are named that are to be traced, and no files; a period is named, and neither files nor a member round
--- whose judgement the picture lies
+-- judgements are named that are to be traced, and no files; a period is named, and neither such files nor a member
+-- round whose judgement the picture lies; or JSON is asked for, and no files are to be traced or verified
 abbrev pub IsUntraced : Options → Type 0
 IsUntraced options = (length options.trace.items ≡ 0)
-    × (IsSome options.judged ⊎ (options.json ≡ true) ⊎ (IsSome options.period × (options.around ≡ None)))
+    × (IsSome options.judged ⊎ (IsSome options.period × (options.around ≡ None))
+    ⊎ ((options.json ≡ true) × (length options.verify.items ≡ 0)))

@@ -110,7 +110,8 @@ fn obey(rt: &HostRuntime, options: &Options<'_>) -> Result<ExitCode> {
         return trace_files(rt, options);
     }
     if !options.verify.is_empty() {
-        return verify(&mut FileExaminer::new(rt), options.verify.as_slice());
+        let mut examiner = FileExaminer::new(rt, options.json);
+        return verify(&mut examiner, options.verify.as_slice());
     }
     Ok(match options.script {
         Some(path) if path != "-" => play_file(rt, path, options),

@@ -43,7 +43,7 @@ pub struct Options<'a> {
     pub judged: Option<Id>,
     /// In which period they were made, or the one round which the picture lies; `None` for all periods, or the last.
     pub period: Option<u64>,
-    /// Whether what is traced is written as JSON.
+    /// Whether what is verified or traced is told as JSON.
     pub json: bool,
 }
 
@@ -84,14 +84,14 @@ impl<'a> Options<'a> {
     }
 
     /// Whether some judgements are named that are to be traced, and no files; or a period, which may also be that of the
-    /// picture.
+    /// picture; or JSON, which files that are verified have too.
     pub fn is_untraced(&self) -> bool
         ensures { IsTrue result ↔ IsUntraced self.now }
     {
         self.trace.is_empty()
             && (self.judged.is_some()
-                || self.json
-                || (self.period.is_some() && self.around.is_none()))
+                || (self.period.is_some() && self.around.is_none())
+                || (self.json && self.verify.is_empty()))
     }
 
     /// Whether a part of a picture is asked for, and no picture.
@@ -224,7 +224,7 @@ pub(crate) fn command_line<'a>(alloc: Global) -> Result<Command<'a>, AllocError>
         .arg(flag(
             alloc,
             "json",
-            "Writes what is traced as JSON, an object a line",
+            "Writes what is verified or traced as JSON, an object a line",
         ))?
         .arg(numbers(alloc))
 }

@@ -33,7 +33,7 @@ pub fn refuse_untraced(alloc: Global) -> Result<Error, AllocError>
     refuse(
         alloc,
         ErrorKind::MissingRequiredArgument,
-        "--judged, --period and --json stand beside --trace FILE, and --period beside --around ID too",
+        "--judged, --period and --json stand beside --trace FILE; --period beside --around ID too, --json beside --verify FILE",
     )
 }
 

@@ -12,7 +12,7 @@ use std::io::{self, ErrorKind};
 use std::process::ExitCode;
 use swim_evidence::{Link, Seen, Sequence, Standing, Verdict};
 use swim_trail::{Remembered, Trail};
-use swim_verdicts::{Closing, Extent, FileEnd, Objection, Played, Report};
+use swim_verdicts::{Closing, Extent, FileEnd, JsonReport, Objection, Played, Report};
 
 /// Who plays journal files, and tells what they come to.
 pub trait Examiner {
@@ -82,15 +82,18 @@ pub struct FileExaminer<'r> {
     /// The file that was played last, or why it can't be read.
     played: Option<io::Result<Played>>,
     examined: Trail<Look>,
+    /// Whether what files come to is told as JSON.
+    is_json: bool,
 }
 
 impl<'r> FileExaminer<'r> {
     /// It has examined nothing yet.
-    pub fn new(rt: &'r HostRuntime) -> FileExaminer<'r>
+    pub fn new(rt: &'r HostRuntime, is_json: bool) -> FileExaminer<'r>
         ensures { result.examined.items ≡ [] }
     {
         FileExaminer {
             rt,
+            is_json,
             played: None,
             examined: Trail::new(),
         }
@@ -124,11 +127,19 @@ impl<'r> Examiner for FileExaminer<'r> {
     }
 
     fn tell(&mut self, path: &str, before: &str, link: Link) -> Result<()> {
-        if link == Link::NewStart {
+        let is_new_start = link == Link::NewStart;
+        if is_new_start && !self.is_json {
             println!(self.rt; "{path}: a new start")?;
         }
         match self.played.take() {
-            Some(Ok(played)) => tell_played(self.rt, path, &played)?,
+            Some(Ok(played)) => {
+                if self.is_json {
+                    tell_objects(self.rt, path, &played, is_new_start)?;
+                } else {
+                    tell_report(self.rt, path, &played, Extent::Evidence)?;
+                }
+                tell_objection(self.rt, path, &played);
+            }
             Some(Err(error)) => tell_unread(self.rt, path, &error),
             None => {}
         }
@@ -137,10 +148,14 @@ impl<'r> Examiner for FileExaminer<'r> {
     }
 }
 
-/// Tells what a file comes to that was played, and what speaks against it.
-fn tell_played(rt: &HostRuntime, path: &str, played: &Played) -> Result<()> {
-    tell_report(rt, path, played, Extent::Evidence)?;
-    tell_objection(rt, path, played);
+/// Tells the same as `tell_report` does of a file and its evidence, as JSON.
+fn tell_objects(rt: &HostRuntime, path: &str, played: &Played, is_new_start: bool) -> Result<()> {
+    if played.witness.end == FileEnd::Foreign {
+        return Ok(());
+    }
+    if let Some(report) = JsonReport::of(path, played, is_new_start) {
+        print!(rt; "{report}")?;
+    }
     Ok(())
 }
 
