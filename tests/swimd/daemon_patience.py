@@ -4,16 +4,22 @@ start. Each line that isn't taken at once is left out whole, and counted."""
 import fcntl
 import os
 import re
+import resource
 import select
+import signal
 import threading
 import time
 
 from tests.support.daemons import SECONDS, must, until
+from tests.support.parts import content
 from tests.support.sayings import COUNTS, LIFE
 from tests.swimd.daemon_starting import SHORT, ends_of_a_pipe
 
 MINUTE = 60_000
 LIVES = 30
+# The lines of so many lives have more than 8 KiB, and more than the disk that is full has room for. Each life takes a
+# tenth of a second.
+MANY, FULL_BYTES = 200, 1_000
 # How long the closing line is waited for, and how long a machine that has much to do may take for it.
 A_SECOND, SOON = 1.0, 5.0
 SMALL_PIPE = 4_096
@@ -104,6 +110,31 @@ def lives_that_are_read_again(machine):
     os.close(reading)
 
 
+def lives_behind_a_full_disk(machine):
+    """Standard output is a file whose disk is full. Once there is room again the next lines are there, and each one that
+    isn't is counted."""
+
+    def is_full():
+        resource.setrlimit(resource.RLIMIT_FSIZE, (FULL_BYTES, resource.RLIM_INFINITY))
+        signal.signal(signal.SIGXFSZ, signal.SIG_IGN)
+
+    daemon = machine.daemon(1, members=[(2, "10.0.0.2:7000")], **SHORT, journal_dir=None)
+    path = f"{machine.folder}/out"
+    with open(path, "wb") as out:
+        daemon.launch(stdout=out, preexec_fn=is_full)
+    until(daemon.answers, "it answers")
+    until(lambda: begun(daemon) >= MANY, f"{MANY} lives", 3 * SECONDS)
+    must(len(content(path)) == FULL_BYTES, f"{len(content(path))} bytes are there")
+    resource.prlimit(daemon.child.pid, resource.RLIMIT_FSIZE, (resource.RLIM_INFINITY, resource.RLIM_INFINITY))
+    lives = begun(daemon)
+    until(lambda: begun(daemon) >= lives + LIVES, f"{LIVES} lives more")
+    must(daemon.ask(b"stop\n") == b"stopping\n", "it isn't stopped")
+    _, told = daemon.child.communicate(timeout=SECONDS)
+    numbers, fewer = must_be_whole(content(path)), FEWER.findall(daemon.said + told)
+    must(sum(lives < it for it in numbers) > LIVES // 2, f"behind {lives} lives it tells {numbers}")
+    must([int(it) for it in fewer] == [numbers[-1] + 1 - len(numbers)], f"of {numbers} it tells {fewer}")
+
+
 def a_closing_line_that_is_read_late(machine):
     """Half a second behind the stop somebody reads: the closing line is there."""
     daemon, reading = with_a_full_pipe(machine, tick_ms=MINUTE, journal=1_000)
@@ -171,6 +202,7 @@ def an_end_that_nobody_reads(machine):
 PATIENCE = [
     lives_that_nobody_reads,
     lives_that_are_read_again,
+    lives_behind_a_full_disk,
     a_closing_line_that_is_read_late,
     nobody_is_judged_for_it,
     warnings_for_a_small_pipe,

@@ -13,8 +13,12 @@ use swim_wire::Peer;
 /// How long a receive waits for a datagram, in milliseconds.
 const WAIT_MS: u64 = 100;
 
-/// A UDP socket whose receives wait 100 milliseconds at most. Workers share it: one receives by a line over it, and each
-/// that sends has a post over it.
+/// How long the send of one datagram waits for room in the socket's send buffer, in milliseconds. A link that takes
+/// nothing fills that buffer, and neither the ticker nor the receiver may be held up for as long.
+const SEND_MS: u64 = 10;
+
+/// A UDP socket whose receives wait 100 milliseconds at most, and whose sends wait 10 at most. Workers share it: one
+/// receives by a line over it, and each that sends has a post over it.
 #[derive(Drop)]
 pub struct UdpEndpoint {
     socket: UdpSocket,
@@ -26,9 +30,11 @@ impl UdpEndpoint {
         UdpEndpoint::over(UdpSocket::bind(rt, to_address(listen))?)
     }
 
-    /// Takes a socket that is bound already. Fails if the system can't limit its waits, to 100 milliseconds.
+    /// Takes a socket that is bound already. Fails if the system can't limit its waits, to 100 milliseconds for a
+    /// receive and to 10 for a send.
     pub fn over(socket: UdpSocket) -> io::Result<UdpEndpoint> {
         socket.set_read_timeout(Some(Duration::from_millis(WAIT_MS)))?;
+        socket.set_write_timeout(Some(Duration::from_millis(SEND_MS)))?;
         Ok(UdpEndpoint { socket })
     }
 

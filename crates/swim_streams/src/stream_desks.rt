@@ -72,17 +72,20 @@ impl StreamDesk {
     /// Lays a text on it, and answers whether there was room for all of it. Where there wasn't, none of it lies there.
     fn add<R: Wait>(&self, rt: &R, text: &[u8]) -> bool {
         let mut sheet = self.sheet.lock(rt);
-        if !sheet.has_room(text.len()) || sheet.text.extend_from_slice(text).is_err() {
-            return false;
-        }
+        let is_laid = sheet.has_room(text.len()) && sheet.text.extend_from_slice(text).is_ok();
+        // Where there is no room, too: who writes tries again what the stream didn't take.
         self.changed.notify_all();
-        true
+        is_laid
     }
 
-    /// Whether there is room for a line, now or within so many milliseconds.
+    /// Whether there is room for a line, now or within so many milliseconds. Where there is none yet, who writes is
+    /// woken, to try again what the stream didn't take: no new text would wake it.
     fn has_room_within<R: Wait + Clock>(&self, rt: &R, milliseconds: u64) -> bool {
         let sheet = self.sheet.lock(rt);
         let most = Duration::from_millis(milliseconds);
+        if !sheet.has_room(LINE_BYTES) {
+            self.changed.notify_all();
+        }
         let (sheet, _is_over) = self
             .changed
             .wait_timeout_while(rt, sheet, most, |sheet| !sheet.has_room(LINE_BYTES));
@@ -96,7 +99,7 @@ impl StreamDesk {
     }
 
     /// Writes what is laid on it, by a page of as many bytes, until it is closed and nothing is left. What the stream
-    /// doesn't take, as on a full disk, is tried again when something more is laid there.
+    /// doesn't take, as on a full disk, is tried again when something more is laid there, or finds no room.
     pub fn write_on<R: Wait, W: Write + Drop>(&self, rt: &R, page: Vec<u8>, stream: W) {
         let mut page = page;
         let mut stream = stream;
