@@ -9,7 +9,7 @@ use Rattle.swim_commands.specs.Forms.{needs_counts, shown}
 use Rattle.swim_commands.specs.declared.askers.Came.{Came}
 use Rattle.swim_commands.specs.declared.askers.Came.TheVariants as came
 use Rattle.swim_commands.specs.declared.forms.Form.{Form}
-use Rattle.swim_commands.specs.declared.outcomes.Outcome.TheVariants.{AskUnwritten}
+use Rattle.swim_outcomes.specs.declared.outcomes.Outcome.TheVariants.{AskUnwritten}
 
 -- nothing is, where no counts are needed
 pub none_beside : (form : Form) (answer counts : List ℕ) (a : Option (List Sent)) → needs_counts form answer ≡ false →

@@ -17,17 +17,17 @@ use Rattle.swim_commands.specs.declared.askers.Came.{Came}
 use Rattle.swim_commands.specs.declared.askers.Came.TheVariants as came
 use Rattle.swim_commands.specs.declared.control_lines.NextLine.TheVariants.{Line, Over, Fault}
 use Rattle.swim_commands.specs.declared.forms.Form.{Form}
-use Rattle.swim_commands.specs.declared.outcomes.Outcome.{Outcome}
-use Rattle.swim_commands.specs.declared.outcomes.Outcome.TheVariants as outcomes
-use Rattle.swim_commands.specs.declared.outcomes.Outcome.TheVariants.{AskRefused, AskTimeout, Unanswered, AskUnwritten}
-use Rattle.swim_commands.specs.declared.outcomes.Outcome.TheVariants.{AskUnread, Helped}
-use Rattle.swim_commands.specs.declared.outcomes.Outcome.TheVariants.{Checked, Stopped, Usage}
-use Rattle.swim_commands.specs.declared.outcomes.Outcome.TheVariants.{Unread, Refused, Unwritten}
-use Rattle.swim_commands.specs.declared.outcomes.Outcome.TheVariants.{NoListen}
-use Rattle.swim_commands.specs.declared.outcomes.Outcome.TheVariants.{NoControl, NoMemory, Socket}
-use Rattle.swim_commands.specs.declared.outcomes.Outcome.TheVariants.{NoPlace, NoDaemon, NoRandom}
-use Rattle.swim_commands.specs.declared.outcomes.Outcome.TheVariants.{NoEvents, NoTeller, WatchUnwritten}
-use Rattle.swim_commands.specs.declared.outcomes.Outcome.TheVariants.{NoWeb, WebOver}
+use Rattle.swim_outcomes.specs.declared.outcomes.Outcome.{Outcome}
+use Rattle.swim_outcomes.specs.declared.outcomes.Outcome.TheVariants as outcomes
+use Rattle.swim_outcomes.specs.declared.outcomes.Outcome.TheVariants.{AskRefused, AskTimeout, Unanswered, AskUnwritten}
+use Rattle.swim_outcomes.specs.declared.outcomes.Outcome.TheVariants.{AskUnread, Helped}
+use Rattle.swim_outcomes.specs.declared.outcomes.Outcome.TheVariants.{Checked, Stopped, Usage}
+use Rattle.swim_outcomes.specs.declared.outcomes.Outcome.TheVariants.{Unread, Refused, Unwritten}
+use Rattle.swim_outcomes.specs.declared.outcomes.Outcome.TheVariants.{NoListen}
+use Rattle.swim_outcomes.specs.declared.outcomes.Outcome.TheVariants.{NoControl, NoMemory, Socket}
+use Rattle.swim_outcomes.specs.declared.outcomes.Outcome.TheVariants.{NoPlace, NoDaemon, NoRandom}
+use Rattle.swim_outcomes.specs.declared.outcomes.Outcome.TheVariants.{NoEvents, NoTeller, WatchUnwritten}
+use Rattle.swim_outcomes.specs.declared.outcomes.Outcome.TheVariants.{NoWeb, WebOver}
 
 consumes_none : (o : Option (List ℕ)) → Consumes o o []
 consumes_none None = tt

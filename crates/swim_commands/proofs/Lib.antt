@@ -2,6 +2,5 @@ pub mod Beside
 pub mod ControlLines
 pub mod Exchanges
 pub mod Given
-pub mod Indented
 pub mod Lines
 pub mod LineTexts

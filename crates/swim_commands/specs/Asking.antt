@@ -12,10 +12,10 @@ use Rattle.swim_commands.specs.declared.askers.Came.TheVariants as came
 use Rattle.swim_commands.specs.declared.control_lines.NextLine.{NextLine}
 use Rattle.swim_commands.specs.declared.control_lines.NextLine.TheVariants.{Line, Over, Fault}
 use Rattle.swim_commands.specs.declared.forms.Form.{Form}
-use Rattle.swim_commands.specs.declared.outcomes.Outcome.{Outcome}
-use Rattle.swim_commands.specs.declared.outcomes.Outcome.TheVariants.{Asked, AskRefused, AskTimeout}
-use Rattle.swim_commands.specs.declared.outcomes.Outcome.TheVariants.{Unanswered, AskUnwritten}
-use Rattle.swim_commands.specs.declared.outcomes.Outcome.TheVariants.{AskUnread, NoDaemon}
+use Rattle.swim_outcomes.specs.declared.outcomes.Outcome.{Outcome}
+use Rattle.swim_outcomes.specs.declared.outcomes.Outcome.TheVariants.{Asked, AskRefused, AskTimeout}
+use Rattle.swim_outcomes.specs.declared.outcomes.Outcome.TheVariants.{Unanswered, AskUnwritten}
+use Rattle.swim_outcomes.specs.declared.outcomes.Outcome.TheVariants.{AskUnread, NoDaemon}
 use Rattle.swim_commands.specs.Answers.{is_answer_to, is_stopping}
 use Rattle.swim_commands.specs.Forms.{is_unmet, needs_counts, shown}
 

@@ -4,8 +4,8 @@ use Rattle.swim_config.specs.declared.config_fault.ConfigFault.TheVariants.{NoMe
 use Rattle.swim_watch.specs.Watching.{Watched, Watches}
 use Rattle.swim_watch.specs.declared.watching.WatchEnd.{WatchEnd}
 use Rattle.swim_watch.specs.declared.watching.WatchEnd.TheVariants as ends
-use Rattle.swim_commands.specs.declared.outcomes.Outcome.{Outcome}
-use Rattle.swim_commands.specs.declared.outcomes.Outcome.TheVariants.{Refused, NoTeller, WatchUnwritten}
+use Rattle.swim_outcomes.specs.declared.outcomes.Outcome.{Outcome}
+use Rattle.swim_outcomes.specs.declared.outcomes.Outcome.TheVariants.{Refused, NoTeller, WatchUnwritten}
 
 -- how watching ends whose lines ended so
 abbrev pub watched_so : WatchEnd → Outcome

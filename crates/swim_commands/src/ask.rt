@@ -8,13 +8,12 @@ ghost use Rattle.swim_commands.specs.Forms.{shown};
 use crate::answers::{ControlAnswer, is_stopping};
 use crate::askers::{Asker, Came};
 use crate::control_lines::{ControlLine, NextLine, read_line};
-use crate::details::{Details, words_of};
 use crate::forms::{Form, is_unmet, needs_counts, put_shown};
-use crate::outcomes::Outcome;
 use crate::sockets::ControlSocket;
 use std::io::ErrorKind;
 use std::net::Net;
 use std::rt::Clock;
+use swim_outcomes::{Details, Outcome, words_of};
 use swim_text::{Sink, Source};
 
 /// Asks the daemon at a path the lines of an input, and writes its answers in a form. Each of them may take so many

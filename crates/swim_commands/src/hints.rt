@@ -3,14 +3,13 @@
 ghost use Rattle.std.specs.Prelude.{◌≡◌};
 
 use crate::ask_words::{line_in, seconds_in};
-use crate::details::Details;
 use crate::options::path_in;
-use crate::outcomes::Outcome;
 use crate::surroundings::Surroundings;
 use crate::web_words::folder_in;
 use crate::words::program;
 use clap::ArgMatches;
 use std::alloc::Global;
+use swim_outcomes::{Details, Outcome};
 
 /// How many lines are told of what `clap` says. However long they are, there is room for one more behind them.
 const MOST_LINES: u32 = 4;

@@ -1,5 +1,5 @@
-//! The commands of the daemon's program: its words, how a command ends and what a person is told of it, and the clients
-//! of a daemon that runs (`ask`, `watch`).
+//! The commands of the daemon's program: its words, what a person is told of words that ask nothing, and the clients of
+//! a daemon that runs (`ask`, `watch`).
 #![tactic(auto)]
 
 mod ages;
@@ -8,7 +8,6 @@ mod ask;
 mod ask_words;
 mod askers;
 mod control_lines;
-mod details;
 mod event_sockets;
 mod file_words;
 mod forms;
@@ -16,7 +15,6 @@ mod hints;
 mod member_tables;
 mod names;
 mod options;
-mod outcomes;
 mod sockets;
 mod surroundings;
 mod watch;
@@ -27,12 +25,10 @@ pub use answers::ControlAnswer;
 pub use ask::ask_daemon;
 pub use ask_words::{Request, has_feed};
 pub use askers::{Asker, Came};
-pub use details::{Details, TEXT_BYTES, add_printed, words_of, words_why};
 pub use forms::Form;
 pub use hints::{explain_no_text, explain_words};
-pub use outcomes::{Outcome, put_outcome};
 pub use sockets::ControlSocket;
 pub use surroundings::Surroundings;
 pub use watch::watch_daemon;
 pub use web_words::WebRequest;
-pub use words::{Asked, Unasked, VERSION, VERSION_LINE, read_words};
+pub use words::{Asked, Unasked, read_words};

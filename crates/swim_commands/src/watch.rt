@@ -1,17 +1,16 @@
 //! Watching a daemon that runs.
 
 ghost use Rattle.std.specs.Prelude.{◌≡◌, []};
-ghost use Rattle.swim_commands.specs.Details.{Explains};
+ghost use Rattle.swim_outcomes.specs.Details.{Explains};
 ghost use Rattle.swim_commands.specs.Watched.{WatchesDaemon, watched_so};
 
-use crate::details::{Details, words_of};
 use crate::event_sockets::EventsSocket;
-use crate::outcomes::Outcome;
 use std::alloc::Global;
 use std::net::Net;
 use std::rt::Clock;
 use std::sync::Wait;
 use swim_config::ConfigFault;
+use swim_outcomes::{Details, Outcome, words_of};
 use swim_text::Sink;
 use swim_watch::{WatchEnd, watch};
 

@@ -19,12 +19,7 @@ use crate::web_words::{WebRequest, web_command, web_in};
 use clap::error::ErrorKind;
 use clap::{ArgMatches, Command, Error};
 use std::alloc::{AllocError, Global};
-
-/// The version of the program.
-pub const VERSION: &str = "1.0";
-
-/// The line that tells it.
-pub const VERSION_LINE: &[u8] = b"swimd 1.0\n";
+use swim_outcomes::VERSION;
 
 /// What the words ask.
 #[derive(Drop)]

@@ -9,7 +9,7 @@ use Rattle.swim_keys.specs.Sealing.{Keyring, tag_of}
 use Rattle.swim_keys.proofs.Opening.{sealed_when_opened}
 use Rattle.swim_work.specs.declared.lines.Got.{Got}
 use Rattle.swim_work.specs.declared.lines.Got.TheVariants.{Datagram, Idle, Fault}
-use Rattle.swim_guard.specs.Guarded.{Judged, text_by, with_text, given, handed, datagram_in, text_of, datagrams}
+use Rattle.swim_guard.specs.Guarded.{Judged, text_by, with_text, given, handed, datagram_in, datagrams}
 use Rattle.swim_guard.specs.Guarded.{texts_judged, texts_of}
 
 -- what begins a part of the bytes begins them

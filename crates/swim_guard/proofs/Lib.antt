@@ -1,2 +1,5 @@
+mod Each
+mod Given
 mod Heard
+mod Sending
 mod Steps

@@ -10,6 +10,7 @@ use Rattle.swim_work.specs.declared.lines.Got.{Got}
 use Rattle.swim_work.specs.declared.lines.Got.TheVariants.{Datagram, Idle}
 use Rattle.swim_work.specs.Gates.{Received}
 use Rattle.swim_guard.specs.declared.thrown.Thrown.{Thrown}
+use Rattle.swim_guard.specs.Each.{all_by}
 use Rattle.swim_guard.specs.Thrown.{one_thrown}
 
 -- the rate that was answered, and what asked for it, as it was then
@@ -19,7 +20,7 @@ pub record AnsweredRate (B : Type 0) : Type 0 where
 
 -- what a contract sees of a line over another with a fence between them: the line below, the time that it asked at
 -- last, the rates that it was told so far, oldest first, the fence, what was thrown away, and what it answered so far,
--- oldest first
+-- oldest first, and of each time whether what the line below gave was handed on
 pub record AtFence (L : Type 0) : Type 0 where
   pub line : L
   pub time : ℕ
@@ -27,6 +28,21 @@ pub record AtFence (L : Type 0) : Type 0 where
   pub fence : Kept
   pub fenced : Thrown
   pub answered : List Received
+  pub passed : List Bool
+
+-- what is given of what was got, if its datagram is thrown away: nothing came. A fault stays one
+abbrev pub without_datagram : Got → Got
+without_datagram (Datagram count source) = Idle
+without_datagram got = got
+
+-- what the line below gave is handed on as it is, or without its datagram
+abbrev pub let_on : Bool → Received → Received
+let_on true below = below
+let_on false below = record { got = without_datagram below.got; bytes = below.bytes }
+
+-- all that is handed on of what the line below gave so far, each as is told at its place
+abbrev pub heard_over : Option (List Received) → List Bool → Option (List Received)
+heard_over below passed = all_by let_on below passed
 
 -- whatever happened to the fence before, this happened to it then
 pub record Happens (old new : Kept) (event : Event) : Type 0 where
@@ -73,13 +89,16 @@ abbrev pub LetsIn : {L : Type 0} → AtFence L → AtFence L → Got → Got →
 LetsIn old new (Datagram count source) got = LetsThrough old new (Datagram count source) source got
 LetsIn old new below got = TellsOn old new below got
 
--- the line below was asked once: each datagram of it asks the fence, and what passes is handed on
+-- the line below was asked once: each datagram of it asks the fence, and what passes is handed on, as is noted
 pub record LetsOn {L : Type 0} (received : L → Option (List Received)) (old new : AtFence L) (got : Got)
     (bytes : List ℕ)
     : Type 0 where
   pub below : Got
   pub grows : Grows (received old.line) (received new.line) (record { got = below; bytes = bytes } ∷ [])
   pub lets_in : LetsIn old new below got
+  pub passed : Bool
+  pub noted : new.passed ≡ old.passed ++ passed ∷ []
+  pub is : record { got = got; bytes = bytes } ≡ let_on passed (record { got = below; bytes = bytes })
 
 -- the line was shown the members, and so was the fence
 pub record IsShown {L : Type 0} (old new : AtFence L) (members : List Address) : Type 0 where

@@ -1,3 +1,4 @@
+pub mod Each
 pub mod Fenced
 pub mod Guarded
 pub mod Thrown

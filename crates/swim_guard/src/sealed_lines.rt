@@ -4,7 +4,7 @@ ghost use Rattle.std.specs.Prelude.{◌≡◌, ◌≤◌, ◌∷◌, ◌++◌, [
 ghost use Rattle.std.specs.Option.{option_map};
 ghost use Rattle.swim_work.specs.Gates.{FitsInto};
 ghost use Rattle.swim_trail.specs.Growing.{Grows};
-ghost use Rattle.swim_guard.specs.Guarded.{HandsOn, Judges, handed, text_by};
+ghost use Rattle.swim_guard.specs.Guarded.{HandsOn, Judges, handed, heard_by, keys_in, text_by};
 
 use crate::rule_books::RuleBook;
 use crate::rule_lookups::KeyLookup;
@@ -25,8 +25,9 @@ struct Judged {
 
 /// A line over another. Where the rules have keys, it hands on each datagram that has a tag by one of them, without its
 /// tag, and throws the others away, before anything is decoded; where they have none, it hands on all. The keys are
-/// those that are in force once the datagram came. A contract sees the line below, the keys that were asked for, what was
-/// thrown away, and what the line below got so far, each with the keys by which it was judged.
+/// those that are in force once the datagram came. A contract sees the line below, the keys that were asked for, what
+/// was thrown away, and what the line below got so far, each with the keys by which it was judged. So what it gave is
+/// told by all that the line below gave, where that is known.
 #[derive(Drop)]
 pub struct SealedLine<'k, L: Line> {
     line: L,
@@ -66,6 +67,17 @@ impl<'k, L: Line> SealedLine<'k, L> {
             forged: Thrown::none(),
             judged: Trail::new(),
         }
+    }
+
+    /// Asks the line below once, and hands on what has a text by the keys that are in force then.
+    fn hand_on<R: Wait>(&mut self, rt: &R, bytes: &mut [u8]) -> Got
+        ensures fits { FitsInto result bytes.new }
+        ensures listed { L.listed self.new.line ≡ L.listed self.old.line }
+        ensures hands { HandsOn L.received self.old self.new result bytes.new }
+    {
+        let below = self.line.receive(rt, bytes);
+        self.keys.renew(rt, &self.line);
+        self.judge(below, bytes)
     }
 
     /// What is handed on of what the line below got, by the keys that are in force.
@@ -116,26 +128,28 @@ fn text_bytes(keys: &Option<Keys>, bytes: &[u8]) -> Option<usize>
 }
 
 impl<'k, L: Line> Line for SealedLine<'k, L> {
-    ghost received = { λ s. Some (map handed s.judged) };
+    ghost received = { λ s. heard_by (L.received s.line) (keys_in s.judged) };
 
     ghost listed = { λ s. L.listed s.line };
 
-    #[tactic(auto, using(swim_trail::specs::Noted::map_more))]
+    #[tactic(auto, using(swim_trail::specs::Noted::map_more, crate::proofs::Given::heard_by_more))]
     fn receive<R: Wait>(&mut self, rt: &R, bytes: &mut [u8]) -> Got
         ensures fits { FitsInto result bytes.new }
-        ensures received { Grows (Some (map handed self.old.judged)) (Some (map handed self.new.judged))
+        ensures received { Grows (heard_by (L.received self.old.line) (keys_in self.old.judged))
+            (heard_by (L.received self.new.line) (keys_in self.new.judged)) (record { got = result; bytes = bytes.new } ∷ []) }
+        ensures handed { Grows (Some (map handed self.old.judged)) (Some (map handed self.new.judged))
             (record { got = result; bytes = bytes.new } ∷ []) }
         ensures listed { L.listed self.new.line ≡ L.listed self.old.line }
         ensures hands { HandsOn L.received self.old self.new result bytes.new }
     {
-        let below = self.line.receive(rt, bytes);
-        self.keys.renew(rt, &self.line);
-        self.judge(below, bytes)
+        self.hand_on(rt, bytes)
     }
 
     fn list(&mut self, members: &[Peer])
         requires { length members.now ≤ KNOWN_MEMBERS }
-        ensures received { L.received self.new.line ≡ L.received self.old.line }
+        ensures received { heard_by (L.received self.new.line) (keys_in self.new.judged)
+            ≡ heard_by (L.received self.old.line) (keys_in self.old.judged) }
+        ensures below { L.received self.new.line ≡ L.received self.old.line }
         ensures listed { Grows (L.listed self.old.line) (L.listed self.new.line) (members.now ∷ []) }
         ensures same { self.new ≡ record self.old { line = self.new.line } }
     {

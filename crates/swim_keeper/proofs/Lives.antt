@@ -15,7 +15,7 @@ use Rattle.swim_crew.specs.Lives.{AreEnded, AreEndedByLife, AreLived, AreLives, 
 use Rattle.swim_keeper.specs.declared.keepers.LifeKeeper.{LifeKeeper}
 use Rattle.swim_keeper.specs.Keeping.{IsOpened, IsSame, Outlets, at_keeper, closes_by, opens_by}
 use Rattle.swim_keeper.specs.Keeping.{records_by}
-use Rattle.swim_keeper.specs.Notices.{Notices, no_notices, notices_both}
+use Rattle.swim_telling.specs.Notices.{Notices, no_notices, notices_both}
 use Rattle.swim_keeper.specs.Told.{AreKept, AtLives, EachIsTold, EachLife, IsAnnounced, IsDrawnLife, IsKept}
 use Rattle.swim_keeper.specs.Told.{IsWithout, at_lives}
 

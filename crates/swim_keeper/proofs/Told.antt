@@ -14,7 +14,10 @@ use Rattle.swim_journal.specs.Headings.{header_text, IsTellable}
 use Rattle.swim_journal.specs.Comments.{without_comments}
 use Rattle.swim_journal.specs.Replays.{IsDrawnRun, file_text}
 use Rattle.swim_journal.proofs.PlainFile.{file_plain}
+use Rattle.swim_telling.specs.Notices.{notices_both}
+use Rattle.swim_telling.specs.Telling.{Written}
 use Rattle.swim_recorder.specs.declared.transcripts.Transcript.{Transcript}
+use Rattle.swim_recorder.specs.Filed.{Filed, HoldText}
 use Rattle.swim_recorder.specs.Files.{IsLifeFile}
 use Rattle.swim_recorder.specs.Recording.{AtRecorder, IsRecorded}
 use Rattle.swim_recorder.specs.Reports.{Report, HasHeardOf}
@@ -22,10 +25,9 @@ use Rattle.swim_recorder.specs.Transcripts.{AreWritten, HasWritten}
 use Rattle.swim_recorder.specs.Watched.{AreToldLife}
 use Rattle.swim_crew.specs.declared.pasts.Past.{Past}
 use Rattle.swim_crew.specs.declared.pasts.Terms.{Terms}
-use Rattle.swim_keeper.specs.Endings.{TellsEnd, Written}
-use Rattle.swim_keeper.specs.Filing.{Filed, HoldText, IsBegun, IsPutBack}
+use Rattle.swim_keeper.specs.Endings.{TellsEnd}
+use Rattle.swim_keeper.specs.Filing.{IsBegun, IsPutBack}
 use Rattle.swim_keeper.specs.Keeping.{AtKeeper, IsClosed, IsOpened}
-use Rattle.swim_keeper.specs.Notices.{notices_both}
 use Rattle.swim_keeper.specs.Told.{AreBytesOf, IsDrawnLife, IsFiled, IsKept, at_lives}
 
 -- a header, and behind it what a recorder wrote, are the life's file

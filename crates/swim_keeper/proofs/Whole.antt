@@ -8,7 +8,7 @@ use Rattle.swim_journal.specs.Replays.{file_text, IsJournalFile, IsFileText, IsP
 use Rattle.swim_journal.proofs.PlainFile.{plain_again}
 use Rattle.swim_journal.proofs.PlayedBack.{played_back, differs_where_refused}
 use Rattle.swim_crew.specs.declared.pasts.Terms.{Terms}
-use Rattle.swim_keeper.specs.Filing.{Filed}
+use Rattle.swim_recorder.specs.Filed.{Filed}
 use Rattle.swim_keeper.specs.Told.{AreBytesOf, IsFileOf}
 use Rattle.swim_keeper.proofs.Told.{not_cut}
 

@@ -1,7 +1,7 @@
 -- The lines that tell how lives ended.
-use Rattle.std.specs.Prelude.{◌≡◌, ℕ, Bool, true, false, List, [], ◌++◌, length, Option, codes, decimal}
-use Rattle.swim_text.specs.Streams.{Puts, failures_if}
+use Rattle.std.specs.Prelude.{◌≡◌, ℕ, Bool, true, false, List, [], ◌++◌, length, codes, decimal}
 use Rattle.swim_history.specs.Judgement.{judgements}
+use Rattle.swim_telling.specs.Telling.{TellsText, Written}
 use Rattle.swim_work.specs.declared.counts.Counts.{Counts}
 use Rattle.swim_work.specs.declared.counts.Why.{Why}
 use Rattle.swim_work.specs.declared.counts.Why.TheVariants.{JournalFull}
@@ -40,17 +40,6 @@ life_text number past is_cut = codes "life " ++ (decimal number ++ past_text pas
 abbrev pub line_of : Why → ℕ → Past → Bool → List ℕ
 line_of JournalFull number past is_cut = life_text number past is_cut
 line_of why number past is_cut = ended_text past is_cut
-
--- what was written to a sink, where that is known, and how many of its writes and flushes failed
-abbrev pub Written : Type 0
-Written = Option (List ℕ) × ℕ
-
--- a text was written, as far as it was taken; a failed write and a failed flush were counted
-pub record TellsText (text : List ℕ) (old new : Written) : Type 0 where
-  pub done : Bool
-  pub put : Puts old.0 new.0 text done
-  pub sent : Bool
-  pub failed : new.1 ≡ failures_if (failures_if old.1 done) sent
 
 -- the line of a life was written so
 abbrev pub TellsLife : ℕ → Past → Bool → Written → Written → Type 0

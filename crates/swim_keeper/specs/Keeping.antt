@@ -2,16 +2,18 @@
 use Rattle.std.specs.Prelude.{◌≡◌, ℕ, Bool, List, [], ◌∷◌, Option, None}
 use Rattle.swim_history.specs.Setting.{Setting, IsSetting}
 use Rattle.swim_trail.specs.Growing.{Grows}
+use Rattle.swim_telling.specs.Notices.{Notices}
+use Rattle.swim_telling.specs.Telling.{Written}
 use Rattle.swim_recorder.specs.declared.journal_recorder.JournalRecorder.{JournalRecorder}
+use Rattle.swim_recorder.specs.Filed.{Filed}
 use Rattle.swim_recorder.specs.Recording.{AtRecorder, IsRecorded, at_recorder}
 use Rattle.swim_recorder.specs.Reports.{Report}
 use Rattle.swim_crew.specs.declared.pasts.Past.{Past}
 use Rattle.swim_crew.specs.declared.pasts.Terms.{Terms}
 use Rattle.swim_crew.specs.Crews.{Closes, Opens, Records}
 use Rattle.swim_keeper.specs.declared.keepers.LifeKeeper.{LifeKeeper}
-use Rattle.swim_keeper.specs.Endings.{TellsEnd, Written}
-use Rattle.swim_keeper.specs.Filing.{Filed, IsBegun, IsPutBack}
-use Rattle.swim_keeper.specs.Notices.{Notices}
+use Rattle.swim_keeper.specs.Endings.{TellsEnd}
+use Rattle.swim_keeper.specs.Filing.{IsBegun, IsPutBack}
 
 -- what a contract sees of all that a keeper and its recorder hand something to: two sinks, a herald, a shelf and its
 -- files, and a reporter

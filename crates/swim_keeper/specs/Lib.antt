@@ -1,5 +1,4 @@
 pub mod Endings
 pub mod Filing
 pub mod Keeping
-pub mod Notices
 pub mod Told

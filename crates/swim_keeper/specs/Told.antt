@@ -27,9 +27,9 @@ use Rattle.swim_crew.specs.Draws.{WasDrawn}
 use Rattle.swim_crew.specs.Ends.{why_ended}
 use Rattle.swim_crew.specs.Lives.{AreEndedByLife, AreFull, end_without, number_after, opening_after}
 use Rattle.swim_keeper.specs.Endings.{TellsEnd}
-use Rattle.swim_keeper.specs.Filing.{Filed}
+use Rattle.swim_recorder.specs.Filed.{Filed}
 use Rattle.swim_keeper.specs.Keeping.{AtKeeper, IsClosed, IsOpened}
-use Rattle.swim_keeper.specs.Notices.{Notices}
+use Rattle.swim_telling.specs.Notices.{Notices}
 
 -- of each of these lives, newest first, this is true: of its number, what it began with, what is left of it, and what
 -- is seen before and after it. The first began with this opening, and each other one goes on from the one before

@@ -2,7 +2,8 @@
 
 ghost use Rattle.std.specs.Prelude.{◌≡◌, ◌++◌};
 ghost use Rattle.swim_text.specs.Streams.{Puts, failures_if};
-ghost use Rattle.swim_keeper.specs.Endings.{TellsEnd, TellsLife, TellsText, cut_text, ended_text, is_stopped_full};
+ghost use Rattle.swim_telling.specs.Telling.{TellsText};
+ghost use Rattle.swim_keeper.specs.Endings.{TellsEnd, TellsLife, cut_text, ended_text, is_stopped_full};
 ghost use Rattle.swim_keeper.specs.Endings.{life_text, past_text, stopped_text};
 
 use itoa::Buffer;

@@ -2,17 +2,16 @@
 
 ghost use Rattle.std.specs.Prelude.{◌≡◌, ◌∷◌, []};
 ghost use Rattle.swim_keeper.specs.Filing.{IsBegun, IsPutBack};
-ghost use Rattle.swim_keeper.specs.Notices.{Notices};
+ghost use Rattle.swim_telling.specs.Notices.{Notices};
 ghost use Rattle.swim_trail.specs.Growing.{Grows};
 
 use crate::endings::tell_end;
-use crate::heralds::Herald;
-use crate::shelves::Shelf;
 use std::sync::Wait;
 use swim_crew::{Keeper, Past, Terms};
 use swim_events::{Entrance, Outlet};
 use swim_history::Opening;
-use swim_recorder::{JournalRecorder, Reporter, Transcript};
+use swim_recorder::{JournalRecorder, Reporter, Shelf, Transcript};
+use swim_telling::Herald;
 use swim_text::Sink;
 use swim_work::{Pace, TidingsBoard};
 
@@ -133,7 +132,7 @@ fn begun<V: Sink + Drop, S: Shelf<V>, F: Sink>(
 
 /// Gives the file of a life's journal back to the shelf. Returns whether the line of the life is to say that the
 /// journal was cut: if not all of it was written, or the file isn't kept.
-#[tactic(auto, using(crate::specs::Notices::no_notices))]
+#[tactic(auto, using(swim_telling::specs::Notices::no_notices))]
 fn put_back<V: Sink + Drop, S: Shelf<V>, F: Sink>(
     shelf: &mut S,
     number: u64,

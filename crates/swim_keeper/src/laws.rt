@@ -4,8 +4,8 @@ ghost use Rattle.std.specs.Prelude.{◌≡◌, ℕ, false, List, [], Some};
 ghost use Rattle.swim_history.specs.declared.entries.Entry.{Entry};
 ghost use Rattle.swim_history.specs.Setting.{Setting};
 ghost use Rattle.swim_journal.specs.Replays.{IsPlayedBack, DiffersWhereRefused};
+ghost use Rattle.swim_recorder.specs.Filed.{Filed};
 ghost use Rattle.swim_crew.specs.declared.pasts.Terms.{Terms};
-ghost use Rattle.swim_keeper.specs.Filing.{Filed};
 ghost use Rattle.swim_keeper.specs.Told.{EachIsTold, IsFileOf};
 
 use swim_recorder::laws::a_recorded_life_is_its_file;

@@ -3,11 +3,7 @@
 #![tactic(auto)]
 
 mod endings;
-mod heralds;
 mod keepers;
 pub mod laws;
-mod shelves;
 
-pub use heralds::Herald;
 pub use keepers::LifeKeeper;
-pub use shelves::Shelf;

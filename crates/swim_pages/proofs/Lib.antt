@@ -1,2 +1,3 @@
 pub mod Doubting
+pub mod OwnNames
 pub mod Verdicts

@@ -1,5 +1,5 @@
 -- What is said of files in which a verdict was looked for, and which don't tell it.
-use Rattle.std.specs.Prelude.{◌≡◌, ℕ, List, [], ◌++◌, codes}
+use Rattle.std.specs.Prelude.{◌≡◌, ℕ, Bool, List, [], ◌++◌, codes}
 use Rattle.std.specs.List.{All, flat_map}
 use Rattle.swim_evidence.specs.declared.verdicts.Standing.{Standing}
 use Rattle.swim_evidence.specs.declared.verdicts.Standing.TheVariants.{Sound}
@@ -8,6 +8,7 @@ use Rattle.swim_verdicts.specs.declared.examining.Played.{Played}
 use Rattle.swim_verdicts.specs.declared.verdict_lines.Objection.{Objection}
 use Rattle.swim_verdicts.specs.Examined.{IsVerdictOn, LacksVerdict, told_by}
 use Rattle.swim_verdicts.specs.VerdictTexts.{objection_text}
+use Rattle.swim_pages.specs.Searches.{rest_text}
 
 -- that is what is to be said against a file that was played
 pub record IsObjection (p : Played) (o : Objection) : Type 0 where
@@ -43,3 +44,9 @@ pub record AreDoubts (member number : ℕ) (text : List ℕ) : Type 0 where
   pub files : List Doubted
   pub each : All (IsDoubted member number) files
   pub is : text ≡ flat_map doubt_text files
+
+-- these are such lines, and behind them whether files were left out
+pub record IsLacking (is_cut : Bool) (member number : ℕ) (text : List ℕ) : Type 0 where
+  pub doubts : List ℕ
+  pub of : AreDoubts member number doubts
+  pub is : text ≡ doubts ++ rest_text is_cut

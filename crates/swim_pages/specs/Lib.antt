@@ -1,2 +1,5 @@
 pub mod Doubts
+pub mod HostNames
+pub mod Searches
 pub mod Shelves
+pub mod Streams

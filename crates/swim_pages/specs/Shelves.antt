@@ -6,7 +6,7 @@ use Rattle.swim_pages.specs.declared.file_places.Place.{Place}
 use Rattle.swim_evidence.specs.declared.findings.Evidence.{Evidence}
 use Rattle.swim_evidence.specs.declared.findings.Finding.{Finding}
 use Rattle.swim_evidence.specs.declared.findings.Finding.TheVariants.{Judged}
-use Rattle.swim_pages.specs.Doubts.{AreDoubts}
+use Rattle.swim_pages.specs.Doubts.{IsLacking}
 use Rattle.swim_verdicts.specs.declared.examining.Played.{Played}
 use Rattle.swim_verdicts.specs.declared.verdict_lines.Objection.{Objection}
 use Rattle.swim_verdicts.specs.Examined.{IsEvidence, LacksVerdict, told_by}
@@ -78,8 +78,10 @@ pub record ShowsLast (shown : List (PlacedSheet × List ℕ)) (member number : �
   pub at : page.place.number ≡ number
   pub is : text ≡ page.sheet.text
 
--- what was found of the verdict on that member at the end of that period, and the text that was written of it: its
--- page, or what speaks against the files that were looked at, none of which tells it
-pub record IsFound (shown : List (PlacedSheet × List ℕ)) (f : Found) (member number : ℕ) (text : List ℕ) : Type 0 where
+-- what was found of the verdict on that member at the end of that period by a search that left out files or didn't, and
+-- the text that was written of it: its page, or what speaks against the files that were looked at, none of which tells
+-- it, and whether files were left out
+pub record IsFound (shown : List (PlacedSheet × List ℕ)) (is_cut : Bool) (f : Found) (member number : ℕ)
+    (text : List ℕ) : Type 0 where
   pub page : f ≡ finds.Page → ShowsLast shown member number text
-  pub nothing : f ≡ finds.Nothing → AreDoubts member number text
+  pub nothing : f ≡ finds.Nothing → IsLacking is_cut member number text

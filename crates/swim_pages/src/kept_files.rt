@@ -17,7 +17,7 @@ use swim_verdicts::{Objection, Played};
 use swim_wire::Id;
 
 /// How many verdicts a file may tell, if it is to be kept which they are.
-const KEPT_VERDICTS: usize = 1_024;
+const KEPT_VERDICTS: usize = 4_096;
 
 /// A file that was played, with the verdicts that it tells: whoever each is on, and at the end of which period.
 #[derive(Drop)]

@@ -1,6 +1,6 @@
 //! What was found of verdicts in files, which is kept: pages, and which verdicts files tell.
 
-ghost use Rattle.std.specs.Prelude.{◌≡◌, ◌<◌, IfOk, IfSome, length};
+ghost use Rattle.std.specs.Prelude.{◌≡◌, ◌<◌, ◌≤◌, IfOk, IfSome, length};
 ghost use Rattle.swim_pages.specs.Shelves.{AreSame, IsBlankAt, IsWritten};
 ghost use Rattle.swim_verdicts.specs.Examined.{IsEvidence};
 
@@ -16,8 +16,11 @@ const KEPT_PAGES: usize = 8;
 
 const KEPT_BYTES: usize = 1_048_576;
 
-/// Of how many files it is kept which verdicts they tell.
-const KEPT_FILES: usize = 1_024;
+/// Of how many files it is kept which verdicts they tell: all those that a search looks at in two folders.
+const KEPT_FILES: usize = 2_048;
+
+/// The most bytes of a page that is shown.
+const MOST_BYTES: usize = 8_388_608;
 
 /// A page that was written, with the place where its verdict was looked for.
 #[derive(Drop)]
@@ -42,7 +45,8 @@ impl Model for KeptPage {
 }
 
 impl KeptPage {
-    /// Writes the page about a verdict that the file of this place tells, which was played.
+    /// Writes the page about a verdict that the file of this place tells, which was played. Fails if memory is refused,
+    /// or the page is longer than 8 MiB.
     pub fn write(
         alloc: Global,
         place: Place,
@@ -50,7 +54,8 @@ impl KeptPage {
         evidence: &Evidence,
     ) -> Result<KeptPage, AllocError>
         requires { IsEvidence played.now place.member place.number evidence.now }
-        ensures { IfOk result (λ kept. kept.place ≡ place) }
+        ensures place { IfOk result (λ kept. kept.place ≡ place) }
+        ensures short { IfOk result (λ kept. length kept.sheet.text ≤ 8388608) }
     {
         let about = VerdictPage {
             path: place.path.as_str(),
@@ -58,6 +63,9 @@ impl KeptPage {
             evidence,
         };
         let page = about.write(alloc)?;
+        if page.text().len() > MOST_BYTES {
+            return Err(AllocError);
+        }
         Ok(KeptPage { place, page })
     }
 

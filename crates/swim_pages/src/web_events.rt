@@ -1,6 +1,8 @@
 //! What `web` hears of a daemon at its events' socket, without waiting.
 
-ghost use Rattle.std.specs.Prelude.{None};
+ghost use Rattle.std.specs.Prelude.{◌≡◌, None, if◌then◌else◌};
+ghost use Rattle.std.specs.IoError.{error_kind};
+ghost use Rattle.swim_pages.specs.Streams.{is_due, is_lasting};
 
 use arrayvec::ArrayVec;
 use jiff::Timestamp;
@@ -9,12 +11,12 @@ use std::alloc::{AllocError, Global};
 use std::io::{self, ErrorKind, Read};
 use std::net::Net;
 use std::rt::Clock;
-use std::time::{Duration, Instant};
+use std::time::Instant;
 use swim_watch::show;
 use swim_web::{EventLine, Teller};
 
-/// How long after one try to connect the next one is, in milliseconds.
-const PAUSE_MS: u64 = 500;
+/// How long after one try to connect the next one is, in nanoseconds.
+const PAUSE_NS: u128 = 500_000_000;
 
 /// How many bytes are read at a time.
 const READ_BYTES: usize = 1024;
@@ -23,8 +25,8 @@ const READ_BYTES: usize = 1024;
 const LINES: usize = 256;
 
 /// The events of the daemon at a socket, each an object of JSON with the time at which it came. The table that comes
-/// first isn't told. If the connection ends, the next daemon there is heard, and an event tells that one was found
-/// again.
+/// first isn't told. If the connection is lost, the next daemon there is heard, half a second after the last try at the
+/// soonest, and an event tells that one was found again.
 #[derive(Drop)]
 pub struct SocketEvents<'r, 'p, R: Net + Clock> {
     rt: &'r R,
@@ -60,9 +62,7 @@ impl<'r, 'p, R: Net + Clock> SocketEvents<'r, 'p, R> {
     /// Connects, if that wasn't tried just now.
     fn connect(&mut self, path: &str) -> io::Result<()> {
         let now = Instant::now(self.rt)?;
-        if let Some(tried) = self.tried
-            && now.duration_since(tried) < Duration::from_millis(PAUSE_MS)
-        {
+        if !is_due(self.tried, now) {
             return Err(io::Error::from(ErrorKind::WouldBlock));
         }
         self.tried = Some(now);
@@ -153,6 +153,15 @@ impl<'r, 'p, R: Net + Clock> SocketEvents<'r, 'p, R> {
         }
     }
 
+    /// Lets go of the stream if this fault is lasting: it is lost, and the next event is looked for by another.
+    fn settle(&mut self, fault: io::Error)
+        ensures { self.new.stream ≡ (if is_lasting (error_kind fault) then None else self.old.stream) }
+    {
+        if is_lasting(fault.kind()) {
+            self.stream = None;
+        }
+    }
+
     /// Looks for the next event. Returns whether there is one; fails where the connection has no more now.
     fn next_event(&mut self, event: &mut EventLine) -> io::Result<bool> {
         let Some(path) = self.path else {
@@ -178,11 +187,29 @@ impl<'r, 'p, R: Net + Clock> Teller for SocketEvents<'r, 'p, R> {
         match self.next_event(line) {
             Ok(is_event) => is_event,
             Err(fault) => {
-                if fault.kind() != ErrorKind::WouldBlock && fault.kind() != ErrorKind::Interrupted {
-                    self.stream = None;
-                }
+                self.settle(fault);
                 false
             }
         }
+    }
+}
+
+/// Returns whether it is time to connect: nobody has tried yet, or not just now.
+fn is_due(tried: Option<Instant>, now: Instant) -> bool
+    ensures { result ≡ is_due tried now }
+{
+    match tried {
+        Some(tried) => now.duration_since(tried).as_nanos() >= PAUSE_NS,
+        None => true,
+    }
+}
+
+/// Returns whether a stream is lost by a fault of this kind. It isn't if nothing lies there yet, or a signal came.
+fn is_lasting(kind: ErrorKind) -> bool
+    ensures { result ≡ is_lasting kind }
+{
+    match kind {
+        ErrorKind::WouldBlock | ErrorKind::Interrupted => false,
+        _ => true,
     }
 }

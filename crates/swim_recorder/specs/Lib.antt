@@ -1,3 +1,4 @@
+pub mod Filed
 pub mod Files
 pub mod Recording
 pub mod Reports

@@ -8,9 +8,11 @@ mod journal_recorder;
 pub mod laws;
 mod nobody;
 mod reporters;
+mod shelves;
 mod transcripts;
 
 pub use journal_recorder::JournalRecorder;
 pub use nobody::{NoEntrance, NoOutlet, NoReporter};
 pub use reporters::{Reporter, Standing};
+pub use shelves::Shelf;
 pub use transcripts::Transcript;

@@ -1,7 +1,7 @@
 -- The files that a folder took back.
 use Rattle.std.specs.Prelude.{◌≡◌, ℕ, Bool, true, List, [], ◌∷◌, ◌++◌, map, Some}
 use Rattle.swim_journal.specs.Comments.{without_comments}
-use Rattle.swim_keeper.specs.Filing.{Filed, IsTakenBack}
+use Rattle.swim_recorder.specs.Filed.{Filed, IsTakenBack}
 use Rattle.swim_trail.specs.Noted.{map_more}
 use Rattle.swim_writer.specs.HeldTexts.{AtText}
 

@@ -8,12 +8,12 @@ use crate::bulletins::{Bulletin, Counted};
 use crate::refusals::Refusals;
 use crate::text_sinks::TextSink;
 use std::sync::Wait;
-use swim_commands::VERSION;
 use swim_config::{Config, fingerprint};
 use swim_control::StatsText;
 use swim_guard::{RingKeys, StrangerCounts, Strangers};
 use swim_keys::{GroupKey, MOST_KEYS};
 use swim_metrics::{FileFigures, Fingerprints, Measures, Outside, put_stats};
+use swim_outcomes::VERSION;
 use swim_wire::Id;
 use swim_writer::Remarks;
 

@@ -1,7 +1,7 @@
 //! Why a file isn't written, in words.
 
-use swim_commands::words_of;
 use swim_disk::FileFault;
+use swim_outcomes::words_of;
 use swim_writer::Unwritten;
 
 /// What people are told of a journal file that isn't whole for this reason.

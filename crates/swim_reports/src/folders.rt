@@ -2,21 +2,21 @@
 
 ghost use Rattle.std.specs.Prelude.{◌≡◌, Some, [], true, IfOk};
 ghost use Rattle.swim_journal.specs.Comments.{without_comments};
-ghost use Rattle.swim_keeper.specs.Notices.{Notices};
+ghost use Rattle.swim_telling.specs.Notices.{Notices};
 
 use crate::clerks::Clerk;
 use crate::counters::Counters;
 use crate::file_faults::words_for;
-use crate::notices::Notice;
 use std::alloc::{AllocError, Global};
 use std::fs::File;
 use std::net::Net;
 use std::rt::{Clock, Files};
 use std::sync::{Arc, Wait};
-use swim_commands::VERSION;
 use swim_config::JournalFiles;
 use swim_disk::{DirPath, FileEnd, LostFile, NewFile, Stamp};
-use swim_keeper::Shelf;
+use swim_notices::Notice;
+use swim_outcomes::VERSION;
+use swim_recorder::Shelf;
 use swim_text::Sink;
 use swim_trail::Trail;
 use swim_wire::Id;
@@ -92,7 +92,7 @@ impl<'r, R: Net + Clock + Wait> Folder<'r, R> {
     }
 
     /// Tells of a file that isn't whole.
-    #[tactic(auto, using(swim_keeper::specs::Notices::no_notices))]
+    #[tactic(auto, using(swim_telling::specs::Notices::no_notices))]
     fn tell_lost<F: Sink>(&self, lost: &LostFile, notices: &mut F)
         ensures { Notices (F.written notices.old, F.failures notices.old)
             (F.written notices.new, F.failures notices.new) }
@@ -102,7 +102,7 @@ impl<'r, R: Net + Clock + Wait> Folder<'r, R> {
     }
 
     /// Begins the file of a life, and tells where there is none.
-    #[tactic(auto, using(swim_keeper::specs::Notices::no_notices))]
+    #[tactic(auto, using(swim_telling::specs::Notices::no_notices))]
     fn begin<F: Sink>(&mut self, new: NewFile, notices: &mut F) -> JournalFile<'r, R>
         ensures fresh { result.text.taken ≡ [] }
         ensures opened { self.new.opened ≡ self.old.opened }
@@ -137,7 +137,7 @@ impl<'r, R: Net + Clock + Wait> Folder<'r, R> {
     }
 
     /// Ends the newest file, and answers whether it is whole. Where it isn't, and nobody was told yet, it is told.
-    #[tactic(auto, using(swim_keeper::specs::Notices::no_notices))]
+    #[tactic(auto, using(swim_telling::specs::Notices::no_notices))]
     fn end_newest<F: Sink>(&self, notices: &mut F) -> bool
         ensures { Notices (F.written notices.old, F.failures notices.old)
             (F.written notices.new, F.failures notices.new) }
@@ -153,7 +153,7 @@ impl<'r, R: Net + Clock + Wait> Folder<'r, R> {
     }
 
     /// Ends a file. Whether its disk was handed all of it, and nobody knows yet that it isn't kept.
-    #[tactic(auto, using(swim_keeper::specs::Notices::no_notices))]
+    #[tactic(auto, using(swim_telling::specs::Notices::no_notices))]
     fn end<F: Sink>(&self, file: &mut JournalFile<'r, R>, notices: &mut F) -> bool
         ensures taken { file.new.text.taken ≡ file.old.text.taken }
         ensures same { result ≡ true →
@@ -181,7 +181,7 @@ impl<'r, R: Files<File = File> + Net + Clock + Wait> Shelf<JournalFile<'r, R>> f
 
     ghost filed = { λ s. Some (map filed_in s.filed.items) };
 
-    #[tactic(auto, using(swim_keeper::specs::Notices::no_notices, swim_trail::specs::Noted::map_more))]
+    #[tactic(auto, using(swim_telling::specs::Notices::no_notices, swim_trail::specs::Noted::map_more))]
     fn open<F: Sink>(&mut self, number: u64, notices: &mut F) -> Option<JournalFile<'r, R>> {
         self.opened.note(&number, b"");
         let new = self.file_of(number)?;

@@ -1,14 +1,14 @@
 //! What a log tells of the member table's changes, a line each.
 
-ghost use Rattle.swim_keeper.specs.Notices.{Notices};
+ghost use Rattle.swim_telling.specs.Notices.{Notices};
 
 use crate::bulletins::Bulletin;
-use crate::notices::Notice;
 use std::alloc::Global;
 use std::fmt::Write;
 use std::net::Net;
 use std::rt::Clock;
 use std::sync::Wait;
+use swim_notices::Notice;
 use swim_text::Sink;
 use swim_wire::{Id, Peer};
 
@@ -81,7 +81,7 @@ impl Happening {
 }
 
 /// Tells the changes that wait on a bulletin.
-#[tactic(auto, using(swim_keeper::specs::Notices::no_notices))]
+#[tactic(auto, using(swim_telling::specs::Notices::no_notices))]
 pub fn tell_changes<R: Net + Clock, T: Wait, F: Sink>(
     rt: &R,
     waiter: &T,
@@ -117,7 +117,7 @@ fn tell_each<R: Net + Clock, F: Sink>(
 }
 
 /// Tells how many changes have no line, if there are any.
-#[tactic(auto, using(swim_keeper::specs::Notices::no_notices))]
+#[tactic(auto, using(swim_telling::specs::Notices::no_notices))]
 fn tell_unsaid<R: Net + Clock, F: Sink>(rt: &R, alloc: Global, count: u64, notices: &mut F)
     ensures { Notices (F.written notices.old, F.failures notices.old)
         (F.written notices.new, F.failures notices.new) }

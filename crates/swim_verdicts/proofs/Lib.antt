@@ -1,2 +1,5 @@
 pub mod Digits
 pub mod Feeds
+pub mod FirstSigns
+pub mod ShellReading
+pub mod Starving

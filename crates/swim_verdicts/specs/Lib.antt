@@ -3,6 +3,7 @@ pub mod JsonTexts
 pub mod Meanings
 pub mod Verifying
 pub mod Examined
+pub mod ShellWords
 pub mod ToldTexts
 pub mod Unseen
 pub mod VerdictJson

@@ -8,6 +8,7 @@ use Rattle.swim_verdicts.specs.declared.examining.Played.{Played}
 use Rattle.swim_verdicts.specs.declared.page_frame.TheConstants.{PAGE_STYLE}
 use Rattle.swim_verdicts.specs.declared.told_texts.TextKind.TheVariants.{Words, Time}
 use Rattle.swim_verdicts.specs.Examined.{IsVerdictOn}
+use Rattle.swim_verdicts.specs.ShellWords.{shell_word}
 use Rattle.swim_verdicts.specs.ToldTexts.{IsOf, IsPicture, Sheet}
 use Rattle.swim_verdicts.specs.VerdictTables.{table_text}
 use Rattle.swim_verdicts.specs.VerdictTexts.{end_text, objection_text}
@@ -47,22 +48,23 @@ page_text member number path standing rest =
     ++ (path ++ (codes "</code>.</p>\n"
     ++ (standing ++ (rest ++ codes "</main>\n</body>\n</html>\n"))))))))))))))
 
--- what follows the head: the words, the table, the picture, and the commands that show the same
+-- what follows the head: the words, the table, the picture, and the commands that show the same, with this word for the
+-- path
 abbrev pub rest_text : ℕ → ℕ → List ℕ → List ℕ → List ℕ → List ℕ → List ℕ
-rest_text member number path words table picture =
+rest_text member number word words table picture =
     codes "<h2>Evidence</h2>\n<pre>"
     ++ (words ++ (codes "</pre>\n<table>\n"
     ++ (table ++ (codes "</table>\n<h2>The periods round it</h2>\n"
     ++ (codes "<div class=\"wide\" role=\"region\" aria-label=\"The periods round it\" tabindex=\"0\">\n"
     ++ (picture ++ (codes "</div>\n<h2>By hand</h2>\n<pre>swimsim --verify "
-    ++ (path ++ (codes "\nswimsim --timeline run.svg --around "
+    ++ (word ++ (codes "\nswimsim --timeline run.svg --around "
     ++ (decimal member ++ (codes " --period "
     ++ (decimal number ++ (codes " "
-    ++ (path ++ codes "\n</pre>\n"))))))))))))))
+    ++ (word ++ codes "\n</pre>\n"))))))))))))))
 
 -- the page about a verdict that the file with this path tells: its head names that verdict, it says how that file
 -- stands, its words and the time of the probe were written of that verdict in that file, its table has what the
--- evidence has, and its picture was drawn of that file, round that verdict
+-- evidence has, its picture was drawn of that file, round that verdict, and a shell takes its commands for that file
 pub record IsVerdictPage (path : List ℕ) (p : Played) (e : Evidence) (page : Sheet) : Type 0 where
   pub standing : List ℕ
   pub stands : IsStanding p standing
@@ -73,4 +75,4 @@ pub record IsVerdictPage (path : List ℕ) (p : Played) (e : Evidence) (page : S
   pub picture : List ℕ
   pub drawn : IsPicture p e page.pictures picture
   pub is : page.text ≡ page_text e.member e.number (html_text path) standing
-      (rest_text e.member e.number (html_text path) words (table_text e time) picture)
+      (rest_text e.member e.number (html_text (shell_word path)) words (table_text e time) picture)

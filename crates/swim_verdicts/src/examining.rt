@@ -3,8 +3,8 @@
 ghost use Rattle.std.specs.Prelude.{◌≡◌, ◌↔◌, ◌⊎◌, IfOk, IsSome};
 ghost use Rattle.swim_evidence.specs.declared.verdicts.Standing.TheVariants as standings;
 ghost use Rattle.swim_verdicts.specs.Verifying.{ends_in_midst, fault_met, header_end, is_want, wants_memory};
-ghost use Rattle.swim_verdicts.specs.Examined.{FindsConfirmed, IsCutFile, IsVerdictOn, IsWholeFile, header_of};
-ghost use Rattle.swim_verdicts.specs.Examined.{is_starved, left_of, told_by};
+ghost use Rattle.swim_verdicts.specs.Examined.{FindsConfirmed, IsCutFile, IsStarvedFile, IsVerdictOn, IsWholeFile};
+ghost use Rattle.swim_verdicts.specs.Examined.{header_of, is_starved, left_of, told_by};
 
 use crate::unheard::play_unheard;
 use crate::whole_lines::{LentLines, WholeLines};
@@ -61,9 +61,13 @@ fn find(alloc: Global, journal: &Option<Journal>, confirmed: u32) -> Result<Find
 
 impl Played {
     /// What is seen of it.
+    #[tactic(auto, using(crate::proofs::Starving::starved_where))]
     pub fn seen(&self) -> Seen
         // Nothing speaks against it exactly where it is whole or cut,
         ensures sound { (result.standing ≡ standings.Sound) ↔ (IsWholeFile self.now ⊎ IsCutFile self.now) }
+
+        // want of memory is told apart from a fault,
+        ensures starved { (result.standing ≡ standings.Starved) ↔ IsStarvedFile self.now }
 
         // and what its life left is known only where it is whole.
         ensures whole { IsWholeFile self.now → result.left ≡ left_of self.now }

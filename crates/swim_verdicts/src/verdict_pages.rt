@@ -1,6 +1,7 @@
 //! The page about a verdict, as HTML that needs nothing else.
 
 ghost use Rattle.std.specs.Prelude.{◌≡◌, IfOk, string_bytes};
+ghost use Rattle.swim_verdicts.specs.ShellWords.{shell_word};
 ghost use Rattle.swim_verdicts.specs.VerdictPages.{IsStanding, IsVerdictPage, html_text, page_text, rest_text};
 ghost use Rattle.swim_verdicts.specs.VerdictPages.{standing_text};
 
@@ -8,6 +9,7 @@ use crate::examining::Played;
 use crate::html::put_html;
 use crate::page_frame::PAGE_STYLE;
 use crate::piece_texts::text_of;
+use crate::shell_words::put_shell_word;
 use crate::told_texts::{OfTicks, OfVerdict, picture_round, tell_time, tell_words};
 use crate::verdict_lines::{End, Objection};
 use crate::verdict_tables::table_of;
@@ -71,7 +73,8 @@ impl<'a> VerdictPage<'a> {
         ensures { IfOk result (λ page. IsVerdictPage self.now.path.now self.now.played.now self.now.evidence.now page) }
     {
         let evidence = self.evidence;
-        let path = shown(alloc, self.path)?;
+        let path = shown(alloc, self.path.as_bytes())?;
+        let word = shown_word(alloc, self.path.as_bytes())?;
         let standing = standing_of(alloc, self.played)?;
         let (words, told) = tell_words(alloc, self.played, evidence)?;
         let (time, timed) = tell_time(alloc, self.played, evidence)?;
@@ -80,7 +83,7 @@ impl<'a> VerdictPage<'a> {
         let rest = rest_of(
             alloc,
             evidence,
-            path.text(),
+            word.text(),
             words.as_str().as_bytes(),
             table.text(),
             picture.text(),
@@ -150,12 +153,24 @@ fn standing_of(alloc: Global, played: &Played) -> Result<String, AllocError>
 }
 
 /// A text as HTML shows it.
-fn shown(alloc: Global, text: &str) -> Result<Text, AllocError>
+fn shown(alloc: Global, text: &[u8]) -> Result<Text, AllocError>
     ensures { IfOk result (λ shown. shown.text ≡ html_text text.now) }
 {
     let mut shown = Text::new(alloc);
-    if put_html(&mut shown, text.as_bytes()) {
+    if put_html(&mut shown, text) {
         Ok(shown)
+    } else {
+        Err(AllocError)
+    }
+}
+
+/// A path as HTML shows it in a shell's command.
+fn shown_word(alloc: Global, path: &[u8]) -> Result<Text, AllocError>
+    ensures { IfOk result (λ shown. shown.text ≡ html_text (shell_word path.now)) }
+{
+    let mut word = Text::new(alloc);
+    if put_shell_word(&mut word, path) {
+        shown(alloc, word.text())
     } else {
         Err(AllocError)
     }
@@ -198,13 +213,13 @@ fn page_of<'x>(
 fn rest_of<'x>(
     alloc: Global,
     evidence: &Evidence,
-    path: &'x [u8],
+    word: &'x [u8],
     words: &'x [u8],
     table: &'x [u8],
     picture: &'x [u8],
 ) -> Result<Text, AllocError>
     ensures { IfOk result (λ rest. rest.text
-        ≡ rest_text evidence.now.member evidence.now.number path.now words.now table.now picture.now) }
+        ≡ rest_text evidence.now.member evidence.now.number word.now words.now table.now picture.now) }
 {
     let pieces = [
         Piece::Text(b"<h2>Evidence</h2>\n<pre>"),
@@ -217,13 +232,13 @@ fn rest_of<'x>(
         ),
         Piece::Text(picture),
         Piece::Text(b"</div>\n<h2>By hand</h2>\n<pre>swimsim --verify "),
-        Piece::Text(path),
+        Piece::Text(word),
         Piece::Text(b"\nswimsim --timeline run.svg --around "),
         Piece::Number(u64::from(evidence.member.get())),
         Piece::Text(b" --period "),
         Piece::Number(evidence.number),
         Piece::Text(b" "),
-        Piece::Text(path),
+        Piece::Text(word),
         Piece::Text(b"\n</pre>\n"),
     ];
     text_of(alloc, &pieces)

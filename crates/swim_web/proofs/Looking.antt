@@ -90,22 +90,25 @@ serves_looks T is_open pages.Misdirected kept o r n is = none_looks o n is.0
 serves_looks T is_open pages.Unknown kept o r n is = none_looks o n is.0
 serves_looks T is_open pages.Forbidden kept o r n is = none_looks o n is.0
 
--- whatever requests came one after the other
-pub chain_looks : {S : Type 0} (T : S → Found → ℕ → ℕ → List ℕ → Type 0) (opened : S → Bool)
-    (names : S → List ℕ → Bool) (kept : S → Kept) (looked : S → Looked) (old : S) (calls : List Call) (new : S) →
-    Chain (λ a q r b. Answers (T b) (opened a) (names a) (kept a) (looked a) q r (kept b) (looked b)) old calls new →
-    OnlyLooks (looked old).asked (looked new).asked
-chain_looks T opened names kept looked old [] new is =
-    subst (λ s. OnlyLooks (looked old).asked (looked s).asked) (sym is) (looks_none (looked old).asked)
-chain_looks T opened names kept looked old (c ∷ calls) new is =
-    looks_both (looked old).asked (looked is.0).asked (looked new).asked
-    (serves_looks (T is.0) _ _ (kept old) (looked old) c.1 (looked is.0) is.1.0)
-    (chain_looks T opened names kept looked is.0 calls new is.2)
-
-pub chain_keeps : {S : Type 0} (T : S → Found → ℕ → ℕ → List ℕ → Type 0) (opened : S → Bool)
-    (names : S → List ℕ → Bool) (kept : S → Kept) (looked : S → Looked) (old : S) (calls : List Call) (new : S) →
-    Chain (λ a q r b. Answers (T b) (opened a) (names a) (kept a) (looked a) q r (kept b) (looked b)) old calls new →
-    kept new ≡ kept old
-chain_keeps T opened names kept looked old [] new is = ap kept is
-chain_keeps T opened names kept looked old (c ∷ calls) new is =
-    chain_keeps T opened names kept looked is.0 calls new is.2 ∙ is.1.1
+-- whatever requests came one after the other: what each keeps is kept by all of them
+pub chain_keeps : {S N : Type 0} (T : S → Found → ℕ → ℕ → List ℕ → Type 0) (opened : S → Bool)
+    (is_name : S → List ℕ → Bool) (names : S → N) (full : S → Bool) (kept : S → Kept) (looked : S → Looked)
+    (old : S) (calls : List Call) (new : S) →
+    Chain (λ a q r b. Answers (T b) (opened a) (is_name a) (full a) (kept a) (looked a) q r (kept b) (looked b)
+    × (names b ≡ names a) × (full b ≡ full a)) old calls new →
+    OnlyLooks (looked old).asked (looked new).asked × (kept new ≡ kept old) × (names new ≡ names old)
+    × (full new ≡ full old)
+chain_keeps T opened is_name names full kept looked old [] new is = (
+  subst (λ s. OnlyLooks (looked old).asked (looked s).asked) (sym is) (looks_none (looked old).asked),
+  ap kept is,
+  ap names is,
+  ap full is,
+)
+chain_keeps T opened is_name names full kept looked old (c ∷ calls) new is =
+    let later = chain_keeps T opened is_name names full kept looked is.0 calls new is.2 in (
+      looks_both (looked old).asked (looked is.0).asked (looked new).asked
+          (serves_looks (T is.0) _ _ (kept old) (looked old) is.1.0.0.0 (looked is.0) is.1.0.0.1) later.0,
+      later.1 ∙ is.1.0.1,
+      later.2 ∙ is.1.1,
+      later.3 ∙ is.1.2,
+    )

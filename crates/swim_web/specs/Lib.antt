@@ -2,6 +2,7 @@ pub mod Asked
 pub mod Asking
 pub mod Changes
 pub mod Guests
+pub mod Limits
 pub mod Objects
 pub mod Pages
 pub mod Recent

@@ -1,8 +1,9 @@
 -- Which page a request asks for.
 use Rattle.std.specs.Prelude.{ℕ, ◌-◌, ◌^◌, Bool, false, not, ◌&&◌, ◌||◌, List, [], Option, Some, None, is_some, codes}
-use Rattle.std.specs.Prelude.{if◌then◌else◌}
+use Rattle.std.specs.Prelude.{if◌then◌else◌, String, string_bytes}
+use Rattle.std.specs.List.{list_any}
 use Rattle.std.specs.Option.{unwrap_or}
-use Rattle.std.specs.Str.{bytes_eq}
+use Rattle.std.specs.Str.{bytes_eq, str_eq_ignore_ascii_case}
 use Rattle.swim_text.specs.Numbers.{number_of}
 use Rattle.swim_text.specs.Parts.{cut}
 use Rattle.swim_wire.specs.Ids.{id_of}
@@ -60,6 +61,10 @@ page_at path seen =
 abbrev pub page_by : List ℕ → List ℕ → ℕ → Page
 page_by method path seen =
     if bytes_eq method (codes "GET") || bytes_eq method (codes "HEAD") then page_at path seen else Forbidden
+
+-- a host is one of these names, whatever letters of it are capitals
+abbrev pub is_listed : {Z : Type 0} → List (String Z) → List ℕ → Bool
+is_listed names host = list_any (λ name. str_eq_ignore_ascii_case (string_bytes name) host) names
 
 -- there is a host, and it is one of ours
 abbrev pub is_ours : (List ℕ → Bool) → Option FieldValue → Bool

@@ -1,14 +1,13 @@
 -- The responses.
-use Rattle.std.specs.Prelude.{◌≡◌, ℕ, ◌-◌, ◌⊎◌, Bool, List, [], ◌∷◌, ◌++◌, Option, Some, None, codes}
-use Rattle.std.specs.Prelude.{length}
-use Rattle.std.specs.Prelude.{take, drop, if◌then◌else◌}
+use Rattle.std.specs.Prelude.{◌≡◌, ℕ, ◌-◌, ◌⊎◌, Bool, true, false, List, [], ◌∷◌, ◌++◌, Option, Some, None, codes}
+use Rattle.std.specs.Prelude.{length, take, drop, if◌then◌else◌}
 use Rattle.std.specs.Option.{option_and_then}
 use Rattle.std.specs.Str.{bytes_eq}
 use Rattle.http.specs.declared.request.Request.{Request}
 use Rattle.http.specs.Request.{head_of}
 use Rattle.http1.specs.Fields.{Header}
 use Rattle.http_server.specs.declared.response.Response.{Response}
-use Rattle.http_server.specs.Response.{IsResponse}
+use Rattle.http_server.specs.Response.{IsResponse, fields_of}
 use Rattle.swim_history.specs.Texts.{table_text}
 use Rattle.swim_history.specs.declared.rows.Row.{Row}
 use Rattle.swim_metrics.specs.Headed.{headed}
@@ -48,6 +47,7 @@ fields_for kind =
     (codes "content-type", kind_text kind)
     ∷ (codes "x-content-type-options", codes "nosniff")
     ∷ (codes "content-security-policy", policy_text kind)
+    ∷ (codes "cross-origin-resource-policy", codes "same-origin")
     ∷ (codes "cache-control", codes "no-store")
     ∷ (codes "allow", codes "GET, HEAD")
     ∷ []
@@ -116,8 +116,26 @@ Serves T is_open pages.Unknown kept old r new =
 Serves T is_open pages.Forbidden kept old r new =
     AsksNothing old new × IsReply 405 kinds.Text (codes "only GET and HEAD\n") r
 
--- what a request comes to; no event comes or goes by it
-abbrev pub Answers : (Found → ℕ → ℕ → List ℕ → Type 0) → Bool → (List ℕ → Bool) → Kept → Looked → Request (List ℕ) →
-    Response → Kept → Looked → Type 0
-Answers T is_open is_name kept old request r kept_new new =
-    Serves T is_open (page_asked is_name (head_of request)) kept old r new × (kept_new ≡ kept)
+-- ---- whether the connection stays
+
+-- the same response with a field by which the connection is closed behind it; or memory was refused
+abbrev pub Closes : Response → Response → Type 0
+Closes plain r =
+    ((r.status ≡ plain.status) × (fields_of r ≡ fields_of plain ++ (codes "connection", codes "close") ∷ [])
+    × (r.body ≡ plain.body))
+    ⊎ IsResponse 500 [] [] r
+
+-- with all places taken the connection is closed behind the response, so that one of those who wait has its place
+abbrev pub ClosesIf : Bool → Response → Response → Type 0
+ClosesIf true plain r = Closes plain r
+ClosesIf false plain r = r ≡ plain
+
+-- ---- requests
+
+-- what a request comes to, with all places taken or not; no event comes or goes by it
+abbrev pub Answers : (Found → ℕ → ℕ → List ℕ → Type 0) → Bool → (List ℕ → Bool) → Bool → Kept → Looked →
+    Request (List ℕ) → Response → Kept → Looked → Type 0
+Answers T is_open is_name is_full kept old request r kept_new new =
+    ((plain : Response) × Serves T is_open (page_asked is_name (head_of request)) kept old plain new
+    × ClosesIf is_full plain r)
+    × (kept_new ≡ kept)

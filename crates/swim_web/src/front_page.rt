@@ -3,8 +3,8 @@
 /// What the page may do: its own script runs, its own style is shown, and it asks nobody but its server. The hashes are
 /// those of the texts between `<script>` and `</script>`, and between `<style>` and `</style>`.
 pub(crate) const FRONT_POLICY: &str = "default-src 'none'; \
-    script-src 'sha256-rnhfxTByioODwDp5jTNbkUoN/4Gm5kbcnV2+fZnkob0='; \
-    style-src 'sha256-7IplzbKOX5TGKGjnFzDH7r2VseL/LzSCpNlSTYVxi+Y='; \
+    script-src 'sha256-K+ilEkZoG9njK54M4ewuapJM+5KiWsUJ/I7Oizm0qrE='; \
+    style-src 'sha256-QCc8UNp2CvpVFNgwuwJ2ERcAuAKwxgoB25xY3Dfl180='; \
     connect-src 'self'; img-src 'self' data:; base-uri 'none'; form-action 'none'; frame-ancestors 'none'";
 
 /// The page, which needs nothing but itself, `/members.json`, `/verdicts.json`, `/metrics` and `/events`.
@@ -27,7 +27,8 @@ pub(crate) const FRONT_PAGE: &str = r##"<!doctype html>
 body { margin: 0; background: var(--paper); color: var(--text);
   font: 15px/1.5 system-ui, -apple-system, "Segoe UI", Helvetica, Arial, sans-serif }
 header, main, footer { max-width: 60rem; margin: 0 auto; padding: 0 1.25rem }
-header { padding-top: 1.75rem }
+header { padding-top: 1.75rem; display: flex; flex-wrap: wrap; gap: .5rem 1rem; justify-content: space-between;
+  align-items: flex-start }
 h1 { font-size: 1.35rem; line-height: 1.3; margin: 0 }
 code, .number { font-family: ui-monospace, SFMono-Regular, Menlo, Consolas, "DejaVu Sans Mono", monospace;
   font-size: .92em; font-variant-numeric: tabular-nums }
@@ -77,8 +78,11 @@ button { font: inherit; font-size: .87rem; color: inherit; background: var(--ban
 </head>
 <body>
 <header>
+<div>
 <h1 id="me">swimd</h1>
 <p class="quiet" id="at"></p>
+</div>
+<button type="button" id="hold" hidden>Pause</button>
 </header>
 <main>
 <noscript><p>This page asks for <a href="/members.json">/members.json</a> every five seconds, by a script. Without it,
@@ -106,18 +110,18 @@ read that, or <a href="/metrics">/metrics</a>.</p></noscript>
 </main>
 <footer>
 <p><a href="/members.json">members.json</a><a href="/verdicts.json">verdicts.json</a>
-<a href="/metrics">metrics</a><a href="/healthz">healthz</a>
-<button type="button" id="hold" aria-pressed="false">Pause</button></p>
+<a href="/metrics">metrics</a><a href="/healthz">healthz</a></p>
 <p>A member is up until this daemon judges it failed. Other daemons may see their group otherwise.</p>
 </footer>
 <script>
 "use strict";
-const EVERY = 5000, LIMIT = 3000, CHANGES = 20;
+const EVERY = 5000, LIMIT = 3000, CHANGES = 20, FIRST = 2000, LONGEST = 60000;
 const id = name => document.getElementById(name);
 const shapes = { up: "M1 6 4 9 10 1.5", failed: "M1 1 10 10M1 10 10 1" };
 const roles = { tr: "row", th: "rowheader", td: "cell" };
 const changes = [], ages = [];
 let last = "", asked = 0, held = false, soon = 0, explained, periods;
+let stream, later = 0, wait = FIRST, asking = false, again = false;
 
 function put(parent, tag, text, cls) {
   const e = document.createElement(tag);
@@ -224,13 +228,29 @@ function showChanges() {
     put(tr, "td", e.time ? clock(e.time) : "");
   });
 }
+// A stream that ended is asked for again by the browser. One that it has given up, as after an answer of another server
+// in front of this one, is opened anew, each time after a longer while. It then tells all changes that are kept.
 function follow() {
-  new EventSource("/events").onmessage = m => {
+  const it = stream = new EventSource("/events");
+  let isNew = true;
+  it.onopen = () => {
+    wait = FIRST;
+    if (isNew) changes.length = 0;
+    isNew = false;
+    showChanges();
+  };
+  it.onmessage = m => {
     changes.unshift(read(m.data));
     changes.length = Math.min(changes.length, CHANGES);
     showChanges();
     clearTimeout(soon);
     soon = setTimeout(ask, 100);
+  };
+  it.onerror = () => {
+    if (it !== stream || held || it.readyState !== EventSource.CLOSED) return;
+    clearTimeout(later);
+    later = setTimeout(follow, wait);
+    wait = Math.min(2 * wait, LONGEST);
   };
 }
 function samplesOf(text) {
@@ -305,21 +325,26 @@ async function learn() {
   if (explained !== undefined) return;
   explained = JSON.parse(await get("/verdicts.json")).explained;
   last = "";
-  showChanges();
 }
-async function ask() {
-  if (held || document.hidden) return;
+function showTime() {
+  const at = asked ? "As the daemon answered at " + new Date(asked).toLocaleTimeString() : "";
+  id("at").textContent = held ? at + (at ? ", paused" : "Paused") : at;
+}
+async function look() {
   try {
     await learn();
-    showFigures(await get("/metrics"));
-    const text = await get("/members.json");
+    const counts = await get("/metrics"), text = await get("/members.json");
+    if (held) return;
+    if (!last) showChanges();
+    showFigures(counts);
     if (text !== last) showMembers(read(text).members);
     ages.forEach(showAge);
     last = text;
     asked = Date.now();
     tell("");
-    id("at").textContent = "As the daemon answered at " + new Date().toLocaleTimeString();
+    showTime();
   } catch (e) {
+    if (held) return;
     if (e.message !== "The daemon") explained = undefined;
     periods = undefined;
     ages.forEach(showAge);
@@ -329,10 +354,28 @@ async function ask() {
     if (!asked) id("sum").textContent = "";
   }
 }
+// Once at a time: what is to be asked meanwhile is asked behind that.
+async function ask() {
+  again = true;
+  if (asking) return;
+  asking = true;
+  while (again && !held && !document.hidden) {
+    again = false;
+    await look();
+  }
+  asking = false;
+}
+// Nothing on the page moves while it is held.
+id("hold").hidden = false;
 id("hold").addEventListener("click", () => {
   held = !held;
-  id("hold").setAttribute("aria-pressed", held);
   id("hold").textContent = held ? "Continue" : "Pause";
+  clearTimeout(later);
+  clearTimeout(soon);
+  showTime();
+  if (held) return stream.close();
+  wait = FIRST;
+  follow();
   ask();
 });
 document.addEventListener("visibilitychange", ask);

@@ -1,20 +1,30 @@
 //! Guests: connections that have their turns side by side, and none of which is waited for.
 
 ghost use Rattle.std.specs.Prelude.{◌≡◌, box_value};
+ghost use Rattle.http_server.specs.Connection.{config_of};
 ghost use Rattle.swim_web.specs.Asked.{OnlyLooks};
 ghost use Rattle.swim_web.specs.Guests.{is_late};
+ghost use Rattle.swim_web.specs.Limits.{guest_config};
 
 use crate::daemons::Daemon;
+use crate::limits::limits;
 use crate::services::Web;
 use crate::shelves::Shelf;
 use crate::turns::advance;
 use http_server::Connection;
 use mio::net::TcpStream;
-use std::io::ErrorKind;
+use std::alloc::Global;
+use std::hash::RandomState;
+use std::io;
+use std::io::{ErrorKind, Read};
+use std::net::Shutdown;
 use std::time::{Duration, Instant};
 
 /// How many reads and writes a turn makes at most.
 const STEPS: u32 = 16;
+
+/// How many bytes are thrown away by one read.
+const THROWN_BYTES: usize = 4_096;
 
 /// How a guest stands after a turn.
 #[derive(Clone, Copy, Debug, PartialEq, Eq)]
@@ -32,17 +42,19 @@ pub enum Stand {
 pub struct Guest {
     connection: Connection,
     stream: TcpStream,
-    // When its time began: with its first turn, and after each answer with the next one. A turn may take long, as when
-    // the daemon is slow, and that is no time of the guest's.
+    // When its time began: with its first turn, and after each answer with the next one. The turn that answers it
+    // doesn't count, however slow the daemon is; slow turns of others do.
     since: Option<Instant>,
     stand: Stand,
 }
 
 impl Guest {
-    /// Returns a guest whose time begins with its first turn.
-    pub fn new(connection: Connection, stream: TcpStream) -> Guest {
+    /// Returns a guest whose time begins with its first turn, and whose requests are held to the limits.
+    pub(crate) fn new(alloc: Global, keys: RandomState, stream: TcpStream) -> Guest
+        ensures { config_of result.connection ≡ guest_config }
+    {
         Guest {
-            connection,
+            connection: Connection::new(alloc, keys, limits()),
             stream,
             since: None,
             stand: Stand::Busy,
@@ -54,9 +66,8 @@ impl Guest {
         self.stand
     }
 
-    /// Has a turn that began at this moment. A guest whose request or answer takes longer than `most` is over, but only
-    /// after what it has sent by now was read and answered.
-    #[tactic(auto, using(crate::proofs::Looking::looks_none))]
+    /// Has a turn that began at this moment. A guest whose request or answer takes longer than `most` is over, unless
+    /// this turn answers its next request.
     fn turn<D: Daemon + Drop, S: Shelf + Drop>(
         &mut self,
         web: &mut Web<D, S>,
@@ -64,34 +75,81 @@ impl Guest {
         most: Duration,
     )
         ensures { OnlyLooks (D.asked (box_value web.old.daemon)) (D.asked (box_value web.new.daemon))
-            × (web.new.recent ≡ web.old.recent) }
+            × (web.new.recent ≡ web.old.recent) × (web.new.names ≡ web.old.names) }
     {
         let since = self.since.unwrap_or(now);
         self.since = Some(since);
-        self.take_steps(web);
+        self.go_on(web);
         if is_late(self.since, now, most) {
             self.stand = Stand::Over;
         }
     }
 
-    /// Reads, answers and writes in turn, until nothing more can be done, or up to the steps of a turn.
+    /// Goes on with its requests. Behind its last answer, what it still sends is thrown away.
+    #[tactic(auto, using(crate::proofs::Looking::looks_none))]
+    fn go_on<D: Daemon + Drop, S: Shelf + Drop>(&mut self, web: &mut Web<D, S>)
+        ensures { OnlyLooks (D.asked (box_value web.old.daemon)) (D.asked (box_value web.new.daemon))
+            × (web.new.recent ≡ web.old.recent) × (web.new.names ≡ web.old.names) }
+    {
+        if self.connection.is_done() {
+            self.stand = throw_away(&mut self.stream);
+        } else {
+            self.take_steps(web);
+        }
+    }
+
+    /// Takes steps until nothing more can be done, a request was answered, or there were as many as a turn has.
     #[tactic(auto, using(crate::proofs::Looking::looks_none))]
     fn take_steps<D: Daemon + Drop, S: Shelf + Drop>(&mut self, web: &mut Web<D, S>)
         ensures { OnlyLooks (D.asked (box_value web.old.daemon)) (D.asked (box_value web.new.daemon))
-            × (web.new.recent ≡ web.old.recent) }
+            × (web.new.recent ≡ web.old.recent) × (web.new.names ≡ web.old.names) }
     {
         self.stand = Stand::Busy;
         for _step in 0..STEPS {
-            let had_output = self.connection.wants_write();
-            advance(&mut self.connection, web);
-            if self.connection.wants_write() && !had_output {
-                self.since = None;
-            }
-            self.stand = step(&mut self.connection, &mut self.stream);
-            if self.stand != Stand::Busy {
+            if !self.take_step(web) {
                 return;
             }
         }
+    }
+
+    /// Answers its next request, if that came whole, and then writes or reads once. Returns whether its turn goes on:
+    /// that of a guest who sends many requests ends with the first answer, so that others have theirs between.
+    fn take_step<D: Daemon + Drop, S: Shelf + Drop>(&mut self, web: &mut Web<D, S>) -> bool
+        ensures { OnlyLooks (D.asked (box_value web.old.daemon)) (D.asked (box_value web.new.daemon))
+            × (web.new.recent ≡ web.old.recent) × (web.new.names ≡ web.old.names) }
+    {
+        let is_answered = self.answer(web);
+        self.stand = step(&mut self.connection, &mut self.stream);
+        if self.connection.is_done() {
+            self.hang_up();
+            return false;
+        }
+        !is_answered && self.stand == Stand::Busy
+    }
+
+    /// Answers its next request, if that came whole and the answer to the one before is taken, and then begins its time
+    /// anew. Returns whether it did.
+    fn answer<D: Daemon + Drop, S: Shelf + Drop>(&mut self, web: &mut Web<D, S>) -> bool
+        ensures { OnlyLooks (D.asked (box_value web.old.daemon)) (D.asked (box_value web.new.daemon))
+            × (web.new.recent ≡ web.old.recent) × (web.new.names ≡ web.old.names) }
+    {
+        let had_output = self.connection.wants_write();
+        advance(&mut self.connection, web);
+        let is_answered = self.connection.wants_write() && !had_output;
+        if is_answered {
+            self.since = None;
+        }
+        is_answered
+    }
+
+    /// Says behind its last answer that no more comes. A connection that is closed in front of bytes that weren't read
+    /// is reset, and so its guest may lose that answer: what it still sends is read first, in its next turns.
+    fn hang_up(&mut self) {
+        self.since = None;
+        self.stand = match self.stream.shutdown(Shutdown::Write) {
+            Ok(()) => Stand::Busy,
+            Err(_) => Stand::Over,
+        };
     }
 }
 
@@ -107,14 +165,30 @@ fn is_late(since: Option<Instant>, now: Instant, most: Duration) -> bool
 
 /// Writes what waits to be written, and otherwise reads what comes.
 fn step(connection: &mut Connection, stream: &mut TcpStream) -> Stand {
-    let moved = if connection.wants_write() {
-        connection.write_to(stream)
-    } else if connection.wants_read() {
+    if connection.wants_write() {
+        return stand_after(connection.write_to(stream));
+    }
+    if connection.wants_read() {
         // A read of no byte is the end of the input, which the connection notes.
-        connection.read_from(stream).map(|_| 1)
-    } else {
-        return Stand::Over;
-    };
+        return stand_after(connection.read_from(stream).map(|_| 1));
+    }
+    Stand::Over
+}
+
+/// Reads what comes, and forgets it.
+fn throw_away(stream: &mut TcpStream) -> Stand {
+    let mut bytes = [0u8; THROWN_BYTES];
+    for _step in 0..STEPS {
+        let stand = stand_after(stream.read(&mut bytes));
+        if stand != Stand::Busy {
+            return stand;
+        }
+    }
+    Stand::Busy
+}
+
+/// Returns how a guest stands after a read or a write that moved so many bytes.
+fn stand_after(moved: io::Result<usize>) -> Stand {
     match moved {
         Ok(0) => Stand::Over,
         Ok(_) => Stand::Busy,
@@ -124,8 +198,9 @@ fn step(connection: &mut Connection, stream: &mut TcpStream) -> Stand {
     }
 }
 
-/// Gives each guest a turn. A request may take `most` to come, from the turn behind the answer before it on, and its
-/// answer as long to be taken. Whatever guests send, the daemon is only looked at, and the events stay.
+/// Gives each guest a turn, in which at most one of its requests is answered. A request may take `most` to come, from
+/// the turn behind the answer before it on, and its answer as long to be taken. Whatever guests send, the daemon is
+/// only looked at, and the events and the host's names stay.
 #[tactic(auto, using(crate::proofs::Looking::looks_none))]
 pub fn turns<D: Daemon + Drop, S: Shelf + Drop>(
     guests: &mut [Guest],
@@ -134,7 +209,7 @@ pub fn turns<D: Daemon + Drop, S: Shelf + Drop>(
     most: Duration,
 )
     ensures { OnlyLooks (D.asked (box_value web.old.daemon)) (D.asked (box_value web.new.daemon))
-        × (web.new.recent ≡ web.old.recent) }
+        × (web.new.recent ≡ web.old.recent) × (web.new.names ≡ web.old.names) }
 {
     for guest in guests.iter_mut() {
         guest.turn(web, now, most);

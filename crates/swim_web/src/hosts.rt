@@ -1,17 +1,18 @@
 //! The host: guests are let in, and served for good.
 
-ghost use Rattle.std.specs.Prelude.{box_value};
+ghost use Rattle.std.specs.Prelude.{◌≡◌, ◌≤◌, ◌==◌, box_value};
 ghost use Rattle.swim_web.specs.Asked.{OnlyLooks};
 ghost use Rattle.swim_web.specs.Recent.{Notes};
 
 use crate::daemons::Daemon;
-use crate::guests::{Guest, Stand, turns};
+use crate::guests::Guest;
+use crate::limits::{GUESTS, most_for};
 use crate::recent::listen;
+use crate::rooms::Room;
 use crate::services::Web;
 use crate::shelves::Shelf;
 use crate::tellers::Teller;
-use http_server::{Config, Connection};
-use mio::net::TcpListener;
+use mio::net::{TcpListener, TcpStream};
 use mio::{Events, Interest, Poll, Token};
 use std::alloc::Global;
 use std::hash::RandomState;
@@ -22,23 +23,12 @@ use std::rt::Clock;
 use std::sync::Wait;
 use std::time::{Duration, Instant};
 
-/// How many guests are let in at a time. The others wait in the system's queue.
-const GUESTS: usize = 32;
-
-/// How long a guest may take for a request, in milliseconds, and how long if nobody else could come in.
-const MOST_MS: u64 = 10_000;
-
-const MOST_CROWDED_MS: u64 = 300;
-
 /// How long the system is waited for, in milliseconds, if no guest has anything to do.
 const WAIT_MS: u64 = 100;
 
 /// How long a daemon that owed an answer isn't asked, in milliseconds. Each question that it doesn't answer makes all
 /// guests wait.
 const LATE_MS: u64 = 1_000;
-
-/// The most bytes of a request's head.
-const HEAD_BYTES: usize = 8_192;
 
 /// Serves guests for good, up to an error of the system, which may refuse to say the time or to wait.
 #[tactic(auto, using(crate::proofs::Looking::looks_none, crate::proofs::Listening::notes_none))]
@@ -52,46 +42,65 @@ pub fn run<R: Net + Clock + RandomSource + Wait, D: Daemon + Drop, S: Shelf + Dr
     // Whatever comes in, the daemon is only looked at,
     ensures looks { OnlyLooks (D.asked (box_value web.old.daemon)) (D.asked (box_value web.new.daemon)) }
 
-    // and of the events that are heard the last are kept.
+    // of the events that are heard the last are kept,
     ensures notes { Notes (T.heard teller.old) (T.heard teller.new) web.old.recent web.new.recent }
+
+    // and the host has the names that it had.
+    ensures names { web.new.names ≡ web.old.names }
 {
     let mut poll = Poll::new(rt)?;
     let mut events = Events::with_capacity(alloc, GUESTS)?;
     poll.registry()
         .register(listener, Token(0), Interest::READABLE)?;
-    let mut guests = Vec::with_capacity(alloc, GUESTS)?;
-    let mut wait_ms = 0;
+    let mut room = Room::new(alloc)?;
     let mut late_since = None;
     for _turn in rt.forever() {
-        poll.poll(&mut events, Some(Duration::from_millis(wait_ms)))?;
+        poll.poll(&mut events, Some(wait_for(&room)))?;
         let now = Instant::now(rt)?;
-        listen(teller, &mut web.recent);
-        let_in(rt, alloc, listener, &poll, &mut guests);
-        let most = most_for(guests.len());
-        turns(guests.as_mut_slice(), web, now, most);
-        guests.retain(|guest| guest.stand() != Stand::Over);
-        wait_ms = wait_for(guests.as_slice());
+        take_turn(rt, listener, &poll, &mut room, web, teller, now);
         web.is_late = is_still_late(rt, web.is_late, &mut late_since);
     }
     unreachable!()
 }
 
-/// Returns how long a guest may take for a request while so many are there.
-fn most_for(count: usize) -> Duration {
-    let most_ms = if count < GUESTS {
-        MOST_MS
-    } else {
-        MOST_CROWDED_MS
-    };
-    Duration::from_millis(most_ms)
+/// Has the turn that begins at this moment: what can be heard is noted, each guest has its turn, those whose connection
+/// is over leave, and those who wait are let in, as long as there are places.
+pub fn take_turn<R: RandomSource, D: Daemon + Drop, S: Shelf + Drop, T: Teller>(
+    rt: &R,
+    listener: &TcpListener,
+    poll: &Poll,
+    room: &mut Room,
+    web: &mut Web<D, S>,
+    teller: &mut T,
+    now: Instant,
+)
+    // Whatever comes in, the daemon is only looked at,
+    ensures looks { OnlyLooks (D.asked (box_value web.old.daemon)) (D.asked (box_value web.new.daemon)) }
+
+    // of the events that are heard the last are kept,
+    ensures notes { Notes (T.heard teller.old) (T.heard teller.new) web.old.recent web.new.recent }
+
+    // the host has the names that it had,
+    ensures names { web.new.names ≡ web.old.names }
+
+    // and there are at most 32 guests. With so many all places are taken, and in the next turn connections are closed
+    // behind their responses.
+    ensures places { room.new ≤ 32 }
+    ensures full { web.new.is_full ≡ (room.new == 32) }
+{
+    listen(teller, &mut web.recent);
+    let most = most_for(web.is_full);
+    room.take_turns(web, now, most);
+    let_in(rt, web.alloc, listener, poll, room);
+    web.is_full = room.is_full();
 }
 
-/// Returns for how many milliseconds the system may be waited for.
-fn wait_for(guests: &[Guest]) -> u64 {
-    if guests.iter().any(|guest| guest.stand() == Stand::Busy) {
-        0
+/// Returns how long the system may be waited for.
+fn wait_for(room: &Room) -> Duration {
+    if room.is_busy() {
+        Duration::ZERO
     } else {
-        WAIT_MS
+        Duration::from_millis(WAIT_MS)
     }
 }
 
@@ -110,40 +119,37 @@ fn is_still_late<K: Clock>(clock: &K, was_late: bool, since: &mut Option<Instant
     is_late
 }
 
-/// Lets in those who wait, as long as there is room.
+/// Lets in those who wait, as long as there are places.
 fn let_in<R: RandomSource>(
     rt: &R,
     alloc: Global,
     listener: &TcpListener,
     poll: &Poll,
-    guests: &mut Vec<Guest>,
+    room: &mut Room,
 ) {
-    for _guest in guests.len()..GUESTS {
-        let Ok((mut stream, _address)) = listener.accept() else {
+    for _place in 0..GUESTS {
+        if room.is_full() {
+            return;
+        }
+        let Ok((stream, _address)) = listener.accept() else {
             return;
         };
-        let both = Interest::READABLE | Interest::WRITABLE;
-        let is_watched = poll
-            .registry()
-            .register(&mut stream, Token(1), both)
-            .is_ok();
-        if let Ok(keys) = RandomState::new(rt)
-            && is_watched
-        {
-            let connection = Connection::new(alloc, keys, limits());
-            let _is_kept = guests.push(Guest::new(connection, stream));
+        if let Some(guest) = guest_at(rt, alloc, poll, stream) {
+            room.admit(guest);
         }
     }
 }
 
-/// Returns what a request may have: no body, and the next one is read only when the answer to this one is taken.
-fn limits() -> Config {
-    let mut config = Config::default();
-    config.limits.max_head_len = HEAD_BYTES;
-    config.limits.max_extensions_len = 0;
-    config.limits.max_trailers_len = 2;
-    config.max_body_len = 0;
-    config.max_pending = 0;
-    config.read_size = 1024;
-    config
+/// Returns a guest with this stream, unless the system refuses to watch it, or to give random numbers.
+fn guest_at<R: RandomSource>(
+    rt: &R,
+    alloc: Global,
+    poll: &Poll,
+    stream: TcpStream,
+) -> Option<Guest> {
+    let mut stream = stream;
+    let both = Interest::READABLE | Interest::WRITABLE;
+    poll.registry().register(&mut stream, Token(1), both).ok()?;
+    let keys = RandomState::new(rt).ok()?;
+    Some(Guest::new(alloc, keys, stream))
 }

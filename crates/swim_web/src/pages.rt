@@ -1,13 +1,12 @@
 //! Which page a request asks for.
 
-ghost use Rattle.std.specs.Prelude.{◌≡◌, ◌^◌, ◌-◌, codes, option_copied, string_bytes};
-ghost use Rattle.std.specs.List.{list_any};
+ghost use Rattle.std.specs.Prelude.{◌≡◌, ◌^◌, ◌-◌, codes, option_copied};
 ghost use Rattle.std.specs.Option.{unwrap_or};
-ghost use Rattle.std.specs.Str.{bytes_eq};
+ghost use Rattle.std.specs.Str.{str_eq_ignore_ascii_case};
 ghost use Rattle.http.specs.Request.{head_of};
 ghost use Rattle.http_header.specs.HeaderMap.{get};
 ghost use Rattle.swim_text.specs.Numbers.{number_of};
-ghost use Rattle.swim_web.specs.Pages.{is_known, page_asked, page_at, page_by, rest_of, seen_in};
+ghost use Rattle.swim_web.specs.Pages.{is_known, is_listed, page_asked, page_at, page_by, rest_of, seen_in};
 ghost use Rattle.swim_web.specs.Pages.{verdict_at, verdict_by, verdict_named};
 
 use bytes::Bytes;
@@ -42,8 +41,7 @@ pub enum Page {
 
 /// Returns the page that a request asks for, of a server with these names.
 pub fn page_asked(names: &[String], request: &Request<Bytes>) -> Page
-    ensures { result ≡ page_asked (λ host. list_any (λ name. bytes_eq (string_bytes name) host) names.now)
-        (head_of request.now) }
+    ensures { result ≡ page_asked (is_listed names.now) (head_of request.now) }
 {
     if is_known(names, request) {
         page_by(
@@ -58,8 +56,7 @@ pub fn page_asked(names: &[String], request: &Request<Bytes>) -> Page
 
 /// Returns whether a request is to one of these names.
 fn is_known(names: &[String], request: &Request<Bytes>) -> bool
-    ensures { result ≡ is_known (λ host. list_any (λ name. bytes_eq (string_bytes name) host) names.now)
-        (head_of request.now) }
+    ensures { result ≡ is_known (is_listed names.now) (head_of request.now) }
 {
     if request.uri().authority().is_some() {
         return false;
@@ -70,11 +67,18 @@ fn is_known(names: &[String], request: &Request<Bytes>) -> bool
     }
 }
 
-/// Returns whether a name is one of these.
+/// Returns whether a host is one of these names, whatever letters of it are capitals.
 fn is_listed(names: &[String], host: &[u8]) -> bool
-    ensures { result ≡ list_any (λ name. bytes_eq (string_bytes name) host.now) names.now }
+    ensures { result ≡ is_listed names.now host.now }
 {
-    names.iter().any(|name| name.as_bytes() == host)
+    names.iter().any(|name| is_same(name.as_bytes(), host))
+}
+
+/// Returns whether a host has this name, whatever letters of either are capitals.
+fn is_same(name: &[u8], host: &[u8]) -> bool
+    ensures { result ≡ str_eq_ignore_ascii_case name.now host.now }
+{
+    name.eq_ignore_ascii_case(host)
 }
 
 /// Returns the number of the last event that the sender has seen.

@@ -1,8 +1,8 @@
 //! Responses, each with the same safe header fields.
 
-ghost use Rattle.std.specs.Prelude.{◌≡◌, OnOk, OnErr};
+ghost use Rattle.std.specs.Prelude.{◌≡◌, [], OnOk, OnErr};
 ghost use Rattle.http_server.specs.Response.{IsBlank, IsResponse};
-ghost use Rattle.swim_web.specs.Replies.{IsReply, fields_for, kind_text, policy_text};
+ghost use Rattle.swim_web.specs.Replies.{Closes, ClosesIf, IsReply, fields_for, kind_text, policy_text};
 
 use crate::front_page::FRONT_POLICY;
 use bytes::BufMut;
@@ -66,9 +66,16 @@ pub fn reply(response: &mut Response, status: StatusCode, kind: Kind, body: &[u8
     ensures { IsReply status kind body.now response.new }
 {
     if fill(response, status, kind, body).is_err() {
-        response.clear();
-        response.status = StatusCode::INTERNAL_SERVER_ERROR;
+        give_up(response);
     }
+}
+
+/// Makes a 500 of a response, with neither fields nor a body, as memory is refused.
+fn give_up(response: &mut Response)
+    ensures { IsResponse 500 [] [] response.new }
+{
+    response.clear();
+    response.status = StatusCode::INTERNAL_SERVER_ERROR;
 }
 
 /// Fills a response that is blank. After an `Err` nothing is known of it.
@@ -90,8 +97,32 @@ fn fill(
         HeaderName::from_static("content-security-policy"),
         kind.policy(),
     )?;
+    response.add_header(
+        HeaderName::from_static("cross-origin-resource-policy"),
+        HeaderValue::from_static("same-origin"),
+    )?;
     response.add_header(header::CACHE_CONTROL, HeaderValue::from_static("no-store"))?;
     response.add_header(header::ALLOW, HeaderValue::from_static("GET, HEAD"))?;
     response.status = status;
     response.body.put_slice(body)
+}
+
+/// Asks for the connection to be closed behind a response, if all places are taken.
+pub(crate) fn close_if(is_full: bool, response: &mut Response)
+    ensures { ClosesIf is_full response.old response.new }
+{
+    if is_full {
+        close(response);
+    }
+}
+
+/// Asks for the connection to be closed behind a response. If memory is refused, it becomes a 500 with neither fields
+/// nor a body.
+fn close(response: &mut Response)
+    ensures { Closes response.old response.new }
+{
+    let added = response.add_header(header::CONNECTION, HeaderValue::from_static("close"));
+    if added.is_err() {
+        give_up(response);
+    }
 }

@@ -16,7 +16,7 @@ use crate::objects::put_members;
 use crate::pages::{Page, page_asked};
 use crate::questions::Question;
 use crate::recent::Recent;
-use crate::replies::{Kind, reply};
+use crate::replies::{Kind, close_if, reply};
 use crate::shelves::{Found, Shelf};
 use crate::tables::read_table;
 use bytes::Bytes;
@@ -33,12 +33,15 @@ use swim_wire::Id;
 pub struct Web<D: Daemon + Drop, S: Shelf + Drop> {
     /// Where memory for pages comes from.
     pub alloc: Global,
-    /// The names that a request may ask for in its field `host`, each with a port, as `localhost:8946`.
+    /// What a request may have in its field `host`, in capital or small letters: names with the port, as
+    /// `localhost:8946`. At port 80 a client leaves the port out, and there each name stands here without it, too.
     pub names: Vec<String>,
     /// The events that were heard last.
     pub recent: Recent,
     /// Whether the daemon owed an answer just now. Then it isn't asked.
     pub is_late: bool,
+    /// Whether all places are taken. Then a connection is closed behind its response.
+    pub is_full: bool,
     /// The daemon that is asked.
     pub daemon: Box<D>,
     /// Where verdicts are looked up.
@@ -46,16 +49,15 @@ pub struct Web<D: Daemon + Drop, S: Shelf + Drop> {
 }
 
 impl<D: Daemon + Drop, S: Shelf + Drop> Service for Web<D, S> {
-    ghost use Rattle.std.specs.Prelude.{box_value, string_bytes};
-    ghost use Rattle.std.specs.List.{list_any};
-    ghost use Rattle.std.specs.Str.{bytes_eq};
+    ghost use Rattle.std.specs.Prelude.{◌≡◌, box_value};
+    ghost use Rattle.swim_web.specs.Pages.{is_listed};
     ghost use Rattle.swim_web.specs.Replies.{Answers};
 
     ghost answers = { λ old request response new.
-        Answers (S.tells (box_value new.shelf)) (S.opened (box_value old.shelf))
-        (λ host. list_any (λ name. bytes_eq (string_bytes name) host) old.names.items) old.recent
-        (record { asked = D.asked (box_value old.daemon); is_late = old.is_late }) request response new.recent
-        (record { asked = D.asked (box_value new.daemon); is_late = new.is_late }) };
+        Answers (S.tells (box_value new.shelf)) (S.opened (box_value old.shelf)) (is_listed old.names.items) old.is_full
+        old.recent (record { asked = D.asked (box_value old.daemon); is_late = old.is_late }) request response
+        new.recent (record { asked = D.asked (box_value new.daemon); is_late = new.is_late })
+        × (new.names ≡ old.names) × (new.is_full ≡ old.is_full) };
 
     fn call(
         &mut self,
@@ -72,6 +74,7 @@ impl<D: Daemon + Drop, S: Shelf + Drop> Service for Web<D, S> {
             page,
             response,
         );
+        close_if(self.is_full, response);
         Ok(())
     }
 }

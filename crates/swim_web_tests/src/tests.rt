@@ -98,6 +98,7 @@ fn web_with(
         names,
         recent: Recent::new(),
         is_late: false,
+        is_full: false,
         daemon: Box::new(alloc, FixedDaemon { answer, count: 0 })?,
         shelf: Box::new(alloc, FixedShelf { count: 0 })?,
     })
@@ -194,6 +195,23 @@ fn asks_nothing_else(rt: HostRuntime) -> Result<(), Fail> {
         assert_sent(&rt, sent.as_slice(), first, b"\n");
     }
     assert_eq!(rt; web.daemon.count, 0);
+    Ok(())
+}
+
+#[test]
+fn closes_when_full(rt: HostRuntime) -> Result<(), Fail> {
+    let mut web = web_with(&rt, Some(TABLE))?;
+    let request = "GET /healthz HTTP/1.1\r\nHost: SWIM:1\r\n\r\n";
+    for is_full in [false, true] {
+        web.is_full = is_full;
+        let sent = served(&rt, &mut web, request)?;
+        assert_sent(&rt, sent.as_slice(), "HTTP/1.1 200 OK\r\n", b"ok\n");
+        let count = sent
+            .windows(17)
+            .filter(|bytes| *bytes == b"connection: close".as_slice())
+            .count();
+        assert_eq!(rt; count, usize::from(is_full));
+    }
     Ok(())
 }
 

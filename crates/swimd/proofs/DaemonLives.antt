@@ -13,8 +13,8 @@ use Rattle.swim_work.specs.declared.paces.Beat.{Beat}
 use Rattle.swim_work.specs.declared.workers.End.{End}
 use Rattle.swim_work.specs.Gates.{Received}
 use Rattle.swim_work.specs.Posts.{Posted, starts_in}
-use Rattle.swim_guard.specs.Fenced.{AtFence}
-use Rattle.swim_guard.specs.Guarded.{AtLine, AtPost, handed as judged_so}
+use Rattle.swim_guard.specs.Fenced.{AtFence, heard_over}
+use Rattle.swim_guard.specs.Guarded.{AtLine, AtPost, heard_by, keys_in, posted_by}
 use Rattle.swim_devices.specs.Pacing.{Pacing}
 use Rattle.swim_receiver.specs.declared.receivers.Receiver.{Receiver}
 use Rattle.swim_ticker.specs.declared.tickers.Ticker.{Ticker}
@@ -40,9 +40,11 @@ use Rattle.swim_keeper.specs.Told.{EachIsTold, EachLife, IsAnnounced, IsWithout}
 use Rattle.swim_receiver.proofs.Datagrams.{heard_later}
 use Rattle.swim_ticker.proofs.Knocked.{knocked_later}
 use Rattle.swim_keeper.proofs.Lives.{announced, life_drawn, life_kept, same_both}
-use Rattle.swimd.specs.DaemonLives.{AreDaemonLives, AtDaemon, AtReceiving, AtTicking, Controls, IsDaemonLife, Receives}
-use Rattle.swimd.specs.DaemonLives.{Ticks, at_daemon, told_by}
+use Rattle.swimd.specs.DaemonLives.{AreDaemonLives, AtControlling, AtDaemon, AtReceiving, AtTicking, Controls}
+use Rattle.swimd.specs.DaemonLives.{IsDaemonLife, IsGuarded, IsSigned, Receives, Ticks, at_controlling, at_daemon}
+use Rattle.swimd.specs.DaemonLives.{told_by}
 use Rattle.swimd.proofs.Lines.{all_lines}
+use Rattle.swimd.proofs.DaemonEnds.{controlling_ended, hearing_ended, ticking_ended}
 
 -- the laws of the three workers, for posts that are known so
 abbrev pub IsHeard : {O : Type 0} → (O → Option (List Posted)) → Type 0
@@ -75,36 +77,51 @@ abbrev controls : {C : Type 0} → (C → Option (List Bool)) → (C → Talks) 
 controls faults talks x o limit seat seen end y =
     ControlsLife o limit (faults x) (faults y) (talks x) seat seen end (talks y)
 
-abbrev hearing : {O : Type 0} → (O → Option (List Posted)) → Receiving O → AtReceiving
-hearing posted r = record { received = r.received; posted = posted r.post; returning = r.returning }
+abbrev hearing : {O : Type 0} → (O → Option (List Posted)) → (O → Option (List Posted)) → Option (List Received) →
+    Receiving O → AtReceiving
+hearing posted went socket r = record {
+  received = r.received;
+  socket = socket;
+  posted = posted r.post;
+  went = went r.post;
+  returning = r.returning;
+}
 
-abbrev beating : {O : Type 0} → (O → Option (List Posted)) → Ticking O → AtTicking
-beating posted t = record {
+abbrev beating : {O : Type 0} → (O → Option (List Posted)) → (O → Option (List Posted)) → Option (List Posted) →
+    Ticking O → AtTicking
+beating posted went knocks_went t = record {
   beats = t.beats;
   posted = posted t.post;
+  went = went t.post;
   knocked = t.knocked;
+  knocks_went = knocks_went;
   answered = t.answered;
   knocks = t.knocks;
 }
 
-received : {O : Type 0} (posted : O → Option (List Posted)) → IsHeard posted → (o : Setting) (limit : ℕ)
-    (seat : Seated) (seen all : List Change) (end : End) (x y : Receiving O) → IsPrefix seen all →
-    HearsLife posted o limit x seat seen end y →
-    Receives o all seat end (hearing posted x) (hearing posted y)
-received posted is_heard o limit seat seen all end x y begins is =
+received : {O : Type 0} (posted went : O → Option (List Posted)) → ((p : O) → IsSigned (posted p) (went p)) →
+    IsHeard posted → (o : Setting) (limit : ℕ) (seat : Seated) (seen all : List Change) (end : End)
+    (below above : Option (List Received)) (x y : Receiving O) → IsPrefix seen all →
+    IsGuarded (hearing posted went above y) → HearsLife posted o limit x seat seen end y →
+    Receives o all seat end (hearing posted went below x) (hearing posted went above y)
+received posted went signed is_heard o limit seat seen all end below above x y begins guarded is =
     let law = is_heard o limit x y seat seen end is in record {
       given = law.0;
       grown = law.1;
       heard = heard_later o x.returning (datagrams_in law.0) seat end.counts seen all y.returning begins law.2;
       same = is.same;
+      guarded = guarded;
+      signed = signed y.post;
       sent = is.sent;
+      ends = hearing_ended posted o limit x seat seen end y is;
     }
 
-ticked : {O : Type 0} (posted : O → Option (List Posted)) → IsTicked posted → (o : Setting) (limit : ℕ)
-    (seat : Seated) (seen all : List Change) (end : End) (x y : Ticking O) → IsPrefix seen all →
+ticked : {O : Type 0} (posted went : O → Option (List Posted)) → ((p : O) → IsSigned (posted p) (went p)) →
+    IsTicked posted → (o : Setting) (limit : ℕ) (seat : Seated) (seen all : List Change) (end : End)
+    (before after : Option (List Posted)) (x y : Ticking O) → IsPrefix seen all → IsSigned y.knocked after →
     TicksLife posted o limit x seat seen end y →
-    Ticks o all seat end (beating posted x) (beating posted y)
-ticked posted is_ticked o limit seat seen all end x y begins is =
+    Ticks o all seat end (beating posted went before x) (beating posted went after y)
+ticked posted went signed is_ticked o limit seat seen all end before after x y begins knocks_signed is =
     let law = is_ticked o limit x y seat seen end is in record {
       given = law.0;
       grown = law.1;
@@ -114,22 +131,52 @@ ticked posted is_ticked o limit seat seen all end x y begins is =
       knocked = knocked_later o (starts_in seat.calls) seen all x.answered y.answered x.knocked y.knocked is.knocks
           begins is.knocked;
       counted = is.counted;
+      signed = signed y.post;
+      knocks_signed = knocks_signed;
+      ends = ticking_ended posted o limit x seat seen end y is;
     }
 
 controlled : IsControlled → (o : Setting) (limit : ℕ) (seat : Seated) (seen all : List Change) (end : End)
     (before after : Option (List Bool)) (x y : Talks) → IsPrefix seen all →
-    ControlsLife o limit before after x seat seen end y → Controls o limit all seat end x y
+    ControlsLife o limit before after x seat seen end y →
+    Controls o limit all seat end (at_controlling before x) (at_controlling after y)
 controlled is_controlled o limit seat seen all end before after x y begins is =
     let law = is_controlled o limit before after x y seat seen end is in
-    record { seen = seen; begins = begins; steps = law.0; answered = law.1; given = law.2 }
+    let ended = controlling_ended o limit before after x y seat seen end is in record {
+      seen = seen;
+      begins = begins;
+      steps = law.0;
+      answered = law.1;
+      given = law.2;
+      faults = ended.0;
+      knocked = ended.1;
+      ends = ended.2;
+    }
 
-module _ {A B C W F H S V Q E I Y O : Type 0} (out : Outlets W F H S V Y) (posted : O → Option (List Posted))
-    (receiving : A → Receiving O) (ticking : B → Ticking O) (faults : C → Option (List Bool)) (talks : C → Talks)
-    (told : EachIsTold out.written out.held) (is_heard : IsHeard posted) (is_ticked : IsTicked posted)
-    (is_controlled : IsControlled) where
+-- what is seen of who receives, of who ticks and of who controls
+abbrev hearing_by : {A O : Type 0} → (O → Option (List Posted)) → (O → Option (List Posted)) →
+    (A → Option (List Received)) → (A → Receiving O) → A → AtReceiving
+hearing_by posted went socket receiving x = hearing posted went (socket x) (receiving x)
+
+abbrev beating_by : {B O : Type 0} → (O → Option (List Posted)) → (O → Option (List Posted)) →
+    (B → Option (List Posted)) → (B → Ticking O) → B → AtTicking
+beating_by posted went knocks_went ticking x = beating posted went (knocks_went x) (ticking x)
+
+abbrev controlling_by : {C : Type 0} → (C → Option (List Bool)) → (C → Talks) → C → AtControlling
+controlling_by faults talks x = at_controlling (faults x) (talks x)
+
+module _ {A B C W F H S V Q E I Y O : Type 0} (out : Outlets W F H S V Y) (posted went : O → Option (List Posted))
+    (receiving : A → Receiving O) (socket : A → Option (List Received)) (ticking : B → Ticking O)
+    (knocks_went : B → Option (List Posted)) (faults : C → Option (List Bool)) (talks : C → Talks)
+    (guarded : (a : A) → IsGuarded (hearing posted went (socket a) (receiving a)))
+    (signed : (p : O) → IsSigned (posted p) (went p))
+    (knocks_signed : (b : B) → IsSigned (ticking b).knocked (knocks_went b)) (told : EachIsTold out.written out.held)
+    (is_heard : IsHeard posted) (is_ticked : IsTicked posted) (is_controlled : IsControlled) where
   -- what is seen of the crew and its keeper
   abbrev seen : Stand A B C (JournalRecorder V Q E I Y) (LifeKeeper W F H S) → AtDaemon
-  seen s = at_daemon (told_by out) (λ x. hearing posted (receiving x)) (λ x. beating posted (ticking x)) talks s
+  seen s =
+      at_daemon (told_by out) (hearing_by posted went socket receiving) (beating_by posted went knocks_went ticking)
+      (controlling_by faults talks) s
 
   -- what each of them does
   abbrev the_rules : Rules A B C (JournalRecorder V Q E I Y) (LifeKeeper W F H S)
@@ -157,16 +204,20 @@ module _ {A B C W F H S V Q E I Y O : Type 0} (out : Outlets W F H S V Y) (poste
           lived = life_drawn (hears posted receiving) (ticks posted ticking) (controls faults talks) (records_by out)
               terms life o (record old.crew { recorder = is.recorder }) past is.crew is.life is.drawn;
           received = subst (λ (x : A). Receives o all is.life.one past.ends.first
-              (hearing posted (receiving old.crew.first)) (hearing posted (receiving x))) (sym first)
-              (received posted is_heard o terms.limit is.life.one is.life.by_first.seen all past.ends.first
-              (receiving old.crew.first) (receiving is.crew.first) is.life.by_first.begins
-              is.life.by_first.has_worked);
+              (hearing_by posted went socket receiving old.crew.first) (hearing_by posted went socket receiving x))
+              (sym first)
+              (received posted went signed is_heard o terms.limit is.life.one is.life.by_first.seen all past.ends.first
+              (socket old.crew.first) (socket is.crew.first) (receiving old.crew.first) (receiving is.crew.first)
+              is.life.by_first.begins (guarded is.crew.first) is.life.by_first.has_worked);
           ticked = subst (λ (x : B). Ticks o all is.life.two past.ends.second
-              (beating posted (ticking old.crew.second)) (beating posted (ticking x))) (sym second)
-              (ticked posted is_ticked o terms.limit is.life.two is.life.by_second.seen all past.ends.second
-              (ticking old.crew.second) (ticking is.crew.second) is.life.by_second.begins is.life.by_second.has_worked);
-          controlled = subst (λ (x : C). Controls o terms.limit all is.life.three past.ends.third (talks old.crew.third)
-              (talks x)) (sym third)
+              (beating_by posted went knocks_went ticking old.crew.second)
+              (beating_by posted went knocks_went ticking x)) (sym second)
+              (ticked posted went signed is_ticked o terms.limit is.life.two is.life.by_second.seen all
+              past.ends.second (knocks_went old.crew.second) (knocks_went is.crew.second) (ticking old.crew.second)
+              (ticking is.crew.second) is.life.by_second.begins (knocks_signed is.crew.second)
+              is.life.by_second.has_worked);
+          controlled = subst (λ (x : C). Controls o terms.limit all is.life.three past.ends.third
+              (controlling_by faults talks old.crew.third) (controlling_by faults talks x)) (sym third)
               (controlled is_controlled o terms.limit is.life.three is.life.by_third.seen all past.ends.third
               (faults old.crew.third) (faults is.crew.third) (talks old.crew.third) (talks is.crew.third)
               is.life.by_third.begins is.life.by_third.has_worked);
@@ -214,9 +265,9 @@ module _ {A B C W F H S V Q E I Y O : Type 0} (out : Outlets W F H S V Y) (poste
           new.crew.recorder last.2.0,
       ap (λ (c : CrewAt A B C (JournalRecorder V Q E I Y)). record {
         told = (seen new).told;
-        receiving = hearing posted (receiving c.first);
-        ticking = beating posted (ticking c.second);
-        connections = talks c.third;
+        receiving = hearing_by posted went socket receiving c.first;
+        ticking = beating_by posted went knocks_went ticking c.second;
+        controlling = controlling_by faults talks c.third;
       }) last.2.1,
     ),
   )
@@ -243,19 +294,41 @@ module _ {A B C W F H S V Q E I Y O : Type 0} (out : Outlets W F H S V Y) (poste
 
 -- ---- over the gates of a daemon: a line behind a fence and keys, and posts with keys
 
-abbrev pub receiving : {L P : Type 0} → Receiver (AtLine (AtFence L)) (AtPost P) → Receiving (AtPost P)
+abbrev pub OverSocket : Type 0
+OverSocket = AtPost (List Posted)
+
+abbrev pub socket : Receiver (AtLine (AtFence (List Received))) OverSocket → Option (List Received)
+socket r = Some r.line.line.line
+
+abbrev pub receiving : Receiver (AtLine (AtFence (List Received))) OverSocket → Receiving OverSocket
 receiving r = record {
-  received = Some (map judged_so r.line.judged);
+  received = heard_by (heard_over (socket r) r.line.line.passed) (keys_in r.line.judged);
   listed = None;
   post = r.post;
   returning = r.returning;
 }
 
-abbrev pub ticking : {P : Type 0} → Ticker Pacing (AtPost P) → Ticking (AtPost P)
+abbrev pub handed : OverSocket → Option (List Posted)
+handed post = posted_by (Some post.post) post.sent
+
+abbrev pub went : OverSocket → Option (List Posted)
+went post = Some post.post
+
+pub guarded : (r : Receiver (AtLine (AtFence (List Received))) OverSocket) →
+    IsGuarded (hearing handed went (socket r) (receiving r))
+guarded r = (r.line.line.passed, keys_in r.line.judged, refl)
+
+pub signed : (post : OverSocket) → IsSigned (handed post) (went post)
+signed post = (post.sent, refl)
+
+abbrev pub knocks_went : Ticker Pacing OverSocket → Option (List Posted)
+knocks_went t = went t.knock_post
+
+abbrev pub ticking : Ticker Pacing OverSocket → Ticking OverSocket
 ticking t = record {
   beats = Some t.pace.beats;
   post = t.post;
-  knocked = Some t.knock_post.handed;
+  knocked = handed t.knock_post;
   answered = t.lookup;
   knocks = t.knocks;
 }
@@ -266,5 +339,5 @@ talks c = c.hall.connections
 abbrev pub knocks : {D S X Y : Type 0} → (D → Option (List Bool)) → Controller D S X Y → Option (List Bool)
 knocks faults c = faults c.hall.door
 
-abbrev pub handed : {P : Type 0} → AtPost P → Option (List Posted)
-handed post = Some post.handed
+pub knocks_signed : (t : Ticker Pacing OverSocket) → IsSigned (ticking t).knocked (knocks_went t)
+knocks_signed t = signed t.knock_post

@@ -4,9 +4,9 @@ use Rattle.swim_config.specs.declared.config.Config.{Config}
 use Rattle.swim_crew.specs.declared.pasts.LivesEnd.{LivesEnd}
 use Rattle.swim_crew.specs.declared.pasts.LivesEnd.TheVariants as ends
 use Rattle.swim_crew.specs.declared.pasts.Terms.{Terms}
-use Rattle.swim_keeper.specs.Endings.{Written}
-use Rattle.swim_keeper.specs.Notices.{Notices}
-use Rattle.swim_commands.specs.declared.outcomes.Outcome.{Outcome}
+use Rattle.swim_telling.specs.Notices.{Notices}
+use Rattle.swim_telling.specs.Telling.{Written}
+use Rattle.swim_outcomes.specs.declared.outcomes.Outcome.{Outcome}
 use Rattle.swimd.specs.Daemon.{IsLivedBy, Starts, outcome_of}
 use Rattle.swimd.specs.DaemonLives.{AreDaemonLives, AtDaemon, IsBeginning}
 

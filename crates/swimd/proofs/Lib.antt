@@ -1,8 +1,7 @@
-pub mod Checked
+pub mod DaemonEnds
 pub mod DaemonLives
 pub mod Done
 pub mod Explained
-pub mod Keys
 pub mod Kept
 pub mod Lines
 pub mod Noticed

@@ -49,11 +49,11 @@ third_calls terms life o past is =
     is.history.calls.1.1.0 ∙ ap (λ (n : ℕ). kept_of n past.journal.past) number
 
 lines_lived : (fresh : Option (List ℕ)) (terms : Terms) (opening : Setting) (old : AtDaemon) (lives : List Past)
-    (new : AtDaemon) → EachLife (IsDaemonLife fresh terms) opening old lives new →
-    (log : List Called) → AreAnsweredSoFar log old.connections → AnswersLives log lives new.connections
+    (new : AtDaemon) → EachLife (IsDaemonLife fresh terms) opening old lives new → (log : List Called) →
+    AreAnsweredSoFar log old.controlling.connections → AnswersLives log lives new.controlling.connections
 lines_lived fresh terms opening old [] new is log all = record {
   more = [];
-  answered = subst (λ (d : AtDaemon). AreAnsweredSoFar log d.connections) (sym is) all;
+  answered = subst (λ (d : AtDaemon). AreAnsweredSoFar log d.controlling.connections) (sym is) all;
   become = refl;
   told = tt;
 }
@@ -67,7 +67,7 @@ lines_lived fresh terms opening old (past ∷ before) new is log all =
     last.more life.controlled.begins last.shown in
     record {
       more = last.more ++ earlier.more;
-      answered = subst (λ (l : List Called). AreAnsweredSoFar l new.connections)
+      answered = subst (λ (l : List Called). AreAnsweredSoFar l new.controlling.connections)
           (sym (append_assoc last.more earlier.more log)) last.answered;
       become = become_both last.more earlier.more (kept_of 2 past.journal.past) (operators_calls before)
           (subst (BecomeSo last.more) calls last.become) earlier.become;
@@ -80,14 +80,14 @@ pub all_lines : (fresh : Option (List ℕ)) (terms : Terms) (opening : Setting) 
     (after_lives new : AtDaemon) (end : LivesEnd) → EachLife (IsDaemonLife fresh terms) opening old lives after_lives →
     ((new ≡ after_lives) × AreEndedByLife lives end)
     ⊎ (IsWithout lives end × IsAnnounced (number_after lives) after_lives.told new.told
-    × (new ≡ record after_lives { told = new.told })) →
-    (log : List Called) → AreAnsweredSoFar log old.connections → AnswersLives log lives new.connections
+    × (new ≡ record after_lives { told = new.told })) → (log : List Called) →
+    AreAnsweredSoFar log old.controlling.connections → AnswersLives log lives new.controlling.connections
 all_lines fresh terms opening old lives after_lives new end is ended log all =
     subst (λ (c : Talks). AnswersLives log lives c) (sym same)
     (lines_lived fresh terms opening old lives after_lives is log all)
   where
-    same : new.connections ≡ after_lives.connections
+    same : new.controlling.connections ≡ after_lives.controlling.connections
     same = elim ended [
-      | inl last ↦ ap (λ (d : AtDaemon). d.connections) last.0
-      | inr last ↦ ap (λ (d : AtDaemon). d.connections) last.2
+      | inl last ↦ ap (λ (d : AtDaemon). d.controlling.connections) last.0
+      | inr last ↦ ap (λ (d : AtDaemon). d.controlling.connections) last.2
     ]

@@ -1,9 +1,9 @@
 -- What is told while a daemon starts.
 use Rattle.std.proofs.Common.{◌≡◌, refl, sym, subst, inl, inr}
 use Rattle.swim_config.specs.declared.config.Config.{Config}
-use Rattle.swim_keeper.specs.Endings.{Written}
-use Rattle.swim_keeper.specs.Notices.{Notices, notices_both}
-use Rattle.swim_commands.specs.declared.outcomes.Outcome.{Outcome}
+use Rattle.swim_telling.specs.Notices.{Notices, notices_both}
+use Rattle.swim_telling.specs.Telling.{Written}
+use Rattle.swim_outcomes.specs.declared.outcomes.Outcome.{Outcome}
 use Rattle.swimd.specs.Daemon.{IsNoDoor, IsNoEntrance, Starts}
 
 pub three_noticed : (old first then new : Written) → Notices old first → Notices first then → Notices then new →

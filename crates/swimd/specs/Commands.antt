@@ -1,38 +1,22 @@
 -- What a command of the program does.
-use Rattle.std.specs.Prelude.{◌≡◌, ◌⊎◌, ℕ, Bool, not, List, [], ◌∷◌, ◌++◌, length, Option, Some, None, codes}
-use Rattle.std.specs.Io.KnownBytes.{Appends, Consumes}
-use Rattle.hex.specs.Hex.{encode_lower}
-use Rattle.swim_text.specs.Streams.{Puts, PutsFront, failures_if}
-use Rattle.swim_keeper.specs.Endings.{Written}
+use Rattle.std.specs.Prelude.{◌≡◌, ◌⊎◌, ℕ, not, List, Option, Some, None, codes}
+use Rattle.swim_text.specs.Streams.{failures_if}
+use Rattle.swim_telling.specs.Telling.{Written}
 use Rattle.swim_config.specs.declared.config_fault.ConfigFault.TheVariants.{NoMemory}
 use Rattle.swim_commands.specs.declared.forms.Form.{Form}
-use Rattle.swim_commands.specs.declared.outcomes.Outcome.{Outcome}
-use Rattle.swim_commands.specs.declared.outcomes.Outcome.TheVariants.{Usage, Refused, Helped, Unwritten, NoRandom}
+use Rattle.swim_outcomes.specs.declared.outcomes.Outcome.{Outcome}
+use Rattle.swim_outcomes.specs.declared.outcomes.Outcome.TheVariants.{Usage, Refused}
 use Rattle.swim_commands.specs.Asking.{Asks}
-use Rattle.swimd.specs.CheckedFiles.{ChecksFile}
-use Rattle.swimd.specs.Checking.{ChecksTyped, is_unwritten}
+use Rattle.swim_checks.specs.CheckedFiles.{ChecksFile}
+use Rattle.swim_checks.specs.Checking.{ChecksTyped, is_unwritten}
+use Rattle.swim_checks.specs.Keys.{MakesKey}
+use Rattle.swim_checks.specs.Texts.{Helps}
 use Rattle.swimd.specs.Daemon.{Runs}
-use Rattle.swim_config.specs.Causes.{AreIndented}
-use Rattle.swim_commands.specs.Details.{Explains}
-use Rattle.swim_commands.specs.Outcomes.{outcome_text, status_of}
+use Rattle.swim_outcomes.specs.Told.{Told}
 use Rattle.swimd.specs.Served.{ServesWeb}
 use Rattle.swim_commands.specs.Watched.{WatchesDaemon}
 use Rattle.swim_commands.specs.Words.{Wanted, Check, CheckFile, Run, Ask, Watch, Web, MakeKey, Help, Version}
 use Rattle.swim_writer.specs.Documents.{Document}
-
--- an outcome was told on standard error, with details below it, as far as it took the text, and by the status; failed
--- writes
--- and a failed flush were counted. The details are lines that begin with two spaces, and of a refused configuration its
--- cause
-pub record Told (outcome : Outcome) (old new : Option (List ℕ)) (failed_old failed_new : ℕ) (status : ℕ) : Type 0 where
-  pub details : List ℕ
-  pub indented : AreIndented details
-  pub explains : Explains outcome details
-  pub done : Bool
-  pub put : Puts old new (outcome_text outcome ++ details) done
-  pub sent : Bool
-  pub failed : failed_new ≡ failures_if (failures_if failed_old done) sent
-  pub is : status ≡ status_of outcome
 
 -- the daemon at a path was asked: the line that the words make, and standard input was let be, or the lines of that;
 -- its answers were written in this form
@@ -41,32 +25,6 @@ abbrev pub AsksWanted : Form → Option (List ℕ) → Option (List ℕ) → Opt
 AsksWanted form None left_old left_new old new outcome = Asks form left_old left_new old new outcome
 AsksWanted form (Some line) left_old left_new old new outcome =
     (left_new ≡ left_old) × ((rest : Option (List ℕ)) × Asks form (Some line) rest old new outcome)
-
--- a text was written on standard output, or a front of it
-abbrev pub Helps : List ℕ → Option (List ℕ) → Option (List ℕ) → Outcome → Type 0
-Helps text old new Helped = Appends old new text
-Helps text old new Unwritten = PutsFront old new text
-Helps text old new outcome = ⊥
-
--- a key is 32 bytes; it is written as 64 hexadecimal digits and a line feed
-abbrev pub IsKeyText : List ℕ → Type 0
-IsKeyText text = (key : List ℕ) × (length key ≡ 32) × (text ≡ encode_lower key ++ 10 ∷ [])
-
--- it is the next 32 bytes that a source gave, all of them and in their order
-abbrev pub IsKeyOf : Option (List ℕ) → Option (List ℕ) → List ℕ → Type 0
-IsKeyOf left_old left_new text =
-    (key : List ℕ) × (length key ≡ 32) × Consumes left_old left_new key × (text ≡ encode_lower key ++ 10 ∷ [])
-
--- a key was written on standard output, or a front of it; or the system had no random bytes
-abbrev pub MakesKey : Option (List ℕ) → Option (List ℕ) → Outcome → Type 0
-MakesKey old new outcome =
-    ((outcome ≡ NoRandom) × (new ≡ old)) ⊎ ((text : List ℕ) × IsKeyText text × Helps text old new outcome)
-
--- the same of a source whose bytes may be known
-abbrev pub MakesKeyOf : Option (List ℕ) → Option (List ℕ) → Option (List ℕ) → Option (List ℕ) → Outcome → Type 0
-MakesKeyOf left_old left_new old new outcome =
-    ((outcome ≡ NoRandom) × (new ≡ old))
-    ⊎ ((text : List ℕ) × IsKeyOf left_old left_new text × Helps text old new outcome)
 
 -- what a command found of the streams and what it left: of standard input, on standard output and on standard error;
 -- and the files that were read by their paths

@@ -1,38 +1,21 @@
 -- What a daemon does.
-use Rattle.std.specs.Prelude.{◌≡◌, ◌⊎◌, ℕ, ◌-◌, ◌^◌, min, List, [], ◌∷◌, Option, Some, Ok, Err}
+use Rattle.std.specs.Prelude.{◌≡◌, ◌⊎◌, ℕ, ◌-◌, ◌^◌, min, List, [], Option, Some}
 use Rattle.swim_config.specs.declared.config.Config.{Config}
 use Rattle.swim_config.specs.declared.config_fault.ConfigFault.TheVariants as faults
 use Rattle.swim_crew.specs.declared.pasts.LivesEnd.{LivesEnd}
 use Rattle.swim_crew.specs.declared.pasts.LivesEnd.TheVariants as ends
-use Rattle.swim_commands.specs.declared.outcomes.Outcome.{Outcome}
-use Rattle.swim_commands.specs.declared.outcomes.Outcome.TheVariants.{Unread, Refused, NoListen}
-use Rattle.swim_commands.specs.declared.outcomes.Outcome.TheVariants.{NoControl, NoMemory, Stopped}
-use Rattle.swim_commands.specs.declared.outcomes.Outcome.TheVariants.{Socket}
-use Rattle.swim_commands.specs.declared.outcomes.Outcome.TheVariants.{NoEvents, NoPlace}
+use Rattle.swim_outcomes.specs.declared.outcomes.Outcome.{Outcome}
+use Rattle.swim_outcomes.specs.declared.outcomes.Outcome.TheVariants.{Refused, NoListen}
+use Rattle.swim_outcomes.specs.declared.outcomes.Outcome.TheVariants.{NoControl, NoMemory, Stopped}
+use Rattle.swim_outcomes.specs.declared.outcomes.Outcome.TheVariants.{Socket}
+use Rattle.swim_outcomes.specs.declared.outcomes.Outcome.TheVariants.{NoEvents, NoPlace}
 use Rattle.swim_config.specs.Beginnings.{begun_at}
-use Rattle.swim_config.specs.Configuration.{config_of}
-use Rattle.swim_keeper.specs.Endings.{Written}
-use Rattle.swim_keeper.specs.Notices.{Notices}
-use Rattle.swim_config.specs.Reading.{OrNoMemory}
-use Rattle.swimd.specs.Checking.{Warned}
+use Rattle.swim_telling.specs.Notices.{Notices}
+use Rattle.swim_telling.specs.Telling.{Written}
+use Rattle.swim_checks.specs.Checking.{Warned}
+use Rattle.swim_checks.specs.Configured.{IsConfiguration, IsNoConfiguration}
 use Rattle.swimd.specs.DaemonLives.{AreDaemonLives, AtDaemon, IsBeginning}
-use Rattle.swim_writer.specs.Documents.{Document, document}
-use Rattle.swim_trail.specs.Growing.{Grows}
-
--- the file at this path was read, and nothing else; this was its text, and this is the configuration that it is
-abbrev pub IsWritten : List ℕ → List ℕ → Option (List Document) → Option (List Document) → Config → Type 0
-IsWritten path text old new config = Grows old new (document path text ∷ []) × (config_of text ≡ Ok config)
-
-abbrev pub IsConfiguration : List ℕ → Option (List Document) → Option (List Document) → Config → Type 0
-IsConfiguration path old new config = (text : List ℕ) × IsWritten path text old new config
-
--- why there is none: the file at this path couldn't be read; or it was, and its text has this fault, or memory was
--- refused
-abbrev pub IsNoConfiguration : List ℕ → Option (List Document) → Option (List Document) → Outcome → Type 0
-IsNoConfiguration path old new Unread = new ≡ old
-IsNoConfiguration path old new (Refused fault) =
-    (text : List ℕ) × Grows old new (document path text ∷ []) × OrNoMemory {A = Config} (Err fault) (config_of text)
-IsNoConfiguration path old new outcome = ⊥
+use Rattle.swim_writer.specs.Documents.{Document}
 
 -- how a daemon ends whose lives ended so
 abbrev pub outcome_of : LivesEnd → Outcome

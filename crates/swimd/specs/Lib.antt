@@ -1,7 +1,6 @@
-pub mod CheckedFiles
-pub mod Checking
 pub mod Commands
 pub mod Daemon
+pub mod DaemonEnds
 pub mod DaemonLives
 pub mod Reloading
 pub mod Served

@@ -1,10 +1,10 @@
 -- What serving pages over HTTP does.
 use Rattle.std.specs.Prelude.{◌≡◌, ◌⊎◌}
 use Rattle.swim_config.specs.declared.config_fault.ConfigFault.TheVariants.{NoMemory}
-use Rattle.swim_keeper.specs.Endings.{Written}
-use Rattle.swim_keeper.specs.Notices.{Notices}
-use Rattle.swim_commands.specs.declared.outcomes.Outcome.{Outcome}
-use Rattle.swim_commands.specs.declared.outcomes.Outcome.TheVariants.{NoWeb, WebOver, Refused}
+use Rattle.swim_telling.specs.Notices.{Notices}
+use Rattle.swim_telling.specs.Telling.{Written}
+use Rattle.swim_outcomes.specs.declared.outcomes.Outcome.{Outcome}
+use Rattle.swim_outcomes.specs.declared.outcomes.Outcome.TheVariants.{NoWeb, WebOver, Refused}
 
 -- how it may end
 abbrev pub IsWebEnd : Outcome → Type 0

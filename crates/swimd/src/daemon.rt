@@ -1,5 +1,6 @@
 //! A daemon: the lives of a configuration over real devices.
 
+pub(crate) mod counted_entrances;
 pub(crate) mod crews;
 pub(crate) mod doors;
 pub(crate) mod entrances;
@@ -7,14 +8,11 @@ pub(crate) mod lives;
 pub(crate) mod reloading;
 pub(crate) mod speakers;
 
-ghost use Rattle.std.specs.Prelude.{◌≡◌, []};
-ghost use Rattle.swim_keeper.specs.Notices.{Notices};
+ghost use Rattle.std.specs.Prelude.{◌≡◌, [], Some};
+ghost use Rattle.swim_telling.specs.Notices.{Notices};
 ghost use Rattle.swimd.specs.Daemon.{Runs, Starts, outcome_of};
-ghost use Rattle.swim_commands.specs.Details.{Explains};
+ghost use Rattle.swim_outcomes.specs.Details.{Explains};
 
-use crate::commands::checking::warn;
-use crate::commands::configurations::read_configuration;
-use crate::commands::documents::Documents;
 use crate::daemon::crews::{Shared, leave};
 use crate::daemon::doors::open_door;
 use crate::daemon::entrances::open_entrance;
@@ -29,13 +27,14 @@ use std::net::Net;
 use std::rt::{Clock, Files};
 use std::sync::Wait;
 use std::thread::Threads;
-use swim_commands::{Details, Outcome, words_why};
+use swim_checks::{Documents, read_configuration, warn};
 use swim_config::{Config, ConfigFault, INPUT_BYTES, JournalFiles};
 use swim_crew::{LivesEnd, Terms};
 use swim_desk::Door;
 use swim_devices::{UdpEndpoint, UnixEntrance};
 use swim_guard::RuleBook;
 use swim_keeper::LifeKeeper;
+use swim_outcomes::{Details, Outcome, words_why};
 use swim_reports::{Announcer, Clerk, Counters, Folder, Notice};
 use swim_streams::Timely;
 use swim_text::Sink;
@@ -115,7 +114,7 @@ pub fn run<
 }
 
 /// Runs the daemon of a configuration, and tells how many lines of its lives weren't taken.
-#[tactic(auto, using(swim_keeper::specs::Notices::no_notices, swim_reports::proofs::Noticed::two_noticed))]
+#[tactic(auto, using(swim_telling::specs::Notices::no_notices, swim_reports::proofs::Noticed::two_noticed))]
 fn run_configured<
     'g,
     R: Files<File = File> + Net + Clock + Threads + Wait + Sync,
@@ -144,7 +143,7 @@ fn run_configured<
 }
 
 /// Tells how many lines of lives standard output didn't take, if it didn't take some.
-#[tactic(auto, using(swim_keeper::specs::Notices::no_notices))]
+#[tactic(auto, using(swim_telling::specs::Notices::no_notices))]
 fn tell_left_out<R: Net + Clock, F: Sink>(rt: &R, alloc: Global, count: u64, faults: &mut F)
     ensures { Notices (F.written faults.old, F.failures faults.old)
         (F.written faults.new, F.failures faults.new) }
@@ -155,7 +154,7 @@ fn tell_left_out<R: Net + Clock, F: Sink>(rt: &R, alloc: Global, count: u64, fau
 }
 
 /// Opens the gates of a configuration, and lives over them.
-#[tactic(auto, using(swim_keeper::specs::Notices::no_notices, swim_reports::proofs::Noticed::two_noticed, crate::proofs::Noticed::no_door, crate::proofs::Noticed::no_entrance, crate::proofs::Explained::nothing_explains))]
+#[tactic(auto, using(swim_telling::specs::Notices::no_notices, swim_reports::proofs::Noticed::two_noticed, crate::proofs::Noticed::no_door, crate::proofs::Noticed::no_entrance, crate::proofs::Explained::nothing_explains))]
 fn start<
     'g,
     R: Files<File = File> + Net + Clock + Threads + Wait + Sync,
@@ -203,8 +202,8 @@ fn start<
     live(rt, alloc, planned, sockets, writer, faults, log)
 }
 
-/// Lives over these sockets, and the other gates of a configuration.
-#[tactic(auto, using(swim_keeper::specs::Notices::no_notices))]
+/// Lives over these sockets, and the other gates of a configuration. The door wasn't asked yet who comes.
+#[tactic(auto, using(swim_telling::specs::Notices::no_notices))]
 fn live<
     'g,
     R: Files<File = File> + Net + Clock + Threads + Wait + Sync,
@@ -222,6 +221,7 @@ fn live<
     faults: &mut F,
     log: G,
 ) -> Outcome
+    requires { D.faults sockets.door ≡ Some [] }
     ensures starts { Starts planned.entry.config (W.written writer.old, W.failures writer.old)
         (W.written writer.new, W.failures writer.new) result }
     ensures notices { Notices (F.written faults.old, F.failures faults.old)
@@ -252,7 +252,7 @@ fn live<
 }
 
 /// The same, with what the crew shares.
-#[tactic(auto, using(swim_keeper::specs::Notices::no_notices))]
+#[tactic(auto, using(swim_telling::specs::Notices::no_notices))]
 fn live_shared<
     'g,
     R: Files<File = File> + Net + Clock + Threads + Wait + Sync,
@@ -270,6 +270,7 @@ fn live_shared<
     faults: &'g mut F,
     log: G,
 ) -> Outcome
+    requires { D.faults door ≡ Some [] }
     ensures starts { Starts planned.entry.config (W.written writer.old, W.failures writer.old)
         (W.written writer.new, W.failures writer.new) result }
     ensures notices { Notices (F.written faults.old, F.failures faults.old)
@@ -313,7 +314,7 @@ fn live_shared<
 }
 
 /// Tells that a daemon of this configuration listens, unless it is to be quiet.
-#[tactic(auto, using(swim_keeper::specs::Notices::no_notices))]
+#[tactic(auto, using(swim_telling::specs::Notices::no_notices))]
 fn announce<R: Net + Clock, F: Sink>(rt: &R, alloc: Global, planned: &Planned<'_>, faults: &mut F)
     ensures { Notices (F.written faults.old, F.failures faults.old)
         (F.written faults.new, F.failures faults.new) }

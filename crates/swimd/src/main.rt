@@ -7,7 +7,6 @@ ghost use Rattle.std.specs.Prelude.{◌≡◌};
 mod commands;
 mod daemon;
 
-use commands::documents::{Documents, SystemDocuments};
 use commands::given::{take_given, words_in};
 use commands::program_commands::{self, Streams};
 use commands::stacks::begin_on_own_stack;
@@ -20,8 +19,10 @@ use std::random::RandomSource;
 use std::rt::{Clock, Files};
 use std::sync::{Arc, Wait};
 use std::thread::{JoinHandle, Threads};
-use swim_commands::{Details, Outcome, Surroundings};
+use swim_checks::{Documents, SystemDocuments};
+use swim_commands::Surroundings;
 use swim_config::ConfigFault;
+use swim_outcomes::{Details, Outcome, tell_outcome};
 use swim_reports::{Clerk, Desks, Log};
 use swim_streams::{
     DeskStream, STANDARD_ERROR, STANDARD_OUTPUT, ScreenSink, StreamDesk, StreamDesks, StreamDoor,
@@ -118,7 +119,7 @@ fn run_program<R: Files<File = File> + Net + Clock + RandomSource + Threads + Wa
             let around = given.surroundings(host.stdin().is_terminal(), is_terminal);
             run_words(rt, alloc, given.texts(), around, &mut streams, log)
         }
-        Err(outcome) => program_commands::tell_outcome(outcome, &details, &mut faults),
+        Err(outcome) => tell_outcome(outcome, &details, &mut faults),
     }
 }
 
@@ -160,7 +161,7 @@ fn run_words<
 
 /// Tells that memory was refused before the words were read.
 fn tell_no_memory<F: Sink>(faults: &mut F) -> u8 {
-    program_commands::tell_outcome(
+    tell_outcome(
         Outcome::Refused(ConfigFault::NoMemory),
         &Details::new(),
         faults,

@@ -3,11 +3,11 @@ use Rattle.std.specs.Prelude.{◌≡◌, ◌≢◌, ◌↔◌, ◌⊎◌, ℕ, L
 use Rattle.std.specs.Prelude.{Result, Ok, Err}
 use Rattle.std.specs.List.{AllByRecursion}
 use Rattle.swim_evidence.specs.declared.sequences.Seen.{Seen}
-use Rattle.swim_evidence.specs.declared.verdicts.Standing.TheVariants.{Sound}
+use Rattle.swim_evidence.specs.declared.verdicts.Standing.TheVariants.{Sound, Starved}
 use Rattle.swim_evidence.specs.Sequences.{AreGood}
 use Rattle.swim_verdicts.specs.declared.examining.Played.{Played}
 use Rattle.swimsim.specs.declared.verifying.Look.{Look}
-use Rattle.swim_verdicts.specs.Examined.{IsCutFile, IsWholeFile, header_of, left_of}
+use Rattle.swim_verdicts.specs.Examined.{IsCutFile, IsStarvedFile, IsWholeFile, header_of, left_of}
 use Rattle.swimsim.specs.Sequences.{IsStatusOf}
 
 -- a file: its path; what was played of it, where it could be read; and what was seen of it
@@ -28,10 +28,11 @@ played_in (Err error) = None
 abbrev pub sighting_in : Look × List ℕ → Sighting
 sighting_in i = sighting i.1 (played_in i.0.played.value) i.0.seen.value
 
--- this is seen of a file that was played: nothing speaks against it exactly where it is whole or cut, and what its life
--- left is known exactly where it is whole
+-- this is seen of a file that was played: nothing speaks against it exactly where it is whole or cut, that isn't known
+-- exactly where the replay ended for want of memory, and what its life left is known exactly where it is whole
 pub record SeesPlayed (p : Played) (seen : Seen) : Type 0 where
   pub sound : (seen.standing ≡ Sound) ↔ (IsWholeFile p ⊎ IsCutFile p)
+  pub starved : (seen.standing ≡ Starved) ↔ IsStarvedFile p
   pub header : seen.header ≡ header_of p
   pub whole : IsWholeFile p → seen.left ≡ left_of p
   pub left : IsSome seen.left → IsWholeFile p

@@ -3,7 +3,7 @@
 ghost use Rattle.std.specs.Prelude.{◌≡◌, ◌∷◌, [], Some, None};
 
 use std::alloc::Global;
-use swim_keeper::Shelf;
+use swim_recorder::Shelf;
 use swim_text::{Page, Sink};
 
 /// A shelf whose files are in memory, or that has none. It keeps a file that has the bytes which it expects.
@@ -44,7 +44,7 @@ impl Shelf<Page> for Folder {
 
     ghost filed = { λ s. None };
 
-    #[tactic(auto, using(swim_keeper::specs::Notices::no_notices))]
+    #[tactic(auto, using(swim_telling::specs::Notices::no_notices))]
     fn open<F: Sink>(&mut self, _number: u64, _notices: &mut F) -> Option<Page> {
         if !self.has_files {
             return None;
@@ -52,7 +52,7 @@ impl Shelf<Page> for Folder {
         Some(Page::new(self.alloc))
     }
 
-    #[tactic(auto, using(swim_keeper::specs::Notices::no_notices, swim_keeper::specs::Filing::unknown_back))]
+    #[tactic(auto, using(swim_telling::specs::Notices::no_notices, swim_recorder::specs::Filed::unknown_back))]
     fn close<F: Sink>(&mut self, _number: u64, sink: Page, _notices: &mut F) -> bool {
         self.is_keeping && has_text(&sink, self.expected)
     }

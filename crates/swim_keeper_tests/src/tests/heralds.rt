@@ -2,7 +2,7 @@
 
 ghost use Rattle.std.specs.Prelude.{None};
 
-use swim_keeper::Herald;
+use swim_telling::Herald;
 use swim_text::Sink;
 
 /// A herald that counts the lives that it is told of, and tells nothing.
@@ -14,7 +14,7 @@ pub struct Caller {
 impl Herald for Caller {
     ghost begun = { λ c. None };
 
-    #[tactic(auto, using(swim_keeper::specs::Notices::no_notices))]
+    #[tactic(auto, using(swim_telling::specs::Notices::no_notices))]
     fn begins<F: Sink>(&mut self, _number: u64, _notices: &mut F) {
         self.begun = self.begun.saturating_add(1);
     }

@@ -8,7 +8,7 @@ use super::short_lives::live_shortly;
 use super::*;
 use swim_devices::{ClockSleeper, SleepingPace};
 use swim_doubles::Text;
-use swim_keeper::Shelf;
+use swim_recorder::Shelf;
 use swim_script::{Session, run};
 use swim_text::Sink;
 
@@ -64,7 +64,7 @@ impl Shelf<File> for Player {
 
     ghost filed = { λ s. None };
 
-    #[tactic(auto, using(swim_keeper::specs::Notices::no_notices))]
+    #[tactic(auto, using(swim_telling::specs::Notices::no_notices))]
     fn open<F: Sink>(&mut self, _number: u64, _notices: &mut F) -> Option<File> {
         Some(File {
             page: Page::new(self.alloc),
@@ -73,7 +73,7 @@ impl Shelf<File> for Player {
         })
     }
 
-    #[tactic(auto, using(swim_keeper::specs::Notices::no_notices, swim_keeper::specs::Filing::unknown_back))]
+    #[tactic(auto, using(swim_telling::specs::Notices::no_notices, swim_recorder::specs::Filed::unknown_back))]
     fn close<F: Sink>(&mut self, _number: u64, sink: File, _notices: &mut F) -> bool {
         let mut session = Session::new(self.alloc);
         let mut output = Page::new(self.alloc);

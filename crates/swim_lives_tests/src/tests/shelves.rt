@@ -2,7 +2,8 @@
 
 ghost use Rattle.std.specs.Prelude.{None};
 
-use swim_keeper::{Herald, Shelf};
+use swim_recorder::Shelf;
+use swim_telling::Herald;
 use swim_text::{Page, Sink};
 
 /// A herald that counts the lives that it is told of, and tells nothing.
@@ -14,7 +15,7 @@ pub struct Counter {
 impl Herald for Counter {
     ghost begun = { λ c. None };
 
-    #[tactic(auto, using(swim_keeper::specs::Notices::no_notices))]
+    #[tactic(auto, using(swim_telling::specs::Notices::no_notices))]
     fn begins<F: Sink>(&mut self, _number: u64, _notices: &mut F) {
         self.begun = self.begun.saturating_add(1);
     }
@@ -31,12 +32,12 @@ impl Shelf<Page> for NoShelf {
 
     ghost filed = { λ s. None };
 
-    #[tactic(auto, using(swim_keeper::specs::Notices::no_notices))]
+    #[tactic(auto, using(swim_telling::specs::Notices::no_notices))]
     fn open<F: Sink>(&mut self, _number: u64, _notices: &mut F) -> Option<Page> {
         None
     }
 
-    #[tactic(auto, using(swim_keeper::specs::Notices::no_notices, swim_keeper::specs::Filing::unknown_back))]
+    #[tactic(auto, using(swim_telling::specs::Notices::no_notices, swim_recorder::specs::Filed::unknown_back))]
     fn close<F: Sink>(&mut self, _number: u64, _sink: Page, _notices: &mut F) -> bool {
         false
     }

@@ -5,8 +5,8 @@ use super::shelves::Counter;
 use super::*;
 use std::alloc::AllocError;
 use swim_events::{Entrance, Outlet};
-use swim_keeper::{LifeKeeper, Shelf};
-use swim_recorder::Reporter;
+use swim_keeper::LifeKeeper;
+use swim_recorder::{Reporter, Shelf};
 use swim_text::Sink;
 
 /// What they came to: their end, how many began, what was told of them, and who kept their files and recorded them.

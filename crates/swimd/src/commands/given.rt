@@ -1,13 +1,14 @@
 //! What the program is given: its words, and the paths that its environment names.
 
 ghost use Rattle.std.specs.Prelude.{◌≡◌, [], IfErr};
-ghost use Rattle.swim_commands.specs.Details.{Explains};
+ghost use Rattle.swim_outcomes.specs.Details.{Explains};
 
 use std::alloc::{AllocError, Global};
 use std::env::{self, VarError};
 use std::io::ErrorKind;
-use swim_commands::{Details, Outcome, Surroundings, explain_no_text};
+use swim_commands::{Surroundings, explain_no_text};
 use swim_config::ConfigFault;
+use swim_outcomes::{Details, Outcome};
 
 /// The variable with the path of the control socket, and that path where there is no such variable.
 const CONTROL: &str = "SWIMD_CONTROL";

@@ -1,15 +1,11 @@
 //! The commands of the program, with its standard streams handed in.
 
-ghost use Rattle.std.specs.Prelude.{◌≡◌, ◌++◌, [], codes, map, option_map};
-ghost use Rattle.swim_text.specs.Streams.{Puts, failures_if};
-ghost use Rattle.swimd.specs.Commands.{AsksWanted, Carried, Commanded, Helps, Told};
-ghost use Rattle.swim_commands.specs.Details.{Explains};
-ghost use Rattle.swim_commands.specs.Outcomes.{outcome_text};
+ghost use Rattle.std.specs.Prelude.{◌≡◌, [], codes, map, option_map};
+ghost use Rattle.swim_checks.specs.Texts.{Helps};
+ghost use Rattle.swimd.specs.Commands.{AsksWanted, Carried, Commanded};
+ghost use Rattle.swim_outcomes.specs.Details.{Explains};
 ghost use Rattle.swim_commands.specs.Words.{IsAsked, around_of};
 
-use crate::commands::checking::{check_file, check_typed};
-use crate::commands::documents::Documents;
-use crate::commands::key_making::make_key;
 use crate::commands::web::serve_web;
 use crate::daemon::{Launch, run};
 use std::alloc::Global;
@@ -19,11 +15,12 @@ use std::random::RandomSource;
 use std::rt::{Clock, Files};
 use std::sync::Wait;
 use std::thread::Threads;
+use swim_checks::{Documents, check_file, check_typed, help, make_key};
 use swim_commands::{
-    Asked, Details, Outcome, Request, Surroundings, Unasked, VERSION_LINE, ask_daemon,
-    explain_words, put_outcome, read_words, watch_daemon,
+    Asked, Request, Surroundings, Unasked, ask_daemon, explain_words, read_words, watch_daemon,
 };
 use swim_config::ConfigFault;
+use swim_outcomes::{Details, Outcome, VERSION_LINE, tell_outcome};
 use swim_reports::Clerk;
 use swim_streams::Timely;
 use swim_text::{ReadSource, Sink, Source};
@@ -197,46 +194,10 @@ fn ask_for<R: Net + Clock, S: Source, W: Sink>(
     }
 }
 
-/// Writes help.
-pub fn help<W: Sink>(text: &[u8], writer: &mut W) -> Outcome
-    ensures helps { Helps text.now (W.written writer.old) (W.written writer.new) result }
-    ensures sent { result ≡ Outcome.Helped → W.held writer.new ≡ 0 }
-{
-    if writer.put(text) && writer.flush() {
-        Outcome::Helped
-    } else {
-        Outcome::Unwritten
-    }
-}
-
 /// Writes the version.
 fn version<W: Sink>(writer: &mut W) -> Outcome
     ensures helps { Helps (codes "swimd 1.0\n") (W.written writer.old) (W.written writer.new) result }
     ensures sent { result ≡ Outcome.Helped → W.held writer.new ≡ 0 }
 {
     help(VERSION_LINE, writer)
-}
-
-/// Tells an outcome, with what a person needs below it, and answers its status.
-pub fn tell_outcome<F: Sink>(outcome: Outcome, details: &Details, faults: &mut F) -> u8
-    requires { Explains outcome details.now }
-    ensures { Told outcome (F.written faults.old) (F.written faults.new) (F.failures faults.old)
-        (F.failures faults.new) result }
-{
-    let lines = details.as_slice();
-    let _is_put = put_told(faults, outcome, lines);
-    let _is_sent = faults.flush();
-    outcome.status()
-}
-
-/// Writes the line of an outcome, and then those below it, and answers whether the sink took all of them.
-#[tactic(auto, using(swim_text::specs::Streams::puts_then, swim_text::specs::Streams::puts_less))]
-fn put_told<F: Sink>(faults: &mut F, outcome: Outcome, lines: &[u8]) -> bool
-    ensures bytes { Puts (F.written faults.old) (F.written faults.new) (outcome_text outcome ++ lines.now) result }
-    ensures failures { F.failures faults.new ≡ failures_if (F.failures faults.old) result }
-{
-    if !put_outcome(faults, outcome) {
-        return false;
-    }
-    faults.put(lines)
 }

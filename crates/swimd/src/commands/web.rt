@@ -1,24 +1,25 @@
 //! Serving what a daemon answers, over HTTP.
 
 ghost use Rattle.std.specs.Prelude.{◌≡◌, []};
-ghost use Rattle.swim_keeper.specs.Notices.{Notices};
-ghost use Rattle.swim_commands.specs.Details.{Explains};
+ghost use Rattle.swim_telling.specs.Notices.{Notices};
+ghost use Rattle.swim_outcomes.specs.Details.{Explains};
 ghost use Rattle.swimd.specs.Served.{ServesWeb};
 
 use mio::net::TcpListener;
-use std::alloc::{AllocError, Global};
+use std::alloc::Global;
 use std::fs::File;
 use std::io;
 use std::net::{Ipv4Addr, Net, SocketAddr, SocketAddrV4};
 use std::random::RandomSource;
 use std::rt::{Clock, Files};
 use std::sync::Wait;
-use swim_commands::{Details, Outcome, WebRequest, words_why};
+use swim_commands::WebRequest;
 use swim_config::ConfigFault;
-use swim_pages::{FileShelf, SocketDaemon, SocketEvents};
+use swim_outcomes::{Details, Outcome, words_why};
+use swim_pages::{FileShelf, SocketDaemon, SocketEvents, web_over};
 use swim_reports::Notice;
 use swim_text::Sink;
-use swim_web::{Recent, Web, run};
+use swim_web::run;
 use swim_wire::Peer;
 
 /// The first octet of the addresses that only this machine reaches.
@@ -26,7 +27,7 @@ const LOOPBACK: u8 = 127;
 
 /// Serves pages for good, unless the address can't be listened on or the system refuses something. Whatever comes in,
 /// the daemon is only asked for its table and its counts.
-#[tactic(auto, using(swim_keeper::specs::Notices::no_notices, crate::proofs::Explained::nothing_explains))]
+#[tactic(auto, using(swim_telling::specs::Notices::no_notices, crate::proofs::Explained::nothing_explains))]
 pub fn serve_web<R: Files<File = File> + Net + Clock + RandomSource + Wait, F: Sink>(
     rt: &R,
     alloc: Global,
@@ -66,37 +67,6 @@ fn listen<R: Net>(rt: &R, peer: Peer) -> io::Result<TcpListener> {
     TcpListener::bind(rt, SocketAddr::V4(address))
 }
 
-/// Returns what is served of a daemon.
-fn web_over<'r, 'p, R: Files<File = File> + Net + Clock>(
-    alloc: Global,
-    request: &WebRequest<'_>,
-    daemon: SocketDaemon<'r, 'p, R>,
-    shelf: FileShelf<'r, 'p, R>,
-) -> Result<Web<SocketDaemon<'r, 'p, R>, FileShelf<'r, 'p, R>>, AllocError> {
-    let names = names(alloc, request)?;
-    Ok(Web {
-        alloc,
-        names,
-        recent: Recent::new(),
-        is_late: false,
-        daemon: Box::new(alloc, daemon)?,
-        shelf: Box::new(alloc, shelf)?,
-    })
-}
-
-/// Returns the names by which a request may call the host: the address, `localhost` with its port, and those that were
-/// given.
-fn names(alloc: Global, request: &WebRequest<'_>) -> Result<Vec<String>, AllocError> {
-    let address = request.listen.write();
-    let mut names = Vec::new(alloc);
-    names.push(format!(in alloc; "{}", address.as_str())?)?;
-    names.push(format!(in alloc; "localhost:{}", request.listen.port)?)?;
-    for name in request.names.as_slice() {
-        names.push(format!(in alloc; "{}", *name)?)?;
-    }
-    Ok(names)
-}
-
 /// Tells where pages are served, and warns if others than this machine may reach them, or the folder of journal files
 /// can't be read.
 fn announce<R: Files + Net + Clock, F: Sink>(
@@ -114,7 +84,7 @@ fn announce<R: Files + Net + Clock, F: Sink>(
 }
 
 /// Tells where pages are served.
-#[tactic(auto, using(swim_keeper::specs::Notices::no_notices))]
+#[tactic(auto, using(swim_telling::specs::Notices::no_notices))]
 fn tell_serving<R: Net + Clock, F: Sink>(rt: &R, alloc: Global, listen: Peer, faults: &mut F)
     ensures { Notices (F.written faults.old, F.failures faults.old)
         (F.written faults.new, F.failures faults.new) }
@@ -123,7 +93,7 @@ fn tell_serving<R: Net + Clock, F: Sink>(rt: &R, alloc: Global, listen: Peer, fa
 }
 
 /// Warns if others than this machine may reach them.
-#[tactic(auto, using(swim_keeper::specs::Notices::no_notices))]
+#[tactic(auto, using(swim_telling::specs::Notices::no_notices))]
 fn warn_open<R: Net + Clock, F: Sink>(rt: &R, alloc: Global, listen: Peer, faults: &mut F)
     ensures { Notices (F.written faults.old, F.failures faults.old)
         (F.written faults.new, F.failures faults.new) }
@@ -134,7 +104,7 @@ fn warn_open<R: Net + Clock, F: Sink>(rt: &R, alloc: Global, listen: Peer, fault
 }
 
 /// Warns if there is a folder of journal files that can't be read. It may be there later.
-#[tactic(auto, using(swim_keeper::specs::Notices::no_notices))]
+#[tactic(auto, using(swim_telling::specs::Notices::no_notices))]
 fn warn_unreadable<R: Files + Net + Clock, F: Sink>(
     rt: &R,
     alloc: Global,

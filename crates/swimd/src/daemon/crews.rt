@@ -4,6 +4,7 @@ ghost use Rattle.std.specs.Prelude.{◌≡◌, [], Some, IfOk, box_value};
 ghost use Rattle.swim_receiver.specs.Rejoining.{IsReturning};
 ghost use Rattle.swimd.specs.DaemonLives.{at_receiving, at_ticking, none_connected, none_received, none_ticked};
 
+use crate::daemon::counted_entrances::CountedEntrance;
 use crate::daemon::entrances::{end_watching, pause_ms};
 use crate::daemon::reloading::Reloading;
 use crate::daemon::speakers::LogSpeaker;
@@ -23,7 +24,7 @@ use swim_events::{Entrance, Gallery};
 use swim_guard::{ClockTimepiece, FencedLine, NotingLine, SealedLine, SealedPost};
 use swim_receiver::{Receiver, Returning};
 use swim_recorder::{JournalRecorder, Reporter};
-use swim_reports::{Chronicler, Clerk, CountedEntrance, Counters};
+use swim_reports::{Chronicler, Clerk, Counters};
 use swim_text::Sink;
 use swim_ticker::Ticker;
 use swim_work::{Line, Pace, Post, RejoinLookup};
@@ -84,13 +85,18 @@ impl<'g, R: Files<File = File> + Net + Clock + Wait> Shared<'g, R> {
         ensures me { IfOk result (λ crew. (box_value crew.first).returning.rejoiner.me ≡ config.now.opening.me) }
         ensures receiving { IfOk result (λ crew. at_receiving
             (⟦<GuardedLine<'g, R> as Line>⟧.received (box_value crew.first).line)
-            (⟦<GuardedPost<'g> as Post>⟧.posted (box_value crew.first).post) (box_value crew.first).returning
+            (⟦<UdpLine<'g> as Line>⟧.received (box_value crew.first).line.line.line)
+            (⟦<GuardedPost<'g> as Post>⟧.posted (box_value crew.first).post)
+            (⟦<UdpPost<'g> as Post>⟧.posted (box_value crew.first).post.post) (box_value crew.first).returning
             ≡ none_received (box_value crew.first).returning) }
         ensures ticking { IfOk result (λ crew. at_ticking
             (⟦<ClockPace<'g, R> as Pace>⟧.beats (box_value crew.second).pace)
             (⟦<GuardedPost<'g> as Post>⟧.posted (box_value crew.second).post)
+            (⟦<UdpPost<'g> as Post>⟧.posted (box_value crew.second).post.post)
             (⟦<GuardedPost<'g> as Post>⟧.posted (box_value crew.second).knock_post)
+            (⟦<UdpPost<'g> as Post>⟧.posted (box_value crew.second).knock_post.post)
             (box_value crew.second).lookup (box_value crew.second).knocks ≡ none_ticked) }
+        ensures door { IfOk result (λ crew. (box_value crew.third).hall.door ≡ door) }
         ensures connections { IfOk result (λ crew. (box_value crew.third).hall.connections ≡ none_connected) }
         ensures gallery { IfOk result (λ crew. (box_value crew.recorder).gallery ≡ []) }
         ensures heard { IfOk result (λ crew.
@@ -114,7 +120,9 @@ impl<'g, R: Files<File = File> + Net + Clock + Wait> Shared<'g, R> {
         ensures me { IfOk result (λ receiver. (box_value receiver).returning.rejoiner.me ≡ config.now.opening.me) }
         ensures receiving { IfOk result (λ receiver. at_receiving
             (⟦<GuardedLine<'g, R> as Line>⟧.received (box_value receiver).line)
-            (⟦<GuardedPost<'g> as Post>⟧.posted (box_value receiver).post) (box_value receiver).returning
+            (⟦<UdpLine<'g> as Line>⟧.received (box_value receiver).line.line.line)
+            (⟦<GuardedPost<'g> as Post>⟧.posted (box_value receiver).post)
+            (⟦<UdpPost<'g> as Post>⟧.posted (box_value receiver).post.post) (box_value receiver).returning
             ≡ none_received (box_value receiver).returning) }
     {
         let strangers = &self.counters.strangers;
@@ -140,7 +148,9 @@ impl<'g, R: Files<File = File> + Net + Clock + Wait> Shared<'g, R> {
     ) -> Result<Box<Ticker<'g, ClockPace<'g, R>, GuardedPost<'g>>>, AllocError>
         ensures { IfOk result (λ ticker. at_ticking (⟦<ClockPace<'g, R> as Pace>⟧.beats (box_value ticker).pace)
             (⟦<GuardedPost<'g> as Post>⟧.posted (box_value ticker).post)
+            (⟦<UdpPost<'g> as Post>⟧.posted (box_value ticker).post.post)
             (⟦<GuardedPost<'g> as Post>⟧.posted (box_value ticker).knock_post)
+            (⟦<UdpPost<'g> as Post>⟧.posted (box_value ticker).knock_post.post)
             (box_value ticker).lookup (box_value ticker).knocks ≡ none_ticked) }
     {
         let book = self.reloading.book;
@@ -164,7 +174,8 @@ impl<'g, R: Files<File = File> + Net + Clock + Wait> Shared<'g, R> {
         door: D,
         log: G,
     ) -> Result<Box<Controller<D, LogSpeaker<'g, 'g, R, G>>>, AllocError>
-        ensures { IfOk result (λ controller. (box_value controller).hall.connections ≡ none_connected) }
+        ensures door { IfOk result (λ controller. (box_value controller).hall.door ≡ door) }
+        ensures connections { IfOk result (λ controller. (box_value controller).hall.connections ≡ none_connected) }
     {
         let speaker = LogSpeaker::new(
             self.rt,

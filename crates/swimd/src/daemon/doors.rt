@@ -1,7 +1,7 @@
 //! The door at the control socket of a configuration.
 
-ghost use Rattle.std.specs.Prelude.{◌≡◌, IfErr, IfOk};
-ghost use Rattle.swim_keeper.specs.Notices.{Notices};
+ghost use Rattle.std.specs.Prelude.{◌≡◌, [], IfErr, IfOk};
+ghost use Rattle.swim_telling.specs.Notices.{Notices};
 ghost use Rattle.swimd.specs.Daemon.{IsNoDoor};
 
 use crate::daemon::entrances::{opened, tell_socket};
@@ -10,15 +10,16 @@ use std::fs::File;
 use std::io::ErrorKind;
 use std::net::Net;
 use std::rt::{Clock, Files};
-use swim_commands::{Details, Outcome};
 use swim_config::Config;
 use swim_devices::{Place, SystemRemover, UnixDoor};
+use swim_outcomes::{Details, Outcome};
 use swim_reports::Notice;
 use swim_text::Sink;
 
 /// The door at the path of a configuration's control socket, from which a stale socket is removed, or why there is
-/// none. It has the mode that the configuration gives it. So many descriptors are kept for others than operators.
-#[tactic(auto, using(swim_keeper::specs::Notices::no_notices))]
+/// none. It has the mode that the configuration gives it. So many descriptors are kept for others than operators. It
+/// wasn't asked yet who comes.
+#[tactic(auto, using(swim_telling::specs::Notices::no_notices))]
 pub fn open_door<'r, R: Files<File = File> + Net + Clock, F: Sink>(
     rt: &'r R,
     alloc: Global,
@@ -28,6 +29,7 @@ pub fn open_door<'r, R: Files<File = File> + Net + Clock, F: Sink>(
     details: &mut Details,
 ) -> Result<UnixDoor<&'r R>, Outcome>
     ensures refused { IfErr result IsNoDoor }
+    ensures fresh { IfOk result (λ door. door ≡ []) }
     ensures details { IfOk result (λ door. details.new ≡ details.old) }
     ensures notices { Notices (F.written faults.old, F.failures faults.old)
         (F.written faults.new, F.failures faults.new) }

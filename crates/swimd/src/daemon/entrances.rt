@@ -1,7 +1,7 @@
 //! Where those come in who watch a daemon, and what they are told last.
 
-ghost use Rattle.std.specs.Prelude.{◌≡◌, IfErr, IfOk};
-ghost use Rattle.swim_keeper.specs.Notices.{Notices};
+ghost use Rattle.std.specs.Prelude.{◌≡◌, IfErr, IfOk, Ok};
+ghost use Rattle.swim_telling.specs.Notices.{Notices};
 ghost use Rattle.swimd.specs.Daemon.{IsNoEntrance};
 
 use std::alloc::Global;
@@ -10,10 +10,10 @@ use std::net::Net;
 use std::os::unix::fs::PermissionsExt;
 use std::rt::{Clock, Files};
 use std::{fs, io};
-use swim_commands::{Details, Outcome, words_why};
 use swim_config::{Config, SocketPath};
 use swim_devices::{Place, Sight, SystemRemover, UnixEntrance};
 use swim_events::{Event, Gallery, Outlet};
+use swim_outcomes::{Details, Outcome, words_why};
 use swim_reports::Notice;
 use swim_text::Sink;
 
@@ -34,7 +34,7 @@ pub fn pause_ms(events: &Option<SocketPath>) -> u32 {
 
 /// The entrance at the path of a configuration's events' socket, from which a stale socket is removed, or why there is
 /// none. It has the mode that the configuration gives it. Where no path is given it is closed.
-#[tactic(auto, using(swim_keeper::specs::Notices::no_notices))]
+#[tactic(auto, using(swim_telling::specs::Notices::no_notices))]
 pub fn open_entrance<'r, R: Files<File = File> + Net + Clock, F: Sink>(
     rt: &'r R,
     alloc: Global,
@@ -55,7 +55,7 @@ pub fn open_entrance<'r, R: Files<File = File> + Net + Clock, F: Sink>(
 }
 
 /// The entrance at a path, from which a stale socket is removed, with this mode.
-#[tactic(auto, using(swim_keeper::specs::Notices::no_notices))]
+#[tactic(auto, using(swim_telling::specs::Notices::no_notices))]
 fn bind_entrance<'r, R: Files<File = File> + Net + Clock, F: Sink>(
     rt: &'r R,
     alloc: Global,
@@ -89,7 +89,9 @@ pub fn opened<R: Files, T: Drop>(
     path: &str,
     mode: Option<u32>,
     bound: io::Result<T>,
-) -> io::Result<T> {
+) -> io::Result<T>
+    ensures { IfOk result (λ value. bound ≡ Ok value) }
+{
     let bound = bound?;
     if let Some(mode) = mode {
         fs::set_permissions(rt, path, Permissions::from_mode(mode))?;

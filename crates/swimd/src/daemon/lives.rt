@@ -3,8 +3,8 @@
 ghost use Rattle.std.specs.Prelude.{◌≡◌, box_value};
 ghost use Rattle.swim_crew.specs.Crews.{stand_at};
 ghost use Rattle.swim_keeper.specs.Keeping.{outlets};
-ghost use Rattle.swim_keeper.specs.Notices.{Notices};
-ghost use Rattle.swimd.specs.DaemonLives.{AreSeenLives, at_daemon, at_receiving, at_ticking, told_by};
+ghost use Rattle.swim_telling.specs.Notices.{Notices};
+ghost use Rattle.swimd.specs.DaemonLives.{AreSeenLives, at_controlling, at_daemon, at_receiving, at_ticking, told_by};
 
 use crate::daemon::crews::{ClockPace, DaemonCrew, GuardedLine, GuardedPost};
 use std::alloc::Global;
@@ -15,12 +15,14 @@ use std::sync::Wait;
 use std::thread::Threads;
 use swim_crew::{LivesEnd, run_lives};
 use swim_desk::{Door, each_line_is_called};
+use swim_devices::{UdpLine, UdpPost};
 use swim_history::Opening;
+use swim_keeper::LifeKeeper;
 use swim_keeper::laws::a_kept_life_is_told;
-use swim_keeper::{Herald, LifeKeeper, Shelf};
 use swim_receiver::each_datagram_is_heard;
-use swim_recorder::Reporter;
+use swim_recorder::{Reporter, Shelf};
 use swim_reports::{Announcer, Chronicler, Clerk, Folder};
+use swim_telling::Herald;
 use swim_text::Sink;
 use swim_ticker::each_tick_is_a_call;
 use swim_work::{Line, Pace, Post};
@@ -39,10 +41,10 @@ pub type DaemonKeeper<'g, 'w, 'f, 'h, 's, 'b, R, W, F> = LifeKeeper<
     Folder<'g, R>,
 >;
 
-/// Runs lives with this crew, from this opening, until they end. What the line gave became the calls of the receiver, the
-/// beats of the pace those of the ticker, and the lines of operators those of the controller. What was handed to be sent
-/// are the datagrams of their replies, and knocks at the starts of periods. Each life is told. Returns why the lives
-/// ended, and the crew.
+/// Runs lives with this crew, from this opening, until they end. What the line gave became the calls of the receiver,
+/// the beats of the pace those of the ticker, and the lines of operators those of the controller. What was handed to be
+/// sent are the datagrams of their replies, and knocks at the starts of periods. Each life is told. Returns why the
+/// lives ended, and the crew. Each worker ended for what its own gate gave, as far as it had a reason of its own.
 pub fn keep_lives<
     'g,
     'w,
@@ -70,11 +72,13 @@ pub fn keep_lives<
         ⟦<Folder<'g, R> as Shelf<JournalFile<'g, R>>>⟧.opened ⟦<Folder<'g, R> as Shelf<JournalFile<'g, R>>>⟧.filed
         ⟦<Folder<'g, R> as Shelf<JournalFile<'g, R>>>⟧.fresh ⟦<JournalFile<'g, R> as Sink>⟧.written
         ⟦<JournalFile<'g, R> as Sink>⟧.held ⟦<Chronicler<'g> as Reporter>⟧.heard))
-        (λ r. at_receiving (⟦<GuardedLine<'g, R> as Line>⟧.received r.line) (⟦<GuardedPost<'g> as Post>⟧.posted r.post)
-        r.returning)
+        (λ r. at_receiving (⟦<GuardedLine<'g, R> as Line>⟧.received r.line)
+        (⟦<UdpLine<'g> as Line>⟧.received r.line.line.line) (⟦<GuardedPost<'g> as Post>⟧.posted r.post)
+        (⟦<UdpPost<'g> as Post>⟧.posted r.post.post) r.returning)
         (λ t. at_ticking (⟦<ClockPace<'g, R> as Pace>⟧.beats t.pace) (⟦<GuardedPost<'g> as Post>⟧.posted t.post)
-        (⟦<GuardedPost<'g> as Post>⟧.posted t.knock_post) t.lookup t.knocks)
-        (λ c. c.hall.connections)) ⟦<Folder<'g, R> as Shelf<JournalFile<'g, R>>>⟧.fresh keeper.old.terms opening
+        (⟦<UdpPost<'g> as Post>⟧.posted t.post.post) (⟦<GuardedPost<'g> as Post>⟧.posted t.knock_post)
+        (⟦<UdpPost<'g> as Post>⟧.posted t.knock_post.post) t.lookup t.knocks)
+        (λ c. at_controlling (D.faults c.hall.door) c.hall.connections)) ⟦<Folder<'g, R> as Shelf<JournalFile<'g, R>>>⟧.fresh keeper.old.terms opening
         (stand_at crew.entry keeper.old) (stand_at result.1 keeper.new) result.0 }
     ensures notices { Notices (F.written keeper.old.notices.now, F.failures keeper.old.notices.now)
         (F.written keeper.new.notices.now, F.failures keeper.new.notices.now) }

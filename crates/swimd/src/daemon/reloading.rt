@@ -1,21 +1,21 @@
 //! The configuration file, read again while its daemon runs.
 
 ghost use Rattle.std.specs.Prelude.{◌≡◌, IfSome, MatchResult, false};
-ghost use Rattle.swim_commands.specs.Outcomes.{outcome_text};
+ghost use Rattle.swim_outcomes.specs.Outcomes.{outcome_text};
 ghost use Rattle.swim_reload.specs.Reloaded.{reloaded_text};
 ghost use Rattle.swimd.specs.Daemon.{rejoin_of};
 ghost use Rattle.swimd.specs.Reloading.{IsNotReloaded, IsReloaded, IsTextOrFront};
 
-use crate::commands::documents::{Documents, SystemDocuments};
 use arrayvec::ArrayVec;
 use std::alloc::Global;
 use std::fs;
 use std::rt::Files;
 use std::sync::Wait;
-use swim_commands::{Outcome, put_outcome};
+use swim_checks::{Documents, SystemDocuments};
 use swim_config::{Config, ConfigFault, INPUT_BYTES};
 use swim_control::ReloadText;
 use swim_guard::{RingKeys, RuleBook};
+use swim_outcomes::{Outcome, put_outcome};
 use swim_reload::{put_reloaded, reread};
 use swim_reports::TextSink;
 use swim_work::TidingsBoard;

@@ -86,7 +86,8 @@ impl Telling {
 /// Tells what happens. Once a turn of the controller it tells what there is to be told, and waits for nobody: each change
 /// of the member table, how many datagrams were thrown away and where the newest came from, and how many connections were
 /// turned away, of each kind at most once a minute, likewise messages whose senders aren't as the member table has them;
-/// and every ten seconds it hands the metrics over, to be written. Where it is quiet it tells nothing in the log but that metrics can't be written, and which journal files aren't whole.
+/// and every ten seconds it hands the metrics over, to be written. Where it is quiet it tells nothing in the log but that
+/// metrics can't be written, and which journal files aren't whole.
 #[derive(Drop)]
 pub struct LogSpeaker<'s, 'r, R, G: Sink + Clerk + Drop> {
     rt: &'r R,

@@ -6,7 +6,7 @@ ghost use Rattle.swim_text.specs.Streams.{Puts, failures_if};
 
 use super::signals::{Failing, Signals};
 use std::alloc::Global;
-use swim_keeper::Shelf;
+use swim_recorder::Shelf;
 use swim_text::{Page, Sink};
 
 /// A sink in memory. A put that fails takes nothing.
@@ -74,7 +74,7 @@ impl<'s> Shelf<Pad<'s>> for PadShelf<'s> {
 
     ghost filed = { λ s. None };
 
-    #[tactic(auto, using(swim_keeper::specs::Notices::no_notices))]
+    #[tactic(auto, using(swim_telling::specs::Notices::no_notices))]
     fn open<F: Sink>(&mut self, _number: u64, _notices: &mut F) -> Option<Pad<'s>> {
         if self.signals.fails(Failing::Open) {
             return None;
@@ -88,7 +88,7 @@ impl<'s> Shelf<Pad<'s>> for PadShelf<'s> {
         })
     }
 
-    #[tactic(auto, using(swim_keeper::specs::Notices::no_notices, swim_keeper::specs::Filing::unknown_back))]
+    #[tactic(auto, using(swim_telling::specs::Notices::no_notices, swim_recorder::specs::Filed::unknown_back))]
     fn close<F: Sink>(&mut self, number: u64, sink: Pad<'s>, _notices: &mut F) -> bool {
         let is_kept = !self.signals.fails(Failing::Close);
         if sink.failures > 0 || !is_kept {

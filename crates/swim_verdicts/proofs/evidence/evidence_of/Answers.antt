@@ -1,7 +1,8 @@
-use Rattle.std.proofs.Common.{refl, subst, sym}
-use Rattle.std.proofs.lemmas.List.{take_all}
+use Rattle.std.proofs.Common.{◌+◌, List, ◌∷◌, ◌++◌, take, drop, refl, subst, sym, ap, ◌∙◌}
+use Rattle.std.proofs.lemmas.List.{drop_more, take-append-drop, take_all}
 use Rattle.std.proofs.lemmas.List.Elements.{All-more, All-nil}
 use Rattle.std.specs.List.{Contains}
+use Rattle.swim_evidence.specs.declared.findings.Finding.{Finding}
 use Rattle.swim_verdicts.specs.Examined.{IsOther, LacksVerdict}
 use Rattle.swim_verdicts.proofs.evidence.evidence_of.Goals as goal
 
@@ -15,6 +16,20 @@ returns-in-Some-clause-found c = (
   subst (Contains c.args.findings.now) c.in-Some.ensures.found.2
       (c.loop-finding.finding-index, c.loop-finding-test.true, sym c.finding-item.is),
 )
+
+pub returns-in-Some-clause-first : goal.returns-in-Some-clause-first
+returns-in-Some-clause-first c =
+    let found = c.args.findings.now in
+    let at = c.loop-finding.finding-index in
+    record {
+      before = take at found;
+      behind = drop (at + 1) found;
+      parts = sym (take-append-drop at found)
+          ∙ ap (λ (rest : List Finding). take at found ++ rest)
+          (drop_more found at c.finding-item.result c.loop-finding-test.true
+          ∙ ap (λ (f : Finding). f ∷ drop (at + 1) found) (sym c.finding-item.is ∙ c.in-Some.ensures.found.2));
+      none = c.loop-finding.invariant;
+    }
 
 pub loop-finding-preserved : goal.loop-finding-preserved
 loop-finding-preserved c =

@@ -1,11 +1,8 @@
-use Rattle.std.proofs.Common.{◌≡◌, ℕ, ◌≤◌, List, [], ◌∷◌, length, get_or, refl, sym, ap, arith}
-use Rattle.swim_text.specs.TwoPuts.{first_failed, both_put, first_and_others, others_of}
+use Rattle.std.proofs.Common.{get_or, sym, ap}
+use Rattle.swim_text.specs.TwoPuts.{first_failed, both_put, others_of}
 use Rattle.swim_verdicts.specs.VerdictPages.{html_sign, html_text}
+use Rattle.swim_verdicts.proofs.FirstSigns.{first_is}
 use Rattle.swim_verdicts.proofs.html.+put_html.Goals as goal
-
-first_is : (text : List ℕ) → 1 ≤ length text → text ≡ get_or text 0 0 ∷ others_of text
-first_is [] some = absurd (omega (arith, some))
-first_is (sign ∷ text) some = first_and_others (sign ∷ text) sign some refl
 
 pub returns-then-not-put_sign : goal.returns-then-not-put_sign
 returns-then-not-put_sign g t c =

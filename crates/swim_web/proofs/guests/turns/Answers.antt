@@ -8,4 +8,5 @@ loop-guest-preserved g c = (
       (g.D.Daemon.asked (box_value c.loop-guest.web.daemon))
       (g.D.Daemon.asked (box_value c.turn.new.web.daemon)) c.loop-guest.invariant.0 c.turn.ensures.0,
   c.turn.ensures.1 ∙ c.loop-guest.invariant.1,
+  c.turn.ensures.2 ∙ c.loop-guest.invariant.2,
 )

@@ -1,4 +1,4 @@
-use Rattle.std.proofs.Common.{rules, ◌≡◌, List, map, Some, ap}
+use Rattle.std.proofs.Common.{rules, ◌≡◌, List, map, Some, ap, ◌∙◌}
 use Rattle.swim_trail.specs.Noted.{value_in}
 use Rattle.swim_reports.specs.Folders.{filed_in}
 use Rattle.swimd.proofs.Kept.{noticed_so, starts_so}
@@ -13,6 +13,7 @@ returns-clause-starts g c =
       returning = c.in-Ok-crew.ensures.returning;
       me = c.in-Ok-crew.ensures.me;
       ticked = c.in-Ok-crew.ensures.ticking;
+      knocked = ap g.D.Door.faults c.in-Ok-crew.ensures.door ∙ c.requires;
       connected = c.in-Ok-crew.ensures.connections;
       told = record {
         begun = ap (λ lives. Some (map value_in lives)) c.new-herald.ensures;

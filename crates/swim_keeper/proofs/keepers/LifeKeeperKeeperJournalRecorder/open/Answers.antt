@@ -1,5 +1,5 @@
 use Rattle.std.proofs.Common.{refl}
-use Rattle.swim_keeper.specs.Notices.{notices_both}
+use Rattle.swim_telling.specs.Notices.{notices_both}
 use Rattle.swim_keeper.proofs.keepers.LifeKeeperKeeperJournalRecorder.open.Goals as goal
 
 pub returns : goal.returns

@@ -1,0 +1,5 @@
+pub mod CheckedFiles
+pub mod Checking
+pub mod Configured
+pub mod Keys
+pub mod Texts

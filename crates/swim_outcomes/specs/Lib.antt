@@ -1,0 +1,5 @@
+pub mod Details
+pub mod Explaining
+pub mod Outcomes
+pub mod Printing
+pub mod Told
