@@ -5,12 +5,13 @@ import re
 import socket
 from pathlib import Path
 
-from tests.bench import bench_scripts
+from tests.bench import bench_scripts, traced_files
 from tests.bench.measuring import VALGRIND, BenchFault, instructions
 from tests.support.configurations import HOST
-from tests.support.daemons import Machine, must, udp_socket, until
+from tests.support.daemons import SECONDS, Machine, must, udp_socket, until
 from tests.support.datagrams import PING, datagram
 from tests.support.tags import FIRST, key_texts, sealed
+from tests.support.web_servers import WebServer
 
 MINUTE = 60_000
 # A verdict comes within four ticks. Few ticks pass while pings are counted, and at each the receiver looks at the table.
@@ -42,23 +43,54 @@ def ping(daemon, count):
                 raise BenchFault(f"a ping from {first} on was not answered") from None
 
 
-def counted(path, values, load):
-    """The instructions of each thread of a daemon that bears a load, by the thread's number, and how it ended."""
-    with Machine(path) as machine:
-        wrapper, out = Path(machine.folder, "counted"), Path(machine.folder, "counts")
-        out.mkdir()
-        words = f"{' '.join(VALGRIND)} -q --separate-threads=yes --callgrind-out-file='{out}/of'"
+class Counter:
+    """A program that is counted while it runs, in a folder."""
+
+    def __init__(self, path, folder):
+        wrapper, self.out = Path(folder, "counted"), Path(folder, "counts")
+        self.out.mkdir()
+        words = f"{' '.join(VALGRIND)} -q --separate-threads=yes --callgrind-out-file='{self.out}/of'"
         wrapper.write_text(f"#!/bin/sh\nexec {words} '{path}' \"$@\"\n")
         wrapper.chmod(0o755)
-        machine.program = str(wrapper)
+        self.program = str(wrapper)
+
+    def totals(self):
+        """The instructions of each of its threads, by the thread's number, once it has ended."""
+        found = {it.name: TOTAL.search(it.read_text()) for it in self.out.iterdir()}
+        return {name: int(it[1]) for name, it in found.items() if it}
+
+
+def counted(path, values, load):
+    """The instructions of each thread of a daemon that bears a load, and how it ended."""
+    with Machine(path) as machine:
+        counter = Counter(path, machine.folder)
+        machine.program = counter.program
         daemon = machine.started(**{"tick_ms": MINUTE, **values})
         if values.get("members") == SILENT["members"]:
             until(lambda: daemon.states() == {2: "failed"}, "the silent member is judged", seconds=60)
         load(daemon)
         end = daemon.stop()
         must(end.status == 0, "the daemon ended otherwise than by `stop`")
-        found = {it.name: TOTAL.search(it.read_text()) for it in out.iterdir()}
-    return {name: int(it[1]) for name, it in found.items() if it}, end
+        return counter.totals(), end
+
+
+def web_counted(path, machine, control, words, load):
+    """The instructions of each thread of a `swimd web` that bears a load, beside the daemon with that control socket."""
+    counter = Counter(path, machine.folder)
+    machine.program = counter.program
+    with WebServer(machine, control, *words) as web:
+        load(web)
+        web.child.terminate()
+        web.child.wait(timeout=SECONDS)
+    return counter.totals()
+
+
+def get(web, page, count=1):
+    """Asks for a page so often. A daemon has no counts in its first moments."""
+    until(lambda: web.get(page).status == 200, f"{page} is there")
+    for _ in range(count - 1):
+        reply = web.get(page)
+        must(reply.status == 200, f"{page} is answered with status {reply.status}")
 
 
 def most_more(many, few):
@@ -76,6 +108,28 @@ def of_load(path, values, load, count, warm):
 
 def of_ping(path, values, count):
     return of_load(path, values, ping, count, WARM)
+
+
+def of_page(path, values, page, count, warm=10):
+    """The instructions of one of `count` requests for a page, beside a daemon that isn't counted."""
+    totals = []
+    for requests in (count + warm, warm):
+        with Machine(path) as machine:
+            daemon = machine.started(**{"tick_ms": MINUTE, **values})
+            totals.append(web_counted(path, machine, daemon.control, (), lambda it, n=requests: get(it, page, n)))
+    return most_more(*totals) / count
+
+
+def of_verdict(simulator, path, few=2_000, many=20_000):
+    """The instructions of an entry of a journal file, in the page about a verdict at its end. No daemon is asked."""
+    totals = []
+    for entries in (many, few):
+        with Machine(path) as machine:
+            file = Path(machine.journals, "1-1700000000-0.swim")
+            member, number = traced_files.write_judged(simulator, file, entries)
+            page, words = f"/verdicts/{member}/{number}", ("--journals", machine.journals)
+            totals.append(web_counted(path, machine, f"{machine.folder}/none.sock", words, lambda it, p=page: get(it, p)))
+    return most_more(*totals) / (many - few)
 
 
 def of_event(path, part, folder, few=2_000, many=20_000):

@@ -27,15 +27,15 @@ def free_port():
 
 
 class WebServer:
-    """A `swimd web` that runs, at a port where nobody else listens."""
+    """A `swimd web` that runs, at this port, or one where nobody else listens."""
 
-    def __init__(self, machine, control, *words, host=HOST, **how):
+    def __init__(self, machine, control, *words, host=HOST, port=None, **how):
         self.program, self.words, self.host = machine.program, ["--control", control, *words], host
-        self.how = how
+        self.wanted, self.how = port, how
 
     def __enter__(self):
         for _ in range(PORTS_TRIED):
-            self.port = free_port()
+            self.port = self.wanted or free_port()
             words = [self.program, "web", "--listen", f"{self.host}:{self.port}", *self.words]
             self.child = subprocess.Popen(words, stdin=subprocess.DEVNULL, stdout=subprocess.PIPE,
                                           stderr=subprocess.PIPE, bufsize=0, **self.how)

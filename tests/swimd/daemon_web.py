@@ -1,4 +1,4 @@
-"""`swimd web`: its pages, beside what the daemon answers itself, and how it starts and waits for one."""
+"""`swimd web`: its pages, beside what the daemon answers itself, and how long it waits for one."""
 
 import base64
 import datetime
@@ -10,23 +10,20 @@ import shutil
 import subprocess
 import time
 
-from tests.support.configurations import HOST
 from tests.support.daemons import must, until
 from tests.support.journals import journals
-from tests.support.parts import TOP, content, leave_out
-from tests.support.sayings import first_line_of
+from tests.support.parts import content, leave_out
 from tests.support.web_servers import WebServer
 from tests.swimd.daemon_metrics import FILES_NAMES, NAMES, OF_MEMBERS, parsed
-from tests.swimd.daemon_starting import NOBODY
 from tests.swimd.daemon_watchers import MINUTE, watched
 
 MEMBERS = [(2, "10.0.0.2:7000"), (30, "10.0.0.3:7000")]
-SAFE = {"x-content-type-options": "nosniff", "cache-control": "no-store", "allow": "GET, HEAD"}
+SAFE = {"x-content-type-options": "nosniff", "cross-origin-resource-policy": "same-origin",
+        "cache-control": "no-store", "allow": "GET, HEAD"}
 # The time that an answer of a daemon may take, and for which one that owes an answer isn't asked, with some room.
 LIMIT = 1.5
 NAMES_WITHOUT_FILES = {name: it for name, it in NAMES.items() if name not in FILES_NAMES}
 PROBED = re.compile(r": probed at entry \d+ \((\d+)\)")
-AGE = re.compile(r" about (\d+) s ago$")
 EVENT = re.compile(r"id: (\d+)\ndata: ([^\n]*)\n\n")
 
 
@@ -157,6 +154,11 @@ def must_be_drawn(machine, text, number, path):
     command = f"--timeline run.svg --around 2 --period {number} {path}"
     must(f"\nswimsim {command}\n</pre>" in text, f"the page has another command: {text[-500:]}")
     subprocess.run([machine.simulator, *command.split(" ")], cwd=machine.folder, capture_output=True, timeout=20)
+    must_have_picture(machine, text)
+
+
+def must_have_picture(machine, text):
+    """The picture on the page of a verdict is the one that was drawn by its command."""
     drawn = content(f"{machine.folder}/run.svg").decode()
     must(f" tabindex=\"0\">\n{drawn}</div>\n" in text, f"the page has another picture: {text[:2_000]}")
 
@@ -268,21 +270,6 @@ def events_are_passed_on(machine):
     must(daemon.stop().status == 0, "the daemon ended otherwise")
 
 
-def no_daemon_at_first(machine):
-    """It starts all the same, and finds the daemon once there is one, and the next one."""
-    daemon = machine.daemon(1, members=MEMBERS, tick_ms=MINUTE)
-    with WebServer(machine, daemon.control) as web:
-        for path in ("/healthz", "/metrics", "/members.json"):
-            must_answer(web, path, 503, b"no answer\n")
-        must_answer(web, "/", 200)
-        for _ in range(2):
-            daemon.start()
-            until(lambda: web.get("/healthz").status == 200, "the daemon is found", LIMIT + 1)
-            must(json.loads(web.get("/members.json").body) == members_of(daemon), "another table")
-            must(daemon.stop().status == 0, "the daemon ended otherwise")
-            must_answer(web, "/healthz", 503, b"no answer\n")
-
-
 def a_daemon_that_stands_still(machine):
     """Its answer is waited for within a second, and then isn't asked for within another."""
     daemon = machine.started(members=MEMBERS, tick_ms=MINUTE)
@@ -301,125 +288,6 @@ def a_daemon_that_stands_still(machine):
     must(daemon.stop().status == 0, "the daemon ended otherwise")
 
 
-def addresses(machine):
-    """A port in use is told, and so is an address that others reach; what is none is no word."""
-    control = f"{machine.folder}/nobody"
-
-    def ran(*words):
-        it = subprocess.run([machine.program, "web", *words], stdin=subprocess.DEVNULL, capture_output=True, timeout=20)
-        return it.stdout, first_line_of(it.stderr), it.returncode, it.stderr
-
-    with WebServer(machine, control) as web:
-        must(b" serves http://127.0.0.1:" in web.said, f"{web.said!r} is told")
-        at = f"{HOST}:{web.port}"
-        found = ran("--listen", at, "--control", control)
-        must(found[:3] == (b"", b"bind web\n", 5), f"a port in use: {found}")
-        must(f"  {at}: address in use\n".encode() in found[3], f"below it stands {found[3]!r}")
-    names = [word for number in range(9) for word in ("--name", f"n{number}")]
-    for words in (
-        ["--listen", "localhost:8946", "--control", control],
-        ["--listen", "127.0.0.1", "--control", control],
-        ["--listen", "127.0.0.1:0", "--control", control],
-        ["--listen", "127.0.0.1:08946", "--control", control],
-        ["--listen", "[::1]:8946", "--control", control],
-        ["--listen", at],
-        ["--control", control],
-        ["--listen", at, "--control", control, *names],
-        ["--listen", at, "--control", control, "more"],
-    ):
-        found = ran(*words)
-        must(found[:3] == (b"", b"usage\n", 2), f"{words}: {found}")
-        must(b"swimd web --listen 127.0.0.1:8946 --control PATH" in found[3], f"{words}: {found[3]!r}")
-    found = ran("--listen", at, "--control", control, "--journals", "/" + "d" * 100)
-    must(found[:3] == (b"", b"usage\n", 2), f"a long folder: {found}")
-    must(b"  --journals takes a folder whose path has at most 100 bytes\n" in found[3], f"a long folder: {found[3]!r}")
-    with WebServer(machine, control, "--journals", "/" + "d" * 99) as web:
-        must_answer(web, "/verdicts/2/7", 404, b"no such verdict\n")
-    with WebServer(machine, control, *names[:-2], host="0.0.0.0") as web:
-        until(lambda: [web.hear(), web.said.endswith(b" reads the member table\n")][1], "a warning is told")
-        must(f" warning: whoever reaches 0.0.0.0:{web.port} ".encode() in web.said, f"{web.said!r} is told")
-        must(web.get("/", Host="n7").status == 200, "a name that was given isn't known")
-        must(web.get("/", Host="n8").status == 421, "a name that wasn't given is known")
-
-
-def journal_folders(machine):
-    """That a journal folder can't be read is told at the start. The pages are there all the same, and a folder that is
-    made later is read."""
-    daemon, file, number = judged_and_ended(machine)
-    missing, plain = f"{machine.folder}/missing", f"{machine.folder}/plain"
-    with open(plain, "wb"):
-        pass
-    for path, why in (
-        (plain, "a part of the path is no folder"),
-        (f"{missing}/below", "no such file or folder"),
-        (missing, "no such file or folder"),
-    ):
-        with WebServer(machine, daemon.control, "--journals", path) as web:
-            must_answer(web, f"/verdicts/2/{number}", 404, b"no such verdict\n")
-            web.hear()
-            warning = web.said.split(b"\n", 1)[1].split(b" ", 1)[1]
-            must(warning == f"warning: journals {path}: {why}\n".encode(), f"{web.said!r} is told")
-            if path == missing:
-                os.mkdir(missing)
-                shutil.copy(file.path, missing)
-                must_answer(web, f"/verdicts/2/{number}", 200)
-    with WebServer(machine, daemon.control, "--journals", missing) as web:
-        must_answer(web, f"/verdicts/2/{number}", 200)
-        web.hear()
-        must(web.said.count(b"\n") == 1, f"{web.said!r} is told of a folder that can be read")
-
-
-def a_closed_folder(machine):
-    """A journal folder that this user may not read is told as that."""
-    if os.getuid() != 0:
-        return leave_out("a journal folder that swimd web may not read needs another user than this one")
-    closed = f"{machine.folder}/closed"
-    os.mkdir(closed, 0o700)
-    os.chmod(machine.folder, 0o755)
-    control, as_nobody = f"{machine.folder}/nobody", {"preexec_fn": lambda: os.setuid(NOBODY)}
-    with WebServer(machine, control, "--journals", closed, **as_nobody) as web:
-        must_answer(web, "/verdicts/2/7", 404, b"no such verdict\n")
-        web.hear()
-        said = f" warning: journals {closed}: permission denied\n"
-        must(web.said.endswith(said.encode()), f"{web.said!r} is told")
-
-
-def shown(web):
-    """What the page's script shows, by node."""
-    words = ["node", f"{TOP}/tests/support/page_screen.js", f"http://{HOST}:{web.port}/"]
-    ran = subprocess.run(words, capture_output=True, timeout=60)
-    must(ran.returncode == 0 and not ran.stderr, f"node says {ran.stderr.decode()[-2_000:]}")
-    return json.loads(ran.stdout)
-
-
-def what_the_page_shows(machine):
-    """The members, the failed one first, the changes, the newest first, and counts; without a daemon the alarm."""
-    if not shutil.which("node"):
-        return leave_out("node is not on PATH, so the script of the page of swimd web isn't run")
-    began = time.monotonic()
-    daemon, path = watched(machine, members=[(2, "127.0.0.1:9"), (30, "127.0.0.1:9")], k=0, rtt=1, period=3, tick_ms=20)
-    with WebServer(machine, daemon.control, "--events", path) as web:
-        until(lambda: set(daemon.states().values()) == {"failed"}, "two verdicts")
-        must(daemon.ask(b"join 4 127.0.0.1:7\nremove 2\n").endswith(b"removed\n"), "a removal is refused")
-        until(lambda: daemon.states() == {4: "failed", 30: "failed"}, "a third verdict")
-        until(lambda: b"swimd_period_number" in daemon.ask(b"stats\n"), "the daemon has counts")
-        page, numbers = shown(web), {id: row.state.split(" ")[1] for id, row in daemon.table().items()}
-        rows = [[str(id), f"127.0.0.1:{7 if id == 4 else 9}", f"failed in period {it}"] for id, it in numbers.items()]
-        shown_rows = [[*row[:2], AGE.sub("", row[2])] for row in page["members"]]
-        must(sorted(shown_rows) == sorted(rows), f"the members are shown as {page['members']}")
-        ages = [int(found[1]) for row in page["members"] if (found := AGE.search(row[2]))]
-        must(len(ages) == 2 and max(ages) <= time.monotonic() - began, f"the ages of verdicts are shown as {ages}")
-        must(page["sum"] == "2 failed, 0 up", f"their sum is shown as {page['sum']}")
-        must(page["title"] == "(2 failed) Member 1\u2019s view of its group", f"the title is {page['title']}")
-        changes = [row[:2] for row in page["events"]][:3]
-        wanted = [["4", f"failed in period {numbers[4]}"], ["2", "removed"], ["4", "up at 127.0.0.1:7"]]
-        must(changes == wanted, f"the changes are shown as {changes}, and not as {wanted}")
-        must(["Verdicts", "3"] in page["counts"] and page["alarm"] == "", f"the page shows {page}")
-        must(daemon.stop().status == 0, "the daemon ended otherwise")
-        until(lambda: web.get("/healthz").status == 503, "nobody answers")
-        must(shown(web)["alarm"] == "The daemon doesn\u2019t answer.", f"the alarm is {shown(web)['alarm']!r}")
-
-
 PAGES = [
     each_page,
     promtool_agrees_with_the_page,
@@ -430,10 +298,5 @@ PAGES = [
     a_verdict_tells_milliseconds,
     a_verdict_in_other_folders,
     events_are_passed_on,
-    no_daemon_at_first,
     a_daemon_that_stands_still,
-    addresses,
-    journal_folders,
-    a_closed_folder,
-    what_the_page_shows,
 ]

@@ -10,8 +10,8 @@ from tests.support.daemons import must
 from tests.support.parts import leave_out
 from tests.support.web_servers import WebServer
 from tests.swimd.daemon_ages import MOST, NUMBER, SECONDS, counts
-from tests.swimd.daemon_web import shown
 from tests.swimd.daemon_web_guests import FakeDaemon
+from tests.swimd.daemon_web_page import shown
 
 # From here on not each whole number is a double.
 LARGE = 2**53 + 1

@@ -1,5 +1,5 @@
 """The page of `swimd web` in a browser: a kill that shows, how long ago it was, its link, and the page about the
-verdict, which is as dark and as narrow."""
+verdict, which is as dark and as narrow; and the page while it is held."""
 
 import time
 
@@ -8,7 +8,7 @@ from tests.support.configurations import HOST
 from tests.support.daemons import introduced, must, until
 from tests.support.parts import leave_out
 from tests.support.web_servers import WebServer
-from tests.swimd.daemon_watchers import watched
+from tests.swimd.daemon_watchers import MINUTE, watched
 
 # Members that answer aren't judged on a machine with much to do. A verdict shows so many seconds later than it has to.
 CALM = {"k": 0, "rtt": 20, "period": 60, "tick_ms": 10}
@@ -16,6 +16,8 @@ ROOM = 1.5
 TABS = 10
 # The page asks every five seconds; on a machine with much to do what it shows comes later.
 NEXT = 15
+# What was asked for is answered within a second, and the page asks again within these.
+SETTLED, HELD = 1, 6
 
 
 def group_of_three(machine):
@@ -125,4 +127,36 @@ def no_dead_links(machine):
     must(daemon.stop().status == 0, "the daemon ended otherwise")
 
 
-BROWSED = [a_kill_is_followed_to_its_page, no_dead_links]
+def must_not_move(browser):
+    """Nothing is asked for, and what is shown stays."""
+    shown = "document.body.innerText"
+    time.sleep(SETTLED)
+    before, asked = browser.value(shown), len(browser.asked)
+    time.sleep(HELD)
+    must(browser.value(shown) == before, f"the page that is held shows {browser.value(shown)}")
+    must(len(browser.asked) == asked, f"the page that is held asks for {browser.asked[asked:]}")
+
+
+def a_page_is_held_by_a_key(machine):
+    """In Chromium: the first key leads to the button that holds the page. It shows what came meanwhile as soon as it goes
+    on."""
+    if not chromium():
+        return leave_out("chromium is not on PATH, so no browser shows the page of swimd web")
+    daemon, path = watched(machine, members=[(2, "10.0.0.2:7000")], tick_ms=MINUTE)
+    with WebServer(machine, daemon.control, "--events", path) as web, Browser(machine.folder) as it:
+        it.open(f"http://{HOST}:{web.port}/")
+        it.wait("document.getElementById('sum')?.textContent === 'All 1 member up'")
+        it.press("Tab")
+        must(it.value("document.activeElement.textContent") == "Pause", "the first key leads elsewhere")
+        it.press("Enter")
+        must(it.value("document.activeElement.textContent") == "Continue", "the page isn't held")
+        must(daemon.ask(b"join 4 10.0.0.4:7000\n").startswith(b"joined"), "a join is refused")
+        must_not_move(it)
+        it.press("Enter")
+        it.wait("document.getElementById('sum').textContent === 'All 2 members up'")
+        it.wait("document.querySelector('#events tr')?.textContent.startsWith('4up at 10.0.0.4:7000')")
+        must(not it.faults, f"the page says {it.faults}")
+    must(daemon.stop().status == 0, "the daemon ended otherwise")
+
+
+BROWSED = [a_kill_is_followed_to_its_page, no_dead_links, a_page_is_held_by_a_key]

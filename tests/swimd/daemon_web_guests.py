@@ -1,10 +1,8 @@
-"""Who asks `swimd web`: what is no request, pieces and pipelines, guests who are slow beside one who isn't, as many as
-there are places, and a fuzz, behind which the daemon was asked for its table and its counts and nothing else."""
+"""Who asks `swimd web`: what is no request, pieces and pipelines, bodies that nobody wants, guests who are slow beside
+one who isn't, and a fuzz, behind which the daemon was asked for its table and its counts and nothing else."""
 
-import contextlib
 import os
 import random
-import select
 import socket
 import threading
 import time
@@ -18,10 +16,11 @@ TABLE = b"2 10.0.0.2:7000 up\n3 10.0.0.3:7000 failed 12\n.\n"
 STATS = b'swimd_member_id{member="1"} 1\nswimd_ticks_total{member="1"} 4711\n.\n'
 SLOW = 100
 HONEST = 2
-PLACES = 32
-# A guest who sends no whole request is gone within so many seconds, and after these if all places are taken.
+# A guest who sends no whole request, or doesn't take its answer, is gone within so many seconds.
 GIVEN_UP = 12
-CROWDED = 0.3
+# An answer for which nobody is waited comes within this.
+AT_ONCE = 0.5
+LONG = 10_000_000
 MUTATIONS = 10_000
 SEED = 61
 PIECES = (b"\r\n", b"\r\n\r\n", b" ", b"\0", b"stop\n", b"%0a", b"Transfer-Encoding: chunked\r\n")
@@ -32,7 +31,7 @@ class FakeDaemon:
 
     def __init__(self, path):
         self.answers = {b"list\n": TABLE, b"stats\n": STATS, b"stop\n": b"stopping\n"}
-        self.lines, self.listener = [], socket.socket(socket.AF_UNIX)
+        self.lines, self.delay, self.listener = [], 0, socket.socket(socket.AF_UNIX)
         self.listener.bind(path)
         self.listener.listen(64)
         threading.Thread(target=self.accept, daemon=True).start()
@@ -48,7 +47,9 @@ class FakeDaemon:
     def serve(self, connection):
         with connection, connection.makefile("rb") as lines:
             for line in lines:
+                delay = self.delay
                 self.lines.append(line)
+                time.sleep(delay)
                 connection.sendall(self.answers.get(line, b"fault 2\n"))
 
     def close(self):
@@ -57,6 +58,16 @@ class FakeDaemon:
 
 def request(web, method="GET", path="/healthz", more=b""):
     return f"{method} {path} HTTP/1.1\r\nHost: localhost:{web.port}\r\n".encode() + more + b"\r\n"
+
+
+def statuses(connection, count):
+    """Those of so many responses that come next."""
+    found = b""
+    while found.count(b"HTTP/1.1 ") < count or not found.endswith(b"\n"):
+        more = connection.recv(65_536)
+        must(more, f"the connection ends behind {found!r}")
+        found += more
+    return [part[:3] for part in found.split(b"HTTP/1.1 ")[1:]]
 
 
 def what_is_refused(machine):
@@ -68,9 +79,12 @@ def what_is_refused(machine):
         for text, status in (
             (request(web), 200),
             (request(web, path="/healthz?x=1"), 200),
+            (b"GET /healthz HTTP/1.1\r\n" + host.upper() + b"\r\n", 200),
+            (b"GET /healthz HTTP/1.0\r\n" + host + b"\r\n", 200),
             (request(web, "POST"), 405),
             (request(web, "DELETE", "/members.json"), 405),
             (request(web, "OPTIONS"), 405),
+            (request(web, "TRACE"), 405),
             (request(web, "get"), 405),
             (request(web, path="/healthz/"), 404),
             (request(web, path="/../healthz"), 404),
@@ -85,7 +99,15 @@ def what_is_refused(machine):
             (b"GET /healthz HTTP/1.0\r\n\r\n", 421),
             (b"GET /healthz HTTP/1.1\r\n\r\n", 400),
             (b"GET http://evil.example/healthz HTTP/1.1\r\n" + host + b"\r\n", 421),
+            (b"CONNECT localhost:%d HTTP/1.1\r\n" % web.port + host + b"\r\n", 421),
             (b"GET /healthz HTTP/1.1\r\nHost: a b\r\n\r\n", 400),
+            (b"GET /healthz HTTP/1.1\r\n" + host + b"Host: evil.example\r\n\r\n", 400),
+            (b"GET /healthz HTTP/1.1\r\n" + host.replace(b":", b" :", 1) + b"\r\n", 400),
+            (request(web, path="/health\0z"), 400),
+            (request(web, more=b"X: a\0b\r\n"), 400),
+            (request(web, more=b"Content-Length: 0\r\nTransfer-Encoding: chunked\r\n") + b"0\r\n\r\n", 400),
+            (request(web, more=b"Content-Length: 0\r\nContent-Length: 1\r\n"), 400),
+            (request(web, more=b"Content-Length: +0\r\n"), 400),
             (b"\x16\x03\x01\x02\x00\x01\x00\x01\xfc\x03\x03\r\n\r\n", 400),
             (b"", 0),
         ):
@@ -104,6 +126,9 @@ def refusals_close(machine):
             (request(web, path="/" + "a" * 9_000), b"414"),
             (request(web, more=b"X: " + b"a" * 9_000 + b"\r\n"), b"431"),
             (request(web, more=b"Transfer-Encoding: gzip, chunked\r\n"), b"501"),
+            # A request within a body is none.
+            (request(web, "POST", more=b"Content-Length: 40\r\n") + request(web), b"413"),
+            (request(web, more=b"Transfer-Encoding: chunked\r\n") + b"40\r\n" + request(web), b"413"),
         ):
             with web.connect() as connection:
                 connection.sendall(text)
@@ -118,8 +143,11 @@ def pieces_and_pipelines(machine):
     daemon = FakeDaemon(f"{machine.folder}/fake")
     with WebServer(machine, f"{machine.folder}/fake") as web:
         both = web.send((request(web) + request(web, path="/other")) * 10)
-        statuses = [part[:3] for part in both.split(b"HTTP/1.1 ")[1:]]
-        must(statuses == [b"200", b"404"] * 10, f"a pipeline is answered {statuses}")
+        found = [part[:3] for part in both.split(b"HTTP/1.1 ")[1:]]
+        must(found == [b"200", b"404"] * 10, f"a pipeline is answered {found}")
+        old = b"GET /healthz HTTP/1.0\r\nHost: localhost:%d\r\n" % web.port
+        found = web.send((old + b"Connection: keep-alive\r\n\r\n") * 2 + old + b"\r\n" + request(web))
+        must(found.count(b"HTTP/1.0 200 ") == 3 and b"HTTP/1.1 " not in found, f"HTTP/1.0 is answered {found!r}")
         with web.connect() as connection:
             connection.setsockopt(socket.IPPROTO_TCP, socket.TCP_NODELAY, 1)
             for byte in request(web, more=b"Connection: close\r\n"):
@@ -129,7 +157,7 @@ def pieces_and_pipelines(machine):
             connection.sendall(request(web)[:-5])
             connection.shutdown(socket.SHUT_WR)
             must(not all_of(connection).startswith(b"HTTP/1.1 200 "), "half a request is answered")
-        must(set(daemon.lines) == {b"list\n"} and len(daemon.lines) == 11, f"{len(daemon.lines)} lines were asked")
+        must(set(daemon.lines) == {b"list\n"} and len(daemon.lines) == 14, f"{len(daemon.lines)} lines were asked")
     daemon.close()
 
 
@@ -148,49 +176,70 @@ def slow_guests(machine):
         must([all_of(it) for it in slow] == [b""] * SLOW, "half a request is answered")
         for it in slow:
             it.close()
-        began = time.monotonic()
-        with web.connect(GIVEN_UP) as one:
-            one.sendall(request(web)[:-5])
-            must(all_of(one) == b"" and time.monotonic() - began < GIVEN_UP, "a slow guest stays")
         until(lambda: web.descriptors() < 20, "descriptors are given back")
     daemon.close()
 
 
-def places(machine):
-    """Of a hundred who come at once and send nothing 32 are let in at a time, and sent away soon. One less may stay."""
-    with WebServer(machine, f"{machine.folder}/nobody") as web, contextlib.ExitStack() as opened:
-        before, counts = web.descriptors(), []
-        guests = [opened.enter_context(web.connect()) for _ in range(SLOW)]
-
-        def is_left():
-            counts.append(web.descriptors() - before)
-            return select.select(guests[PLACES - 1 : PLACES], [], [], 0)[0]
-
-        until(is_left, "the first 32 are sent away", GIVEN_UP / 2)
-        must(max(counts) == PLACES, f"{max(counts)} are let in")
-    with WebServer(machine, f"{machine.folder}/nobody") as web, contextlib.ExitStack() as opened:
-        before = web.descriptors()
-        for _ in range(PLACES - 1):
-            opened.enter_context(web.connect())
-        time.sleep(3 * CROWDED)
-        must(web.descriptors() - before == PLACES - 1, "somebody leaves who has time")
-
-
-def a_request_that_came_meanwhile(machine):
-    """A whole request that came while the server waited for the daemon is answered, though that takes longer than a
-    guest has when all places are taken."""
+def who_waits_for_continue(machine):
+    """A request with `Expect: 100-continue` isn't left waiting, whether a body follows or not."""
     daemon = FakeDaemon(f"{machine.folder}/fake")
-    daemon.answers[b"list\n"] = b""
-    with WebServer(machine, f"{machine.folder}/fake") as web, contextlib.ExitStack() as opened:
-        early, asking = (opened.enter_context(web.connect()) for _ in range(2))
-        asking.sendall(request(web, more=b"Connection: close\r\n"))
-        until(lambda: daemon.lines, "the daemon is asked")
-        early.sendall(request(web, more=b"Connection: close\r\n"))
-        for _ in range(PLACES):
-            opened.enter_context(web.connect())
-        for guest, name in ((asking, "who asked"), (early, "whose request came meanwhile")):
-            must(all_of(guest).startswith(b"HTTP/1.1 503 "), f"the guest {name} isn't answered")
+    with WebServer(machine, f"{machine.folder}/fake") as web:
+        for more, first, body, second in (
+            (b"", b"200", b"", None),
+            (b"Content-Length: 0\r\n", b"100", b"", b"200"),
+            (b"Content-Length: 5\r\n", b"413", b"", None),
+            (b"Transfer-Encoding: chunked\r\n", b"100", b"0\r\n\r\n", b"200"),
+            (b"Transfer-Encoding: chunked\r\n", b"100", b"1\r\na\r\n", b"413"),
+        ):
+            with web.connect() as connection:
+                began = time.monotonic()
+                connection.sendall(request(web, more=b"Expect: 100-continue\r\n" + more))
+                found = statuses(connection, 1)
+                must(found[0] == first, f"with {more} it is answered {found}")
+                connection.sendall(body)
+                found += statuses(connection, 1) if second and len(found) < 2 else []
+                must(found[1:] == ([second] if second else []), f"with {more} it is answered {found}")
+                took = time.monotonic() - began
+                must(took < AT_ONCE, f"with {more} it is answered after {took:.2f} s")
     daemon.close()
+
+
+def long_bodies(machine):
+    """Whoever sends a long body and reads the refusal behind that gets it whole."""
+    with WebServer(machine, f"{machine.folder}/nobody") as web, web.connect() as connection:
+        connection.sendall(request(web, "POST", more=b"Content-Length: %d\r\n" % LONG))
+        for _ in range(10):
+            connection.sendall(b"a" * (LONG // 10))
+        found = all_of(connection)
+        must(found.startswith(b"HTTP/1.1 413 ") and found.endswith(b"\r\n\r\n"), f"a long body is answered {found!r}")
+
+
+def sends_on(connection):
+    """Sends bytes until nobody takes them."""
+    try:
+        while True:
+            connection.sendall(b"a" * 10_000)
+            time.sleep(0.01)
+    except OSError:
+        return
+
+
+def who_is_given_up(machine):
+    """Whoever sends half a request, reads no answer, or goes on sending behind a refusal has to go."""
+    with WebServer(machine, f"{machine.folder}/nobody") as web:
+        before, began = web.descriptors(), time.monotonic()
+        half, deaf, talker = (web.connect(GIVEN_UP) for _ in range(3))
+        half.sendall(request(web)[:-5])
+        deaf.setblocking(False)
+        deaf.send(request(web, path="/") * 1_000)
+        talker.sendall(b"GET /healthz HTTP/1.1\r\n\r\n")
+        threading.Thread(target=sends_on, args=(talker,), daemon=True).start()
+        must(web.get("/healthz").status == 503, "an honest request is refused beside them")
+        must(all_of(half) == b"" and time.monotonic() - began < GIVEN_UP, "a slow guest stays")
+        until(lambda: web.descriptors() == before, "all are gone", GIVEN_UP)
+        must(time.monotonic() - began < GIVEN_UP, "somebody stays")
+        for it in (half, deaf, talker):
+            it.close()
 
 
 def mutated(chance, text):
@@ -240,7 +289,8 @@ GUESTS = [
     refusals_close,
     pieces_and_pipelines,
     slow_guests,
-    places,
-    a_request_that_came_meanwhile,
+    who_waits_for_continue,
+    long_bodies,
+    who_is_given_up,
     ten_thousand_mutations,
 ]
