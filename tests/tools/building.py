@@ -14,7 +14,7 @@ from tests.support.parts import TOP
 from tests.tools.copies import SECONDS, Copy, unlike
 
 # What stands on swim_keeper.
-ABOVE_KEEPER = ["swim_keeper_tests", "swim_lives_tests", "swim_reports", "swimd"]
+ABOVE_KEEPER = ["swim_keeper_tests", "swim_lives_tests", "swimd"]
 WITH_KEEPER = 1 + len(ABOVE_KEEPER)
 # As rustc does, it writes what it links beside the program, under a name that is the same each time, and takes it away.
 LINKER = """\
