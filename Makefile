@@ -24,7 +24,7 @@ help:
 	@echo '                it is, and prints where they lie'
 	@echo 'make check      for people at work: checks what changed since it was last proved here and what stands on it, with the'
 	@echo '                tests of those, and runs the short parts of tests/; it takes what was proved before as it is'
-	@echo 'make test       rt ci (every proof and test), and the parts of tests/ that run the built programs, in some 40 minutes'
+	@echo 'make test       rt ci (every proof and test), and the parts of tests/ that run the built programs, in 40 to 75 minutes'
 	@echo '                with four processors; tests/all --list names them, and tests/all --only NAME runs one'
 	@echo 'make edits      tries wrong bodies, each of which the prover has to refuse: some 45 minutes behind a make test'
 	@echo 'make compare    runs swimsim and tests/reference on random scripts, and swimd on random configurations and'
