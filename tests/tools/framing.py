@@ -20,8 +20,9 @@ def with_frames(folder):
     return copy
 
 
-# What takes 128 bytes off the stack pointer, and gives them back.
+# What takes 128 bytes off the stack pointer, and gives them back; and more bytes than any function may have.
 TAKE, GIVE = "add    $0xffffffffffffff80,%rsp", "sub    $0xffffffffffffff80,%rsp"
+TOO_MANY = 524_288
 
 
 def shown(name, frame):
@@ -48,13 +49,14 @@ def a_function_that_is_not_found_fails(_programs, folder):
     named = [f"{it}of" if it.endswith("::") else it for it in missed]
     whole, first = {**beginnings, **dict.fromkeys(named, 8)}, named[0]
     renamed = {f"other::{it}" if it == first else it: frame for it, frame in whole.items()}
+    often = [TAKE] * (TOO_MANY // 128)
     return [
         *unlike("the status of none", 1, status),
         *unlike("what is said of all", (0, []), looked(copy, whole)),
         *unlike("what is said of one that is renamed", (1, missed[:1]), looked(copy, renamed)),
-        *unlike("what is said of one that is large", (1, []), looked(copy, {**whole, first: 65_000})),
+        *unlike("what is said of one that is large", (1, []), looked(copy, {**whole, first: TOO_MANY})),
         *unlike("what is said of one that takes 128", (0, []), looked(copy, {**whole, first: [TAKE, GIVE]})),
-        *unlike("what is said of one that takes it often", (1, []), looked(copy, {**whole, first: [TAKE] * 512})),
+        *unlike("what is said of one that takes it often", (1, []), looked(copy, {**whole, first: often})),
     ]
 
 
